@@ -4,7 +4,7 @@ use Rattle.std.proofs.Common.{[], ◌∷◌, ◌++◌, append_assoc, Option, Som
 use Rattle.std.{proofs.lemmas.{Bool.{lt-ltb, le-ltb}, List.{append_cancel_left, append-nil}}, specs.List.last_or}
 use Rattle.bac_links.{
   specs.{History.{Entry, Waited, Timed, Posted, Unposted, Account}, Answered.{answer_of, answers_of, GoOnAlike}},
-  specs.Asking.{Move, Asks, Ends, ForDatagram, question_of, next_move, Follows, Plays, waits_in, times_in, turn_after},
+  specs.Asking.{Move, Asks, Over, ForDatagram, question_of, next_move, Follows, Plays, waits_in, times_in, turn_after},
   specs.{Limits.most_turns, declared.fault.ToolFault.{ToolFault, TheVariants.TurnsSpent}},
 }
 
@@ -33,7 +33,7 @@ module _ {X : Type 0} (wait n : ℕ) where
   pub turn_begins : n < most_turns → turn ≡ Asks (ForDatagram wait)
   turn_begins within = rw (lt-ltb n _ within) refl
 
-  pub turns_over : most_turns ≤ n → turn ≡ Ends (Err TurnsSpent)
+  pub turns_over : most_turns ≤ n → turn ≡ Over (Err TurnsSpent)
   turns_over over = rw (le-ltb n _ over) refl
 
 -- What was asked and what was answered make the entry.
@@ -106,7 +106,7 @@ played = grind (arith, append_cancel_left)
 pub record PlaysAll {R : Type 0} (move : List Entry → Option Entry → Move R) (gained : List Entry) (result : R) : Type 0
   where
     pub follows : Follows move [] gained
-    pub over : next_move move gained ≡ Ends result
+    pub over : next_move move gained ≡ Over result
 
 pub plays_all : {Origin R : Type 0} (move : List Entry → Option Entry → Move R) (seen left : Account Origin)
     (result : R) (gained : List Entry) → Plays move seen left result → left.history ≡ seen.history ++ gained
@@ -128,8 +128,8 @@ module _ {Origin Other R A : Type 0} (move : List Entry → Option Entry → Mov
       let here = plays_all move seen left c (first ++ rest) plays gains in
       let there = plays_all move other_seen other_left d (other ++ other_rest) others other_gains in
       let one = same_so_far move [] first other rest other_rest here.follows there.follows same in
-      let over : rest ≡ [] → next_move move first ≡ Ends c = λ none. rw (none, append-nil) at here.over in
-      let other_over : other_rest ≡ [] → next_move move first ≡ Ends d = λ none.
+      let over : rest ≡ [] → next_move move first ≡ Over c = λ none. rw (none, append-nil) at here.over in
+      let other_over : other_rest ≡ [] → next_move move first ≡ Over d = λ none.
       rw (none, append-nil, ← one) at there.over in (
         one,
         so_far move (λ r. ⊥) EndAlike PrintAlike _ rest _ r s (λ none x asks. absurd (never c x (over none) asks))
@@ -140,8 +140,8 @@ module _ {Origin Other R A : Type 0} (move : List Entry → Option Entry → Mov
             _ one here.follows there.follows,
       )
     where
-      never : (e : R) (x : Entry) → next_move move first ≡ Ends e → next_move move first ≡ Asks (question_of x) → ⊥
+      never : (e : R) (x : Entry) → next_move move first ≡ Over e → next_move move first ≡ Asks (question_of x) → ⊥
       never e x over asks = let no = sym over ∙ asks in cc
 
-      both : next_move move first ≡ Ends c → next_move move first ≡ Ends d → c ≡ d
+      both : next_move move first ≡ Over c → next_move move first ≡ Over d → c ≡ d
       both over other_over = let same = sym over ∙ other_over in cc

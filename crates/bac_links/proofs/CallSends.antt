@@ -8,8 +8,8 @@ use Rattle.bac_tsm.proofs.Laws.{quiet_unsent, sends_push, sent_unended}
 use Rattle.bac_text.specs.declared.jobs.Call.{Call}
 use Rattle.bac_print.specs.declared.checked.Checked.{Checked}
 use Rattle.bac_links.{
-  specs.History.{Arrival, Entry, Waited, Timed, Unposted, Account},
-  specs.Asking.{Asks, Ends, ToSend, question_of, Follows, Plays, next_move, turn_after},
+  specs.History.{Arrived, Entry, Waited, Timed, Unposted, Account},
+  specs.Asking.{Asks, Over, ToSend, question_of, Follows, Plays, next_move, turn_after},
   specs.{Handed.handed_of, Call.{rules_for, asked, events_of, end_in, is_sent_last, Comes, or_ended, move, Tells}},
   specs.{Limits.turn_wait, Sent.{sent_at, sends_of_call, AllSent}, declared.ending.Purpose.Purpose},
   specs.declared.{exit.Exit.Exit, fault.ToolFault.{ToolFault, TheVariants.{SendFailed, WriteFailed}}},
@@ -73,8 +73,8 @@ module _ (purpose : Purpose) (call : Call) where
         let ys = xs ++ x ∷ [] in
         rw (timed_given ys _ _ _ (unended (evs xs) (evs ys) (Tick now) (evs_push x) (omega arith)))
         (at_push (evs xs) (evs ys) (Tick now) (evs_push x) (omega arith))
-    later_grows (Waited wait (Arrival from octets)) =
-        let x = Waited wait (Arrival from octets) in
+    later_grows (Waited wait (Arrived from octets)) =
+        let x = Waited wait (Arrived from octets) in
         let ys = xs ++ x ∷ [] in
         let e = at_push (evs xs) (evs ys) (Data from octets) (evs_push x) (omega arith) in
         let none = data_unsent (evs xs) (evs ys) (Data from octets) (evs_push x) (omega arith) from octets refl in
@@ -110,7 +110,7 @@ module _ (purpose : Purpose) (call : Call) where
   grows (Timed time ∷ more) x follows asks = later_grows time more x
   grows _ _ follows asks = cc
 
-  sound : (xs : List Entry) (x : Entry) → move purpose call xs (Some x) ≡ Ends (Err SendFailed)
+  sound : (xs : List Entry) (x : Entry) → move purpose call xs (Some x) ≡ Over (Err SendFailed)
       → (to : Station) × (octets : List ℕ) × (x ≡ Unposted to octets)
   sound = grind (arith, cases_Bool)
 

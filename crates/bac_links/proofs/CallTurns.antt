@@ -12,10 +12,10 @@ use Rattle.bac_print.specs.{declared.checked.Checked.Checked, Checked.TookOrFail
 use Rattle.bac_links.{
   specs.declared.fault.ToolFault.{ToolFault, TheVariants.{SendFailed, ReceiveFailed, TurnsSpent, WriteFailed}},
   specs.{declared.{ending.Purpose.Purpose, exit.Exit.Exit}, Handed.{handed, handed_of}, Limits.most_turns},
-  specs.History.{Heard, Silence, Arrival, Failure, Entry, Waited, Timed, Posted, Unposted, Account, GainsAll, Gains},
+  specs.History.{Heard, Silence, Arrived, Failure, Entry, Waited, Timed, Posted, Unposted, Account, GainsAll, Gains},
   specs.Inner.CallSteps.{posts, sent_last, or_sent, wait_of, begun_at, endings, GainsLost},
   specs.Inner.CallSteps.{heard_step, ticked, AsksNothing, IsAlone, CarriesOn, Hears, Ticks, TicksLost, Underway},
-  specs.Asking.{Move, Asks, Ends, ForTime, ToSend, question_of, Follows, Plays, next_move, waits_in, turn_after},
+  specs.Asking.{Move, Asks, Over, ForTime, ToSend, question_of, Follows, Plays, next_move, waits_in, turn_after},
   specs.{Call.{rules_for, events_of, end_in, Comes, or_ended, move, Tells}, Ending.{ending_line, exit_of}},
   proofs.{Histories.gains_both, Asking.{last_push, follows_push, waits_push, turn_begins, turns_over}},
   proofs.CallEvents.{carries_on, ends_next, sends_next, carried_alone, submitted, begins, begins_sent},
@@ -50,7 +50,7 @@ pub quiet_handed : (more : List Entry) → All AsksNothing (handed more)
 quiet_handed [] = All-nil _
 quiet_handed (Waited wait Silence ∷ more) = quiet_handed more
 quiet_handed (Waited wait Failure ∷ more) = quiet_handed more
-quiet_handed (Waited wait (Arrival from octets) ∷ more) = All-cons AsksNothing _ _ tt (quiet_handed more)
+quiet_handed (Waited wait (Arrived from octets) ∷ more) = All-cons AsksNothing _ _ tt (quiet_handed more)
 quiet_handed (Timed time ∷ more) = All-cons AsksNothing _ _ tt (quiet_handed more)
 quiet_handed (Posted to octets ∷ more) = quiet_handed more
 quiet_handed (Unposted to octets ∷ more) = quiet_handed more
@@ -91,8 +91,8 @@ module _ {purpose : Purpose} {call : Call} {time : ℕ} (more : List Entry) {cli
       → endings (heard_step (rules_of client) client.state heard).notes ≡ [] →
       left ≡ keeping client (heard_step (rules_of client) client.state heard).after
       → CarriesOn purpose call time (handed (more ++ Waited wait heard ∷ [])) left
-  heard_on wait (Arrival from octets) left none e =
-      on_so (Waited wait (Arrival from octets)) (Data from octets) tt refl none left e
+  heard_on wait (Arrived from octets) left none e =
+      on_so (Waited wait (Arrived from octets)) (Data from octets) tt refl none left e
   heard_on wait Silence _ none e = rw e (same_so (Waited wait Silence) refl)
   heard_on wait Failure _ none e = rw e (same_so (Waited wait Failure) refl)
 
@@ -101,8 +101,8 @@ module _ {purpose : Purpose} {call : Call} {time : ℕ} (more : List Entry) {cli
       → endings (heard_step (rules_of client) client.state heard).notes ≡ Some outcome ∷ [] →
       end_in purpose call (events_of purpose call (Timed time ∷ (more ++ Waited wait heard ∷ [])))
       ≡ Some (record { position = length (begun_at purpose call time (handed more)); outcome = Some outcome })
-  heard_end wait (Arrival from octets) outcome one =
-      ends_so (Waited wait (Arrival from octets)) (Data from octets) tt refl (Some outcome) one
+  heard_end wait (Arrived from octets) outcome one =
+      ends_so (Waited wait (Arrived from octets)) (Data from octets) tt refl (Some outcome) one
   heard_end _ _ _ one = cc
 
 -- ---- the next move
@@ -200,7 +200,7 @@ module _ {Origin : Type 0} {purpose : Purpose} {call : Call} {seen mid next : Ac
   follows_waited : Follows (move purpose call) [] (Timed far.time ∷ waited)
   follows_waited = grind (arith, follows_push, turn_begins)
 
-  comes : (r : Comes) → next_move (move purpose call) (Timed far.time ∷ waited) ≡ Ends r
+  comes : (r : Comes) → next_move (move purpose call) (Timed far.time ∷ waited) ≡ Over r
       → Plays (move purpose call) seen next r
   comes = grind (arith, gains_waited, follows_waited)
 

@@ -4,7 +4,7 @@ use Rattle.std.proofs.{Common.{subst, Bool, false, Result, Ok, Err, OnOk, is_ok,
 use Rattle.bac_pdu.specs.Peer.{Station}
 use Rattle.bac_links.specs.{SystemCall.SystemCall, History.{Heard, Entry, Waited, Timed, Posted, Unposted, posted}}
 use Rattle.bac_links.specs.Socket.{Logs, Sends, Times, Waits, CallsFor, AreCallsFor, waits_behind, time_behind}
-use Rattle.bac_links.specs.{Keeps.{waits_behind_all, time_behind_all, Keeps}, declared.udp.Refused.Refused}
+use Rattle.bac_links.specs.{Keeps.{waits_behind_all, time_behind_all, Keeps}, declared.udp.OnRefusal.OnRefusal}
 
 waits_more : (waits : ℕ) (xs : List Entry) (x : Entry)
     → waits_behind_all waits (xs ++ x ∷ []) ≡ waits_behind (waits_behind_all waits xs) x
@@ -16,7 +16,7 @@ time_more : (time : ℕ) (xs : List Entry) (x : Entry)
 time_more _ [] x = refl
 time_more time (y ∷ xs) x = time_more (time_behind time y) xs x
 
-module _ (refused : Refused) where
+module _ (refused : OnRefusal) where
   calls_more : (waits time : ℕ) (xs : List Entry) (x : Entry) (calls more : List SystemCall)
       → AreCallsFor refused waits time xs calls
       → CallsFor refused (waits_behind_all waits xs) (time_behind_all time xs) x more

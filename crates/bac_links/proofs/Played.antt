@@ -8,7 +8,7 @@ use Rattle.std.{
 }
 use Rattle.bac_pdu.specs.Peer.{NetworkAddress, Station}
 use Rattle.bac_links.specs.{
-  History.{Heard, Silence, Arrival, Failure, Entry, Waited, Timed, Posted, Unposted, posted},
+  History.{Heard, Silence, Arrived, Failure, Entry, Waited, Timed, Posted, Unposted, posted},
   Played.{Scene, ToPlay, at_first, heard_next, behind_wait, behind, IsPlayed, ArePlayed, Sending, sending_in, sendings},
   HasPlayed.{behind_all, HasPlayed},
 }
@@ -99,12 +99,12 @@ coded_sending = code_by (ℕ × (Station × List ℕ)) (coded× coded_ℕ (coded
 abbrev from_heard : Heard → Option (Option (Station × List ℕ))
 from_heard Silence = None
 from_heard Failure = Some None
-from_heard (Arrival from octets) = Some (Some (from, octets))
+from_heard (Arrived from octets) = Some (Some (from, octets))
 
 abbrev to_heard : Option (Option (Station × List ℕ)) → Heard
 to_heard None = Silence
 to_heard (Some None) = Failure
-to_heard (Some (Some it)) = Arrival it.0 it.1
+to_heard (Some (Some it)) = Arrived it.0 it.1
 
 back_to_heard : (heard : Heard) → to_heard (from_heard heard) ≡ heard
 back_to_heard = grind arith

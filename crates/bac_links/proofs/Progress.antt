@@ -8,7 +8,7 @@ use Rattle.bac_tsm.{specs.{Events.{Event, Tick}, Lookahead.clock}, proofs.Progre
 use Rattle.bac_text.specs.declared.jobs.Call.{Call}
 use Rattle.bac_print.specs.declared.checked.Checked.{Checked}
 use Rattle.bac_links.{
-  specs.History.{Heard, Silence, Arrival, Failure, Entry, Waited, Timed, Posted, Unposted, Account},
+  specs.History.{Heard, Silence, Arrived, Failure, Entry, Waited, Timed, Posted, Unposted, Account},
   specs.Asking.{Asks, Question, ForDatagram, ForTime, question_of, Follows, next_move, waits_in},
   specs.{Handed.handed_of, Call.{rules_for, asked, end_in, events_of, move, Tells}},
   specs.{Progress.{AreTold, ArePrompt}, declared.{ending.Purpose.Purpose, exit.Exit.Exit, fault.ToolFault.ToolFault}},
@@ -143,7 +143,7 @@ module _ (purpose : Purpose) (call : Call) where
         small : (heard : Heard) → greatest_tick (handed_of (Waited wait heard)) ≤ now + longest
         small Silence = omega arith
         small Failure = omega arith
-        small (Arrival from octets) = omega arith
+        small (Arrived from octets) = omega arith
 
     at_time : (before : List Entry) (last : Entry) (n now : ℕ) → IsAt before last n now
         → IsAt (before ++ Timed (time_behind n) ∷ []) (Timed (time_behind n)) n (time_behind n)

@@ -6,7 +6,7 @@ use Rattle.bac_text.specs.declared.jobs.Search.{Search}
 use Rattle.bac_print.specs.declared.checked.Checked.{Checked}
 use Rattle.bac_links.{
   proofs.{Asking.{followed, last_push, waits_push}, SearchesAlike.stops, Sendings.{alone, sending, IsSent, all_sent}},
-  specs.Asking.{Asks, Ends, ForTime, question_of, Follows, next_move, waits_in},
+  specs.Asking.{Asks, Over, ForTime, question_of, Follows, next_move, waits_in},
   specs.{History.{Entry, Unposted, Account, GainsAll}, Search.{who_is_to, search_move, Searched}},
   specs.{Sent.{sent_in, AllSent}, declared.{exit.Exit.Exit, fault.ToolFault.{ToolFault, TheVariants.SendFailed}}},
 }
@@ -33,7 +33,7 @@ module _ (search : Search) where
       ≡ due xs ++ sending alone (xs ++ x ∷ []) (search_move search (xs ++ x ∷ []) (Some x))
   grows = grind (arith, timed, waits_push, nat_tests)
 
-  sound : (xs : List Entry) (x : Entry) → search_move search xs (Some x) ≡ Ends (Err SendFailed)
+  sound : (xs : List Entry) (x : Entry) → search_move search xs (Some x) ≡ Over (Err SendFailed)
       → (to : Station) × (octets : List ℕ) × (x ≡ Unposted to octets)
   sound = grind (arith, nat_tests)
 

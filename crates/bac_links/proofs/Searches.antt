@@ -7,7 +7,7 @@ use Rattle.bac_text.specs.declared.jobs.Search.{Search}
 use Rattle.bac_print.{specs.{declared.checked.Checked.Checked, Checked.Took}, proofs.Known.{Took-none, Took-more}}
 use Rattle.bac_links.{
   specs.{Limits.most_turns, History.{Heard, Failure, Entry, Waited, Timed, Posted, Unposted, Account, GainsAll, Gains}},
-  specs.Asking.{Asks, Ends, ForTime, Follows, next_move, waits_in, times_in, turn_after},
+  specs.Asking.{Asks, Over, ForTime, Follows, next_move, waits_in, times_in, turn_after},
   specs.Search.{Found, found_by, found_line, greatest_of, passed_in, who_is_to},
   specs.{Search.{found_in, behind_time, search_move, Searched}, declared.exit.Exit.{Exit, TheVariants.{Good, Bad}}},
   specs.declared.fault.ToolFault.{ToolFault, TheVariants.{SendFailed, ReceiveFailed, TurnsSpent, WriteFailed}},
@@ -141,7 +141,7 @@ module _ {Origin W : Type 0} {search : Search} {contents : W → Option (List �
         gains = gains_timed;
         follows = follows_timed;
         over = next_timed ∙ rw (le-leb search.timeout (passed_in (times_in all)) (rw (← passed) over)) refl
-            ∙ ap (λ (e : Exit). Ends (Ok e)) (sym (exit_is ∙ ap (λ (b : Bool). if b then Good else Bad) any_next));
+            ∙ ap (λ (e : Exit). Over (Ok e)) (sym (exit_is ∙ ap (λ (b : Bool). if b then Good else Bad) any_next));
       };
       printed = printed_next;
     }

@@ -8,7 +8,7 @@ use Rattle.bac_print.specs.{declared.checked.Checked.Checked, Checked.TakesFront
 use Rattle.bac_links.{
   specs.{History.{Entry, Waited, Account}, declared.fault.ToolFault.{ToolFault, TheVariants.WriteFailed}},
   specs.{declared.exit.Exit.Exit, Search.{found_line, found_in, search_move, IsCutOff, Searched}},
-  specs.{Asking.{Asks, Ends, ForTime, question_of, Follows, next_move}, Answered.{AskAlike, Printed, OneText}},
+  specs.{Asking.{Asks, Over, ForTime, question_of, Follows, next_move}, Answered.{AskAlike, Printed, OneText}},
   proofs.{Searches.behind_wait, Asking.{played, same_so_far, so_far}},
 }
 
@@ -27,7 +27,7 @@ module _ (search : Search) where
     -- After these entries it is over, or it was cut off behind a wait; and their lines were printed.
     pub record Stops (result : Result Exit ToolFault) (gained : List Entry) : Type 0 where
       pub follows : Follows (search_move search) [] gained
-      pub over : (next_move (search_move search) gained ≡ Ends result)
+      pub over : (next_move (search_move search) gained ≡ Over result)
           ⊎ ((result ≡ Err WriteFailed) × (next_move (search_move search) gained ≡ Asks ForTime))
       pub printed : Printed contents before after (lines_in gained) result
 
@@ -66,7 +66,7 @@ module _ {V W : Type 0} (contents : V → Option (List ℕ)) (contents' : W → 
         → (result ≡ Err WriteFailed) × PrintAlike result result'
     cut_here none x asks = go (here none).over
       where
-        go : (next_move (search_move search) first ≡ Ends result)
+        go : (next_move (search_move search) first ≡ Over result)
             ⊎ ((result ≡ Err WriteFailed) × (next_move (search_move search) first ≡ Asks ForTime))
             → (result ≡ Err WriteFailed) × PrintAlike result result'
         go (inl over) = absurd (let both = sym over ∙ asks in cc)
@@ -90,7 +90,7 @@ module _ {V W : Type 0} (contents : V → Option (List ℕ)) (contents' : W → 
         → (result' ≡ Err WriteFailed) × PrintAlike result result'
     cut_there none x asks = go (there none).over
       where
-        go : (next_move (search_move search) first ≡ Ends result')
+        go : (next_move (search_move search) first ≡ Over result')
             ⊎ ((result' ≡ Err WriteFailed) × (next_move (search_move search) first ≡ Asks ForTime))
             → (result' ≡ Err WriteFailed) × PrintAlike result result'
         go (inl over) = absurd (let both = sym over ∙ asks in cc)

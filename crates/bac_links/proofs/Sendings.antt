@@ -3,7 +3,7 @@ use Rattle.std.proofs.Common.{◌≡◌, ℕ, List, [], ◌∷◌, ◌++◌, Opt
 use Rattle.std.proofs.lemmas.List.{append-nil}
 use Rattle.bac_pdu.specs.Peer.{Station}
 use Rattle.bac_links.{proofs.Asking.{last_push, followed}, specs.History.{Entry, Unposted}}
-use Rattle.bac_links.specs.Asking.{Move, Asks, Ends, ToSend, question_of, Follows, next_move}
+use Rattle.bac_links.specs.Asking.{Move, Asks, Over, ToSend, question_of, Follows, next_move}
 use Rattle.bac_links.specs.{Sent.{sent_behind, AllSent}, declared.fault.ToolFault.{ToolFault, TheVariants.SendFailed}}
 
 -- What is told of a datagram alone.
@@ -27,13 +27,13 @@ module _ {D : Type 0} (told : List Entry → Station → List ℕ → D) where
       pub grows : (xs : List Entry) (x : Entry) → Follows move [] xs → next_move move xs ≡ Asks (question_of x)
           → due (xs ++ x ∷ []) ≡ due xs ++ sending (xs ++ x ∷ []) (move (xs ++ x ∷ []) (Some x))
       pub stops : (xs : List Entry) (to : Station) (octets : List ℕ)
-          → move xs (Some (Unposted to octets)) ≡ Ends (Err SendFailed)
-      pub sound : (xs : List Entry) (x : Entry) → move xs (Some x) ≡ Ends (Err SendFailed)
+          → move xs (Some (Unposted to octets)) ≡ Over (Err SendFailed)
+      pub sound : (xs : List Entry) (x : Entry) → move xs (Some x) ≡ Over (Err SendFailed)
           → (to : Station) × (octets : List ℕ) × (x ≡ Unposted to octets)
 
     -- What was due was sent, or is to be sent next; where a send failed, all but that one.
     abbrev pub IsSent : List Entry → Move (Result A ToolFault) → Type 0
-    IsSent xs (Ends result) = AllSent (due xs) (sent_behind told [] xs) result
+    IsSent xs (Over result) = AllSent (due xs) (sent_behind told [] xs) result
     IsSent xs (Asks question) = due xs ≡ sent_behind told [] xs ++ sending {A = A} xs (Asks question)
 
     module _ (dues : SendsDues) where

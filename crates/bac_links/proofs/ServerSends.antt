@@ -7,7 +7,7 @@ use Rattle.std.{
 use Rattle.bac_pdu.specs.Peer.{Station}
 use Rattle.bac_device.specs.Device.{DeviceState}
 use Rattle.bac_links.{
-  specs.{History.{Entry, Unposted}, Asking.{Asks, Ends, question_of, Follows, next_move}, Sent.{sent_in, AllSent}},
+  specs.{History.{Entry, Unposted}, Asking.{Asks, Over, question_of, Follows, next_move}, Sent.{sent_in, AllSent}},
   specs.{Serve.{arrivals_in, replies_of, serve_move}, declared.fault.ToolFault.{ToolFault, TheVariants.SendFailed}},
   proofs.Asking.{last_push, PlaysAll, followed},
   proofs.{Sendings.{alone, sending, all_sent}, Servings.{replies-append, arrivals-push}},
@@ -25,7 +25,7 @@ module _ (count : ℕ) (device : DeviceState) where
       ≡ due xs ++ sending alone (xs ++ x ∷ []) (serve_move count device (xs ++ x ∷ []) (Some x))
   grows = grind (arith, arrivals-push, replies-append, flat_map-append, last_push, append-nil, nat_tests)
 
-  sound : (xs : List Entry) (x : Entry) → serve_move count device xs (Some x) ≡ Ends (Err SendFailed)
+  sound : (xs : List Entry) (x : Entry) → serve_move count device xs (Some x) ≡ Over (Err SendFailed)
       → (to : Station) × (octets : List ℕ) × (x ≡ Unposted to octets)
   sound = grind (arith, nat_tests)
 

@@ -3,11 +3,11 @@ use Rattle.std.proofs.Common.{◌≡◌, ◌≢◌, ℕ, suc, ◌+◌, ◌<◌, 
 use Rattle.std.proofs.Common.{length-append, Option, Some, None, Result, Ok, Err, refl, ap, ◌∙◌, arith, append_assoc}
 use Rattle.std.{proofs.lemmas.{List.{append-nil, Concat.flat_map-append}, Bool.lt-leb}, specs.List.last_or}
 use Rattle.bac_pdu.specs.Peer.{Station}
-use Rattle.bac_device.specs.{Device.DeviceState, Turns.Arrival as Came, Reply.reply_of}
+use Rattle.bac_device.specs.{Device.DeviceState, Turns.Arrival, Reply.reply_of}
 use Rattle.bac_links.{
   proofs.{Asking.{last_push, follows_push, waits_push, turn_begins, turns_over}, Histories.{gains_both, gains_none}},
-  specs.Asking.{Ends, ToSend, question_of, Follows, next_move, waits_in, turn_after},
-  specs.History.{Heard, Silence, Arrival, Failure, Entry, Waited, Posted, Account, GainsAll},
+  specs.Asking.{Over, ToSend, question_of, Follows, next_move, waits_in, turn_after},
+  specs.History.{Heard, Silence, Arrived, Failure, Entry, Waited, Posted, Account, GainsAll},
   specs.Inner.ServeSteps.{brought_by, came_in, replied_in, sends_of, LeavesDevice, ServesOne},
   specs.{Limits.{most_turns, serve_wait}, Serve.{came_by, arrivals_in, device_next, device_behind}},
   specs.{Serve.{replies_of, reply_count, or_reply, serve_next, serve_move, Serves}, declared.fault.ToolFault.ToolFault},
@@ -27,12 +27,12 @@ one_at_most = grind arith
 
 -- ---- datagrams one after another
 
-behind-append : (device : DeviceState) (xs ys : List Came)
+behind-append : (device : DeviceState) (xs ys : List Arrival)
     → device_behind device (xs ++ ys) ≡ device_behind (device_behind device xs) ys
 behind-append _ [] ys = refl
 behind-append _ (x ∷ xs) ys = behind-append (device_next _ x) xs ys
 
-pub replies-append : (device : DeviceState) (xs ys : List Came)
+pub replies-append : (device : DeviceState) (xs ys : List Arrival)
     → replies_of device (xs ++ ys) ≡ replies_of device xs ++ replies_of (device_behind device xs) ys
 replies-append _ [] ys = refl
 replies-append device (x ∷ xs) ys =
@@ -61,8 +61,8 @@ module _ (count : ℕ) (before : DeviceState) where
       ≡ or_reply (last_or None rs) (serve_next count before (gained ++ Waited serve_wait heard ∷ []))
   behind_wait _ _ is Failure received rs e = absurd (received refl)
   behind_wait gained _ is Silence _ rs e = grind (arith, behind)
-  behind_wait gained _ is (Arrival from octets) _ rs e =
-      let x = Waited serve_wait (Arrival from octets) in
+  behind_wait gained _ is (Arrived from octets) _ rs e =
+      let x = Waited serve_wait (Arrived from octets) in
       let next = serve_next count _ (gained ++ x ∷ []) in
       behind gained x ∙ ap (λ (rs : List Reply). or_reply (last_or None rs) next) (replies-push gained _ is x)
       ∙ ap (λ (o : Option Reply). or_reply o next) (last_push None (replies_of _ (arrivals_in gained)) _)
@@ -87,7 +87,7 @@ serves_none = grind (arith, gains_none)
 module _ {Origin : Type 0} {before device : DeviceState} {seen mid : Account Origin} {count came replied n : ℕ}
     (goes : ServeGoes before device seen mid count came replied n) where
   -- How it ends.
-  served : (result : Result ℕ ToolFault) → next_move (serve_move count before) goes.gained ≡ Ends result
+  served : (result : Result ℕ ToolFault) → next_move (serve_move count before) goes.gained ≡ Over result
       → Serves count before device seen mid result
   served _ over = record {
     plays = grind arith;
@@ -143,7 +143,7 @@ module _ {Origin : Type 0} {before device : DeviceState} {seen mid : Account Ori
       on_with = grind (arith, device_is, length-append, replies_are, flat_map-append)
 
       fails_with : {left : Account Origin} (result : Result ℕ ToolFault) → GainsAll gained seen left
-          → Follows (serve_move count before) [] gained → next_move (serve_move count before) gained ≡ Ends result
+          → Follows (serve_move count before) [] gained → next_move (serve_move count before) gained ≡ Over result
           → Serves count before after seen left result
       fails_with _ gains follows over = record {
         plays = grind arith;

@@ -21,7 +21,7 @@ question_of (Unposted to octets) = ToSend to octets
 -- A tool asks this next, or it is over, with this result.
 pub data Move (R : Type 0) : Type 0 where
   Asks : (question : Question) → Move R
-  Ends : (result : R) → Move R
+  Over : (result : R) → Move R
 
 -- The next move behind these entries: a tool has its moves by all of them, and by the last.
 abbrev pub next_move : {R : Type 0} → (List Entry → Option Entry → Move R) → List Entry → Move R
@@ -39,7 +39,7 @@ pub record Plays {Origin R : Type 0} (move : List Entry → Option Entry → Mov
   pub gained : List Entry
   pub gains : GainsAll gained seen left
   pub follows : Follows move [] gained
-  pub over : next_move move gained ≡ Ends result
+  pub over : next_move move gained ≡ Over result
 
 -- How many waits there were.
 abbrev pub waits_in : List Entry → ℕ
@@ -55,4 +55,4 @@ times_in (_ ∷ later) = times_in later
 
 -- After n turns there is a further one, which begins with a wait of so long; or all have gone by.
 abbrev pub turn_after : {X : Type 0} → (wait n : ℕ) → Move (Result X ToolFault)
-turn_after wait n = if nat_lt n most_turns then Asks (ForDatagram wait) else Ends (Err TurnsSpent)
+turn_after wait n = if nat_lt n most_turns then Asks (ForDatagram wait) else Over (Err TurnsSpent)

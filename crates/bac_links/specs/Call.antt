@@ -8,7 +8,7 @@ use Rattle.bac_text.specs.declared.jobs.Call.{Call}
 use Rattle.bac_print.specs.{declared.checked.Checked.Checked, Checked.{Took, TakesFront}}
 use Rattle.bac_links.{
   specs.{Limits.turn_wait, History.{Failure, Entry, Waited, Timed, Posted, Unposted, Account}},
-  specs.{Handed.handed, Asking.{Move, Asks, Ends, ForTime, ToSend, Plays, waits_in, turn_after}},
+  specs.{Handed.handed, Asking.{Move, Asks, Over, ForTime, ToSend, Plays, waits_in, turn_after}},
   specs.declared.{ending.Purpose.{Purpose, TheVariants.{Reading, Writing}}, exit.Exit.Exit, fault.ToolFault.ToolFault},
   specs.{declared.fault.ToolFault.TheVariants.{SendFailed, ReceiveFailed, WriteFailed}, Ending.{exit_of, ending_line}},
 }
@@ -28,7 +28,7 @@ Comes = Result (Option Outcome) ToolFault
 
 -- Where the request has ended the call is over.
 abbrev pub or_ended : Option End → Move Comes → Move Comes
-or_ended (Some x) other = Ends (Ok x.outcome)
+or_ended (Some x) other = Over (Ok x.outcome)
 or_ended None other = other
 
 module _ (purpose : Purpose) (call : Call) where
@@ -70,8 +70,8 @@ module _ (purpose : Purpose) (call : Call) where
       (if is_sent_last (events_of gained) then Asks (ToSend asked.request.peer asked.request.octets)
       else turn_after (turn_wait call.timeout) (waits_in gained))
   move gained (Some (Posted to octets)) = turn_after (turn_wait call.timeout) (waits_in gained)
-  move gained (Some (Unposted to octets)) = Ends (Err SendFailed)
-  move gained (Some (Waited wait Failure)) = Ends (Err ReceiveFailed)
+  move gained (Some (Unposted to octets)) = Over (Err SendFailed)
+  move gained (Some (Waited wait Failure)) = Over (Err ReceiveFailed)
   move gained (Some (Waited wait heard)) = or_ended (end_in (events_of gained)) (Asks ForTime)
 
   module _ {Origin W : Type 0} (contents : W → Option (List ℕ)) (before after : Checked W)

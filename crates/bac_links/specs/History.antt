@@ -5,7 +5,7 @@ use Rattle.bac_pdu.specs.{declared.peer.Peer.Peer, Peer.{Station, station}}
 -- What a receive hears.
 pub data Heard : Type 0 where
   Silence : Heard
-  Arrival : (from : Station) (octets : List ℕ) → Heard
+  Arrived : (from : Station) (octets : List ℕ) → Heard
   Failure : Heard
 
 -- One thing that a link was asked, with its answer: a wait of so long, and what it heard; the time; a datagram that was
@@ -32,7 +32,7 @@ Gains entry = GainsAll (entry ∷ [])
 -- What is heard where `receive` answers this and leaves these octets in its datagram.
 abbrev pub heard_by : {E : Type 0} → Result (Option Peer) E → List ℕ → Heard
 heard_by (Ok None) octets = Silence
-heard_by (Ok (Some from)) octets = Arrival (station from) octets
+heard_by (Ok (Some from)) octets = Arrived (station from) octets
 heard_by (Err fault) octets = Failure
 
 -- The entry of a send with this result.

@@ -1,7 +1,7 @@
 -- The scenes that the steps of a link in memory are, and what contracts see of such a link.
 use Rattle.std.specs.Prelude.{ℕ, List, map, length, nat_le, if◌then◌else◌, Some, None}
 use Rattle.bac_pdu.specs.Peer.{Station, station}
-use Rattle.bac_links.specs.{Limits.longest_datagram, History.{Heard, Silence, Arrival, Failure, Entry, Account}}
+use Rattle.bac_links.specs.{Limits.longest_datagram, History.{Heard, Silence, Arrived, Failure, Entry, Account}}
 use Rattle.bac_links.specs.Played.{Scene, at_first, ArePlayed, Sending, sendings}
 use Rattle.bac_links.specs.declared.memory.{Step.{Step, TheVariants.{Quiet, Packet, Broken}}, Kept.Kept, Record.Record}
 use Rattle.bac_links.specs.declared.memory.Kept.TheVariants as kept
@@ -12,7 +12,7 @@ unrouted peer = record peer { route = None }
 
 -- A datagram comes from an address and a port, and is not heard where no receive can hold it.
 abbrev pub coming : Station → List ℕ → Heard
-coming from octets = if nat_le (length octets) longest_datagram then Arrival (unrouted from) octets else Silence
+coming from octets = if nat_le (length octets) longest_datagram then Arrived (unrouted from) octets else Silence
 
 abbrev pub scene_of_step : Step → Scene
 scene_of_step (Quiet time) = record { heard = Silence; time = Some time }

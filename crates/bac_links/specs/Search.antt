@@ -10,8 +10,8 @@ use Rattle.bac_pdu.specs.{Peer.{Station, station}, ValueReading.introduction_of,
 use Rattle.bac_text.specs.declared.jobs.Search.{Search}
 use Rattle.bac_print.specs.{declared.checked.Checked.Checked, Checked.Took, PeerTexts.peer_text}
 use Rattle.bac_links.{
-  specs.Asking.{Move, Asks, Ends, ForTime, ToSend, Follows, Plays, waits_in, times_in, turn_after},
-  specs.History.{Heard, Arrival, Failure, Entry, Waited, Timed, Posted, Unposted, Account, GainsAll},
+  specs.Asking.{Move, Asks, Over, ForTime, ToSend, Follows, Plays, waits_in, times_in, turn_after},
+  specs.History.{Heard, Arrived, Failure, Entry, Waited, Timed, Posted, Unposted, Account, GainsAll},
   specs.{Limits.turn_wait, declared.exit.Exit.{Exit, TheVariants.{Good, Bad}}},
   specs.declared.fault.ToolFault.{ToolFault, TheVariants.{SendFailed, ReceiveFailed, WriteFailed}},
 }
@@ -36,7 +36,7 @@ found_of who from octets = do
 
 -- The device that is found by an entry, if one is.
 abbrev pub found_by : WhoIs → Entry → List Found
-found_by who (Waited wait (Arrival from octets)) = option_to_list (found_of who from octets)
+found_by who (Waited wait (Arrived from octets)) = option_to_list (found_of who from octets)
 found_by who _ = []
 
 -- The line that is printed of a device.
@@ -73,7 +73,7 @@ module _ (search : Search) where
   behind_time gained zero = Asks (ToSend (station search.to) who_is_to)
   behind_time gained (suc n) =
       if nat_le search.timeout (passed_in (times_in gained))
-      then Ends (Ok (if nat_lt 0 (length (found_in gained)) then Good else Bad))
+      then Over (Ok (if nat_lt 0 (length (found_in gained)) then Good else Bad))
       else turn_after (turn_wait search.timeout) (suc n)
 
   -- The next move of a search, behind what came last: the time comes first, and after each wait.
@@ -81,8 +81,8 @@ module _ (search : Search) where
   search_move gained None = Asks ForTime
   search_move gained (Some (Timed time)) = behind_time gained (waits_in gained)
   search_move gained (Some (Posted to octets)) = turn_after (turn_wait search.timeout) (waits_in gained)
-  search_move gained (Some (Unposted to octets)) = Ends (Err SendFailed)
-  search_move gained (Some (Waited wait Failure)) = Ends (Err ReceiveFailed)
+  search_move gained (Some (Unposted to octets)) = Over (Err SendFailed)
+  search_move gained (Some (Waited wait Failure)) = Over (Err ReceiveFailed)
   search_move gained (Some (Waited wait heard)) = Asks ForTime
 
   module _ {Origin W : Type 0} (contents : W → Option (List ℕ)) (before after : Checked W)

@@ -2,31 +2,31 @@
 use Rattle.std.specs.Prelude.{◌≡◌, ℕ, nat_le, if◌then◌else◌, List, [], ◌∷◌, length, Option, Some, None, Result, Ok, Err}
 use Rattle.std.specs.{Option.option_to_list, List.{flat_map, last_or}}
 use Rattle.bac_pdu.specs.Peer.{Station}
-use Rattle.bac_device.specs.{Device.DeviceState, Reply.{reply_of, write_in_datagram, with_write}, Turns.Arrival as Came}
-use Rattle.bac_links.specs.{Limits.serve_wait, History.{Arrival, Failure, Entry, Waited, Unposted, Account}}
-use Rattle.bac_links.specs.Asking.{Move, Asks, Ends, ToSend, Plays, waits_in, turn_after}
+use Rattle.bac_device.specs.{Device.DeviceState, Reply.{reply_of, write_in_datagram, with_write}, Turns.Arrival}
+use Rattle.bac_links.specs.{Limits.serve_wait, History.{Arrived, Failure, Entry, Waited, Unposted, Account}}
+use Rattle.bac_links.specs.Asking.{Move, Asks, Over, ToSend, Plays, waits_in, turn_after}
 use Rattle.bac_links.specs.declared.fault.ToolFault.{ToolFault, TheVariants.{SendFailed, ReceiveFailed}}
 
 -- The datagram that came by an entry, if one did.
-abbrev pub came_by : Entry → List Came
-came_by (Waited wait (Arrival from octets)) = record { from = from; datagram = octets } ∷ []
+abbrev pub came_by : Entry → List Arrival
+came_by (Waited wait (Arrived from octets)) = record { from = from; datagram = octets } ∷ []
 came_by _ = []
 
 -- The datagrams that came, in their order.
-abbrev pub arrivals_in : List Entry → List Came
+abbrev pub arrivals_in : List Entry → List Arrival
 arrivals_in = flat_map came_by
 
 -- A device once it has taken a datagram.
-abbrev pub device_next : DeviceState → Came → DeviceState
+abbrev pub device_next : DeviceState → Arrival → DeviceState
 device_next device came = with_write device (write_in_datagram device came.from came.datagram)
 
 -- A device once it has taken these, one after another.
-abbrev pub device_behind : DeviceState → List Came → DeviceState
+abbrev pub device_behind : DeviceState → List Arrival → DeviceState
 device_behind device [] = device
 device_behind device (came ∷ later) = device_behind (device_next device came) later
 
 -- Its replies to them, each as it stands then.
-abbrev pub replies_of : DeviceState → List Came → List (Option (Station × List ℕ))
+abbrev pub replies_of : DeviceState → List Arrival → List (Option (Station × List ℕ))
 replies_of device [] = []
 replies_of device (came ∷ later) =
     reply_of device came.from came.datagram ∷ replies_of (device_next device came) later
@@ -45,15 +45,15 @@ module _ (count : ℕ) (device : DeviceState) where
   abbrev pub serve_next : List Entry → Move (Result ℕ ToolFault)
   serve_next gained =
       if nat_le count (length (arrivals_in gained))
-      then Ends (Ok (reply_count (replies_of device (arrivals_in gained))))
+      then Over (Ok (reply_count (replies_of device (arrivals_in gained))))
       else turn_after serve_wait (waits_in gained)
 
   -- The next move of a server, behind what came last: the reply to a datagram is sent before the next wait.
   abbrev pub serve_move : List Entry → Option Entry → Move (Result ℕ ToolFault)
-  serve_move gained (Some (Waited wait Failure)) = Ends (Err ReceiveFailed)
-  serve_move gained (Some (Waited wait (Arrival from octets))) =
+  serve_move gained (Some (Waited wait Failure)) = Over (Err ReceiveFailed)
+  serve_move gained (Some (Waited wait (Arrived from octets))) =
       or_reply (last_or None (replies_of device (arrivals_in gained))) (serve_next gained)
-  serve_move gained (Some (Unposted to octets)) = Ends (Err SendFailed)
+  serve_move gained (Some (Unposted to octets)) = Over (Err SendFailed)
   serve_move gained _ = serve_next gained
 
 -- What a device that serves over a link answers and sends, and what is left of both, however the server ends and

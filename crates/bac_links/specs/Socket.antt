@@ -8,9 +8,9 @@ use Rattle.std.{
   specs.declared.net.socket_addr.SocketAddr.{SocketAddr, TheVariants.{V4, V6}},
 }
 use Rattle.bac_pdu.specs.{Peer.{Station, station}, declared.peer.Peer.Peer}
-use Rattle.bac_links.specs.History.{Heard, Silence, Arrival, Failure, Entry, Waited, Timed, Posted, Unposted, Account}
+use Rattle.bac_links.specs.History.{Heard, Silence, Arrived, Failure, Entry, Waited, Timed, Posted, Unposted, Account}
 use Rattle.bac_links.specs.{Limits.longest_datagram, SystemCall.{SystemCall, Bind, Limit, SendTo, Receive, Elapsed}}
-use Rattle.bac_links.specs.declared.udp.Refused.{Refused, TheVariants.{Fails, IsLost}}
+use Rattle.bac_links.specs.declared.udp.OnRefusal.{OnRefusal, TheVariants.{Fails, IsLost}}
 
 -- Between these two logs the system was asked for something of which this holds.
 pub record Logs (Are : List SystemCall → Type 0) (before after : List SystemCall) : Type 0 where
@@ -56,13 +56,13 @@ pub record Times (before now : ℕ) (calls : List SystemCall) : Type 0 where
 
 -- ---- a send
 
-abbrev pub is_lost : Refused → Bool
+abbrev pub is_lost : OnRefusal → Bool
 is_lost Fails = false
 is_lost IsLost = true
 
 -- These octets were given to send to the address of the peer, once, and nothing else was asked for. The send is good
 -- where all of them went, or where what is refused is lost.
-pub record Sends (refused : Refused) (to : Station) (octets : List ℕ) (good : Bool) (calls : List SystemCall)
+pub record Sends (refused : OnRefusal) (to : Station) (octets : List ℕ) (good : Bool) (calls : List SystemCall)
     : Type 0 where
   pub address : SocketAddr
   pub sent : Option ℕ
@@ -78,7 +78,7 @@ heard_from address octets = if nat_le (length octets) longest_datagram then peer
 
 -- A receive with this error counts as silence: its time was over, or it tells that a datagram sent before did not come
 -- to its peer, and such a datagram counts as lost.
-abbrev pub is_quiet : Refused → ErrorKind → Bool
+abbrev pub is_quiet : OnRefusal → ErrorKind → Bool
 is_quiet refused WouldBlock = true
 is_quiet refused TimedOut = true
 is_quiet refused Interrupted = true
@@ -89,8 +89,8 @@ is_quiet refused NetworkUnreachable = is_lost refused
 is_quiet refused kind = false
 
 -- What is heard where a receive is answered so.
-abbrev pub hears : Refused → Result (List ℕ × SocketAddr) ErrorKind → Heard
-hears refused (Ok came) = option_map_or (λ peer. Arrival (station peer) came.0) (heard_from came.1 came.0) Silence
+abbrev pub hears : OnRefusal → Result (List ℕ × SocketAddr) ErrorKind → Heard
+hears refused (Ok came) = option_map_or (λ peer. Arrived (station peer) came.0) (heard_from came.1 came.0) Silence
 hears refused (Err kind) = if is_quiet refused kind then Silence else Failure
 
 -- What a socket whose receives wait so long is asked for, so that they wait this long, in milliseconds: nothing where
@@ -99,7 +99,7 @@ abbrev pub limits : (waits wait : ℕ) → (done : Bool) → List SystemCall
 limits waits wait done = if wait == waits then [] else Limit (wait * 1_000_000) done ∷ []
 
 -- A socket whose receives wait so long, or were set to, was asked for a datagram once, and this was heard.
-pub record Receives (refused : Refused) (waits wait : ℕ) (heard : Heard) (calls : List SystemCall) : Type 0 where
+pub record Receives (refused : OnRefusal) (waits wait : ℕ) (heard : Heard) (calls : List SystemCall) : Type 0 where
   pub came : Result (List ℕ × SocketAddr) ErrorKind
   pub heard_is : heard ≡ hears refused came
   pub asked : calls ≡ limits waits wait true ++ Receive (longest_datagram + 1) came ∷ []
@@ -112,7 +112,7 @@ pub record IsUnlimited (waits wait : ℕ) (heard : Heard) (calls : List SystemCa
 
 -- A socket whose receives wait so long was asked for a datagram once, with room for one octet more than is heard; where
 -- they are to wait another time, this was set before. This was heard, or the other time could not be set.
-abbrev pub Waits : Refused → (waits wait : ℕ) → Heard → List SystemCall → Type 0
+abbrev pub Waits : OnRefusal → (waits wait : ℕ) → Heard → List SystemCall → Type 0
 Waits refused waits wait heard calls =
     Receives refused waits wait heard calls ⊎ IsUnlimited waits wait heard calls
 
@@ -127,7 +127,7 @@ abbrev pub time_behind : ℕ → Entry → ℕ
 time_behind time (Timed now) = now
 time_behind time _ = time
 
-module _ (refused : Refused) where
+module _ (refused : OnRefusal) where
   -- The calls for one entry, where the receives wait so long and this is the time before. A wait is one millisecond at
   -- least.
   abbrev pub CallsFor : (waits time : ℕ) → Entry → List SystemCall → Type 0
@@ -146,11 +146,11 @@ module _ (refused : Refused) where
 -- What a link over a socket was made of: what becomes of a datagram that is refused, and the calls of the system that
 -- the socket had made before.
 pub record OverSocket : Type 0 where
-  pub refused : Refused
+  pub refused : OnRefusal
   pub calls : List SystemCall
 
 -- The account of a link over a socket that had made these calls.
-abbrev pub account_over : Refused → (calls : List SystemCall) → List Entry → Account OverSocket
+abbrev pub account_over : OnRefusal → (calls : List SystemCall) → List Entry → Account OverSocket
 account_over refused calls history = record { made = record { refused = refused; calls = calls }; history = history }
 
 -- Behind the calls that the socket had made before, its log has those for the entries of the history, and no others.

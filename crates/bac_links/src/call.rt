@@ -20,7 +20,7 @@ use crate::turns::{most_turns, turn_wait};
 use bac_pdu::{READ_PROPERTY, WRITE_PROPERTY};
 use bac_print::Checked;
 use bac_text::Call;
-use bac_tsm::{Client, Config, Entry, Outcome};
+use bac_tsm::{Client, Config, DueEntry, Outcome};
 use std::io::Write;
 
 /// Reads a property (clause 15.5): sends the request, waits for how it ends, and prints that in a line, as `4290999a`,
@@ -195,11 +195,11 @@ fn pass_time<L: Link>(client: &mut Client, link: &mut L) -> Result<bool, ToolFau
 {
     let due = client.tick(link.now());
     match due.as_slice().first() {
-        Some(&Entry::Resend(ticket)) => {
+        Some(&DueEntry::Resend(ticket)) => {
             send_request(client, ticket, link)?;
             Ok(false)
         }
-        Some(Entry::TimedOut(_)) => Ok(true),
+        Some(DueEntry::TimedOut(_)) => Ok(true),
         None => Ok(false),
     }
 }

@@ -14,7 +14,7 @@ ghost use Rattle.bac_links.{
   specs.{Answered.{AskAlike, OneText}, Asking.waits_in, Call.{IsAccepted, Tells, events_of}, History.{Entry, Account}},
   specs.{Limits.longest_datagram, Memory.PlaysItsScenes, Progress.{AreTold, ArePrompt}, Search.{Searched, who_is_to}},
   specs.{Sent.{sent_in, sent_at, sends_of_call, AllSent}, Serve.{arrivals_in, replies_of, Serves}, Socket.LogsHistory},
-  specs.declared.{ending.Purpose.Purpose, exit.Exit.Exit as Ended, fault.ToolFault.ToolFault as Fault},
+  specs.declared.{ending.Purpose.Purpose, exit.Exit.Exit as ExitValue, fault.ToolFault.ToolFault as Fault},
 };
 
 use crate::datagram::DATAGRAM_OCTETS;
@@ -25,7 +25,7 @@ use crate::history::CallNote;
 use crate::link::{Link, LinkFault};
 use crate::memory::{MemoryLink, Step};
 use crate::socket::Socket;
-use crate::udp::{Refused, UdpLink};
+use crate::udp::{OnRefusal, UdpLink};
 use std::alloc::Allocator;
 use std::io::Write;
 
@@ -67,7 +67,7 @@ pub fn a_server_hears_as_many<L: Link>()
 /// that the request is sent (clause 5.4.4).
 pub fn a_call_ends_in_time<L: Link, W: Write>()
     ensures { (purpose : Purpose) (call : Call) (before after : Checked W) (seen left : Account L.Origin)
-        (result : Result Ended Fault) (gained : List Entry) (time_behind : ℕ → ℕ) (longest : ℕ)
+        (result : Result ExitValue Fault) (gained : List Entry) (time_behind : ℕ → ℕ) (longest : ℕ)
         → Tells purpose call W.contents before after seen left result → left.history ≡ seen.history ++ gained
         → AreTold time_behind 0 gained → ArePrompt time_behind longest (waits_in gained)
         → time_behind (waits_in gained) ≤ time_behind 0 + suc call.retries * (call.timeout + longest) }
@@ -78,7 +78,7 @@ pub fn a_call_ends_in_time<L: Link, W: Write>()
 /// has.
 pub fn a_call_is_accepted<L: Link, W: Write>()
     ensures { (purpose : Purpose) (call : Call) (before after : Checked W) (seen left : Account L.Origin)
-        (result : Result Ended Fault) (gained : List Entry) → length call.body.items ≤ longest_body
+        (result : Result ExitValue Fault) (gained : List Entry) → length call.body.items ≤ longest_body
         → Tells purpose call W.contents before after seen left result → left.history ≡ seen.history ++ gained
         → IsAccepted purpose call (events_of purpose call gained) }
 {}
@@ -87,22 +87,22 @@ pub fn a_call_is_accepted<L: Link, W: Write>()
 /// history, and no more; where a send failed, all but that one.
 pub fn a_call_sends_as_the_look_ahead_says<L: Link, W: Write>()
     ensures { (purpose : Purpose) (call : Call) (before after : Checked W) (seen left : Account L.Origin)
-        (result : Result Ended Fault) (gained : List Entry)
+        (result : Result ExitValue Fault) (gained : List Entry)
         → Tells purpose call W.contents before after seen left result → left.history ≡ seen.history ++ gained
         → AllSent (sends_of_call purpose call gained) (sent_at purpose call gained) result }
 {}
 
 /// What a search sent is its Who-Is, once; where that failed, nothing.
 pub fn a_search_sends_one_who_is<L: Link, W: Write>()
-    ensures { (search : Search) (before after : Checked W) (seen left : Account L.Origin) (result : Result Ended Fault)
-        (gained : List Entry)
+    ensures { (search : Search) (before after : Checked W) (seen left : Account L.Origin)
+        (result : Result ExitValue Fault) (gained : List Entry)
         → Searched search W.contents before after seen left result → left.history ≡ seen.history ++ gained
         → AllSent ((station search.to, who_is_to search) ∷ []) (sent_in gained) result }
 {}
 
 /// No call ends with an exit over a link, a socket or another, whose history gained nothing.
 pub fn no_call_ends_unheard<L: Link, W: Write>()
-    ensures { (purpose : Purpose) (call : Call) (before after : Checked W) (seen : Account L.Origin) (exit : Ended)
+    ensures { (purpose : Purpose) (call : Call) (before after : Checked W) (seen : Account L.Origin) (exit : ExitValue)
         → Tells purpose call W.contents before after seen seen (Ok exit) → ⊥ }
 {}
 
@@ -161,7 +161,7 @@ pub fn clones<'a>()
     ensures exit { MakesCopies ⟦<Exit as Clone>⟧.is_clone ⟦<Exit as Clone>⟧.is_infallible }
     ensures fault { MakesCopies ⟦<ToolFault as Clone>⟧.is_clone ⟦<ToolFault as Clone>⟧.is_infallible }
     ensures link_fault { MakesCopies ⟦<LinkFault as Clone>⟧.is_clone ⟦<LinkFault as Clone>⟧.is_infallible }
-    ensures refused { MakesCopies ⟦<Refused as Clone>⟧.is_clone ⟦<Refused as Clone>⟧.is_infallible }
+    ensures refused { MakesCopies ⟦<OnRefusal as Clone>⟧.is_clone ⟦<OnRefusal as Clone>⟧.is_infallible }
     ensures step { MakesCopies ⟦<Step<'a> as Clone>⟧.is_clone ⟦<Step<'a> as Clone>⟧.is_infallible }
     ensures note { MakesCopies ⟦<CallNote<'a> as Clone>⟧.is_clone ⟦<CallNote<'a> as Clone>⟧.is_infallible }
 {}
@@ -171,5 +171,5 @@ pub fn equals()
     ensures exit { EqualsBy (λ exit. exit) ⟦<Exit as PartialEq>⟧.eq }
     ensures fault { EqualsBy (λ fault. fault) ⟦<ToolFault as PartialEq>⟧.eq }
     ensures link_fault { EqualsBy (λ link_fault. link_fault) ⟦<LinkFault as PartialEq>⟧.eq }
-    ensures refused { EqualsBy (λ refused. refused) ⟦<Refused as PartialEq>⟧.eq }
+    ensures refused { EqualsBy (λ refused. refused) ⟦<OnRefusal as PartialEq>⟧.eq }
 {}

@@ -11,7 +11,7 @@
 //! how the read ended, and that this is the status of that end:
 //!
 //! ```rust
-//! match UdpLink::bind_with(rt, alloc, anywhere, Refused::Fails) {
+//! match UdpLink::bind_with(rt, alloc, anywhere, OnRefusal::Fails) {
 //!     Ok(mut link) => status(&run_read(call, &mut link, writer)),
 //!     Err(_) => 3,
 //! }
@@ -44,4 +44,4 @@ pub use memory::{MemoryLink, Step};
 pub use search::run_whois;
 pub use serving::serve;
 pub use socket::{NoSocket, Socket, SystemSocket};
-pub use udp::{Refused, UdpLink};
+pub use udp::{OnRefusal, UdpLink};

@@ -27,7 +27,7 @@ const BUFFER_OCTETS: usize = DATAGRAM_OCTETS + 1;
 
 /// What becomes of a datagram that the system refuses to send: one to port 0, say, or to where there is no way.
 #[derive(Clone, Copy, Debug, PartialEq, Eq)]
-pub enum Refused {
+pub enum OnRefusal {
     /// The send fails. This is for a client, whose peer was given to it.
     Fails,
     /// The datagram is lost, as any may be on its way, and so is what a receive reports of one that was sent before.
@@ -45,7 +45,7 @@ pub struct UdpLink<S: Socket + Drop> {
     time: u64,
     // The time limit that the socket has, 0 before the first.
     wait_ms: u32,
-    refused: Refused,
+    refused: OnRefusal,
     failed: bool,
     // What it was asked and answered.
     history: History,
@@ -60,7 +60,7 @@ impl<R: Net + Clock + Clone + Drop> UdpLink<SystemSocket<R>> {
     /// # Errors
     ///
     /// `NoSocket` where there is no such socket to be had, no memory, or no clock.
-    pub fn bind_with(rt: &R, alloc: Global, at: Peer, refused: Refused) -> Result<Self, NoSocket>
+    pub fn bind_with(rt: &R, alloc: Global, at: Peer, refused: OnRefusal) -> Result<Self, NoSocket>
         ensures sound { IfOk result (λ link. ⟦<UdpLink<SystemSocket<R>> as Link>⟧.has_failed link ≡ false) }
         ensures refused { IfOk result (λ link. link.refused ≡ refused) }
         ensures at { IfOk result (λ link. Binds at link.socket.log.items) }
@@ -82,7 +82,7 @@ impl<S: Socket + Drop> UdpLink<S> {
     /// # Errors
     ///
     /// `LinkFault` where there is no memory.
-    pub fn over(socket: S, alloc: Global, refused: Refused) -> Result<Self, LinkFault>
+    pub fn over(socket: S, alloc: Global, refused: OnRefusal) -> Result<Self, LinkFault>
         ensures sound { IfOk result (λ link. ⟦<UdpLink<S> as Link>⟧.has_failed link ≡ false) }
         ensures refused { IfOk result (λ link. link.refused ≡ refused) }
         ensures socket { IfOk result (λ link. link.socket ≡ socket) }
@@ -93,7 +93,7 @@ impl<S: Socket + Drop> UdpLink<S> {
     }
 
     // The same, with room for a datagram.
-    fn with(socket: S, buffer: Vec<u8>, refused: Refused) -> Self
+    fn with(socket: S, buffer: Vec<u8>, refused: OnRefusal) -> Self
         requires { vec_len buffer ≡ longest_datagram + 1 }
         ensures sound { ⟦<UdpLink<S> as Link>⟧.has_failed result ≡ false }
         ensures refused { result.refused ≡ refused }
@@ -138,7 +138,7 @@ impl<S: Socket + Drop> Link for UdpLink<S> {
     fn send(&mut self, to: Peer, octets: &[u8]) -> Result<(), LinkFault>
         requires { self.old.failed ≡ false }
         ensures fault { self.new.failed ≡ is_err result }
-        ensures lost { self.old.refused ≡ Refused.IsLost → result ≡ Ok tt }
+        ensures lost { self.old.refused ≡ OnRefusal.IsLost → result ≡ Ok tt }
         ensures left { (self.new.refused ≡ self.old.refused) × (self.new.time ≡ self.old.time)
             × (self.new.wait_ms ≡ self.old.wait_ms) × (self.new.buffer ≡ self.old.buffer) }
         ensures asked { Logs (Sends self.old.refused (station to) octets.now (is_ok result))
@@ -208,17 +208,17 @@ fn address_of(peer: Peer) -> SocketAddr
 // Gives the octets to send to the address of the peer.
 fn post<S: Socket>(
     socket: &mut S,
-    refused: Refused,
+    refused: OnRefusal,
     to: Peer,
     octets: &[u8],
 ) -> Result<(), LinkFault>
-    ensures lost { refused ≡ Refused.IsLost → result ≡ Ok tt }
+    ensures lost { refused ≡ OnRefusal.IsLost → result ≡ Ok tt }
     ensures asked { Logs (Sends refused (station to) octets.now (is_ok result)) (S.log socket.old)
         (S.log socket.new) }
 {
     match socket.send_to(octets, address_of(to)) {
         Ok(sent) if sent == octets.len() => Ok(()),
-        _ if refused == Refused::IsLost => Ok(()),
+        _ if refused == OnRefusal::IsLost => Ok(()),
         _ => Err(LinkFault),
     }
 }
@@ -227,7 +227,7 @@ fn post<S: Socket>(
 fn next_datagram<S: Socket>(
     socket: &mut S,
     set_ms: &mut u32,
-    refused: Refused,
+    refused: OnRefusal,
     buffer: &mut [u8],
     wait_ms: u32,
     datagram: &mut Datagram,
@@ -296,7 +296,7 @@ fn peer_of(address: SocketAddr) -> Option<Peer>
 }
 
 // Whether a receive with this error counts as silence.
-fn is_quiet(refused: Refused, kind: ErrorKind) -> bool
+fn is_quiet(refused: OnRefusal, kind: ErrorKind) -> bool
     ensures { result ≡ is_quiet refused kind }
 {
     match kind {
@@ -305,7 +305,7 @@ fn is_quiet(refused: Refused, kind: ErrorKind) -> bool
         ErrorKind::ConnectionRefused
         | ErrorKind::ConnectionReset
         | ErrorKind::HostUnreachable
-        | ErrorKind::NetworkUnreachable => refused == Refused::IsLost,
+        | ErrorKind::NetworkUnreachable => refused == OnRefusal::IsLost,
         _ => false,
     }
 }

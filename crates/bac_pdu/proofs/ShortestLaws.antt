@@ -130,8 +130,8 @@ parameters_shortest : (ps : List Parameter) → AllByRecursion IsParameter ps
 parameters_shortest = all_shortest _ _ _ parameter_shortest
 
 -- the value is written in the fewest octets
-abbrev pub IsWritten : Datum → Type 0
-IsWritten datum = IsShortest Spells (plain datum) datum
+abbrev pub IsLeast : Datum → Type 0
+IsLeast datum = IsShortest Spells (plain datum) datum
 
 -- ---- the bodies
 
@@ -180,9 +180,9 @@ pub who_is_back : (low high : ℕ) → low < 2 ^ 32 → high < 2 ^ 32
     → who_is_of (who_is_octets (limits.Range low high)) ≡ Some (limits.Range low high)
 who_is_back _ _ l h = limits_back _ (l, h)
 
-pub i_am_shortest : (i : Introduction) → i.device.kind ≡ 8 → IsWritten (values.object i.device)
-    → IsWritten (unsigned i.max_apdu)
-    → IsWritten (enumerated i.segmentation) → IsWritten (unsigned i.vendor) → IsShortest IsIAmBody (i_am_octets i) i
+pub i_am_shortest : (i : Introduction) → i.device.kind ≡ 8 → IsLeast (values.object i.device)
+    → IsLeast (unsigned i.max_apdu)
+    → IsLeast (enumerated i.segmentation) → IsLeast (unsigned i.vendor) → IsShortest IsIAmBody (i_am_octets i) i
 i_am_shortest i device a b c d =
     let all = all_shortest _ plain _ (λ x is. is) (introduction_values i) (a, (b, (c, (d, tt)))) in
     record {
@@ -198,7 +198,7 @@ pub introduction_back : (i : Introduction) → i.device.kind ≡ 8 → AllByRecu
     → introduction_of (i_am_octets i) ≡ Some i
 introduction_back i device h = (introduction_is _ i).1 (grind (arith, whole_spell, plain_spells))
 
-pub error_shortest : (class code : ℕ) → IsWritten (enumerated class) → IsWritten (enumerated code)
+pub error_shortest : (class code : ℕ) → IsLeast (enumerated class) → IsLeast (enumerated code)
     → IsShortest IsErrorBody (error_octets class code) (class, code)
 error_shortest class code a b = record {
   spelled = (
@@ -221,9 +221,9 @@ pub error_back : (class code : ℕ) (rest : List ℕ) → AllByRecursion IsDatum
     → error_of (error_octets class code ++ rest) ≡ Some (class, code)
 error_back = error_again _ plain_spells
 
-pub error_is_back : (class code : ℕ) → IsWritten (enumerated class) → IsWritten (enumerated code) → (rest : List ℕ)
+pub error_is_back : (class code : ℕ) → IsLeast (enumerated class) → IsLeast (enumerated code) → (rest : List ℕ)
     → error_of (error_octets class code ++ rest) ≡ Some (class, code)
-error_is_back _ _ a b _ = error_again IsWritten (λ x is. is.spelled) _ _ _ (a, (b, tt))
+error_is_back _ _ a b _ = error_again IsLeast (λ x is. is.spelled) _ _ _ (a, (b, tt))
 
 -- ---- the parameters of a request
 

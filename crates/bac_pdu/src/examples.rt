@@ -8,7 +8,7 @@ ghost use Rattle.bac_pdu.specs.Apdu.{confirmed, unconfirmed, simple_ack, complex
 ghost use Rattle.bac_pdu.specs.{Datagram.wrapped, DatagramReading.carried, Discovery.{i_am_octets, who_is_octets}};
 ghost use Rattle.bac_pdu.specs.{Failure.error_octets, Property.read_octets};
 ghost use Rattle.bac_pdu.specs.{PropertyReading.{ack_of, read_of, write_of}, ValueReading.{introduction_of, who_is_of}};
-ghost use Rattle.bac_pdu.specs.Inner.Examples.{IsWritten, desk, far, from_desk, present_value, small_device};
+ghost use Rattle.bac_pdu.specs.Inner.Examples.{WritesApdu, desk, far, from_desk, present_value, small_device};
 
 // A ReadProperty request, from the inside to the outside: the body, the APDU and the datagram (ANSI/ASHRAE 135, 15.5,
 // 20.1.2 and J.2).
@@ -19,7 +19,7 @@ fn examples_of_datagrams()
     ensures body_read { read_of (0x0c ∷ 0x00 ∷ 0x00 ∷ 0x00 ∷ 0x01 ∷ 0x19 ∷ 0x55 ∷ []) ≡ Ok present_value }
 
     // A confirmed request that takes an answer of up to 1476 octets (code 5), with invoke id 1, for service 12.
-    ensures apdu { IsWritten (confirmed None 5 1 12 (read_octets present_value))
+    ensures apdu { WritesApdu (confirmed None 5 1 12 (read_octets present_value))
         (0x00 ∷ 0x05 ∷ 0x01 ∷ 0x0c ∷ 0x0c ∷ 0x00 ∷ 0x00 ∷ 0x00 ∷ 0x01 ∷ 0x19 ∷ 0x55 ∷ []) }
 
     // Seventeen octets (11), for one device (0A), which is to reply (04).
@@ -41,15 +41,15 @@ fn examples_of_apdus()
     // The value is 72.3, a Real, between the opening and the closing tag 3.
     ensures ack { ack_of (read_octets present_value ++ (0x3e ∷ 0x44 ∷ 0x42 ∷ 0x90 ∷ 0x99 ∷ 0x9a ∷ 0x3f ∷ [])) ≡
         Some (record { reference = present_value; value = 0x44 ∷ 0x42 ∷ 0x90 ∷ 0x99 ∷ 0x9a ∷ [] }) }
-    ensures complex { IsWritten (complex_ack None 1 12 (read_octets present_value))
+    ensures complex { WritesApdu (complex_ack None 1 12 (read_octets present_value))
         (0x30 ∷ 0x01 ∷ 0x0c ∷ read_octets present_value) }
 
     // A write that was made, an unknown property (class 2, code 32), an unknown service (9), and an Abort of the device
     // (4).
-    ensures simple { IsWritten (simple_ack 1 15) (0x20 ∷ 0x01 ∷ 0x0f ∷ []) }
-    ensures failed { IsWritten (error 1 12 (error_octets 2 32)) (0x50 ∷ 0x01 ∷ 0x0c ∷ 0x91 ∷ 0x02 ∷ 0x91 ∷ 0x20 ∷ []) }
-    ensures rejected { IsWritten (reject 1 9) (0x60 ∷ 0x01 ∷ 0x09 ∷ []) }
-    ensures aborted { IsWritten (abort true 1 4) (0x71 ∷ 0x01 ∷ 0x04 ∷ []) }
+    ensures simple { WritesApdu (simple_ack 1 15) (0x20 ∷ 0x01 ∷ 0x0f ∷ []) }
+    ensures failed { WritesApdu (error 1 12 (error_octets 2 32)) (0x50 ∷ 0x01 ∷ 0x0c ∷ 0x91 ∷ 0x02 ∷ 0x91 ∷ 0x20 ∷ []) }
+    ensures rejected { WritesApdu (reject 1 9) (0x60 ∷ 0x01 ∷ 0x09 ∷ []) }
+    ensures aborted { WritesApdu (abort true 1 4) (0x71 ∷ 0x01 ∷ 0x04 ∷ []) }
 
     // A body that is empty, one that begins with another tag, and one with an octet too many.
     ensures missing { read_of [] ≡ Err MissingParameter }
@@ -76,7 +76,7 @@ fn examples_of_discovery()
     ensures body { i_am_octets small_device ≡ 0xc4 ∷ 0x02 ∷ 0x00 ∷ 0x04 ∷ 0xd2 ∷ 0x22 ∷ 0x05 ∷ 0xc4
         ∷ 0x91 ∷ 0x03 ∷ 0x22 ∷ 0x01 ∷ 0x04 ∷ [] }
     ensures body_read { introduction_of (i_am_octets small_device) ≡ Some small_device }
-    ensures i_am { IsWritten (unconfirmed 0 (i_am_octets small_device)) (0x10 ∷ 0x00 ∷ i_am_octets small_device) }
+    ensures i_am { WritesApdu (unconfirmed 0 (i_am_octets small_device)) (0x10 ∷ 0x00 ∷ i_am_octets small_device) }
 
     // The whole datagram, of 21 octets (15). No reply is expected (00).
     ensures datagram { wrapped None false (0x10 ∷ 0x00 ∷ i_am_octets small_device) ≡

@@ -2,27 +2,27 @@
 
 ghost use Rattle.std.specs.Prelude.{◌≡◌, [], ◌∷◌, codes, replicate};
 ghost use Rattle.bac_print.{
-  specs.{Inner.Examples.{IsPrinted, device, far_device}, PeerTexts.peer_text, Values.region_text},
+  specs.{Inner.Examples.{PrintsAs, device, far_device}, PeerTexts.peer_text, Values.region_text},
 };
 
 // A value of each kind (ANSI/ASHRAE 135, 20.2), and the text of its octets.
 #[tactic(none)]
 fn examples_of_values()
-    ensures null { IsPrinted (0x00 ∷ []) "null" }
-    ensures boolean { IsPrinted (0x10 ∷ []) "false" }
-    ensures unsigned { IsPrinted (0x21 ∷ 0x48 ∷ []) "72" }
-    ensures two_octets { IsPrinted (0x22 ∷ 0x01 ∷ 0x00 ∷ []) "256" }
-    ensures signed { IsPrinted (0x31 ∷ 0xfb ∷ []) "-5" }
-    ensures below_one_octet { IsPrinted (0x32 ∷ 0xff ∷ 0x7f ∷ []) "-129" }
-    ensures real { IsPrinted (0x44 ∷ 0x42 ∷ 0x90 ∷ 0x99 ∷ 0x9a ∷ []) "4290999a" }
-    ensures double { IsPrinted (0x55 ∷ 0x08 ∷ 0x40 ∷ 0x52 ∷ replicate 6 0) "4052000000000000" }
-    ensures octet_string { IsPrinted (0x63 ∷ 0x12 ∷ 0x34 ∷ 0xff ∷ []) "X'1234ff'" }
-    ensures character_string { IsPrinted (0x72 ∷ 0x00 ∷ 0x3f ∷ []) "\"?\"" }
-    ensures bit_string { IsPrinted (0x82 ∷ 0x03 ∷ 0xa8 ∷ []) "B'10101'" }
-    ensures enumerated { IsPrinted (0x91 ∷ 0x03 ∷ []) "3" }
-    ensures date { IsPrinted (0xa4 ∷ 0x5b ∷ 0x01 ∷ 0x18 ∷ 0x04 ∷ []) "D'5b011804'" }
-    ensures time { IsPrinted (0xb4 ∷ 0x11 ∷ 0x23 ∷ 0x2d ∷ 0x11 ∷ []) "T'11232d11'" }
-    ensures object { IsPrinted (0xc4 ∷ 0x00 ∷ 0xc0 ∷ 0x00 ∷ 0x0f ∷ []) "3:15" }
+    ensures null { PrintsAs (0x00 ∷ []) "null" }
+    ensures boolean { PrintsAs (0x10 ∷ []) "false" }
+    ensures unsigned { PrintsAs (0x21 ∷ 0x48 ∷ []) "72" }
+    ensures two_octets { PrintsAs (0x22 ∷ 0x01 ∷ 0x00 ∷ []) "256" }
+    ensures signed { PrintsAs (0x31 ∷ 0xfb ∷ []) "-5" }
+    ensures below_one_octet { PrintsAs (0x32 ∷ 0xff ∷ 0x7f ∷ []) "-129" }
+    ensures real { PrintsAs (0x44 ∷ 0x42 ∷ 0x90 ∷ 0x99 ∷ 0x9a ∷ []) "4290999a" }
+    ensures double { PrintsAs (0x55 ∷ 0x08 ∷ 0x40 ∷ 0x52 ∷ replicate 6 0) "4052000000000000" }
+    ensures octet_string { PrintsAs (0x63 ∷ 0x12 ∷ 0x34 ∷ 0xff ∷ []) "X'1234ff'" }
+    ensures character_string { PrintsAs (0x72 ∷ 0x00 ∷ 0x3f ∷ []) "\"?\"" }
+    ensures bit_string { PrintsAs (0x82 ∷ 0x03 ∷ 0xa8 ∷ []) "B'10101'" }
+    ensures enumerated { PrintsAs (0x91 ∷ 0x03 ∷ []) "3" }
+    ensures date { PrintsAs (0xa4 ∷ 0x5b ∷ 0x01 ∷ 0x18 ∷ 0x04 ∷ []) "D'5b011804'" }
+    ensures time { PrintsAs (0xb4 ∷ 0x11 ∷ 0x23 ∷ 0x2d ∷ 0x11 ∷ []) "T'11232d11'" }
+    ensures object { PrintsAs (0xc4 ∷ 0x00 ∷ 0xc0 ∷ 0x00 ∷ 0x0f ∷ []) "3:15" }
 {}
 
 // What is printed of a region of no value, of several, of what is no value, and of texts that can't stand as they are.

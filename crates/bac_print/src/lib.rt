@@ -7,8 +7,8 @@
 //! Of `examples_of_values` in `src/examples.rt`, which is proved: octets, and what is printed of them.
 //!
 //! ```text
-//! ensures real { IsPrinted (0x44 ∷ 0x42 ∷ 0x90 ∷ 0x99 ∷ 0x9a ∷ []) "4290999a" }
-//! ensures octet_string { IsPrinted (0x63 ∷ 0x12 ∷ 0x34 ∷ 0xff ∷ []) "X'1234ff'" }
+//! ensures real { PrintsAs (0x44 ∷ 0x42 ∷ 0x90 ∷ 0x99 ∷ 0x9a ∷ []) "4290999a" }
+//! ensures octet_string { PrintsAs (0x63 ∷ 0x12 ∷ 0x34 ∷ 0xff ∷ []) "X'1234ff'" }
 //! ```
 //!
 //! The caller keeps to this: the writer that it hands to [`show_value`] or [`show_outcome`] has not failed yet, and

@@ -9,7 +9,7 @@ ghost use Rattle.bac_script.{
 };
 
 use bac_print::{Checked, Page, WriteFailed};
-use bac_text::{End, LONGEST_LINE, position_of_end};
+use bac_text::{Delimiter, LONGEST_LINE, position_of_end};
 use std::io::{Read, Write};
 use std::marker::Model;
 
@@ -198,5 +198,5 @@ impl Chunk {
 fn feed_position(octets: &[u8]) -> Option<usize>
     ensures { result ≡ position (λ octet. octet == 10) octets.now }
 {
-    position_of_end(octets, End::At(b'\n'))
+    position_of_end(octets, Delimiter::At(b'\n'))
 }

@@ -16,7 +16,7 @@ ghost use Rattle.bac_script.{
 use crate::long_write::LongWrite;
 use bac_pdu::{Peer, READ_PROPERTY, ReadRequest, WRITE_PROPERTY};
 use bac_text::{
-    BodyRoom, End, LONGEST_DATAGRAM, LONGEST_LINE, PairFault, WordSource, Words, peer_in,
+    BodyRoom, Delimiter, LONGEST_DATAGRAM, LONGEST_LINE, PairFault, WordSource, Words, peer_in,
     plain_peer_in, position_of_end, priority_from, read_datagram, read_number, read_write_index,
 };
 use bac_tsm::Config;
@@ -126,7 +126,7 @@ fn line_text(line: &[u8]) -> Result<&[u8], LineFault>
 fn is_text(octets: &[u8]) -> bool
     ensures { result ≡ is_utf8 octets.now }
 {
-    match position_of_end(octets, End::PastAscii) {
+    match position_of_end(octets, Delimiter::PastAscii) {
         None => true,
         Some(_) => str::from_utf8(octets).is_ok(),
     }

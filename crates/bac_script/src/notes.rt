@@ -11,7 +11,7 @@ ghost use Rattle.bac_script.specs.Text.{note_text, notes_text, reply_text};
 use crate::tracing::TraceFault;
 use bac_pdu::Peer;
 use bac_print::{Checked, Page, print_outcome};
-use bac_tsm::{Client, Ended, Entry, Outcome, SubmitFault};
+use bac_tsm::{Client, DueEntry, Ended, Outcome, SubmitFault};
 use std::io::Write;
 
 /// Writes how a request ended, as `value 4290999a`, `error 2 32` or `abort 4`.
@@ -85,7 +85,7 @@ pub(crate) fn print_end<W: Write>(page: &mut Page<'_, W>, ended: Ended<'_>)
 
 /// Prints what became of the requests that were due, in their order.
 #[tactic(auto, using(bac_print::proofs::Printed::printing, std::proofs::lemmas::Grind::common_steps, std::proofs::lemmas::List::take_more))]
-pub(crate) fn print_due<W: Write>(page: &mut Page<'_, W>, client: &Client, due: &[Entry])
+pub(crate) fn print_due<W: Write>(page: &mut Page<'_, W>, client: &Client, due: &[DueEntry])
     ensures { Prints W.contents page.old page.new (notes_text (flat_map (due_notes client.now.state) due.now)) }
 {
     for entry in due {
@@ -107,12 +107,12 @@ pub(crate) fn print_answer<W: Write>(page: &mut Page<'_, W>, to: Option<Peer>, o
     }
 }
 
-fn print_entry<W: Write>(page: &mut Page<'_, W>, client: &Client, entry: Entry)
+fn print_entry<W: Write>(page: &mut Page<'_, W>, client: &Client, entry: DueEntry)
     ensures { Prints W.contents page.old page.new (notes_text (due_notes client.now.state entry)) }
 {
     match entry {
-        Entry::Resend(ticket) => print_sent(page, client, ticket),
-        Entry::TimedOut(ticket) => print_timeout(page, ticket),
+        DueEntry::Resend(ticket) => print_sent(page, client, ticket),
+        DueEntry::TimedOut(ticket) => print_timeout(page, ticket),
     }
 }
 

@@ -2,26 +2,26 @@
 
 ghost use Rattle.std.specs.Prelude.{◌≡◌, [], ◌∷◌, codes, replicate, Some, None, Ok, Err};
 ghost use Rattle.bac_text.specs.{declared.pairs.PairFault.TheVariants.{Bad, TooLong}, Address.peer_of};
-ghost use Rattle.bac_text.specs.{Inner.Examples.{IsWritten, device, far_device, body_with_words}, Words.words_of};
+ghost use Rattle.bac_text.specs.{Inner.Examples.{WritesPair, device, far_device, body_with_words}, Words.words_of};
 
 // A value of each kind: the number of its tag and a word, and the octets that they write (ANSI/ASHRAE 135, 20.2).
 #[tactic(none)]
 fn examples_of_values()
-    ensures null { IsWritten "0" "any" (0x00 ∷ []) }
-    ensures boolean { IsWritten "1" "false" (0x10 ∷ []) }
-    ensures unsigned { IsWritten "2" "72" (0x21 ∷ 0x48 ∷ []) }
-    ensures two_octets { IsWritten "2" "256" (0x22 ∷ 0x01 ∷ 0x00 ∷ []) }
-    ensures signed { IsWritten "3" "-5" (0x31 ∷ 0xfb ∷ []) }
-    ensures below_one_octet { IsWritten "3" "-129" (0x32 ∷ 0xff ∷ 0x7f ∷ []) }
-    ensures real { IsWritten "4" "4290999A" (0x44 ∷ 0x42 ∷ 0x90 ∷ 0x99 ∷ 0x9a ∷ []) }
-    ensures double { IsWritten "5" "4052000000000000" (0x55 ∷ 0x08 ∷ 0x40 ∷ 0x52 ∷ replicate 6 0) }
-    ensures octet_string { IsWritten "6" "1234ff" (0x63 ∷ 0x12 ∷ 0x34 ∷ 0xff ∷ []) }
-    ensures character_string { IsWritten "7" "?" (0x72 ∷ 0x00 ∷ 0x3f ∷ []) }
-    ensures bit_string { IsWritten "8" "10101" (0x82 ∷ 0x03 ∷ 0xa8 ∷ []) }
-    ensures enumerated { IsWritten "9" "3" (0x91 ∷ 0x03 ∷ []) }
-    ensures date { IsWritten "10" "5b011804" (0xa4 ∷ 0x5b ∷ 0x01 ∷ 0x18 ∷ 0x04 ∷ []) }
-    ensures time { IsWritten "11" "11232d11" (0xb4 ∷ 0x11 ∷ 0x23 ∷ 0x2d ∷ 0x11 ∷ []) }
-    ensures object { IsWritten "12" "3:15" (0xc4 ∷ 0x00 ∷ 0xc0 ∷ 0x00 ∷ 0x0f ∷ []) }
+    ensures null { WritesPair "0" "any" (0x00 ∷ []) }
+    ensures boolean { WritesPair "1" "false" (0x10 ∷ []) }
+    ensures unsigned { WritesPair "2" "72" (0x21 ∷ 0x48 ∷ []) }
+    ensures two_octets { WritesPair "2" "256" (0x22 ∷ 0x01 ∷ 0x00 ∷ []) }
+    ensures signed { WritesPair "3" "-5" (0x31 ∷ 0xfb ∷ []) }
+    ensures below_one_octet { WritesPair "3" "-129" (0x32 ∷ 0xff ∷ 0x7f ∷ []) }
+    ensures real { WritesPair "4" "4290999A" (0x44 ∷ 0x42 ∷ 0x90 ∷ 0x99 ∷ 0x9a ∷ []) }
+    ensures double { WritesPair "5" "4052000000000000" (0x55 ∷ 0x08 ∷ 0x40 ∷ 0x52 ∷ replicate 6 0) }
+    ensures octet_string { WritesPair "6" "1234ff" (0x63 ∷ 0x12 ∷ 0x34 ∷ 0xff ∷ []) }
+    ensures character_string { WritesPair "7" "?" (0x72 ∷ 0x00 ∷ 0x3f ∷ []) }
+    ensures bit_string { WritesPair "8" "10101" (0x82 ∷ 0x03 ∷ 0xa8 ∷ []) }
+    ensures enumerated { WritesPair "9" "3" (0x91 ∷ 0x03 ∷ []) }
+    ensures date { WritesPair "10" "5b011804" (0xa4 ∷ 0x5b ∷ 0x01 ∷ 0x18 ∷ 0x04 ∷ []) }
+    ensures time { WritesPair "11" "11232d11" (0xb4 ∷ 0x11 ∷ 0x23 ∷ 0x2d ∷ 0x11 ∷ []) }
+    ensures object { WritesPair "12" "3:15" (0xc4 ∷ 0x00 ∷ 0xc0 ∷ 0x00 ∷ 0x0f ∷ []) }
 {}
 
 // What the words of a line write.

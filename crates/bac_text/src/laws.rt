@@ -7,7 +7,7 @@ ghost use Rattle.bac_text.specs.{Limits.longest_line, Pairs.body_of, PairsInWord
 
 use crate::hex_digits::{LONGEST_DATAGRAM, LONGEST_LINE};
 use crate::pairs::PairFault;
-use crate::search::End;
+use crate::search::Delimiter;
 
 /// The body of a WriteProperty request gives the property the values that the words write, spelled one after another,
 /// and is read as these values.
@@ -26,7 +26,7 @@ pub fn limits()
 
 /// A clone is what it was cloned from, and takes no memory.
 pub fn clones()
-    ensures end { MakesCopies ⟦<End as Clone>⟧.is_clone ⟦<End as Clone>⟧.is_infallible }
+    ensures end { MakesCopies ⟦<Delimiter as Clone>⟧.is_clone ⟦<Delimiter as Clone>⟧.is_infallible }
     ensures pair { MakesCopies ⟦<PairFault as Clone>⟧.is_clone ⟦<PairFault as Clone>⟧.is_infallible }
 {}
 

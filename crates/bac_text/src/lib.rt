@@ -9,8 +9,8 @@
 //! write.
 //!
 //! ```text
-//! ensures real { IsWritten "4" "4290999A" (0x44 ∷ 0x42 ∷ 0x90 ∷ 0x99 ∷ 0x9a ∷ []) }
-//! ensures octet_string { IsWritten "6" "1234ff" (0x63 ∷ 0x12 ∷ 0x34 ∷ 0xff ∷ []) }
+//! ensures real { WritesPair "4" "4290999A" (0x44 ∷ 0x42 ∷ 0x90 ∷ 0x99 ∷ 0x9a ∷ []) }
+//! ensures octet_string { WritesPair "6" "1234ff" (0x63 ∷ 0x12 ∷ 0x34 ∷ 0xff ∷ []) }
 //! ```
 //!
 //! The caller keeps to this: the priority of a write is 1 to 16. Words and texts may be any.
@@ -38,5 +38,5 @@ pub use numbers::read_number;
 pub use pairs::PairFault;
 pub use parameters::{priority_from, read_write_index};
 pub use peers::{peer_in, plain_peer_in, read_peer};
-pub use search::{End, position_of_end};
+pub use search::{Delimiter, position_of_end};
 pub use words::{WordSource, Words};

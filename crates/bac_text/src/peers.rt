@@ -6,7 +6,7 @@ ghost use Rattle.bac_text.specs.{Address.{routable, plain_peer_of, route_of, pee
 
 use crate::hex_digits::{HexDigits, read_hex};
 use crate::numbers::{leading_number, read_number};
-use crate::search::{End, position_of_end};
+use crate::search::{Delimiter, position_of_end};
 use bac_pdu::{ADDRESS_OCTETS, Peer, Route};
 
 // The port of BACnet/IP where none is written (Annex J.1.2).
@@ -64,7 +64,7 @@ pub fn plain_peer_in(text: &[u8]) -> Option<Peer>
 pub(crate) fn cut(text: &[u8], octet: u8) -> Option<(&[u8], &[u8])>
     ensures { option_map (λ parts. (parts.0.now, parts.1.now)) result ≡ cut_at octet text.now }
 {
-    let position = position_of_end(text, End::At(octet))?;
+    let position = position_of_end(text, Delimiter::At(octet))?;
     Some((&text[..position], &text[position + 1..]))
 }
 

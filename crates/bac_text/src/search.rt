@@ -12,7 +12,7 @@ const FEW_LANES: usize = 8;
 
 /// What ends a piece of text.
 #[derive(Clone, Copy)]
-pub enum End {
+pub enum Delimiter {
     /// A space or a tab.
     Blank,
     /// This octet.
@@ -22,7 +22,7 @@ pub enum End {
 }
 
 /// The position of the first octet that ends a piece of text, if one does.
-pub fn position_of_end(octets: &[u8], end: End) -> Option<usize>
+pub fn position_of_end(octets: &[u8], end: Delimiter) -> Option<usize>
     ensures { result ≡ position (ends_at end) octets.now }
 {
     if octets.len() < FEW_LANES {
@@ -48,7 +48,7 @@ pub(crate) fn first_set(mask: u64, lanes: usize) -> usize
 
 // The same, by loads of so many octets.
 #[inline(always)]
-fn position_by<const N: usize>(octets: &[u8], end: End) -> Option<usize>
+fn position_by<const N: usize>(octets: &[u8], end: Delimiter) -> Option<usize>
     requires some { 0 < N }
     requires most { N ≤ 64 }
     requires room { N ≤ length octets.now }
@@ -68,30 +68,30 @@ fn position_by<const N: usize>(octets: &[u8], end: End) -> Option<usize>
     if run != N { Some(last + run) } else { None }
 }
 
-fn ends_at(octet: u8, end: End) -> bool
+fn ends_at(octet: u8, end: Delimiter) -> bool
     ensures { result ≡ ends_at end octet }
 {
     match end {
-        End::Blank => is_blank(octet),
-        End::At(other) => octet == other,
-        End::PastAscii => octet > 127,
+        Delimiter::Blank => is_blank(octet),
+        Delimiter::At(other) => octet == other,
+        Delimiter::PastAscii => octet > 127,
     }
 }
 
 // How many of the octets that one load takes come before the first that ends a piece.
 #[inline(always)]
-fn run_before<const N: usize>(octets: &[u8], at: usize, end: End) -> usize
+fn run_before<const N: usize>(octets: &[u8], at: usize, end: Delimiter) -> usize
     requires most { N ≤ 64 }
     requires within { at + N ≤ length octets.now }
     ensures { IsRunIn (ends_at end) octets.now at N result }
 {
     let loaded = Simd::<u8, N>::from_slice(&octets[at..]);
     let ends = match end {
-        End::Blank => {
+        Delimiter::Blank => {
             (loaded.simd_eq(Simd::splat(b' ')) | loaded.simd_eq(Simd::splat(b'\t'))).to_bitmask()
         }
-        End::At(other) => loaded.simd_eq(Simd::splat(other)).to_bitmask(),
-        End::PastAscii => loaded.simd_gt(Simd::splat(127)).to_bitmask(),
+        Delimiter::At(other) => loaded.simd_eq(Simd::splat(other)).to_bitmask(),
+        Delimiter::PastAscii => loaded.simd_gt(Simd::splat(127)).to_bitmask(),
     };
     first_set(ends, N)
 }

@@ -4,7 +4,7 @@ ghost use Rattle.std.specs.Prelude.{IfSome, MatchOption};
 ghost use Rattle.bac_text.specs.{Words.{is_blank, words_of, number_up_to, next_as}, Inner.Words.IsFirstNumber};
 
 use crate::numbers::{leading_number, read_number};
-use crate::search::{End, position_of_end};
+use crate::search::{Delimiter, position_of_end};
 use std::marker::Model;
 
 /// Words that are taken one after another.
@@ -108,7 +108,7 @@ fn first_word(text: &[u8]) -> Option<(&[u8], &[u8])>
 {
     let start = word_start(text)?;
     let text = &text[start..];
-    let end = position_of_end(text, End::Blank).unwrap_or(text.len());
+    let end = position_of_end(text, Delimiter::Blank).unwrap_or(text.len());
     Some(text.split_at(end))
 }
 

@@ -17,9 +17,9 @@ use Rattle.bac_links.{
 use Rattle.bac_words.specs.{Command.bactool, declared.faults.UsageFault.{UsageFault, TheVariants.{Help, Memory, Words}}}
 use Rattle.bac_words.{specs.{Line.{Answers, IsRefusal}, Marks.marked_words}, proofs.OneAnswer.one_answer}
 use Rattle.bac_tools.{
-  specs.{Program.{Ends, IsGiven}, Binding.asked_by, declared.{binding.Binding.Binding, report.Report.Report}},
+  specs.{Program.{RunsAsRead, IsGiven}, Binding.asked_by, declared.{binding.Binding.Binding, report.Report.Report}},
   specs.{Outside.Outside, Report.{report_of, tool_report}, Runs.{Runs, RunsOpened, RunsOver, RunsScript, ToolRuns}},
-  specs.Alike.{AreAlike, AreGivenAlike, EndAlike, Gained, IsCutOff, IsPrinted, PrintAlike, Run, is_socket},
+  specs.Alike.{AreAlike, AreGivenAlike, EndAlike, Gained, IsCutOff, IsPrinted, PrintAlike, ProgramRun, is_socket},
 }
 use Rattle.bac_tools.specs.declared.report.Fault.TheVariants as faults
 
@@ -115,7 +115,7 @@ none_answered [] e = refl
 none_answered (x ∷ xs) e = cc
 
 module _ {N Origin L R W : Type 0} {gives : N → Binding → Result L NoSocket → Type 0} {out : Outside Origin L R W}
-    {words : List Text} (run : Run gives out words) where
+    {words : List Text} (run : ProgramRun gives out words) where
   abbrev Mine : Job → Option (Result L NoSocket) → Option (Result L NoSocket) → Type 0
   Mine = Runs out (fresh run.reader) run.reader' (fresh run.writer) run.writer' run.ran.report
 
@@ -123,7 +123,7 @@ module _ {N Origin L R W : Type 0} {gives : N → Binding → Result L NoSocket 
   MyScript = RunsScript out (fresh run.reader) run.reader' (fresh run.writer) run.writer' run.ran.report
 
   abbrev MyEnd : Result Job UsageFault → Option (Result L NoSocket) → Type 0
-  MyEnd r o = Ends gives out run.network (fresh run.reader) run.reader' (fresh run.writer) run.writer' run.ran r o
+  MyEnd r o = RunsAsRead gives out run.network (fresh run.reader) run.reader' (fresh run.writer) run.writer' run.ran r o
 
   unprinted : run.writer' ≡ fresh run.writer → octets_of run.writer' ≡ []
   unprinted e = cc
@@ -144,7 +144,7 @@ module _ {N Origin L R W : Type 0} {gives : N → Binding → Result L NoSocket 
 module _ {N Origin L R W M Other K S V : Type 0} {gives : N → Binding → Result L NoSocket → Type 0}
     {out : Outside Origin L R W} {gives' : M → Binding → Result K NoSocket → Type 0} {out' : Outside Other K S V}
     {words : List Text}
-    (one : Run gives out words) (other : Run gives' out' words) (first rest first' rest' : List Entry)
+    (one : ProgramRun gives out words) (other : ProgramRun gives' out' words) (first rest first' rest' : List Entry)
     (h : AreGivenAlike one other first rest first' rest') where
   abbrev GoesOn : Report → Report → List Entry → List Entry → Type 0
   GoesOn = GoOnAlike IsCutOff (EndAlike one other) (PrintAlike one other)

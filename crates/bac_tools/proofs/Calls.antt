@@ -9,7 +9,7 @@ use Rattle.bac_links.specs.declared.{exit.Exit.Exit, fault.ToolFault.ToolFault, 
 use Rattle.bac_words.specs.{Called.words_called, Line.{Answers, IsRefusal}, declared.faults.UsageFault.UsageFault}
 use Rattle.bac_tools.{
   specs.Calls.{AsksAtMostOnce, GivesSockets, RunsAsCalls, RunsWithout},
-  specs.Program.{Ends, IsCalled, IsGiven, IsRun},
+  specs.Program.{RunsAsRead, IsCalled, IsGiven, IsRun},
   specs.{declared.{binding.Binding.Binding, report.Report.Report, program.Ran.Ran}, Binding.{binding_of, asked_by}},
   specs.{Outside.Outside, Report.tool_report, Runs.{Runs, RunsOpened, ToolRuns}},
   specs.Telling.{IsTold, on_output, once_given},
@@ -58,7 +58,7 @@ module _ {N Origin L R W E : Type 0} {gives : N → Binding → Result L NoSocke
     answer_had : (answer : Result Job UsageFault)
         → (IsErrAnd answer (IsRefusal (words_called typed)) ⊎ Answers (words_called typed) answer)
         → (o : Option (Result L NoSocket)) → IsGiven gives out network (option_and_then asked_by (result_ok answer)) o
-        → Ends gives out network reader reader' writer run.unhelped (record ran { report = run.report }) answer o
+        → RunsAsRead gives out network reader reader' writer run.unhelped (record ran { report = run.report }) answer o
         → HadTool left
     answer_had (Ok job) (inr answered) o gave ends = job_had job answered o ran.socket gave had ends
     answer_had (Ok job) (inl refused) o gave ends = absurd refused

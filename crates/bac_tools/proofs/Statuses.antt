@@ -7,8 +7,9 @@ use Rattle.bac_script.specs.declared.tracing.{TraceEnd.TraceEnd, TraceFault.Trac
 use Rattle.bac_links.specs.declared.{exit.Exit.Exit, fault.ToolFault.ToolFault, socket.NoSocket.NoSocket}
 use Rattle.bac_words.specs.declared.faults.UsageFault.{UsageFault}
 use Rattle.bac_tools.{
-  specs.{Outside.Outside, Program.{Ends, Program, IsCalled, IsRun}, Report.{IsStatusOf, tool_report, trace_report}},
-  specs.{Telling.once_given, declared.{binding.Binding.Binding, program.Ran.Ran, report.{Fault.Fault, Report.Report}}},
+  specs.{Outside.Outside, Program.{RunsAsRead, Program, IsCalled, IsRun}},
+  specs.{Report.{IsStatusOf, tool_report, trace_report}, Telling.once_given},
+  specs.declared.{binding.Binding.Binding, program.Ran.Ran, report.{Fault.Fault, Report.Report}},
 }
 
 -- The status of this report is that of its fault.
@@ -28,7 +29,7 @@ given_status = grind arith
 module _ {N Origin L R W : Type 0} (gives : N → Binding → Result L NoSocket → Type 0) (out : Outside Origin L R W)
     (network : N) (reader reader' : Checked R) (writer writer' : Checked W) (ran : Ran N L) where
   ended_status : (answer : Result Job UsageFault) (o : Option (Result L NoSocket))
-      → Ends gives out network reader reader' writer writer' ran answer o → IsTold ran.report
+      → RunsAsRead gives out network reader reader' writer writer' ran answer o → IsTold ran.report
   ended_status = grind (arith, tool_status, trace_status)
 
   pub program_status : (words : List Text) → Program gives out network reader reader' writer writer' ran words

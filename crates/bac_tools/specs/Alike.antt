@@ -40,7 +40,7 @@ abbrev pub IsPrinted : (printed text : List ℕ) → Report → Type 0
 IsPrinted printed text report = (printed ≡ text) ⊎ (IsCutOff report × IsFrontOf printed text)
 
 -- A whole run with these words, and what its socket was asked and answered.
-pub record Run {N Origin L R W : Type 0} (gives : N → Binding → Result L NoSocket → Type 0)
+pub record ProgramRun {N Origin L R W : Type 0} (gives : N → Binding → Result L NoSocket → Type 0)
     (out : Outside Origin L R W) (words : List Text) : Type 0 where
   pub network : N
   pub reader : R
@@ -69,7 +69,7 @@ pub record CalledRun {N Origin L R W E : Type 0} (gives : N → Binding → Resu
 module _ {N Origin L R W M Other K S V : Type 0} {gives : N → Binding → Result L NoSocket → Type 0}
     {out : Outside Origin L R W} {gives' : M → Binding → Result K NoSocket → Type 0} {out' : Outside Other K S V}
     {words : List Text}
-    (one : Run gives out words) (other : Run gives' out' words) where
+    (one : ProgramRun gives out words) (other : ProgramRun gives' out' words) where
   -- Where neither was cut off they have the same report; but where `clap` does not take the words, each tells of help,
   -- or of words that are refused, by an error that `clap` may give at these.
   abbrev pub EndAlike : Report → Report → Type 0

@@ -35,9 +35,9 @@ module _ {N Origin L R W : Type 0} (gives : N → Binding → Result L NoSocket 
         × (ran ≡ record { report = report; socket = None; unasked = Some network })
 
     -- A job is run over the socket that it asks for. Where the words give no job, the report says why.
-    abbrev pub Ends : Result Job UsageFault → Option (Result L NoSocket) → Type 0
-    Ends (Ok job) opened = Runs out reader reader' writer writer' ran.report job opened ran.socket
-    Ends (Err fault) opened = Only (report_of (faults.Usage fault))
+    abbrev pub RunsAsRead : Result Job UsageFault → Option (Result L NoSocket) → Type 0
+    RunsAsRead (Ok job) opened = Runs out reader reader' writer writer' ran.report job opened ran.socket
+    RunsAsRead (Err fault) opened = Only (report_of (faults.Usage fault))
 
     -- The words are answered by a job, or by what is wrong with them: memory ran out, `clap` asks for help or refuses
     -- them, or they have a first fault. The program asks for the socket of the job, and ends as this answer says. Where
@@ -47,7 +47,7 @@ module _ {N Origin L R W : Type 0} (gives : N → Binding → Result L NoSocket 
       pub answered : IsErrAnd answer (IsRefusal words) ⊎ Answers words answer
       pub opened : Option (Result L NoSocket)
       pub given : IsGiven network (option_and_then asked_by (result_ok answer)) opened
-      pub ends : Ends answer opened
+      pub ends : RunsAsRead answer opened
       pub unasked : IfNone opened (ran.unasked ≡ Some network)
 
     -- The words that the program was called with are run, but where there is no memory for them. Where the system told

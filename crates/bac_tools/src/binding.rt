@@ -2,7 +2,7 @@
 ghost use Rattle.std.specs.Prelude.{◌≡◌};
 ghost use Rattle.bac_tools.specs.Binding.{binding_of, client_at};
 
-use bac_links::Refused;
+use bac_links::OnRefusal;
 use bac_pdu::Peer;
 use bac_words::Tool;
 
@@ -12,7 +12,7 @@ pub struct Binding {
     /// The address and the port; the port 0 is any.
     pub at: Peer,
     /// What becomes of such a datagram.
-    pub refused: Refused,
+    pub refused: OnRefusal,
 }
 
 /// The socket that a tool asks for.
@@ -23,7 +23,7 @@ pub fn binding_for(tool: &Tool) -> Binding
         Tool::Read(call) | Tool::Write(call) => client_at(call.port),
         Tool::WhoIs(search) => client_at(search.port),
         Tool::Device(device) => Binding {
-            refused: Refused::IsLost,
+            refused: OnRefusal::IsLost,
             ..client_at(device.port)
         },
     }
@@ -39,6 +39,6 @@ fn client_at(port: u16) -> Binding
             port,
             route: None,
         },
-        refused: Refused::Fails,
+        refused: OnRefusal::Fails,
     }
 }

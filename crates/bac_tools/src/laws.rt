@@ -6,7 +6,7 @@ ghost use Rattle.bac_wire.specs.Copies.{MakesCopies};
 ghost use Rattle.bac_print.specs.{Checked.has_failed, declared.checked.Checked.Checked};
 ghost use Rattle.bac_links.specs.{History.Entry, SystemCall.SystemCall, declared.socket.NoSocket.NoSocket};
 ghost use Rattle.bac_words.specs.Called.{words_called};
-ghost use Rattle.bac_tools.specs.Alike.{Run, CalledRun, AreGivenAlike, AreAlike};
+ghost use Rattle.bac_tools.specs.Alike.{ProgramRun, CalledRun, AreGivenAlike, AreAlike};
 ghost use Rattle.bac_tools.specs.Calls.{AsksAtMostOnce, GivesSockets, RunsAsCalls, RunsWithout};
 ghost use Rattle.bac_tools.specs.{Program.{IsRun, Program}, Report.IsStatusOf, declared.program.Ran.Ran};
 
@@ -35,10 +35,10 @@ pub fn the_program_is_a_function<
     E: Write,
 >()
     ensures words { (words : List Text)
-        (one : Run M.gives
+        (one : ProgramRun M.gives
         record { seen = M.Socket.seen; failed = M.Socket.has_failed; remaining = R.remaining; contents = V.contents }
         words)
-        (other : Run N.gives
+        (other : ProgramRun N.gives
         record { seen = N.Socket.seen; failed = N.Socket.has_failed; remaining = S.remaining; contents = W.contents }
         words)
         (first rest other_first other_rest : List Entry)

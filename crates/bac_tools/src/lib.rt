@@ -19,15 +19,15 @@ mod running;
 mod telling;
 
 pub use bac_links::{
-    DATAGRAM_OCTETS, Datagram, Exit, Link, LinkFault, MemoryLink, NoSocket, Refused, Socket, Step,
-    SystemSocket, ToolFault, UdpLink, run_read, run_whois, run_write, serve, status,
+    DATAGRAM_OCTETS, Datagram, Exit, Link, LinkFault, MemoryLink, NoSocket, OnRefusal, Socket,
+    Step, SystemSocket, ToolFault, UdpLink, run_read, run_whois, run_write, serve, status,
 };
 pub use bac_print::{Checked, Message};
 pub use bac_script::{TraceEnd, TraceFault, show_outcome, show_value, trace, trace_status};
 pub use bac_text::{Call, Search, read_peer};
 pub use bac_words::{Job, Serve, Telling, Tool, UsageFault, parse_words, usage_status, words_of};
 pub use binding::{Binding, binding_for};
-pub use program::{Ended, Network, Ran, run_program, run_words};
+pub use program::{Finished, Network, Ran, run_program, run_words};
 pub use report::{Fault, Report};
 pub use running::run_tool;
 pub use telling::tell;

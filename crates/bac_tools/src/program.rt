@@ -47,7 +47,7 @@ pub struct Ran<N: Drop, L: Drop> {
 
 /// How the program ended, and what it read from and wrote to, afterwards.
 #[derive(Drop)]
-pub struct Ended<N: Drop, L: Drop, R: Drop, W: Drop, E: Drop> {
+pub struct Finished<N: Drop, L: Drop, R: Drop, W: Drop, E: Drop> {
     pub ran: Ran<N, L>,
     pub reader: Checked<R>,
     pub writer: Checked<W>,
@@ -65,7 +65,7 @@ pub fn run_program<N: Network + Drop, R: Read + Drop, W: Write + Drop, E: Write 
     reader: R,
     writer: W,
     errors: E,
-) -> Ended<N, N::Socket, R, W, E>
+) -> Finished<N, N::Socket, R, W, E>
     ensures { IsRun N.gives
         record { seen = N.Socket.seen; failed = N.Socket.has_failed; remaining = R.remaining; contents = W.contents }
         E.contents network (fresh reader) result.reader (fresh writer) result.writer (fresh errors) result.errors
@@ -78,7 +78,7 @@ pub fn run_program<N: Network + Drop, R: Read + Drop, W: Write + Drop, E: Write 
     tell(ran.report.on_output(), &mut writer);
     let report = ran.report.after_output(writer.failed());
     tell(report.on_error(), &mut errors);
-    Ended {
+    Finished {
         ran: Ran {
             report,
             socket: ran.socket,
@@ -141,14 +141,14 @@ fn run_called<N: Network + Drop, R: Read, W: Write>(
         record { seen = N.Socket.seen; failed = N.Socket.has_failed; remaining = R.remaining; contents = W.contents }
         network reader.old reader.new writer.old writer.new result (texts_of typed) }
 {
-    match kept(alloc, typed) {
+    match words_typed(alloc, typed) {
         Ok(typed) => run_typed(alloc, &typed, network, reader, writer),
         Err(error) => Ran::only(Report::from(error), network),
     }
 }
 
 // The words as they were typed, in their order.
-fn kept(alloc: Global, typed: io::Result<env::Args>) -> io::Result<Vec<String>>
+fn words_typed(alloc: Global, typed: io::Result<env::Args>) -> io::Result<Vec<String>>
     ensures ok { IfOk result (λ words. texts_of typed ≡ Ok (map string_bytes words.items)) }
     ensures err { IfErr result (λ error. MatchResult typed (λ words. error_kind error ≡ OutOfMemory) (λ e. error ≡ e)) }
 {

@@ -5,7 +5,7 @@ use Rattle.std.proofs.{
   lemmas.{List.Elements.All-filter, List.nil_from_length},
 }
 use Rattle.std.specs.{List.{filter, flat_map, slice_get}, Option.{option_map, option_to_list}}
-use Rattle.bac_tsm.specs.{declared.due.Entry.Entry, Events.{Rules, Request, Outcome}, Inner.Client.IsTimely}
+use Rattle.bac_tsm.specs.{declared.due.DueEntry.DueEntry, Events.{Rules, Request, Outcome}, Inner.Client.IsTimely}
 use Rattle.bac_tsm.specs.{Inner.Waiting.ticket_in, Machine.{Waiting, due_answer, kept, tick, deliver, datagram}}
 use Rattle.bac_tsm.specs.Client.{Client, client_rules, rules_of, keeping, TakesStep}
 use Rattle.bac_tsm.{specs.Answers.{Answer, answer_in_datagram, outcome_of, is_answer_to}, proofs.CallNotes.kept_of_all}
@@ -20,7 +20,7 @@ seen_as timeout retries clock last next ws = record {
 }
 
 pub ticked : (timeout retries clock last next : ℕ) (ws : List Waiting) (now later : ℕ) → later ≡ max now clock
-    → (answer : List Entry) (after : List Waiting) →
+    → (answer : List DueEntry) (after : List Waiting) →
     (answer ≡ flat_map (due_answer (client_rules timeout retries) later) ws)
     × (after ≡ flat_map (kept (client_rules timeout retries) later) ws) →
     (client : Client) → seen_as timeout retries clock last next ws ≡ client

@@ -5,7 +5,7 @@ use Rattle.std.proofs.{Common.{Option, Result, Ok, refl, ◌∙◌, arith, IsSom
 use Rattle.std.specs.{Prelude.⊤, List.{flat_map, list_any}, Option.option_map_or}
 use Rattle.bac_pdu.specs.{Peer.Station, Apdu.longest_body}
 use Rattle.bac_tsm.specs.{
-  declared.{due.Entry.Entry, client.SubmitFault.SubmitFault},
+  declared.{due.DueEntry.DueEntry, client.SubmitFault.SubmitFault},
   Limits.table_size,
   Lookahead.{next_invoke_id, refusal_of},
   Answers.outcome_of,
@@ -49,8 +49,8 @@ AreApart [] = ⊤
 AreApart (w ∷ ws) = (list_any (nat_eq w.request.invoke_id) (map number_in ws) ≡ false) × AreApart ws
 
 module _ (f : Request → Option Outcome)
-    (by : (a b : Request) → IsSome (f a) → IsSome (f b) → a.invoke_id ≡ b.invoke_id) (g : Waiting → List Entry) where
-  abbrev unless_answered : Waiting → List Entry
+    (by : (a b : Request) → IsSome (f a) → IsSome (f b) → a.invoke_id ≡ b.invoke_id) (g : Waiting → List DueEntry) where
+  abbrev unless_answered : Waiting → List DueEntry
   unless_answered w = option_map_or (λ _. []) (f w.request) (g w)
 
   none_answered : (a : Request) → IsSome (f a) → (ws : List Waiting)
@@ -63,7 +63,7 @@ module _ (f : Request → Option Outcome)
   others (w ∷ ws) apart = grind (arith, none_answered, others ws)
 
 -- Where a datagram was heard, a tick tells of the requests to which it is no answer, as it would have told before.
-pub told_unless_answered : {known client after : Client} {told : List Entry}
+pub told_unless_answered : {known client after : Client} {told : List DueEntry}
     (from : Station) (heard : List ℕ) (now : ℕ) → client ≡ known → AreApart known.state.waiting
     → after ≡ keeping client (datagram (rules_of client) client.state from heard).after
     → told ≡ (tick (rules_of after) after.state now).answer

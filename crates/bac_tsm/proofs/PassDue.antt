@@ -10,7 +10,7 @@ use Rattle.bac_tsm.specs.{
   Limits.table_size,
   Events.Rules,
   Waiting.nothing,
-  declared.due.Entry.TheVariants.{Resend, TimedOut as Expired},
+  declared.due.DueEntry.TheVariants.{Resend, TimedOut as Expired},
   Machine.{Waiting, is_due, due_entry, kept},
   Table.{held_at, times_of_slot, open_slots, IsTable, AreBySend, IsWhole},
   Inner.{Table.{waiting_in, IsRankOf, IsPassed, Leaves}, Waiting.sent_at},

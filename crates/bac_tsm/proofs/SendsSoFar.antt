@@ -54,14 +54,14 @@ module _ (rules : Rules) (events : List Event) (event : Event) (a : Accepted) (c
   answer_grown = grind (arith, after_grown, slice_before)
 
   -- The sends up to the k-th are the same, and none at the last position; or one is there, and nothing comes after it.
-  data Sends (k : ℕ) : Type 0 where
+  data SendsGrown (k : ℕ) : Type 0 where
     same : sends_within rules on a k ≡ sends_within rules events a k
-        → list_any (nat_eq n) (sends_within rules events a k) ≡ false → Sends k
+        → list_any (nat_eq n) (sends_within rules events a k) ≡ false → SendsGrown k
     more : sends_within rules on a k ≡ sends_within rules events a k ++ n ∷ []
         → due rules events a.position (suc k) ≡ None → due rules on a.position (suc k) ≡ None
-        → answered_at rules on a ≡ None → Sends k
+        → answered_at rules on a ≡ None → SendsGrown k
 
-  sends_grown : (k : ℕ) → Sends k
+  sends_grown : (k : ℕ) → SendsGrown k
   sends_grown zero = grind (arith, same, nat_tests)
   sends_grown (suc k) =
       grind (

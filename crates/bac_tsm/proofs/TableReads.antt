@@ -188,7 +188,7 @@ module _ {slots : List Waiting} {numbers : List (Option ℕ)} {order tickets : L
     ends w = is_answer_to w.request answer
 
     -- Of these requests those that it is to end, under these tickets.
-    pub record Ends (gone : List ℕ) (after : List Waiting) : Type 0 where
+    pub record Closes (gone : List ℕ) (after : List Waiting) : Type 0 where
       pub told : gone ≡ map ticket_in (filter ends ws)
       pub others : after ≡ filter (λ w. not (ends w)) ws
 
@@ -196,7 +196,7 @@ module _ {slots : List Waiting} {numbers : List (Option ℕ)} {order tickets : L
     unfolding is_answer_to
     says = grind (arith, eqb-true)
 
-    pub closed_none : get_or numbers number None ≡ None → Ends [] ws
+    pub closed_none : get_or numbers number None ≡ None → Closes [] ws
     closed_none is =
         let none = none_passes _ _ _ says ws (rw view at (subst (Names slots _ _) is (t.numbered.named _ fits))) in
         record { told = cc none.0; others = sym none.1 }
@@ -221,7 +221,7 @@ module _ {slots : List Waiting} {numbers : List (Option ℕ)} {order tickets : L
             rw read (one_passes _ _ _ says ws i _ (turn_lt ws _ _ _) (cc (open_read ws _ _ _, (named _ fits _ is).1))
             (rw (← view) (t.numbered.apart _)))
 
-        pub closed_not : ends w ≡ false → Ends [] ws
+        pub closed_not : ends w ≡ false → Closes [] ws
         closed_not = grind (arith, found)
 
         module _ (ticket : ℕ) (named : ticket ≡ w.request.ticket) where
@@ -229,7 +229,7 @@ module _ {slots : List Waiting} {numbers : List (Option ℕ)} {order tickets : L
           closed_some_turn = grind (arith, turn_lt, read)
 
           pub closed_that : ends w ≡ true → (j : ℕ) → IsRankOf ticket ws (Some j) → (after : List Waiting)
-              → after ≡ remove ws j → Ends (ticket ∷ []) after
+              → after ≡ remove ws j → Closes (ticket ∷ []) after
           closed_that = grind (arith, found, one_turn, turn_lt, read)
 
 -- ---- the look for a free number, one step at a time

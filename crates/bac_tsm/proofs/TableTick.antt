@@ -13,7 +13,7 @@ use Rattle.std.specs.{
   List.{filter, flat_map, list_any, refill, AllPairs, count_by},
   List.Sorted.{IsPermutation, IsNonDecreasingBy},
 }
-use Rattle.bac_tsm.specs.{declared.due.Entry.Entry, Events.Rules, Inner.Machine.ticket_of, Inner.Table.IsPassed}
+use Rattle.bac_tsm.specs.{declared.due.DueEntry.DueEntry, Events.Rules, Inner.Machine.ticket_of, Inner.Table.IsPassed}
 use Rattle.bac_tsm.specs.{Waiting.nothing, Machine.{Waiting, is_due, due_entry, due_answer, kept}}
 use Rattle.bac_tsm.proofs.CallNotes.{TicketsRise, kept_of_one, pairs_map}
 
@@ -70,11 +70,11 @@ module _ {A : Type 0} (key : A → ℕ) where
           let same : j ≡ k = omega arith in sym (rw same at is)
 
 -- A sort in slot leaves what it sorts to.
-pub refilled : (xs ys : List Entry) → length ys ≡ length xs → refill (length xs) xs ys ≡ ys
+pub refilled : (xs ys : List DueEntry) → length ys ≡ length xs → refill (length xs) xs ys ≡ ys
 refilled = grind (arith, drop_all, append-nil, take_all)
 
 module _ (rules : Rules) (clock : ℕ) where
-  abbrev pub due_of : List Waiting → List Entry
+  abbrev pub due_of : List Waiting → List DueEntry
   due_of = flat_map (due_answer rules clock)
 
   abbrev pub kept_of : List Waiting → List Waiting
@@ -82,8 +82,8 @@ module _ (rules : Rules) (clock : ℕ) where
 
   -- Some of the requests that were due have gone on to the clock: these are all the entries, those so far, and what is
   -- kept.
-  pub record HasTicked (all : List Entry) (kept_in_all : List Waiting) (entries : List Entry) (ws : List Waiting) : Type
-      0 where
+  pub record HasTicked (all : List DueEntry) (kept_in_all : List Waiting) (entries : List DueEntry) (ws : List Waiting)
+      : Type 0 where
     pub told : IsPermutation all (entries ++ due_of ws)
     pub stay : kept_of ws ≡ kept_in_all
     pub past : All (λ w. w.base ≤ clock) ws
@@ -110,10 +110,10 @@ module _ (rules : Rules) (clock : ℕ) where
       rw (due_is ws) (pairs_map (λ a b. ticket_of a < ticket_of b) _ _ (λ i j d less lt.
       let g = AllPairs-filter (λ v w. v.request.ticket < w.request.ticket) _ ws rise i j d less lt in grind arith))
 
-  module _ (some : 0 < rules.timeout) {all : List Entry} {kept_in_all : List Waiting} {entries : List Entry}
+  module _ (some : 0 < rules.timeout) {all : List DueEntry} {kept_in_all : List Waiting} {entries : List DueEntry}
       {ws : List Waiting} (h : HasTicked all kept_in_all entries ws) where
     -- One more has gone on.
-    one_more : (entry : Entry) (after : List Waiting) (rank : ℕ) (w : Waiting) → rank < length ws
+    one_more : (entry : DueEntry) (after : List Waiting) (rank : ℕ) (w : Waiting) → rank < length ws
         → get_or ws rank nothing ≡ w → is_due rules clock w ≡ true → entry ≡ due_entry rules w →
         after ≡ take rank ws ++ (kept rules clock w ++ drop (suc rank) ws)
         → HasTicked all kept_in_all (entries ++ entry ∷ []) after
@@ -140,7 +140,7 @@ module _ (rules : Rules) (clock : ℕ) where
         told_after : due_of after ≡ due_of (take rank ws) ++ due_of (drop (suc rank) ws)
         told_after = simp (to, flat_map-append, (again some w due).0)
 
-    pub passed : (entry : Entry) (after : List Waiting) → IsPassed rules clock ws entry after
+    pub passed : (entry : DueEntry) (after : List Waiting) → IsPassed rules clock ws entry after
         → HasTicked all kept_in_all (entries ++ entry ∷ []) after
     passed _ _ (rank, lt, due, is, to) = one_more _ _ _ _ lt refl due is to
 
@@ -149,7 +149,7 @@ module _ (rules : Rules) (clock : ℕ) where
       pub room : length entries < length all
       pub fewer : length (due_of after) < length (due_of ws)
 
-    pub fewer : (entry : Entry) (after : List Waiting) → IsPassed rules clock ws entry after → LeavesFewer after
+    pub fewer : (entry : DueEntry) (after : List Waiting) → IsPassed rules clock ws entry after → LeavesFewer after
     fewer entry after is =
         let now = sym (length-append entries _) ∙ length_permutation _ _ h.told in
         let next = sym (length-append _ (due_of after)) ∙ length_permutation _ _ (passed _ _ is).told in

@@ -30,7 +30,7 @@ pub enum SubmitFault {
 /// A client: its settings, its clock, and the requests that are open.
 ///
 /// It has a fixed size, takes no memory, and sends nothing itself: after a [`Client::submit`] that answers a ticket,
-/// and at each [`Entry::Resend`] of a tick, the caller sends what [`Client::to_send`] lends.
+/// and at each [`DueEntry::Resend`] of a tick, the caller sends what [`Client::to_send`] lends.
 #[derive(Drop)]
 pub struct Client {
     config: Config,

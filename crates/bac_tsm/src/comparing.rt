@@ -7,7 +7,7 @@ ghost use Rattle.bac_tsm.specs.{Client.{outcome_seen, end_seen}, Limits.table_si
 
 use crate::client::SubmitFault;
 use crate::config::Config;
-use crate::due::Entry;
+use crate::due::DueEntry;
 use crate::event::{Event, Note};
 use crate::limits::PLACES;
 use crate::outcome::{Ended, Outcome};
@@ -25,14 +25,14 @@ pub fn clones<'a>()
     ensures note { MakesCopies ⟦<Note<'a> as Clone>⟧.is_clone ⟦<Note<'a> as Clone>⟧.is_infallible }
     ensures outcome { MakesCopies ⟦<Outcome<'a> as Clone>⟧.is_clone ⟦<Outcome<'a> as Clone>⟧.is_infallible }
     ensures end { MakesCopies ⟦<Ended<'a> as Clone>⟧.is_clone ⟦<Ended<'a> as Clone>⟧.is_infallible }
-    ensures entry { MakesCopies ⟦<Entry as Clone>⟧.is_clone ⟦<Entry as Clone>⟧.is_infallible }
+    ensures entry { MakesCopies ⟦<DueEntry as Clone>⟧.is_clone ⟦<DueEntry as Clone>⟧.is_infallible }
 {}
 
 /// What `==` compares: all that a fault or an entry says, and what an outcome or an end says with the octets that it
 /// lends, wherever these lie.
 pub fn equals<'a>()
     ensures fault { EqualsBy (λ fault. fault) ⟦<SubmitFault as PartialEq>⟧.eq }
-    ensures entry { EqualsBy (λ entry. entry) ⟦<Entry as PartialEq>⟧.eq }
+    ensures entry { EqualsBy (λ entry. entry) ⟦<DueEntry as PartialEq>⟧.eq }
     ensures outcome { EqualsBy outcome_seen ⟦<Outcome<'a> as PartialEq>⟧.eq }
     ensures end { EqualsBy end_seen ⟦<Ended<'a> as PartialEq>⟧.eq }
 {}

@@ -19,8 +19,8 @@
 //! ```
 //!
 //! The caller keeps to this: it sends what [`Client::to_send`] lends, once a request is opened and at each
-//! [`Entry::Resend`], and it tells the time again and again, since nothing is due but at a tick. No call of [`Client`]
-//! has a condition.
+//! [`DueEntry::Resend`], and it tells the time again and again, since nothing is due but at a tick. No call of
+//! [`Client`] has a condition.
 //!
 //! Calls, of `two_reads` of `bac_uses` (`src/client.rt`), where it is proved that each read is to be sent again exactly
 //! where what was heard is no answer to it:
@@ -52,7 +52,7 @@ pub use bac_pdu::LONGEST_BODY;
 pub use client::{Client, SubmitFault};
 pub use comparing::{clones, constants_are_limits, equals};
 pub use config::Config;
-pub use due::{Due, Entry};
+pub use due::{Due, DueEntry};
 pub use event::{Event, Note};
 pub use limits::PLACES;
 pub use outcome::{Ended, Outcome};

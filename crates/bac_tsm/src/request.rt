@@ -6,7 +6,7 @@ ghost use Rattle.bac_tsm.specs.{Machine.{is_due, due_entry}, Answers.octets_of, 
 ghost use Rattle.bac_tsm.specs.Inner.Waiting.{begun};
 
 use crate::config::Config;
-use crate::due::Entry;
+use crate::due::DueEntry;
 use crate::limits::LONGEST_DATAGRAM;
 use arrayvec::ArrayVec;
 use bac_pdu::{Apdu, Peer, wrap_within, write_apdu};
@@ -119,13 +119,13 @@ impl OpenRequest {
     }
 
     /// What becomes of the request when it is due.
-    pub(crate) fn due_entry(&self, config: Config) -> Entry
+    pub(crate) fn due_entry(&self, config: Config) -> DueEntry
         ensures { result ≡ due_entry (client_rules config.timeout config.retries) self.now }
     {
         if self.count < config.retries {
-            Entry::Resend(self.ticket)
+            DueEntry::Resend(self.ticket)
         } else {
-            Entry::TimedOut(self.ticket)
+            DueEntry::TimedOut(self.ticket)
         }
     }
 

@@ -13,7 +13,7 @@ ghost use Rattle.bac_tsm.specs.Inner.Waiting.{begun, sent_at, ticket_in, number_
 
 use crate::answer::Answer;
 use crate::config::Config;
-use crate::due::{Entries, Entry, sort_by_ticket};
+use crate::due::{DueEntry, Entries, sort_by_ticket};
 use crate::limits::PLACES;
 use crate::request::{Asked, OpenRequest};
 use arrayvec::ArrayVec;
@@ -178,7 +178,7 @@ impl Table {
     }
 
     // Brings the request that was sent longest ago to this clock, and answers what becomes of it.
-    fn pass(&mut self, clock: u64, config: Config) -> Entry
+    fn pass(&mut self, clock: u64, config: Config) -> DueEntry
         requires due { list_any (is_due (client_rules config.timeout config.retries) clock) self.old ≡ true }
         requires past { All (λ w. w.base ≤ clock) self.old }
         ensures { IsPassed (client_rules config.timeout config.retries) clock self.old result self.new }
@@ -186,12 +186,12 @@ impl Table {
         let slot = first_sent(&self.sends);
         let entry = held(&self.slots, slot).due_entry(config);
         match entry {
-            Entry::Resend(_) => {
+            DueEntry::Resend(_) => {
                 send_again_at(&mut self.slots, slot, clock, config);
                 self.sends.remove(0);
                 self.sends.push(slot);
             }
-            Entry::TimedOut(ticket) => {
+            DueEntry::TimedOut(ticket) => {
                 if let Some(rank) = self.rank_of(ticket) {
                     self.end(rank);
                 }

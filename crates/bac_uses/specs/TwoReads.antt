@@ -2,7 +2,7 @@
 use Rattle.std.specs.{Prelude.{ℕ, ◌+◌, List, [], ◌∷◌}, Option.option_map_or}
 use Rattle.bac_pdu.specs.Peer.{Station}
 use Rattle.bac_tsm.specs.{Answers.outcome_of, Client.client_rules}
-use Rattle.bac_tsm.specs.{Events.{Request, Rules, request_of}, declared.due.Entry.{Entry, TheVariants.Resend}}
+use Rattle.bac_tsm.specs.{Events.{Request, Rules, request_of}, declared.due.DueEntry.{DueEntry, TheVariants.Resend}}
 
 -- A timeout of three seconds, and three retries.
 abbrev pub usual : Rules
@@ -17,6 +17,6 @@ abbrev pub read_of : Station → ℕ → ℕ → Request
 read_of device ticket property = request_of usual ticket device 12 (asking property) (ticket + 1)
 
 -- It is to be sent again, unless this datagram from there is an answer to it.
-abbrev pub again_unless : Station → List ℕ → Request → List Entry
+abbrev pub again_unless : Station → List ℕ → Request → List DueEntry
 again_unless from heard request =
     option_map_or (λ _. []) (outcome_of request from heard) (Resend request.ticket ∷ [])

@@ -7,7 +7,7 @@ ghost use Rattle.bac_links.{
   specs.{Ending.{ending_line, exit_of, status_of}, declared.ending.Purpose.TheVariants.Reading},
 };
 
-use bac_links::{Refused, UdpLink, run_read, status};
+use bac_links::{OnRefusal, UdpLink, run_read, status};
 use bac_pdu::Peer;
 use bac_print::Checked;
 use bac_text::Call;
@@ -34,7 +34,7 @@ pub fn read_over_udp<R: Net + Clock + Clone + Drop, W: Write>(
         port: 0,
         route: None,
     };
-    match UdpLink::bind_with(rt, alloc, anywhere, Refused::Fails) {
+    match UdpLink::bind_with(rt, alloc, anywhere, OnRefusal::Fails) {
         Ok(mut link) => status(&run_read(call, &mut link, writer)),
         Err(_) => 3,
     }

@@ -5,33 +5,33 @@ ghost use Rattle.bac_wire.specs.Datum.{null, boolean, unsigned, signed, real, ch
 ghost use Rattle.bac_wire.specs.{Datum.object, DatumReading.value_at, ItemReading.region_at};
 ghost use Rattle.bac_wire.specs.Parameter.{enclosed_octets, number_octets, object_octets};
 ghost use Rattle.bac_wire.specs.ParameterReading.{enclosed_at, number_at, object_at};
-ghost use Rattle.bac_wire.specs.Inner.Examples.{IsWritten, input, device};
+ghost use Rattle.bac_wire.specs.Inner.Examples.{WritesValue, input, device};
 
 // What is written of a value, and read back (ANSI/ASHRAE 135, 20.2.2 to 20.2.14).
 #[tactic(none)]
 fn examples_of_octets()
-    ensures null { IsWritten null (0x00 ∷ []) }
-    ensures boolean { IsWritten (boolean true) (0x11 ∷ []) }
+    ensures null { WritesValue null (0x00 ∷ []) }
+    ensures boolean { WritesValue (boolean true) (0x11 ∷ []) }
 
     // A number in as many octets as it needs. The tag says how many: 21 has one behind it, 22 two.
-    ensures unsigned { IsWritten (unsigned 5) (0x21 ∷ 0x05 ∷ []) }
-    ensures two_octets { IsWritten (unsigned 256) (0x22 ∷ 0x01 ∷ 0x00 ∷ []) }
-    ensures signed { IsWritten (signed (negsuc 4)) (0x31 ∷ 0xfb ∷ []) }
-    ensures enumerated { IsWritten (enumerated 3) (0x91 ∷ 0x03 ∷ []) }
+    ensures unsigned { WritesValue (unsigned 5) (0x21 ∷ 0x05 ∷ []) }
+    ensures two_octets { WritesValue (unsigned 256) (0x22 ∷ 0x01 ∷ 0x00 ∷ []) }
+    ensures signed { WritesValue (signed (negsuc 4)) (0x31 ∷ 0xfb ∷ []) }
+    ensures enumerated { WritesValue (enumerated 3) (0x91 ∷ 0x03 ∷ []) }
 
     // 72.3, by the four octets of its single precision.
-    ensures real { IsWritten (real (0x42 ∷ 0x90 ∷ 0x99 ∷ 0x9a ∷ [])) (0x44 ∷ 0x42 ∷ 0x90 ∷ 0x99 ∷ 0x9a ∷ []) }
+    ensures real { WritesValue (real (0x42 ∷ 0x90 ∷ 0x99 ∷ 0x9a ∷ [])) (0x44 ∷ 0x42 ∷ 0x90 ∷ 0x99 ∷ 0x9a ∷ []) }
 
     // "BACnet" in the character set 0. The length passes 4, so an octet of its own says it.
-    ensures text { IsWritten (char_string 0 (0x42 ∷ 0x41 ∷ 0x43 ∷ 0x6e ∷ 0x65 ∷ 0x74 ∷ []))
+    ensures text { WritesValue (char_string 0 (0x42 ∷ 0x41 ∷ 0x43 ∷ 0x6e ∷ 0x65 ∷ 0x74 ∷ []))
         (0x75 ∷ 0x07 ∷ 0x00 ∷ 0x42 ∷ 0x41 ∷ 0x43 ∷ 0x6e ∷ 0x65 ∷ 0x74 ∷ []) }
 
     // The bits 10101, and three that are unused.
-    ensures bits { IsWritten (bit_string 3 (0xa8 ∷ [])) (0x82 ∷ 0x03 ∷ 0xa8 ∷ []) }
+    ensures bits { WritesValue (bit_string 3 (0xa8 ∷ [])) (0x82 ∷ 0x03 ∷ 0xa8 ∷ []) }
 
     // Analog-input 5, and device 1234: ten bits of type, and 22 of instance.
-    ensures input { IsWritten (object input) (0xc4 ∷ 0x00 ∷ 0x00 ∷ 0x00 ∷ 0x05 ∷ []) }
-    ensures device { IsWritten (object device) (0xc4 ∷ 0x02 ∷ 0x00 ∷ 0x04 ∷ 0xd2 ∷ []) }
+    ensures input { WritesValue (object input) (0xc4 ∷ 0x00 ∷ 0x00 ∷ 0x00 ∷ 0x05 ∷ []) }
+    ensures device { WritesValue (object device) (0xc4 ∷ 0x02 ∷ 0x00 ∷ 0x04 ∷ 0xd2 ∷ []) }
 {}
 
 // What is read at the front of octets, and what is left of them.

@@ -11,7 +11,7 @@
 //!
 //! ```text
 //! // 72.3, by the four octets of its single precision.
-//! ensures real { IsWritten (real (0x42 ∷ 0x90 ∷ 0x99 ∷ 0x9a ∷ [])) (0x44 ∷ 0x42 ∷ 0x90 ∷ 0x99 ∷ 0x9a ∷ []) }
+//! ensures real { WritesValue (real (0x42 ∷ 0x90 ∷ 0x99 ∷ 0x9a ∷ [])) (0x44 ∷ 0x42 ∷ 0x90 ∷ 0x99 ∷ 0x9a ∷ []) }
 //! ```
 //!
 //! The caller keeps to this: a value that it writes is sound ([`Value::sound`]), the number of a tag at most 254, and

@@ -39,17 +39,17 @@ fn bacrp<'a>(alloc: Global) -> Result<Command<'a>, AllocError>
     ensures { IfOk result (λ c. IsCommand c bacrp) }
 {
     let arguments = vec![in alloc;
-        needed(alloc, "device-instance", 0, 4_194_303, help::DEVICE),
-        needed(alloc, "object-type", 0, 1023, help::OBJECT_TYPE),
-        needed(
+        needed_argument(alloc, "device-instance", 0, 4_194_303, help::DEVICE),
+        needed_argument(alloc, "object-type", 0, 1023, help::OBJECT_TYPE),
+        needed_argument(
             alloc,
             "object-instance",
             0,
             4_194_303,
             help::OBJECT_INSTANCE
         ),
-        needed(alloc, "property", 0, 4_194_303, help::PROPERTY),
-        number(alloc, "index", 0, u32::MAX, help::ELEMENT),
+        needed_argument(alloc, "property", 0, 4_194_303, help::PROPERTY),
+        number_argument(alloc, "index", 0, u32::MAX, help::ELEMENT),
         mac_arg(alloc),
         timeout_arg(alloc, help::TIMEOUT),
         retries_arg(alloc),
@@ -65,17 +65,17 @@ fn bacwp<'a>(alloc: Global) -> Result<Command<'a>, AllocError>
     ensures { IfOk result (λ c. IsCommand c bacwp) }
 {
     let arguments = vec![in alloc;
-        needed(alloc, "device-instance", 0, 4_194_303, help::DEVICE),
-        needed(alloc, "object-type", 0, 1023, help::OBJECT_TYPE),
-        needed(
+        needed_argument(alloc, "device-instance", 0, 4_194_303, help::DEVICE),
+        needed_argument(alloc, "object-type", 0, 1023, help::OBJECT_TYPE),
+        needed_argument(
             alloc,
             "object-instance",
             0,
             4_194_303,
             help::OBJECT_INSTANCE
         ),
-        needed(alloc, "property", 0, 4_194_303, help::PROPERTY),
-        needed(alloc, "priority", 0, 16, help::PRIORITY),
+        needed_argument(alloc, "property", 0, 4_194_303, help::PROPERTY),
+        needed_argument(alloc, "priority", 0, 16, help::PRIORITY),
         index(alloc),
         pairs(alloc),
         mac_arg(alloc),
@@ -93,8 +93,8 @@ fn bacwi<'a>(alloc: Global) -> Result<Command<'a>, AllocError>
     ensures { IfOk result (λ c. IsCommand c bacwi) }
 {
     let arguments = vec![in alloc;
-        number(alloc, "min", 0, 4_194_303, help::LEAST),
-        number(alloc, "max", 0, 4_194_303, help::MOST),
+        number_argument(alloc, "min", 0, 4_194_303, help::LEAST),
+        number_argument(alloc, "max", 0, 4_194_303, help::MOST),
         mac_arg(alloc),
         timeout_arg(alloc, help::SEARCH_TIME),
         port_arg(alloc, help::SEARCH_PORT),
@@ -196,7 +196,7 @@ fn own_instance_arg<'a>(alloc: Global) -> Arg<'a>
     ensures rule { rule_of result ≡ needed (number (codes "device-instance") 0 4194302) }
     ensures local { result.global ≡ false }
 {
-    needed(alloc, "device-instance", 0, 4_194_302, help::OWN_INSTANCE)
+    needed_argument(alloc, "device-instance", 0, 4_194_302, help::OWN_INSTANCE)
 }
 
 // A number that is given by its name.
@@ -204,19 +204,19 @@ fn option<'a>(alloc: Global, id: &'a str, least: u32, most: u32, help: &'a str) 
     ensures rule { rule_of result ≡ by_name (number id.entry.now least most) }
     ensures local { result.global ≡ false }
 {
-    number(alloc, id, least, most, help).long(id)
+    number_argument(alloc, id, least, most, help).long(id)
 }
 
 // A number that has to be there.
-fn needed<'a>(alloc: Global, id: &'a str, least: u32, most: u32, help: &'a str) -> Arg<'a>
+fn needed_argument<'a>(alloc: Global, id: &'a str, least: u32, most: u32, help: &'a str) -> Arg<'a>
     ensures rule { rule_of result ≡ needed (number id.entry.now least most) }
     ensures local { result.global ≡ false }
 {
-    number(alloc, id, least, most, help).required(true)
+    number_argument(alloc, id, least, most, help).required(true)
 }
 
 // A word that is a number from `least` to `most`.
-fn number<'a>(alloc: Global, id: &'a str, least: u32, most: u32, help: &'a str) -> Arg<'a>
+fn number_argument<'a>(alloc: Global, id: &'a str, least: u32, most: u32, help: &'a str) -> Arg<'a>
     ensures rule { rule_of result ≡ number id.entry.now least most }
     ensures local { result.global ≡ false }
 {

@@ -79,7 +79,7 @@ fn read_job(matches: &ArgMatches<'_>) -> Result<Job, UsageFault>
         return Err(UsageFault::BadMac);
     };
     let mut room = BodyRoom::new();
-    let body = kept(room.body_of_read(&request));
+    let body = copy_of(room.body_of_read(&request));
     Ok(Job::Over(Tool::Read(call(matches, to, body))))
 }
 
@@ -164,11 +164,11 @@ fn write_body(
         priority(matches),
         &mut words,
     )?;
-    Ok(kept(body))
+    Ok(copy_of(body))
 }
 
 // A copy of the body, to be handed on.
-fn kept(body: &[u8]) -> ArrayVec<u8, LONGEST_BODY>
+fn copy_of(body: &[u8]) -> ArrayVec<u8, LONGEST_BODY>
     requires { length body.now ≤ LONGEST_BODY }
     ensures { result.items ≡ body.now }
 {

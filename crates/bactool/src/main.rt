@@ -9,7 +9,7 @@ mod laws;
 mod sockets;
 
 use crate::sockets::Sockets;
-use bac_tools::{Ended, Link, Network, SystemSocket, UdpLink, run_program};
+use bac_tools::{Finished, Link, Network, SystemSocket, UdpLink, run_program};
 use std::alloc::Global;
 use std::env;
 use std::io::{self, Read, Write};
@@ -36,7 +36,7 @@ fn run<'r, H: Net + Clock + Clone + Drop, R: Read + Drop, W: Write + Drop, E: Wr
     reader: R,
     writer: W,
     errors: E,
-) -> Ended<Sockets<'r, H>, UdpLink<SystemSocket<H>>, R, W, E>
+) -> Finished<Sockets<'r, H>, UdpLink<SystemSocket<H>>, R, W, E>
     ensures { IsRun ⟦<Sockets<'static, H> as Network>⟧.gives
         record {
           seen = ⟦<UdpLink<SystemSocket<H>> as Link>⟧.seen;
@@ -51,7 +51,9 @@ fn run<'r, H: Net + Clock + Clone + Drop, R: Read + Drop, W: Write + Drop, E: Wr
 }
 
 // The status with which the system ends the program.
-fn exit_code<N: Drop, L: Drop, R: Drop, W: Drop, E: Drop>(ended: Ended<N, L, R, W, E>) -> ExitCode
+fn exit_code<N: Drop, L: Drop, R: Drop, W: Drop, E: Drop>(
+    ended: Finished<N, L, R, W, E>,
+) -> ExitCode
     ensures { exit_status result ≡ ended.ran.report.status }
 {
     let ran = ended.ran;

@@ -8,7 +8,7 @@ use Rattle.bac_tsm.{
 }
 use Rattle.bac_text.specs.declared.jobs.Call.{Call}
 use Rattle.bac_links.{
-  specs.History.{Heard, Silence, Arrival, Failure, Entry, Waited, Timed, Posted, Unposted, Account, Gains, GainsAll},
+  specs.History.{Heard, Silence, Arrived, Failure, Entry, Waited, Timed, Posted, Unposted, Account, Gains, GainsAll},
   specs.{Asking.{Move, Asks, question_of, Follows, next_move, waits_in, turn_after}, Handed.handed},
   specs.{Limits.turn_wait, Call.{Comes, service_of, rules_for, asked, end_in, move}, declared.ending.Purpose.Purpose},
 }
@@ -63,7 +63,7 @@ pub record GainsLost {Origin : Type 0} (notes : List Note) (gained : List Entry)
 -- What is heard is handed to the client.
 abbrev pub heard_step : Rules → State → Heard → Stepped
 heard_step rules state Silence = record { notes = []; after = state }
-heard_step rules state (Arrival from octets) = step rules state (Data from octets)
+heard_step rules state (Arrived from octets) = step rules state (Data from octets)
 heard_step rules state Failure = record { notes = []; after = state }
 
 -- The client has one open request.

@@ -2,7 +2,7 @@
 use Rattle.std.specs.Prelude.{◌≡◌, ◌≢◌, ℕ, List, [], ◌∷◌, map, length, Option, Some, Result, Ok, Err}
 use Rattle.std.specs.{Option.option_to_list, List.flat_map}
 use Rattle.bac_pdu.specs.Peer.{Station}
-use Rattle.bac_device.specs.{Device.DeviceState, Turns.Arrival as Came}
+use Rattle.bac_device.specs.{Device.DeviceState, Turns.Arrival}
 use Rattle.bac_links.{
   specs.{Limits.serve_wait, History.{Heard, Failure, Entry, Waited, Posted, Unposted, Account, GainsAll, Gains}},
   specs.Serve.{came_by, device_behind, replies_of, reply_count},
@@ -22,7 +22,7 @@ replied_in Ignored = 0
 replied_in Answered = 1
 
 -- The datagram that a wait brings which heard this, if it brings one.
-abbrev pub brought_by : Heard → List Came
+abbrev pub brought_by : Heard → List Arrival
 brought_by heard = came_by (Waited serve_wait heard)
 
 -- A wait that heard this leaves this device.

@@ -24,5 +24,5 @@ abbrev pub from_desk : List ℕ → Delivery
 from_desk apdu = record { peer = desk; broadcast = false; apdu = apdu }
 
 -- These octets are written of an APDU, and the APDU is read from them.
-abbrev pub IsWritten : Message → List ℕ → Type 0
-IsWritten message octets = (laid_out message ≡ octets) × (apdu_of octets ≡ Some message)
+abbrev pub WritesApdu : Message → List ℕ → Type 0
+WritesApdu message octets = (laid_out message ≡ octets) × (apdu_of octets ≡ Some message)

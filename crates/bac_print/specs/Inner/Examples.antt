@@ -5,8 +5,8 @@ use Rattle.bac_pdu.specs.Peer.{Station}
 use Rattle.bac_print.specs.Values.{region_text}
 
 -- These octets are printed so.
-abbrev pub IsPrinted : List ℕ → String → Type 0
-IsPrinted octets text = region_text octets ≡ codes text
+abbrev pub PrintsAs : List ℕ → String → Type 0
+PrintsAs octets text = region_text octets ≡ codes text
 
 -- 127.0.0.1, port 47808.
 abbrev pub device : Station

@@ -5,8 +5,8 @@ use Rattle.bac_pdu.specs.Peer.{Station}
 use Rattle.bac_text.specs.{declared.pairs.PairFault.PairFault, Pairs.body_of, Inner.Pairs.region_of}
 
 -- A tag's number and a word write these octets.
-abbrev pub IsWritten : String → String → List ℕ → Type 0
-IsWritten tag word octets = region_of (codes tag ∷ codes word ∷ []) ≡ Ok octets
+abbrev pub WritesPair : String → String → List ℕ → Type 0
+WritesPair tag word octets = region_of (codes tag ∷ codes word ∷ []) ≡ Ok octets
 
 -- 127.0.0.1, port 47808.
 abbrev pub device : Station

@@ -1,7 +1,7 @@
 -- Single steps of the table: finding a rank, taking out a slot, passing a request that is due.
 use Rattle.std.specs.Prelude.{◌≡◌, ◌≢◌, ℕ, suc, ◌<◌, List, ◌++◌, length, take, drop, remove, get_or, Option, Some, None}
 use Rattle.std.specs.{Prelude.{true, nat_eq}, List.{All, find}}
-use Rattle.bac_tsm.specs.{Events.Rules, declared.due.Entry.Entry, Machine.{Waiting, is_due, due_entry, kept}}
+use Rattle.bac_tsm.specs.{Events.Rules, declared.due.DueEntry.DueEntry, Machine.{Waiting, is_due, due_entry, kept}}
 use Rattle.bac_tsm.specs.{Waiting.nothing, Table.{held_at, open_slots, IsWhole}}
 
 -- The invoke id of the request at this slot.
@@ -31,7 +31,7 @@ IsTakenOut slot before after = (rank : ℕ) × (rank < length before) × (get_or
     × (after ≡ remove before rank)
 
 -- One request that is due at this clock goes on to it, with this entry.
-abbrev pub IsPassed : Rules → ℕ → List Waiting → Entry → List Waiting → Type 0
+abbrev pub IsPassed : Rules → ℕ → List Waiting → DueEntry → List Waiting → Type 0
 IsPassed rules clock before entry after =
     (rank : ℕ) × (rank < length before) × (is_due rules clock (get_or before rank nothing) ≡ true)
     × (entry ≡ due_entry rules (get_or before rank nothing))

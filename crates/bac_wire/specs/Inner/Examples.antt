@@ -3,8 +3,8 @@ use Rattle.std.specs.Prelude.{◌≡◌, ℕ, List, [], Some}
 use Rattle.bac_wire.specs.{Identifier.Identifier, Datum.{Datum, plain}, DatumReading.value_at}
 
 -- These octets are written of a value, and the value is read from them.
-abbrev pub IsWritten : Datum → List ℕ → Type 0
-IsWritten value octets = (plain value ≡ octets) × (value_at octets ≡ Some (value, []))
+abbrev pub WritesValue : Datum → List ℕ → Type 0
+WritesValue value octets = (plain value ≡ octets) × (value_at octets ≡ Some (value, []))
 
 -- Analog-input (type 0) 5.
 abbrev pub input : Identifier

@@ -4,7 +4,7 @@ ghost use Rattle.bac_links.specs.Memory.{account_of, scene_of_step};
 
 use super::*;
 use crate::tests::links::quiet;
-use bac_links::{Link, Log, MemoryLink, NoSocket, Refused, Step};
+use bac_links::{Link, Log, MemoryLink, NoSocket, OnRefusal, Step};
 use bac_tools::{Binding, Network, Report, run_program};
 use std::alloc::Global;
 use std::cell::Cell;
@@ -17,7 +17,7 @@ use std::io::{self, ErrorKind};
 struct Rehearsal<'a, 'c> {
     alloc: Global,
     steps: &'a [Step<'a>],
-    at: (u16, Refused),
+    at: (u16, OnRefusal),
     asked: &'c Cell<u32>,
 }
 
@@ -93,14 +93,14 @@ const SCRIPT: &[u8] = b"read 127.0.0.1:47808 0 5 85\ntick x\n";
 
 const SENT: &str = "send 0 127.0.0.1:47808 810a001101040005010c0c000000051955\n";
 
-const CLIENT: (u16, Refused) = (0, Refused::Fails);
+const CLIENT: (u16, OnRefusal) = (0, OnRefusal::Fails);
 
-const DEVICE: (u16, Refused) = (47_808, Refused::IsLost);
+const DEVICE: (u16, OnRefusal) = (47_808, OnRefusal::IsLost);
 
 const UNBOUND: (&str, u8, &str) = ("", 3, "bind failed");
 
 /// The words of a line, which port of a network they are to ask for; and what is printed, the status and the fault.
-type Row<'a> = (&'a str, (u16, Refused), (&'a str, u8, &'a str));
+type Row<'a> = (&'a str, (u16, OnRefusal), (&'a str, u8, &'a str));
 
 /// Lines over a network that answers a read.
 static ANSWERED: [Row<'static>; 5] = [
@@ -114,14 +114,14 @@ static ANSWERED: [Row<'static>; 5] = [
 /// Lines over one where a device introduces itself.
 static FOUND: [Row<'static>; 2] = [
     (SEARCH, CLIENT, ("1234 127.0.0.1:47808 1476 3 260\n", 0, "")),
-    (SEARCH, (0, Refused::IsLost), UNBOUND),
+    (SEARCH, (0, OnRefusal::IsLost), UNBOUND),
 ];
 
 /// Lines over one where a device is asked. A device alone goes on where a reply is refused.
 static ASKED: [Row<'static>; 3] = [
     (SERVE, DEVICE, ("", 0, "")),
     (SEARCH, DEVICE, UNBOUND),
-    (SERVE, (47_808, Refused::Fails), UNBOUND),
+    (SERVE, (47_808, OnRefusal::Fails), UNBOUND),
 ];
 
 /// Sees that the lines end so over a network of these steps, and that one socket is asked for, and none for a script or
@@ -151,7 +151,11 @@ fn words_are_run(rt: HostRuntime) {
         Step::Packet(0, OTHER, b"\x00"),
     ];
     all_run(&rt, &asked, &ASKED);
-    let broken = [(READ_AT_9, (9, Refused::Fails), ("", 3, "receiving failed"))];
+    let broken = [(
+        READ_AT_9,
+        (9, OnRefusal::Fails),
+        ("", 3, "receiving failed"),
+    )];
     all_run(&rt, &[Step::Broken], &broken);
     let spent = [(READ, CLIENT, ("", 3, "turns spent"))];
     all_run(&rt, quiet(&rt).as_slice(), &spent);

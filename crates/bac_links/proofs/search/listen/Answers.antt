@@ -2,14 +2,14 @@
 use Rattle.std.proofs.{Common.refl, lemmas.{List.append-nil, Result.err_from_is_err_and}}
 use Rattle.bac_print.proofs.Known.{Took-none}
 use Rattle.bac_pdu.specs.Peer.{station}
-use Rattle.bac_links.specs.{History.Arrival, Inner.Search.found_seen}
+use Rattle.bac_links.specs.{History.Arrived, Inner.Search.found_seen}
 use Rattle.bac_links.proofs.search.listen.Goals as goal
 
 pub returns-in_ok-show_found-in-Some-clause-told : goal.returns-in_ok-show_found-in-Some-clause-told
 returns-in_ok-show_found-in-Some-clause-told g c =
     let gains = rw (c.in-Ok-Some.field-0-is, ← c.as_slice.ensures.value) at c.in-Ok-Some.ensures.told in
     record {
-      heard = Arrival (station c.in-Ok-Some.from) c.as_slice.result.now;
+      heard = Arrived (station c.in-Ok-Some.from) c.as_slice.result.now;
       gains = gains;
       received = λ q. cc;
       any_is = rw (← c.in-Some.ensures) refl;
@@ -22,7 +22,7 @@ returns-in_err-show_found-in-Some-clause-told g c =
     let gains = rw (c.in-Ok-Some.field-0-is, ← c.as_slice.ensures.value) at c.in-Ok-Some.ensures.told in
     let text = c.in_err-show_found-in-Some.ensures.text in
     rw (p.1, p.2, c.in_err-show_found-in-Some.ensures.fault) (record {
-      heard = Arrival (station c.in-Ok-Some.from) c.as_slice.result.now;
+      heard = Arrived (station c.in-Ok-Some.from) c.as_slice.result.now;
       gains = gains;
       last = found_seen c.in-Some.found;
       finds = rw (← c.in-Some.ensures) refl;
@@ -36,7 +36,7 @@ pub returns-in-None-clause-told : goal.returns-in-None-clause-told
 returns-in-None-clause-told g c =
     let gains = rw (c.in-Ok-Some.field-0-is, ← c.as_slice.ensures.value) at c.in-Ok-Some.ensures.told in
     record {
-      heard = Arrival (station c.in-Ok-Some.from) c.as_slice.result.now;
+      heard = Arrived (station c.in-Ok-Some.from) c.as_slice.result.now;
       gains = gains;
       received = λ q. cc;
       any_is = rw (← c.in-None.ensures) refl;

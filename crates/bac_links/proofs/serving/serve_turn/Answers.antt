@@ -1,12 +1,12 @@
 -- What came is told by the room that holds it, and the reply could not be sent.
 use Rattle.std.proofs.Common.{[], ◌∷◌, refl}
 use Rattle.bac_pdu.specs.Peer.{station}
-use Rattle.bac_links.{specs.{History.{Arrival, Waited}, Limits.serve_wait}, proofs.Histories.gains_both}
+use Rattle.bac_links.{specs.{History.{Arrived, Waited}, Limits.serve_wait}, proofs.Histories.gains_both}
 use Rattle.bac_links.proofs.serving.serve_turn.Goals as goal
 
 pub returns-in-Err-send-clause-told : goal.returns-in-Err-send-clause-told
 returns-in-Err-send-clause-told g c =
-    let heard = Arrival (station c.in-Ok-Some.from) c.as_slice.result.now in
+    let heard = Arrived (station c.in-Ok-Some.from) c.as_slice.result.now in
     let gains = rw (c.in-Ok-Some.field-0-is, ← c.as_slice.ensures.value) at c.in-Ok-Some.ensures.told in
     let sends = rw c.as_slice-2.ensures.value at c.in-Err-send.ensures.told in
     record {

@@ -2,7 +2,7 @@
 use Rattle.std.proofs.Common.{ap, sym, ◌∙◌, subst}
 use Rattle.std.proofs.lemmas.Simd.{zip2_splat, zip2_splat_left, zip2_of_maps, length-chunk}
 use lib.Lanes.{chunk}
-use Rattle.bac_text.specs.{Search.ends_at, Inner.Search.{first_set, IsRunIn}, declared.search.End.End}
+use Rattle.bac_text.specs.{Search.ends_at, Inner.Search.{first_set, IsRunIn}, declared.search.Delimiter.Delimiter}
 use Rattle.bac_text.proofs.{Lanes.{run_in, lane_is, lanes_are}, search.run_before.Goals.{in-Blank, in-At, in-PastAscii}}
 use Rattle.bac_text.proofs.search.run_before.Goals as goal
 
@@ -14,16 +14,16 @@ returns g c =
     let long = length-chunk c.args.at n octets c.requires.within in
     elim c.match-end.branch [
       | in-Blank w ↦
-          subst (λ (e : End). IsRunIn (ends_at e) octets c.args.at n c.first_set.result) (sym w.in-Blank.is)
+          subst (λ (e : Delimiter). IsRunIn (ends_at e) octets c.args.at n c.first_set.result) (sym w.in-Blank.is)
           (run_in _ octets c.args.at n _ _ c.requires.within c.requires.most
           (c.first_set.ensures ∙ ap (λ m. first_set m n) w.ends-is) _
           (zip2_of_maps _ _ _ v (zip2_splat _ v n 32 long) (zip2_splat _ v n 9 long)) (λ k. lanes_are _ _))
       | in-At w ↦
-          subst (λ (e : End). IsRunIn (ends_at e) octets c.args.at n c.first_set.result) (sym w.in-At.is)
+          subst (λ (e : Delimiter). IsRunIn (ends_at e) octets c.args.at n c.first_set.result) (sym w.in-At.is)
           (run_in _ octets c.args.at n _ _ c.requires.within c.requires.most
           (c.first_set.ensures ∙ ap (λ m. first_set m n) w.ends-is) _ (zip2_splat _ v n _ long) (λ k. lane_is _))
       | in-PastAscii w ↦
-          subst (λ (e : End). IsRunIn (ends_at e) octets c.args.at n c.first_set.result) (sym w.in-PastAscii.is)
+          subst (λ (e : Delimiter). IsRunIn (ends_at e) octets c.args.at n c.first_set.result) (sym w.in-PastAscii.is)
           (run_in _ octets c.args.at n _ _ c.requires.within c.requires.most
           (c.first_set.ensures ∙ ap (λ m. first_set m n) w.ends-is) _ (zip2_splat_left _ 127 n v long) (λ k. lane_is _))
     ]

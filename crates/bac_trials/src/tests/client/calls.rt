@@ -3,7 +3,7 @@
 use crate::tests::client::{ANSWER, VALUE, read};
 use crate::tests::{CONTROLLER, READ_PROPERTY, USUAL, is_asking, request, routed};
 use bac_pdu::Peer;
-use bac_tsm::{Client, Config, Ended, Entry, Outcome, SubmitFault};
+use bac_tsm::{Client, Config, DueEntry, Ended, Outcome, SubmitFault};
 
 #[test]
 fn a_read_and_its_answer(rt: HostRuntime) {
@@ -17,13 +17,13 @@ fn a_read_and_its_answer(rt: HostRuntime) {
 }
 
 /// What is due at each of these ticks, under the usual settings.
-const TICKS: [(u64, &[Entry]); 7] = [
+const TICKS: [(u64, &[DueEntry]); 7] = [
     (2999, &[]),
-    (3000, &[Entry::Resend(0)]),
-    (6000, &[Entry::Resend(0)]),
+    (3000, &[DueEntry::Resend(0)]),
+    (6000, &[DueEntry::Resend(0)]),
     (5, &[]),
-    (9000, &[Entry::Resend(0)]),
-    (12000, &[Entry::TimedOut(0)]),
+    (9000, &[DueEntry::Resend(0)]),
+    (12000, &[DueEntry::TimedOut(0)]),
     (15000, &[]),
 ];
 

@@ -4,11 +4,11 @@ pub returns : goal.returns
 returns c =
     rw (
       c.in_ok-arguments.ensures.items,
-      c.needed.ensures.rule,
-      c.needed-2.ensures.rule,
-      c.needed-3.ensures.rule,
-      c.needed-4.ensures.rule,
-      c.number.ensures.rule,
+      c.needed_argument.ensures.rule,
+      c.needed_argument-2.ensures.rule,
+      c.needed_argument-3.ensures.rule,
+      c.needed_argument-4.ensures.rule,
+      c.number_argument.ensures.rule,
       c.mac_arg.ensures.rule,
       c.timeout_arg.ensures.rule,
       c.retries_arg.ensures.rule,

@@ -4,8 +4,8 @@ pub returns : goal.returns
 returns c =
     rw (
       c.in_ok-arguments.ensures.items,
-      c.number.ensures.rule,
-      c.number-2.ensures.rule,
+      c.number_argument.ensures.rule,
+      c.number_argument-2.ensures.rule,
       c.mac_arg.ensures.rule,
       c.timeout_arg.ensures.rule,
       c.port_arg.ensures.rule,

@@ -28,7 +28,7 @@ returns c =
     let typed = ap (λ (b : Bor (List (Bor Text))). map unmarked (texts b.now)) c.unwrap_or-pairs.ensures
     ∙ pairs_typed c.get_strs.result _ refl ∙ given in
     rw (
-      c.kept.ensures,
+      c.copy_of.ensures,
       ← c.object.ensures,
       ← c.needed.ensures.value,
       ← c.priority.ensures.value,

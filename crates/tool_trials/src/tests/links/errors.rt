@@ -2,7 +2,7 @@
 ghost use Rattle.std.specs.Prelude.{◌≡◌, ◌≤◌, length, IfOk};
 
 use super::*;
-use bac_links::{CallNote, Log, Refused, Socket, UdpLink};
+use bac_links::{CallNote, Log, OnRefusal, Socket, UdpLink};
 use std::io::{self, ErrorKind};
 use std::net::{Ipv4Addr, SocketAddr, SocketAddrV4};
 use std::time::Duration;
@@ -96,7 +96,7 @@ impl Socket for Failing<'_> {
 
 /// How a read with a timeout of 100 ms ends over such a socket, which gives the answer to it.
 fn read_ends(alloc: Global, at: Asked, kind: ErrorKind) -> Result<Got, LinkFault> {
-    let mut link = UdpLink::over(Failing::new(at, kind, VALUE), alloc, Refused::Fails)?;
+    let mut link = UdpLink::over(Failing::new(at, kind, VALUE), alloc, OnRefusal::Fails)?;
     let job = Job::Read(&call_of(100, 0, BODY));
     Ok(run_job(job, &mut link, [0; 9].as_mut_slice()))
 }
@@ -105,7 +105,7 @@ type Served = Result<u32, ToolFault>;
 
 /// How a device ends that is to answer one datagram over such a socket, which gives a request.
 fn serve_ends(alloc: Global, at: Asked, kind: ErrorKind) -> Result<Served, LinkFault> {
-    let mut link = UdpLink::over(Failing::new(at, kind, ASK), alloc, Refused::IsLost)?;
+    let mut link = UdpLink::over(Failing::new(at, kind, ASK), alloc, OnRefusal::IsLost)?;
     let mut device = small_device().ok_or(LinkFault)?;
     Ok(serve(&mut link, &mut device, 1))
 }

@@ -2,7 +2,7 @@
 ghost use Rattle.std.specs.Prelude.{◌≡◌, false, is_err, OnOk};
 
 use super::*;
-use bac_links::{Datagram, Refused, UdpLink};
+use bac_links::{Datagram, OnRefusal, UdpLink};
 use std::alloc::AllocError;
 use std::cell::Cell;
 use std::io;
@@ -49,9 +49,9 @@ fn times_out<L: Link>(desk: &mut L, field: &mut L) -> Result<bool, LinkFault>
 
 #[test]
 fn two_sockets(rt: HostRuntime) -> Result<(), Fail> {
-    let mut field = UdpLink::bind_with(&rt, rt.alloc(), CONTROLLER, Refused::Fails)?;
-    let mut desk = UdpLink::bind_with(&rt, rt.alloc(), OTHER, Refused::Fails)?;
-    assert!(rt; UdpLink::bind_with(&rt, rt.alloc(), OTHER, Refused::Fails).is_err());
+    let mut field = UdpLink::bind_with(&rt, rt.alloc(), CONTROLLER, OnRefusal::Fails)?;
+    let mut desk = UdpLink::bind_with(&rt, rt.alloc(), OTHER, OnRefusal::Fails)?;
+    assert!(rt; UdpLink::bind_with(&rt, rt.alloc(), OTHER, OnRefusal::Fails).is_err());
     assert!(rt; times_out(&mut desk, &mut field)?);
     Ok(())
 }
@@ -109,8 +109,8 @@ fn long_datagrams(rt: HostRuntime) -> Result<(), Fail> {
         port: 47_811,
         ..CONTROLLER
     };
-    let mut near = UdpLink::bind_with(&rt, rt.alloc(), here, Refused::Fails)?;
-    let mut far = UdpLink::bind_with(&rt, rt.alloc(), there, Refused::Fails)?;
+    let mut near = UdpLink::bind_with(&rt, rt.alloc(), here, OnRefusal::Fails)?;
+    let mut far = UdpLink::bind_with(&rt, rt.alloc(), there, OnRefusal::Fails)?;
     assert!(rt; carries_up_to_the_longest(&mut near, &mut far, (here, there))?);
     assert!(rt; carries_up_to_the_longest(&mut far, &mut near, (there, here))?);
     Ok(())
@@ -127,8 +127,8 @@ fn one_port_of_two_addresses(rt: HostRuntime) -> Result<(), Fail> {
         ip: 0x7f00_0002,
         ..here
     };
-    let mut near = UdpLink::bind_with(&rt, rt.alloc(), here, Refused::Fails)?;
-    let mut far = UdpLink::bind_with(&rt, rt.alloc(), there, Refused::Fails)?;
+    let mut near = UdpLink::bind_with(&rt, rt.alloc(), here, OnRefusal::Fails)?;
+    let mut far = UdpLink::bind_with(&rt, rt.alloc(), there, OnRefusal::Fails)?;
     assert!(rt; carries(&mut near, &mut far, (here, there), ASK)?);
     Ok(())
 }
@@ -209,7 +209,7 @@ fn time_of_a_socket(rt: HostRuntime) -> Result<(), Fail> {
             port: 47_816,
             ..CONTROLLER
         },
-        Refused::Fails,
+        OnRefusal::Fails,
     )?;
     assert!(rt; link.now() == 0);
     for (time, now) in &TIMES {
@@ -277,11 +277,11 @@ fn refused_replies_are_lost(rt: HostRuntime) -> Result<(), Fail> {
             port: 47_812,
             ..CONTROLLER
         },
-        Refused::Fails,
+        OnRefusal::Fails,
     )?;
-    let mut field = UdpLink::bind_with(&rt, rt.alloc(), server, Refused::IsLost)?;
+    let mut field = UdpLink::bind_with(&rt, rt.alloc(), server, OnRefusal::IsLost)?;
     assert!(rt; goes_on(&mut desk, &mut field, &mut device, server)?);
-    let mut brittle = UdpLink::bind_with(&rt, rt.alloc(), strict, Refused::Fails)?;
+    let mut brittle = UdpLink::bind_with(&rt, rt.alloc(), strict, OnRefusal::Fails)?;
     assert!(rt; is_stopped(&mut desk, &mut brittle, &mut device, strict)?);
     Ok(())
 }

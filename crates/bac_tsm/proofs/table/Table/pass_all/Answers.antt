@@ -1,7 +1,7 @@
 -- Each turn passes one request; what is told in that order, sorted by ticket, is what the definition tells.
 use Rattle.std.proofs.{Common.{List, sym, subst, ◌∙◌, arith}, lemmas.List.Sorted.IsPermutation-trans}
 use Rattle.std.specs.List.Sorted.{IsPermutation}
-use Rattle.bac_tsm.specs.{declared.due.Entry.Entry, Client.client_rules}
+use Rattle.bac_tsm.specs.{declared.due.DueEntry.DueEntry, Client.client_rules}
 use Rattle.bac_tsm.proofs.TableTick.{few_due, passed, fewer, all_passed, refilled}
 use Rattle.bac_tsm.proofs.table.Table.pass_all.Goals as goal
 
@@ -31,7 +31,7 @@ returns-clause-told c =
     rw (refilled c.loop-is_due.entries.items c.sort_by_ticket.new.entries (grind arith)) (IsPermutation-trans _ _ _
     (all_passed (client_rules c.args.config.timeout c.args.config.retries) c.args.clock c.args.config.positive
     c.loop-is_due.invariant.ticked (sym c.loop-is_due.invariant.due ∙ c.loop-is_due-test.false)).told
-    (subst (λ (es : List Entry). IsPermutation es c.sort_by_ticket.new.entries) c.as_mut_slice.ensures.value
+    (subst (λ (es : List DueEntry). IsPermutation es c.sort_by_ticket.new.entries) c.as_mut_slice.ensures.value
     c.sort_by_ticket.ensures.same))
 
 pub returns-clause-kept : goal.returns-clause-kept
