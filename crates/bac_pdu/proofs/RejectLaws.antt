@@ -92,9 +92,7 @@ module _ {A : Type 0} {IsWhole : List ℕ → A → Type 0} {HasFault : List ℕ
   outcome_read : (read o : Result A RejectReason) → of body ≡ read → IsOutcome IsWhole HasFault body o → read ≡ o
   outcome_read _ (Ok x) e is = sym e ∙ judge.again _ x is.whole
   outcome_read (Ok y) (Err reason) e is = let two = is.all y (judge.takes _ y e) in absurd cc
-  outcome_read (Err other) (Err reason) e is =
-      ap Err (one_first (HasFault _) (OutOfRange ∷ TooMany ∷ MissingParameter ∷ InvalidTag ∷ []) _ _
-      (rejected _ e) is.rejected)
+  outcome_read (Err other) (Err reason) e is = grind (arith, rejected)
 
   -- a body has one outcome
   pub outcome_is : (o : Result A RejectReason) → (of body ≡ o) ↔ IsOutcome IsWhole HasFault body o

@@ -34,12 +34,7 @@ module _ {A : Type 0} (Spells : List ℕ → A → Type 0) where
   pub from_front : (octets front rest : List ℕ) (xs : List A)
       → octets ≡ front ++ rest → SpellsAll Spells front xs → SpellsTo Spells octets xs rest
   from_front _ _ rest [] e s = e ∙ ap (λ (w : List ℕ). w ++ rest) s
-  from_front _ front rest (x ∷ xs) e s =
-      let line = e ∙ ap (λ (w : List ℕ). w ++ rest) s.1.whole ∙ append_assoc _ s.0 _ in (
-        s.0 ++ rest,
-        record { front = s.1.front; spelled = s.1.spelled; whole = line },
-        from_front (s.0 ++ rest) s.0 _ xs refl s.2,
-      )
+  from_front _ front rest (x ∷ xs) e s = grind (arith, append_assoc, from_front (s.0 ++ rest) s.0 _ xs refl s.2)
 
 -- ---- a whole body
 
@@ -55,11 +50,7 @@ module _ {A : Type 0} (Spells : List ℕ → A → Type 0) (plain : A → List �
   pub all_spell : (xs : List A) (rest : List ℕ) → AllByRecursion Is xs
       → SpellsTo Spells (flat_map plain xs ++ rest) xs rest
   all_spell [] _ h = refl
-  all_spell (x ∷ xs) rest h = (
-    flat_map _ xs ++ rest,
-    record { front = plain x; spelled = spell x h.0; whole = append_assoc _ _ rest },
-    all_spell xs rest h.1,
-  )
+  all_spell (x ∷ xs) rest h = grind (arith, append_assoc, all_spell xs rest h.1)
 
   -- what is written of these things spells them
   pub whole_spell : (xs : List A) → AllByRecursion Is xs → SpellsAll Spells (flat_map plain xs) xs

@@ -1,7 +1,8 @@
 -- What `read_value` finds of what `write_value` appended, as an equation: for a crate above, which knows it by
 -- `IsReadBack` and `FindsFront`.
-use Rattle.std.proofs.Common.{◌≡◌, ℕ, List, [], ◌++◌, length, Option, Some, None, ap, refl, sym, subst, ◌∙◌, append-nil}
-use Rattle.std.{proofs.lemmas.Option.{none-some, same_Some}, specs.Option.option_map}
+use Rattle.std.proofs.Common.{arith}
+use Rattle.std.proofs.Common.{◌≡◌, ℕ, List, [], ◌++◌, length, Option, Some, None, sym, subst, ◌∙◌, append-nil}
+use Rattle.std.{proofs.lemmas.Option.{none-some}, specs.Option.option_map}
 use Rattle.bac_wire.specs.{declared.value.Value.Value, Front.{FindsFront, IsReadBack}, Datum.{Datum, Spells, datum}}
 
 -- what was found, without where its octets lie
@@ -15,15 +16,12 @@ IsFound found x count = (y : Value × ℕ) × (found ≡ Some y) × (datum y.0 �
 found_as : (found : Option (Value × ℕ)) (x : Datum) (count : ℕ) → found_seen found ≡ Some (x, count)
     → IsFound found x count
 found_as None x count e = let y : Datum × ℕ = (x, count) in absurd (none-some y e)
-found_as (Some y) x count e =
-    let same : ◌≡◌ {A = Datum × ℕ} (datum y.0, y.1) (x, count) = same_Some _ _ e in
-    (y, refl, ap (λ (p : Datum × ℕ). p.0) same, ap (λ (p : Datum × ℕ). p.1) same)
+found_as (Some y) x count e = grind arith
 
 -- the octets begin with what was written
 pub value_back : (plain rest octets : List ℕ) (x : Datum) (found : Option (Value × ℕ)) → IsReadBack Spells plain x
     → octets ≡ plain ++ rest → FindsFront Spells octets (found_seen found) → IsFound found x (length plain)
-value_back _ rest _ x found back whole finds =
-    found_as _ x _ (back rest _ (subst (λ (w : List ℕ). FindsFront Spells w (found_seen found)) whole finds))
+value_back _ rest _ x found back whole finds = grind arith
 
 -- the octets are what was written, behind nothing
 pub value_alone : (first plain octets : List ℕ) (x : Datum) (found : Option (Value × ℕ)) → first ≡ []

@@ -1,8 +1,7 @@
 -- No spelling of a value has fewer octets than the plain one.
 use Rattle.std.proofs.{
-  Common.{◌≡◌, ℕ, ℤ, pos, negsuc, zero, suc, ◌+◌, ◌-◌, ◌*◌, ◌^◌, ◌<◌, ◌≤◌, List, [], ◌∷◌, ◌++◌, length, ap, subst},
-  Common.{arith, inl, inr},
-  lemmas.{Grind.common_steps, Int.ints, Bool.{cases_lt, lt-ltb, le-ltb}, List.length-append},
+  Common.{◌≡◌, ℕ, ℤ, zero, suc, ◌+◌, ◌-◌, ◌*◌, ◌^◌, ◌<◌, ◌≤◌, List, [], ◌∷◌, ◌++◌, length, ap, subst, arith},
+  lemmas.{Grind.common_steps, Bool.{le-ltb}, List.length-append},
 }
 use Rattle.byteorder.{proofs.Bytes.pow256, specs.Endian.{big_number, big_bytes, twos_complement}}
 use Rattle.byteorder.specs.Numbers.{big_from-lt, length-bytes_high_first}
@@ -27,17 +26,7 @@ half_octets : (k : ℕ) → 1 ≤ k → 2 * 2 ^ (8 * k - 1) ≡ 256 ^ k
 half_octets = grind (arith, common_steps, pow256)
 
 signed_count_least : (k x : ℕ) (z : ℤ) → 1 ≤ k → x < 256 ^ k → z ≡ twos_complement k x → signed_count z ≤ k
-signed_count_least k x z low fits e =
-    let half = half_octets k low in
-    let whole = pow256 k in
-    elim (cases_lt x _) [
-      | inl small ↦
-          let is : z ≡ pos x = rw (lt-ltb x (2 ^ (8 * k - 1)) small) at e in
-          rw is (octet_count_least k (2 * x) low (omega arith))
-      | inr large ↦
-          let is : z ≡ negsuc (2 ^ (8 * k) - suc x) = grind (arith, le-ltb, ints) in
-          rw is (grind (arith, octet_count_least))
-    ]
+signed_count_least k x z low fits e = grind (arith, half_octets, pow256, octet_count_least, le-ltb)
 
 -- ---- the contents
 

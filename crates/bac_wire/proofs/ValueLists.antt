@@ -1,6 +1,6 @@
 -- The values that a region is, from its front.
 use Rattle.std.proofs.Common.{◌≡◌, ℕ, zero, suc, ◌+◌, ◌<◌, ◌≤◌, List, [], ◌∷◌, length, Option, Some, None, refl, sym}
-use Rattle.std.proofs.{Common.{◌∙◌, ap, subst, arith}, lemmas.Bool.Decides.nat_tests, lemmas.Option.none-some}
+use Rattle.std.proofs.{Common.{◌∙◌, ap, subst, arith}, lemmas.Bool.Decides.nat_tests}
 use Rattle.std.specs.Prelude.{◌↔◌, option_map}
 use Rattle.bac_wire.{
   specs.{Datum.{Datum, Spells}, Front.SpellsAll, Steps.◌>>=◌, DatumReading.{value_at, values_within, values_of}},
@@ -104,7 +104,7 @@ spelled (value ∷ others) (x ∷ xs) e = go (λ rest. spelled others rest) (val
 
     go : ((rest : List ℕ) → values_of rest ≡ Some others → SpellsAll Spells rest others) →
         (found : Option (Datum × List ℕ)) → value_at (x ∷ xs) ≡ found → SpellsAll Spells (x ∷ xs) (value ∷ others)
-    go after None f = absurd (none-some (value ∷ others) (sym (values-none (x ∷ xs) f (omega arith)) ∙ e))
+    go after None f = grind arith
     go after (Some first) f =
         let found : value_at (x ∷ xs) ≡ Some (first.0, first.1) = f in
         let both = parts first.0 (values_of first.1) (sym (values-first (x ∷ xs) first.0 first.1 found) ∙ e) in (

@@ -1,5 +1,5 @@
 -- Each row computes once the definitions that read and write it are opened.
-use Rattle.std.proofs.Common.{refl}
+use Rattle.std.proofs.Common.{arith}
 use Rattle.bac_wire.specs.{Tag.plain_tag, TagReading.{tag_number_at, long_length_at, length_at, shape_at, tag_at}}
 use Rattle.bac_wire.specs.{Datum.plain, ItemReading.{behind_closing, behind_items, region_at}}
 use Rattle.bac_wire.specs.ParameterReading.{context_at, number_at, object_at, behind_opening, enclosed_at}
@@ -11,17 +11,4 @@ pub returns : goal.returns
 unfolding plain_tag tag_number_at long_length_at length_at shape_at tag_at plain behind_closing behind_items region_at
     context_at number_at object_at behind_opening enclosed_at plain_parameter reference_at read_of write_of ack_of
     parts_at apdu_of
-returns c =
-    record {
-      ack = refl;
-      complex = (refl, refl);
-      simple = (refl, refl);
-      failed = (refl, refl);
-      rejected = (refl, refl);
-      aborted = (refl, refl);
-      missing = refl;
-      invalid = refl;
-      too_many = refl;
-      write = refl;
-      out_of_range = refl;
-    }
+returns c = grind arith

@@ -1,5 +1,5 @@
 -- Each row computes once the definitions that read and write it are opened.
-use Rattle.std.proofs.Common.{refl}
+use Rattle.std.proofs.Common.{arith}
 use Rattle.bac_wire.specs.{Tag.plain_tag, TagReading.{tag_number_at, long_length_at, length_at, shape_at, tag_at}}
 use Rattle.bac_wire.specs.ParameterReading.{context_at, number_at, object_at}
 use Rattle.bac_pdu.specs.{Parameter.plain_parameter, PropertyReading.{reference_at, read_of}, Datagram.wrapped}
@@ -10,12 +10,4 @@ pub returns : goal.returns
 unfolding plain_tag tag_number_at long_length_at length_at shape_at tag_at context_at number_at object_at
     plain_parameter
     reference_at read_of wrapped address_at header_at link_at carried parts_at apdu_of
-returns c =
-    record {
-      body = refl;
-      body_read = refl;
-      apdu = (refl, refl);
-      datagram = refl;
-      datagram_read = refl;
-      routed = refl;
-    }
+returns c = grind arith

@@ -1,5 +1,5 @@
 -- Each row computes once the definitions that read and write it are opened.
-use Rattle.std.proofs.Common.{refl}
+use Rattle.std.proofs.Common.{arith}
 use Rattle.bac_wire.specs.{Tag.plain_tag, TagReading.{tag_number_at, long_length_at, length_at, shape_at, tag_at}}
 use Rattle.bac_wire.specs.{Datum.plain, DatumReading.{contents_of, value_at}}
 use Rattle.bac_wire.specs.ParameterReading.{context_at, number_at, kind_at}
@@ -10,14 +10,4 @@ pub returns : goal.returns
 unfolding plain_tag tag_number_at long_length_at length_at shape_at tag_at plain contents_of value_at context_at
     number_at
     kind_at wrapped parts_at apdu_of who_is_of introduction_of
-returns c =
-    record {
-      all = refl;
-      range = refl;
-      range_read = refl;
-      low_alone = refl;
-      body = refl;
-      body_read = refl;
-      i_am = (refl, refl);
-      datagram = refl;
-    }
+returns c = grind arith

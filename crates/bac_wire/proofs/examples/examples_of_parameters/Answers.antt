@@ -1,4 +1,4 @@
-use Rattle.std.proofs.Common.{refl}
+use Rattle.std.proofs.Common.{arith}
 use Rattle.bac_wire.specs.{Tag.plain_tag, TagReading.{tag_number_at, long_length_at, length_at, shape_at, tag_at}}
 use Rattle.bac_wire.specs.ItemReading.{behind_closing, behind_items, region_at}
 use Rattle.bac_wire.specs.ParameterReading.{context_at, number_at, object_at, behind_opening, enclosed_at}
@@ -7,16 +7,4 @@ use Rattle.bac_wire.proofs.examples.examples_of_parameters.Goals as goal
 pub returns : goal.returns
 unfolding plain_tag tag_number_at long_length_at length_at shape_at tag_at behind_closing behind_items region_at
     context_at number_at object_at behind_opening enclosed_at
-returns c =
-    record {
-      number = refl;
-      number_read = refl;
-      object = refl;
-      object_read = refl;
-      other_tag = refl;
-      value = refl;
-      value_read = refl;
-      contents = refl;
-      inner = refl;
-      other_end = refl;
-    }
+returns c = grind arith

@@ -1,17 +1,8 @@
-use Rattle.std.proofs.Common.{refl}
+use Rattle.std.proofs.Common.{arith}
 use Rattle.bac_wire.specs.TagReading.{tag_number_at, long_length_at, length_at, shape_at, tag_at}
 use Rattle.bac_wire.specs.DatumReading.{contents_of, value_at}
 use Rattle.bac_wire.proofs.examples.examples_of_reading.Goals as goal
 
 pub returns : goal.returns
 unfolding tag_number_at long_length_at length_at shape_at tag_at contents_of value_at
-returns c =
-    record {
-      first = refl;
-      wide = refl;
-      long_tag = refl;
-      nothing = refl;
-      short = refl;
-      not_boolean = refl;
-      context = refl;
-    }
+returns c = grind arith
