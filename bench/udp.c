@@ -1,51 +1,31 @@
-/* The yardsticks of the tools: plain programs over UDP on 127.0.0.1, by the first word, as loopback.py calls them.
+/* The yardsticks of the device and of its clients: plain programs over UDP on 127.0.0.1, as measure.py calls them.
  *
- * ask PORT HEX: sends one datagram and prints the answer, as bacrp does.
- * echo PORT COUNT: sends each datagram back to where it came from, until COUNT came, or none in ten seconds. As bacdev,
- *     it listens on all addresses.
- * load PORT OUTSTANDING COUNT LENGTH FIRST: asks a server for one property, COUNT times, and prints how many of them
- *     it answers a second. OUTSTANDING of them are on their way at a time. Each reply must have LENGTH octets and begin
- *     with those of FIRST (in hexadecimal) and the request's invoke id, in the order of the requests. */
+ * udp echo PORT: sends each datagram back to where it came from. As bacdev, it listens on all addresses.
+ * udp load PORT OUTSTANDING COUNT: asks a server for one property, COUNT times, and prints how many requests it answers
+ *     a second. OUTSTANDING are on their way at a time, and are answered in their order. */
 #include <arpa/inet.h>
-#include <errno.h>
+#include <err.h>
 #include <stdio.h>
 #include <stdlib.h>
 #include <string.h>
 #include <sys/socket.h>
-#include <sys/time.h>
 #include <time.h>
-#include <unistd.h>
 
-#define ROOM 2048
+/* ReadProperty: the present value of analog input 5. The invoke id stands here, and in the answer an octet before. */
+static unsigned char request[] = { 0x81, 0x0a, 0x00, 0x11, 0x01, 0x04, 0x00, 0x05, 0x00, 0x0c,
+                                   0x0c, 0x00, 0x00, 0x00, 0x05, 0x19, 0x55 };
+enum { INVOKE_ID = 8, ANSWER = 23 };
 
-/* The program ends with a word on why. */
-static void give_up(const char *why)
+static void echo(int server)
 {
-    fprintf(stderr, "%s: %s\n", why, errno ? strerror(errno) : "not as expected");
-    exit(1);
-}
-
-/* The octets of a text of hexadecimal digits, and how many they are. */
-static size_t octets_of(const char *text, unsigned char *octets)
-{
-    size_t count = 0;
-    while (count < ROOM && sscanf(text + 2 * count, "%2hhx", &octets[count]) == 1)
-        count++;
-    return count;
-}
-
-/* A socket whose receives give up after `seconds`: bound to a port, or connected with it on 127.0.0.1. */
-static int socket_at(const char *port, int seconds, in_addr_t host,
-                     int (*joins)(int, const struct sockaddr *, socklen_t))
-{
-    struct sockaddr_in address = { .sin_family = AF_INET, .sin_port = htons(atoi(port)) };
-    struct timeval wait = { .tv_sec = seconds };
-    int made = socket(AF_INET, SOCK_DGRAM, 0);
-    address.sin_addr.s_addr = htonl(host);
-    if (made < 0 || setsockopt(made, SOL_SOCKET, SO_RCVTIMEO, &wait, sizeof wait) != 0
-        || joins(made, (struct sockaddr *)&address, sizeof address) != 0)
-        give_up("socket");
-    return made;
+    unsigned char octets[2048];
+    struct sockaddr_in from;
+    for (;;) {
+        socklen_t size = sizeof from;
+        ssize_t length = recvfrom(server, octets, sizeof octets, 0, (struct sockaddr *)&from, &size);
+        if (length < 0 || sendto(server, octets, length, 0, (struct sockaddr *)&from, size) != length)
+            err(1, "echo");
+    }
 }
 
 static double seconds_now(void)
@@ -55,70 +35,38 @@ static double seconds_now(void)
     return now.tv_sec + now.tv_nsec / 1e9;
 }
 
-static void ask(char **words)
+static void load(int client, long outstanding, long count)
 {
-    unsigned char octets[ROOM];
-    int client = socket_at(words[0], 1, INADDR_LOOPBACK, connect);
-    ssize_t length = octets_of(words[1], octets);
-    if (send(client, octets, length, 0) != length || (length = recv(client, octets, sizeof octets, 0)) < 0)
-        give_up("ask");
-    for (ssize_t i = 0; i < length; i++)
-        printf("%02x", octets[i]);
-    printf("\n");
-}
-
-static void echo(char **words)
-{
-    unsigned char octets[ROOM];
-    int server = socket_at(words[0], 10, INADDR_ANY, bind);
-    for (long left = atol(words[1]); left > 0; left--) {
-        struct sockaddr_in from;
-        socklen_t size = sizeof from;
-        ssize_t length = recvfrom(server, octets, sizeof octets, 0, (struct sockaddr *)&from, &size);
-        if (length < 0 || sendto(server, octets, length, 0, (struct sockaddr *)&from, size) != length)
-            give_up("echo");
-    }
-}
-
-static void request(int client, long which)
-{
-    /* ReadProperty: the present value of analog input 5. Its invoke id is octet 8. */
-    unsigned char octets[] = { 0x81, 0x0a, 0x00, 0x11, 0x01, 0x04, 0x00, 0x05, which % 256, 0x0c,
-                               0x0c, 0x00, 0x00, 0x00, 0x05, 0x19, 0x55 };
-    if (send(client, octets, sizeof octets, 0) != sizeof octets)
-        give_up("send");
-}
-
-static void load(char **words)
-{
-    int client = socket_at(words[0], 1, INADDR_LOOPBACK, connect);
-    long outstanding = atol(words[1]), count = atol(words[2]), asked = 0;
-    ssize_t length = atol(words[3]);
-    unsigned char first[ROOM + 1], reply[ROOM];
-    size_t known = octets_of(words[4], first);
+    unsigned char reply[2048];
     double begun = seconds_now();
-    while (asked < outstanding && asked < count)
-        request(client, asked++);
+    long asked = 0;
     for (long answered = 0; answered < count; answered++) {
-        errno = 0;
-        first[known] = answered % 256;
-        if (recv(client, reply, sizeof reply, 0) != length || memcmp(reply, first, known + 1) != 0)
-            give_up("reply");
-        if (asked < count)
-            request(client, asked++);
+        for (; asked < count && asked < answered + outstanding; asked++) {
+            request[INVOKE_ID] = asked;
+            if (send(client, request, sizeof request, 0) != sizeof request)
+                err(1, "send");
+        }
+        ssize_t length = recv(client, reply, sizeof reply, 0);
+        int at = length == sizeof request ? INVOKE_ID : INVOKE_ID - 1;
+        if ((length != sizeof request && length != ANSWER) || reply[at] != answered % 256)
+            errx(1, "not the answer to request %ld, but %zd octets", answered, length);
     }
     printf("%.0f\n", count / (seconds_now() - begun));
 }
 
 int main(int count, char **words)
 {
-    if (count == 4 && strcmp(words[1], "ask") == 0)
-        ask(words + 2);
-    else if (count == 4 && strcmp(words[1], "echo") == 0)
-        echo(words + 2);
-    else if (count == 7 && strcmp(words[1], "load") == 0)
-        load(words + 2);
-    else
-        give_up("usage: udp ask|echo|load WORDS");
-    return 0;
+    int is_echo = count == 3 && strcmp(words[1], "echo") == 0;
+    if (!is_echo && (count != 5 || strcmp(words[1], "load") != 0))
+        errx(2, "usage: udp echo PORT, or udp load PORT OUTSTANDING COUNT");
+    struct sockaddr_in place = { .sin_family = AF_INET, .sin_port = htons(atoi(words[2])) };
+    struct timeval wait = { .tv_sec = 10 };
+    int made = socket(AF_INET, SOCK_DGRAM, 0);
+    place.sin_addr.s_addr = htonl(is_echo ? INADDR_ANY : INADDR_LOOPBACK);
+    if (setsockopt(made, SOL_SOCKET, SO_RCVTIMEO, &wait, sizeof wait) != 0
+        || (is_echo ? bind : connect)(made, (struct sockaddr *)&place, sizeof place) != 0)
+        err(1, "socket");
+    if (is_echo)
+        echo(made);
+    load(made, atol(words[3]), atol(words[4]));
 }

@@ -1,0 +1,271 @@
+#!/usr/bin/env python3
+"""Measures the built program as docs/SPEED.md shows it. Usage: bench/measure.py [--write] [PART ..]: these parts, or
+all; with --write what comes is written there.
+
+    network       over 127.0.0.1: bacdev beside a bare echo server, bacrp beside a bare client, and memory
+    instructions  by callgrind, where valgrind is installed: the same numbers whatever else is at work
+    script        a million mixed lines, beside other programs over the same file
+    calls         the benchmarks of this folder, files .rattle, which are proved first: some minutes
+
+BACTOOL names another program than the repository's own, and ROUNDS how often two servers are compared.
+"""
+import contextlib
+import datetime
+import os
+import re
+import shutil
+import statistics
+import subprocess
+import sys
+import tempfile
+import time
+
+sys.path.insert(0, os.path.dirname(__file__) + "/../tests")
+from tree import PROGRAM, TOP, all_crates, device, free_port, processors, resident, server, text_of
+
+ROUNDS = int(os.environ.get("ROUNDS", 15))
+REPLIES, MANY_REPLIES, RUNS, LINES = 20000, 60000, 200, 10000000
+UDP = f"{TOP}/out/udp"
+ECHO, BACDEV = [UDP, "echo"], [PROGRAM, "bacdev", "1234", "--port"]
+BACRP = ["bacrp", "1234", "0", "5", "85", "--mac"]
+CALLGRIND = ["valgrind", "--tool=callgrind", "--callgrind-out-file=/dev/null", PROGRAM]
+MIXED = [
+    "read 127.0.0.1:47808 0 5 85\n",
+    "data 127.0.0.1:47808 810a0017010030{number:02x}0c0c0000000519553e444290999a3f\n",
+    "write 127.0.0.1:47808 1 1 85 16 -1 4 41a00000\n",
+    "data 127.0.0.1:47808 810a0009010020{number:02x}0f\n",
+    "ask 127.0.0.1:50000 810a001101040005010c0c000000051955\n",
+    "tick {line}\n",
+]
+
+
+def mixed(count):
+    """A script of so many lines: reads, writes, their answers, questions to the device, ticks."""
+    for line in range(count):
+        yield MIXED[line % 6].format(line=line, number=(line // 3 + 1) % 256)
+
+
+def row(name, *cells):
+    return f"{name:34}" + "".join(f" {cell:>8}" for cell in cells)
+
+
+def wide(name, one, many):
+    return f"{name:34} {one:25}   {many}"
+
+
+# ---- over 127.0.0.1 ----
+
+@contextlib.contextmanager
+def serving(*words):
+    """A server at a free port, which stands behind its words: its process, and the port."""
+    port = str(free_port())
+    with server(port, *words, port) as process:
+        yield process, port
+
+
+def load(port, outstanding, count):
+    """The replies a second of a server, with so many requests on their way."""
+    return int(subprocess.check_output([UDP, "load", str(port), str(outstanding), str(count)]))
+
+
+def spread(numbers, form="{}"):
+    """The median of the numbers, their least and their greatest."""
+    shown = [form.format(it) for it in (statistics.median_low(numbers), min(numbers), max(numbers))]
+    return "{:>8} ({} to {})".format(*shown)
+
+
+def servers():
+    rates = {(outstanding, *words): [] for outstanding in (1, 32) for words in (ECHO, BACDEV)}
+    for _ in range(ROUNDS):
+        for (outstanding, *words), found in rates.items():
+            with serving(*words) as (_, port):
+                found.append(load(port, outstanding, REPLIES))
+    echoes, ours = ([rates[(outstanding, *words)] for outstanding in (1, 32)] for words in (ECHO, BACDEV))
+    yield wide(f"replies a second, {ROUNDS} x {REPLIES}", "one outstanding", "32 outstanding")
+    yield wide("bare echo server", *map(spread, echoes))
+    yield wide("bacdev, a ReadProperty", *map(spread, ours))
+    # The median over the rounds, each beside the other, and the best rounds, which tell more where other work disturbs.
+    ratios = [[one / echo for one, echo in zip(*both)] for both in zip(ours, echoes)]
+    yield wide("bacdev by echo, round by round", *(spread(it, "{:.2f}") for it in ratios))
+    yield wide("bacdev by echo, best by best", *(f"{max(one) / max(echo):8.2f}" for one, echo in zip(ours, echoes)))
+
+
+def shares():
+    """Where the time of bacdev goes under load, where perf is installed."""
+    if not shutil.which("perf"):
+        return
+    kept = f"{TOP}/out/perf"
+    record = ["perf", "record", "-q", "-e", "cpu-clock", "-o", kept, PROGRAM, "bacdev", "1234"]
+    with serving(*record, "--count", str(MANY_REPLIES), "--port") as (process, port):
+        load(port, 32, MANY_REPLIES)
+        process.wait()
+    words = ["perf", "report", "-i", kept, "--sort", "dso", "--stdio"]
+    report = subprocess.run(words, capture_output=True, check=False, text=True).stdout
+    found = re.findall(r"(?m)^ *([\d.]+%) +(\S+)", report)
+    yield f"{'its time by perf, 32 outstanding':34} {', '.join(f'{name} {share}' for share, name in found)}"
+
+
+def clients():
+    """The median and the least of the microseconds that a command takes, run one after the other."""
+    yield row(f"\nmicroseconds a run, {RUNS} runs", "median", "least")
+    with serving(*BACDEV) as (_, port):
+        for name, *words in [
+            ("true, a process alone", "true"),
+            ("bactool --help, with its words", PROGRAM, "--help"),
+            ("bare client, one question", UDP, "load", port, "1", "1"),
+            ("bacrp, one value", PROGRAM, *BACRP, f"127.0.0.1:{port}"),
+        ]:
+            took, silently = [], [(os.POSIX_SPAWN_OPEN, 1, "/dev/null", os.O_WRONLY, 0)]
+            for _ in range(RUNS):
+                begun = time.monotonic()
+                process = os.posix_spawnp(words[0], words, os.environ, file_actions=silently)
+                if os.waitpid(process, 0)[1] != 0:
+                    sys.exit(f"{name}: its status is not 0")
+                took.append(1e6 * (time.monotonic() - begun))
+            yield row(name, f"{statistics.median(took):.0f}", f"{min(took):.0f}")
+
+
+def memory():
+    yield row("\nresident memory, kilobytes", "early", "late", "most")
+    with serving(*BACDEV) as (process, port):
+        load(port, 32, 1000)
+        early = resident(process.pid)
+        load(port, 32, MANY_REPLIES)
+        kept = early, resident(process.pid), resident(process.pid, "VmHWM")
+        yield row(f"bacdev, 1000 and {MANY_REPLIES} replies", *kept)
+    how = {"stdin": subprocess.PIPE, "stdout": subprocess.PIPE, "text": True}
+    with subprocess.Popen([PROGRAM, "bactrace"], **how) as tool, subprocess.Popen(
+        ["wc", "-l"], stdin=tool.stdout, stdout=subprocess.PIPE
+    ) as counting:
+        for number, line in enumerate(mixed(LINES)):
+            tool.stdin.write(line)
+            if number == LINES // 10:
+                early = resident(tool.pid)
+        yield row(f"bactrace, {LINES} lines", early, resident(tool.pid), resident(tool.pid, "VmHWM"))
+        tool.stdin.close()
+        yield row("  lines that it printed", int(counting.stdout.read()))
+
+
+def network():
+    subprocess.run([os.environ.get("CC", "cc"), "-O2", "-Wall", "-o", UDP, f"{TOP}/bench/udp.c"], check=True)
+    for part in (servers, shares, clients, memory):
+        yield from part()
+
+
+# ---- instructions ----
+
+def counted(said):
+    """The instructions of a run, as callgrind says."""
+    return int(re.search(r"refs: +([\d,]+)", said)[1].replace(",", ""))
+
+
+def of_a_run(*words, given=""):
+    how = {"input": given, "capture_output": True, "text": True}
+    return counted(subprocess.run([*CALLGRIND, *words], check=True, **how).stderr)
+
+
+def of_replies(count):
+    """Of a device that answers so many requests, one after another."""
+    how = {"program": CALLGRIND, "stderr": subprocess.PIPE, "text": True}
+    with device("--count", str(count), **how) as (process, port):
+        load(port, 1, count)
+        return counted(process.communicate()[1])
+
+
+def instructions():
+    """Each of the first two is the difference of two runs, so that the program's start is not in it."""
+    if not shutil.which("valgrind"):
+        yield "valgrind is not installed, left out"
+        return
+    few, many = (of_a_run("bactrace", given="".join(mixed(count))) for count in (6000, 66000))
+    yield f"{(many - few) / 60000:9.0f} instructions for a line of a script of mixed lines"
+    yield f"{(of_replies(2200) - of_replies(200)) / 2000:9.0f} for a ReadProperty that bacdev answers"
+    with serving(*BACDEV) as (_, port):
+        yield f"{of_a_run(*BACRP, f'127.0.0.1:{port}'):9} for a run of bacrp"
+    yield f"{of_a_run('--help'):9} for a run that prints the help"
+
+
+# ---- a script ----
+
+def script():
+    """What programs take over the same file, run by turns: the least of five rounds of each."""
+    took = {(PROGRAM, "bactrace"): [], ("sha256sum",): [], ("wc", "-l"): [], ("cat",): []}
+    with tempfile.TemporaryFile("w+") as lines, tempfile.TemporaryFile() as output:
+        lines.writelines(mixed(1000000))
+        for words in list(took) * 5:
+            lines.seek(0)
+            output.seek(0)
+            begun = time.monotonic()
+            used = os.wait4(subprocess.Popen(words, stdin=lines, stdout=output).pid, 0)[2]
+            took[words].append((time.monotonic() - begun, used.ru_utime + used.ru_stime))
+    least = [[min(seconds) for seconds in zip(*rounds)] for rounds in took.values()]
+    for words, (passed, used) in zip(took, least):
+        yield f"{' '.join(words).split('/')[-1]:16} {passed:5.2f} s in all, {used:5.2f} s of processor time"
+    ratios = [one / by for one, by in zip(*least[:2])]
+    yield "bactrace by sha256sum: {:.2f}, {:.2f} of processor time".format(*ratios)
+
+
+# ---- calls in memory ----
+
+def calls():
+    """What each benchmark prints; of the client's calls the least of nine runs, in a table by the open requests. They
+    are proved and built beside a copy of the crates that they call: in the tree the gate would prove them too."""
+    below, texts = ["bac_wire", "bac_pdu", "bac_tsm", "bac_device"], {}
+    with tempfile.TemporaryDirectory(dir=f"{TOP}/out") as room:
+        os.mkdir(f"{room}/.git")  # the top of a repository, for rt
+        subprocess.run(["cp", "-a", *(f"{TOP}/crates/{name}" for name in below), room], check=True)
+        rows = [f"{name}: {' '.join(all_crates()[name])}\n" for name in below]
+        for name in ("values", "kinds", "clients"):
+            os.makedirs(f"{room}/{name}/src")
+            shutil.copy(f"{TOP}/bench/{name}.rattle", f"{room}/{name}/src/main.rt")
+            write(f"{room}/crates.txt", "".join(rows) + f"{name}: {' '.join(below)}\n")
+            subprocess.run(["rt", "run"], cwd=f"{room}/{name}", check=True, capture_output=True)
+            runs = 9 if name == "clients" else 1
+            texts[name] = subprocess.check_output(["sh", "-c", f"{room}/{name}/out/{name};" * runs], text=True)
+    yield texts["values"] + texts["kinds"].rstrip("\n")
+    yield "| Call, with so many open | 2 | 8 | 16 | 64 |\n|---|---|---|---|---|"
+    times = {}
+    for call, opened, nanos in re.findall("(.*); (.*); (.*)", texts["clients"]):
+        times.setdefault(call, {}).setdefault(opened, []).append(float(nanos))
+    for call, found in times.items():
+        yield " | ".join([f"| {call}", *(str(min(nanos)) for nanos in found.values())]) + " |"
+
+
+# ---- the boxes of SPEED ----
+
+PARTS = {"network": network, "instructions": instructions, "script": script, "calls": calls}
+
+
+def write(path, text):
+    with open(path, "w", encoding="utf-8") as file:
+        file.write(text)
+
+
+def load_now():
+    return " ".join(text_of("/proc/loadavg").split()[:3])
+
+
+def lines_of(part):
+    """A box: the command, when and where it was run, and what came."""
+    tree = subprocess.check_output(["git", "describe", "--always"], cwd=TOP, text=True).strip()
+    day = datetime.date.today()
+    yield f"$ bench/measure.py {part}"
+    yield f"# {day.day} {day:%B %Y}, tree {tree}, {processors()} processors, load {load_now()}"
+    yield from PARTS[part]()
+    yield f"# load at the end {load_now()}"
+
+
+def main(words):
+    os.makedirs(f"{TOP}/out", exist_ok=True)
+    for part in [it for it in words if it != "--write"] or PARTS:
+        box = ""
+        for line in lines_of(part):
+            print(line, flush=True)
+            box += line + "\n"
+        if "--write" in words:
+            shown = rf"(?m)^\$ bench/measure\.py {part}\n(?:.|\n)*?^(?=```$)"
+            write(f"{TOP}/docs/SPEED.md", re.sub(shown, lambda _, box=box: box, text_of("docs/SPEED.md")))
+
+
+if __name__ == "__main__":
+    main(sys.argv[1:])
