@@ -24,7 +24,9 @@ Rows are parted by blank lines. The mark at the front of a line says what the re
 
 In a line, P, Q, M, V and A as whole words stand for the texts below, S for options by which a tool asks where nobody
 answers, {93*x} for 93 times x, [0100..] for the datagram whose link header has these octets behind it, and \\n, \\r,
-\\t and \\xff for octets. A backslash at the end of a line of a script says that no line feed follows.
+\\t and \\xff for octets. {1..300*x} is x for each of these numbers, which stands for each # of it, and for each ## as
+one octet, the last of the number; and {cut 810a0017*x} is x for each front of these octets, which stands for each #.
+A backslash at the end of a line says that no line feed follows.
 """
 import glob
 import os
@@ -47,8 +49,6 @@ LETTERS = {
     "A": "810a001501001000c4020004d22205c49103220104",
     "S": f"--mac 127.0.0.1:{free_port()} --apdu-timeout 20",
 }
-READ, SENT, DONE = "read P 0 5 85\n", "send 0 P M\n", "done 0 value 4290999a\n"
-PLACES = 64
 SCRIPT = ["bactool", "bactrace"]
 
 # What is run, and what is to come. An `error` may end with two full stops, as a row does; where there are `parts`,
@@ -56,8 +56,19 @@ SCRIPT = ["bactool", "bactrace"]
 Case = namedtuple("Case", "place words script status output error parts redirection", defaults=[(), ""])
 
 
+def repeated(found):
+    """The text of a brace, once for each number or front."""
+    first, last, octets, text = found.groups()
+    if octets:
+        return "".join(text.replace("#", octets[:end]) for end in range(2, len(octets), 2))
+    if not last:
+        return text * int(first)
+    numbers = range(int(first), int(last) + 1)
+    return "".join(text.replace("##", f"{it % 256:02x}").replace("#", str(it)) for it in numbers)
+
+
 def spelled(text):
-    text = re.sub(r"\{(\d+)\*(.*?)\}", lambda found: found[2] * int(found[1]), text)
+    text = re.sub(r"\{(?:(\d+)(?:\.\.(\d+))?|cut (\w+))\*(.*?)\}", repeated, text)
     text = re.sub(r"\b[PQMVAS]\b", lambda found: LETTERS[found[0]], text)
     text = re.sub(r"\[(01[0-9a-f]+)\]", lambda found: "810a%04x%s" % (4 + len(found[1]) // 2, found[1]), text)
     return text.encode("ascii").decode("unicode_escape")
@@ -132,90 +143,6 @@ def examples():
         yield Case(f"examples/{path.name}", SCRIPT, script, 0, output, "")
 
 
-def generated(name, script, output):
-    return Case("tests/program/rows.py, " + name, SCRIPT, spelled(script), 0, spelled(output), "")
-
-
-def sent(ticket, number):
-    return f"send {ticket} P 810a001101040005{number:02x}0c0c000000051955\n"
-
-
-def answer(number):
-    return f"data P 810a0017010030{number:02x}0c0c0000000519553e444290999a3f\n"
-
-
-def answers_under_each_number():
-    """The answer under each number but the request's is dropped, and leaves it open. A second one is dropped too."""
-    for number in range(256):
-        ends = DONE + "drop\n" if number == 1 else "drop\n" + DONE
-        yield generated(f"answer under {number}", READ + answer(number) + answer(1), SENT + ends)
-
-
-def full_tables():
-    """As many requests as there are places, two more, and one whose body is too long. Once one is answered there is
-    room again, under the next number. The table is full before the tickets are spent."""
-    last = 2**64 - 1 - PLACES
-    for first, number, next_one in [(0, 1, sent(PLACES, PLACES + 1)), (last, 1, "spent\n"), (last, 3, "spent\n")]:
-        sends = "".join(sent(first + place, place + 1) for place in range(PLACES))
-        asked = READ * (PLACES + 2) + "write P 1 1 85 16 -1{94* 4 41a00000}\n" + answer(number) + READ
-        ends = f"full\nfull\ntoo-long\ndone {first + number - 1} value 4290999a\n{next_one}"
-        yield generated(f"full table from {first}", f"client 3000 3 {first}\n{asked}", sends + ends)
-
-
-def open_number():
-    """The request with number 1 stays open, and its number is left out, while 256 others are answered. It is last."""
-    script, output = READ, SENT
-    for ticket in range(1, 257):
-        number = {255: 0, 256: 2}.get(ticket, ticket + 1)
-        script += READ + answer(number)
-        output += sent(ticket, number) + f"done {ticket} value 4290999a\n"
-    return generated("open number", script + answer(1), output + DONE)
-
-
-def changed(datagram, place):
-    """The datagram with the octet at this place changed in each way."""
-    octets = bytes.fromhex(datagram)
-    for change in range(1, 256):
-        yield (octets[:place] + bytes([octets[place] ^ change]) + octets[place + 1:]).hex()
-
-
-def damaged_answers():
-    """An answer is dropped at each cut, and with each octet of a length changed in each way; then it is taken whole."""
-    write = "write P 1 1 85 16 -1 4 41a00000\n"
-    wrote = "send 0 P 810a001a01040005010f0c0040000119553e4441a000003f4910\n"
-    routed = "read P/5/07 0 5 85\n"
-    sent_on = "send 0 P/5/07 810a0016012400050107ff0005010c0c000000051955\n"
-    for asked, sends, datagram, end, lengths in [
-        (write, wrote, "810a0009010020010f", "ok", [2, 3]),
-        (write, wrote, "810a000d010050010f91029109", "error 2 9", [2, 3]),
-        (write, wrote, "810a000d010050010f91029125", "error 2 37", [2, 3]),
-        (write, wrote, "810a000d010050010f91029128", "error 2 40", [2, 3]),
-        (routed, sent_on, "810a001b01080005010730010c0c0000000519553e444290999a3f", "value 4290999a", [2, 3, 8]),
-    ]:
-        cut = [datagram[:count] for count in range(2, len(datagram), 2)]
-        dropped = [*cut, *(other for place in lengths for other in changed(datagram, place))]
-        script = asked + "".join(f"data P {other}\n" for other in [*dropped, datagram])
-        yield generated(f"damaged {datagram}", script, sends + "drop\n" * len(dropped) + f"done 0 {end}\n")
-
-
-def errors_under_other_tags():
-    """An error in which the tag of the class or of the code, at places 9 and 11, is another one. Each answers a request
-    of its own."""
-    script, output = "", ""
-    error = "810a000d010050010c91029120"
-    for ticket, other in enumerate([*changed(error, 9), *changed(error, 11)]):
-        number = (ticket + 1) % 256
-        script += READ + f"data P {other[:14]}{number:02x}{other[16:]}\n"
-        output += sent(ticket, number) + f"done {ticket} bad-error\n"
-    return generated("errors under other tags", script, output)
-
-
-def retries():
-    """As many retries as there may be."""
-    ticks = "".join(f"tick {now}\n" for now in range(1, 257))
-    return generated("retries", "client 1 255 0\n" + READ + ticks, SENT * 256 + "timeout 0\n")
-
-
 def run(room, case, library):
     """The case with what the program prints, and how it ends. With the library each of its reads gives one octet."""
     settings = dict(os.environ, LD_PRELOAD=library, ONE_OCTET="1") if library else None
@@ -254,10 +181,7 @@ def tell(case, ending, how):
 
 def main(program, files):
     paths = files or sorted(glob.glob(os.path.relpath(TOP + "/tests/program/rows") + "/*.rows"))
-    rows = [case for path in paths for case in row_cases(path)]
-    made = [*answers_under_each_number(), *damaged_answers(), *full_tables()]
-    made += [errors_under_other_tags(), open_number(), retries(), *examples()]
-    cases = rows if files else rows + made
+    cases = [case for path in paths for case in row_cases(path)] + ([] if files else [*examples()])
     scripts = [case for case in cases if case.words == SCRIPT and not case.redirection]
     wrong, texts = set(), {}
     with tempfile.TemporaryDirectory() as room, ThreadPoolExecutor() as pool:
@@ -273,7 +197,7 @@ def main(program, files):
                 tell(case, ending, how)
     told = f"{len(scripts)} scripts and {len(cases) - len(scripts)} command lines"
     print(f"tests/program/rows.py: {told}, {len(wrong)} not as they are to be")
-    return 1 if wrong or not rows else 0
+    return 1 if wrong or not cases else 0
 
 
 if __name__ == "__main__":
