@@ -46,8 +46,7 @@ examples: program
 	@examples/with-port.sh examples/demo.sh $(PROGRAM) | sed -E 's/(--port |127\.0\.0\.1:)[0-9]+/\147808/' | \
 	    diff - examples/demo.out
 	@echo "examples/demo.sh: as it is to be"
-	@tests/program/program.sh $(PROGRAM)
-	@tests/program/lengths.py $(PROGRAM)
+	@tests/program/sockets.py $(PROGRAM)
 	@tests/program/rows.py $(PROGRAM)
 	@tests/program/failing.py $(PROGRAM)
 	@tests/site/run.py $(PROGRAM)

@@ -71,7 +71,8 @@ def says(document, *sentences):
 
 def verdict(well):
     """The status of a script that has compared so much: it tells what is wrong, or that all is well."""
-    print("\n".join(WRONG) or f"{os.path.relpath(sys.argv[0], TOP)}: {len(COMPARED)} {well}")
+    wrong = "\n".join(f"not as it is to be: {it}" for it in WRONG)
+    print(wrong or f"{os.path.relpath(sys.argv[0], TOP)}: {len(COMPARED)} {well}")
     return 1 if WRONG else 0
 
 

@@ -1,0 +1,108 @@
+#!/usr/bin/env python3
+"""Runs the built program over sockets of this machine, at ports that nobody else gets: a device beside streams that are
+closed, at each address, to the end of its count, and at a port that is taken; and datagrams of each length from 1,000
+octets to the longest, 2,047, which are heard whole, as a longer one is not at all. Usage: tests/program/sockets.py
+PROGRAM
+"""
+import contextlib
+import os
+import re
+import subprocess
+import sys
+
+sys.path.insert(0, os.path.dirname(__file__) + "/..")
+from tree import TOP, device, local_socket, same, verdict
+
+PROGRAM = os.path.realpath(sys.argv[1])
+LONGEST = 2047
+POINT = bytes.fromhex("0c004000011955")  # analog-output 1, its present value
+READ = ["bacrp", "1234", "1", "1", "85", "--mac"]
+# The lengths about which a room of the system's, or one of the code's, may end.
+SOME = [1000, 1023, 1024, 1025, 1472, 1473, 1476, 1477, 1496, 1497, 1498, 1500, 1501, 1535, 1536, 2046, 2047]
+
+
+def told(*words):
+    """The status and the text of a run."""
+    ended = subprocess.run([PROGRAM, *words], stdout=subprocess.PIPE, stderr=subprocess.STDOUT, text=True, timeout=60)
+    return ended.returncode, ended.stdout
+
+
+def is_found(port, *addresses):
+    for address in addresses:
+        status, text = told("bacwi", "--mac", f"{address}:{port}", "--apdu-timeout", "500")
+        wanted = f"1234 127.0.0.1:{port} 1476 3 260\n"
+        same(f"a device at {address}", (status, re.sub(r"127\.0\.0\.\d", "127.0.0.1", text)), (0, wanted))
+
+
+def has_ended(process):
+    with contextlib.suppress(subprocess.TimeoutExpired):
+        process.wait(10)
+    same("the status of a device that has its count", process.returncode, 0)
+
+
+def devices():
+    """No socket takes the place of a stream that is closed; and each device ends by its count."""
+    closed = ["sh", "-c", 'exec "$0" "$@" <&- >&- 2>&-', PROGRAM]
+    with device("--count", "1", program=closed) as (process, port):
+        same("sockets for streams", {"0", "1", "2"}.intersection(os.listdir(f"/proc/{process.pid}/fd")), set())
+        is_found(port, "127.0.0.1")
+        has_ended(process)
+    with device("--count", "3", program=[PROGRAM]) as (process, port):
+        for words in ("bacdev 1234", "bacwi --mac 127.0.0.1", "bacrp 1234 0 5 85 --mac 127.0.0.1",
+                      "bacwp 1234 1 1 85 8 -1 0 x --mac 127.0.0.1"):
+            same(f"{words} at a taken port", told(*words.split(), "--port", str(port)), (3, "bactool: bind failed\n"))
+        is_found(port, "127.0.0.1", "127.0.0.2")
+        same("what a device has", told(*READ, f"127.0.0.1:{port}"), (0, "00000000\n"))
+        has_ended(process)
+
+
+def datagram(length, head):
+    """A datagram of so many octets, with those of its string: this head of an APDU, and the string between brackets."""
+    octets = bytes(place % 251 for place in range(length - 12 - len(head)))
+    body = head + b"\x3e\x65\xfe" + len(octets).to_bytes(2, "big") + octets + b"\x3f"
+    return b"\x81\x0a" + length.to_bytes(2, "big") + b"\x01\x00" + body, octets
+
+
+def heard_by_a_device():
+    """It is asked to write a string to a point that takes none: the answer is an error (2, 9: another type). What lost
+    an octet is not as long as it says, and would be ignored."""
+    with device(program=[PROGRAM]) as (_, port), local_socket() as desk:
+        desk.settimeout(10)
+        desk.connect(("127.0.0.1", port))
+        for length in range(1000, LONGEST + 1):
+            try:
+                for it in (LONGEST + 1, length):
+                    desk.send(datagram(it, bytes([0, 5, it % 256, 15]) + POINT)[0])
+                answer = desk.recv(LONGEST).hex()
+            except OSError as why:
+                return same(f"an answer to {length} octets", why, None)
+            same(f"an answer to {length} octets", answer, f"810a000d010050{length % 256:02x}0f91029109")
+
+
+def heard_by_tools():
+    """A tool prints the octets of a string."""
+    head = bytes([0x30, 1, 12]) + POINT
+    for length in SOME:
+        with local_socket() as field:
+            field.settimeout(10)
+            words = [PROGRAM, *READ, "127.0.0.1:%d" % field.getsockname()[1], "--apdu-timeout", "5000"]
+            with subprocess.Popen(words, stdout=subprocess.PIPE, text=True) as tool:
+                with contextlib.suppress(OSError):
+                    _, desk = field.recvfrom(LONGEST)
+                    for it in (LONGEST + 1, length):
+                        field.sendto(datagram(it, head)[0], desk)
+                same(f"an answer of {length} octets", tool.stdout.read(), f"X'{datagram(length, head)[1].hex()}'\n")
+
+
+def main():
+    # While a command of it runs, no other run of it gives the command's port, though no socket has it yet.
+    port = f"{TOP}/examples/with-port.sh"
+    ports = subprocess.check_output([port, "sh", "-c", f'{port} echo; echo "$0"']).split()
+    same("different ports", len(set(ports)), 2)
+    devices()
+    heard_by_a_device()
+    heard_by_tools()
+    return verdict("answers and ends over sockets are as they are to be")
+
+
+sys.exit(main())
