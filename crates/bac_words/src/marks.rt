@@ -1,18 +1,22 @@
 //! The words as `clap` is to see them.
 
-ghost use Rattle.std.specs.{Prelude.{◌≡◌, IfOk, map}, String.string_bytes};
+ghost use Rattle.std.specs.{Prelude.{◌≡◌, IfOk, map}, Cow.cow_str_bytes};
 ghost use Rattle.clap.specs.Walk.{texts};
 ghost use Rattle.bac_words.specs.Marks.{marked, marked_words, wants_mark};
 
 use std::alloc::{AllocError, Global};
+use std::borrow::CowStr;
 
-/// The words, each after the program's name with a mark where it wants one.
-pub(crate) fn marked_words(alloc: Global, words: &[&str]) -> Result<Vec<String>, AllocError>
-    ensures { IfOk result (λ v. map string_bytes v.items ≡ marked_words (texts words.now)) }
+/// The words, each after the program's name with a mark where it wants one. Only those with a mark are copied.
+pub(crate) fn marked_words<'a>(
+    alloc: Global,
+    words: &[&'a str],
+) -> Result<Vec<CowStr<'a>>, AllocError>
+    ensures { IfOk result (λ v. map cow_str_bytes v.items ≡ marked_words (texts words.now)) }
 {
     let mut seen = Vec::new(alloc);
     if let Some((program, arguments)) = words.split_first() {
-        seen.push(String::from_str(alloc, program)?)?;
+        seen.push(CowStr::Borrowed(program))?;
         for word in arguments {
             seen.push(marked(alloc, word)?)?;
         }
@@ -20,13 +24,13 @@ pub(crate) fn marked_words(alloc: Global, words: &[&str]) -> Result<Vec<String>,
     Ok(seen)
 }
 
-fn marked(alloc: Global, word: &str) -> Result<String, AllocError>
-    ensures { IfOk result (λ s. string_bytes s ≡ marked word.now) }
+fn marked<'a>(alloc: Global, word: &'a str) -> Result<CowStr<'a>, AllocError>
+    ensures { IfOk result (λ s. cow_str_bytes s ≡ marked word.now) }
 {
     if wants_mark(word) {
-        format!(in alloc; "~{word}")
+        Ok(CowStr::Owned(format!(in alloc; "~{word}")?))
     } else {
-        String::from_str(alloc, word)
+        Ok(CowStr::Borrowed(word))
     }
 }
 

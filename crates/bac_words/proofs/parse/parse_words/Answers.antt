@@ -1,5 +1,5 @@
 use Rattle.std.proofs.Common.{◌≡◌, ◌∙◌, sym, ap, subst, inl, inr, map, List, [], Option, IsSomeAnd, option_map}
-use Rattle.std.specs.String.{string_bytes}
+use Rattle.std.specs.Cow.{cow_str_bytes}
 use Rattle.clap.specs.{Kinds.HasKind, Faults.{fault_of, is_simple_and_free}}
 use Rattle.clap.specs.{Walk.{Row, Text, texts}, Simple.{App, is_simple, subcommand_of}}
 use Rattle.bac_words.specs.{Command.bactool, Job.order_of, Inner.Job.IsTool}
@@ -9,17 +9,17 @@ use Rattle.bac_words.proofs.parse.parse_words.Goals as goal
 pub returns-in_err-matches-clause-answer : goal.returns-in_err-matches-clause-answer
 returns-in_err-matches-clause-answer c =
     let shape = c.in_ok-command.ensures.shape in
-    let same = ap (map string_bytes) c.as_slice.ensures.value ∙ c.in_ok-marked.ensures in
+    let words = map cow_str_bytes c.as_slice.result.now in
+    let same = ap (map cow_str_bytes) c.as_slice.ensures.value ∙ c.in_ok-marked.ensures in
+    let error = c.in_err-matches.field-0.0 in
     let h = c.in_err-matches.ensures.kinds (ap is_simple_and_free shape ∙ bactool_is_free) in
-    inl (refused (texts c.args.words.now) (map string_bytes c.as_slice.result.now) c.in_err-matches.field-0.0
-    c.from_residual-in_err-matches.result same
-    (subst (λ (a : App). HasKind (fault_of a (map string_bytes c.as_slice.result.now)) c.in_err-matches.field-0.0) shape
-    h) c.from_residual-in_err-matches.ensures.1)
+    inl (refused (texts c.args.words.now) words error c.from_residual-in_err-matches.result same
+    (subst (λ (a : App). HasKind (fault_of a words) error) shape h) c.from_residual-in_err-matches.ensures.1)
 
 pub job-requires : goal.job-requires
 job-requires c =
     let shape = c.in_ok-command.ensures.shape in
-    let words = map string_bytes c.as_slice.result.now in
+    let words = map cow_str_bytes c.as_slice.result.now in
     let found = (c.in_ok-matches.ensures.matches (ap is_simple shape ∙ bactool_is_simple)).1
     ∙ ap (λ (a : App). subcommand_of a words) shape in
     let none : fault_of bactool words ≡ [] = ap (λ (a : App). fault_of a words) (sym shape)
@@ -29,8 +29,8 @@ job-requires c =
 pub returns-clause-answer : goal.returns-clause-answer
 returns-clause-answer c =
     let shape = c.in_ok-command.ensures.shape in
-    let words = map string_bytes c.as_slice.result.now in
-    let same : words ≡ marked_words (texts c.args.words.now) = ap (map string_bytes) c.as_slice.ensures.value
+    let words = map cow_str_bytes c.as_slice.result.now in
+    let same : words ≡ marked_words (texts c.args.words.now) = ap (map cow_str_bytes) c.as_slice.ensures.value
     ∙ c.in_ok-marked.ensures in
     let found = (c.in_ok-matches.ensures.matches (ap is_simple shape ∙ bactool_is_simple)).1
     ∙ ap (λ (a : App). subcommand_of a words) shape in
