@@ -1,6 +1,6 @@
 -- What a device replies to a datagram, and what it is then, by the writes that it holds.
-use Rattle.std.proofs.Common.{◌≡◌, ℕ, Bool, List, ◌++◌, Option, Result, Ok, Err, IfSome, refl, arith, subst, ap, ◌∙◌}
-use Rattle.std.{proofs.lemmas.Bool.cases_Bool, specs.Prelude.if◌then◌else◌, specs.Option.{ok_or, option_to_list}}
+use Rattle.std.proofs.Common.{◌≡◌, ℕ, Bool, List, Option, Result, Ok, Err, IfSome, refl, arith, subst, ap, ◌∙◌}
+use Rattle.std.{proofs.lemmas.Bool.cases_Bool, specs.Prelude.if◌then◌else◌, specs.Option.{ok_or}}
 use Rattle.std.specs.Result.{result_ok}
 use Rattle.bac_pdu.specs.{Peer.Station, Apdu.Message, Property.{Order, IsPriority}, PropertyReading.write_of}
 use Rattle.bac_pdu.{specs.Steps.◌>>=◌, proofs.WriteLaws.write_is}
@@ -41,8 +41,7 @@ accepted_urgent = grind (arith, stepped, passed, ordered_urgent)
 
 made_urgent : (device : DeviceState) (o : Order) → IfSome o.priority IsPriority
     → IfSome (result_ok (accepted_write device o)) IsUrgent
-made_urgent device o urgent =
-    if_ok IsUrgent (accepted_write device o) (λ write made. accepted_urgent device o write urgent made)
+made_urgent device o urgent = grind (arith, accepted_urgent)
 
 body_urgent : (body : List ℕ) → IfSome (result_ok (write_of body)) (λ o. IfSome o.priority IsPriority)
 body_urgent body = if_ok _ (write_of body) (λ o is. ((write_is body (Ok o)).0 is).whole.urgent)
@@ -66,10 +65,7 @@ reply_held device writes from datagram holds = ap (λ (d : DeviceState). reply_o
 pub after_held : (device : DeviceState) (writes : List Write) (from : Station) (datagram : List ℕ) → Holds device writes
     → with_write device (write_in_datagram device from datagram)
     ≡ device_after device.info (points_of device) (writes_after device.info (points_of device) writes from datagram)
-after_held device writes from datagram holds =
-    write_held device writes _ holds (datagram_urgent device from datagram)
-    ∙ ap (λ (d : DeviceState). device_after device.info (points_of device)
-    (writes ++ option_to_list (write_in_datagram d from datagram))) holds
+after_held device writes from datagram holds = grind (arith, write_held, datagram_urgent)
 
 -- a device with these points, after these writes
 pub next_after : (info : Info) (points : List Description) (writes : List Write) (from : Station) (datagram : List ℕ)

@@ -6,7 +6,7 @@ use Rattle.bac_wire.specs.{Datum.plain, Tag.plain_tag, Steps.◌>>=◌}
 use Rattle.bac_pdu.specs.{
   declared.{peer.Peer.Peer, discovery.WhoIs.WhoIs},
   Discovery.asks,
-  Peer.{Station, NetworkAddress, IsRoutable, station},
+  Peer.{Station, IsRoutable, station},
   Datagram.{Delivery, Carries, Takes, wrapped},
   Apdu.{Message, IsLaidOut, confirmed, unconfirmed, laid_out, announced_size},
 }
@@ -18,9 +18,7 @@ use Rattle.bac_device.specs.Reply.{fitting, i_am, reply_message, reply_of, who_i
 -- a route leads to whom a datagram is from
 pub carried_routable : (from : Station) (datagram : List ℕ) (delivery : Delivery) → Carries from datagram delivery
     → IfSome delivery.peer.route IsRoutable
-carried_routable _ _ _ carries =
-    subst (λ (r : Option NetworkAddress). IfSome r IsRoutable) (sym (ap (λ (s : Station). s.route) carries.peer))
-    carries.answerable
+carried_routable _ _ _ carries = grind arith
 
 -- what is sent to the peer of a delivery where this is the reply
 abbrev sent : Delivery → Option Message → Option (Station × List ℕ)

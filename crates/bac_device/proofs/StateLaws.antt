@@ -1,5 +1,5 @@
 -- A device whose places are those after some writes.
-use Rattle.std.proofs.Common.{◌≡◌, ℕ, Bool, true, false, cond, List, [], ◌∷◌, ◌++◌, map, find, Option, Some, None, refl}
+use Rattle.std.proofs.Common.{◌≡◌, ℕ, Bool, true, false, List, [], ◌∷◌, ◌++◌, map, find, Option, Some, None, refl}
 use Rattle.std.proofs.{Common.{IfSome, sym, ap, subst, ◌∙◌, append-nil, arith, if◌then◌else◌}, lemmas.Bool.cases_Bool}
 use Rattle.std.proofs.lemmas.{Grind.common_steps, Option.{none-some, same_Some}, Simd.map-map}
 use Rattle.std.specs.{Option.{option_map, option_and_then, option_to_list}, Result.result_ok}
@@ -22,10 +22,7 @@ use Rattle.bac_device.proofs.PlaceLaws.{map_same, place_none, put_after}
 find_map : {A B : Type 0} (f : A → B) (test : B → Bool) (xs : List A)
     → find test (map f xs) ≡ option_map f (find (λ x. test (f x)) xs)
 find_map f _ [] = refl
-find_map f test (x ∷ xs) =
-    let rest = find_map f test xs in
-    elim (test (f x)) as (λ b. cond b (Some (f x)) (find test (map f xs))
-    ≡ option_map f (cond b (Some x) (find (λ x. test (f x)) xs))) [ true ↦ refl | false ↦ rest ]
+find_map f test (x ∷ xs) = grind (arith, find_map f test xs)
 
 -- the point that is an object stands as the writes say
 pub at_after : (device : DeviceState) (writes : List Write) (object : Identifier) → Holds device writes
@@ -49,8 +46,7 @@ pub points_after : (info : Info) (points : List Description) (writes : List Writ
     → points_of (device_after info points writes) ≡ points
 unfolding standing_after
 points_after _ [] _ = refl
-points_after info (point ∷ points) writes =
-    ap (λ (rest : List Description). point ∷ rest) (points_after info points writes)
+points_after info (point ∷ points) writes = grind (arith, points_after info points writes)
 
 -- a device once a write is made, if there is one
 pub write_held : (device : DeviceState) (writes : List Write) (write : Option Write) → Holds device writes
@@ -152,11 +148,7 @@ pub answers : (device : DeviceState) (arrival : Arrival) (reply : Option (Statio
     → ((writes : List Write) → Holds device writes → after ≡ device_after device.info (points_of device)
     (writes_after device.info (points_of device) writes arrival.from arrival.datagram))
     → Replies device arrival reply after
-answers _ _ _ _ replied written =
-    λ writes holds. record {
-      replied = ap (λ (r : Option (Station × List ℕ)). r ∷ []) (replied writes holds);
-      written = written writes holds;
-    }
+answers _ _ _ _ replied written = grind arith
 
 -- a device that replies to datagrams in turn
 pub in_turn : (device : DeviceState) (arrivals : List Arrival) (replies : List (Option (Station × List ℕ)))

@@ -1,8 +1,8 @@
 -- Each row computes once the definitions that read a request are opened.
-use Rattle.std.proofs.Common.{refl}
+use Rattle.std.proofs.Common.{arith}
 use Rattle.bac_device.proofs.Computed.{computed}
 use Rattle.bac_device.proofs.examples.examples_of_reads.Goals as goal
 
 pub returns : goal.returns
 unfolding computed
-returns c = record { present = refl; extra = refl; device = refl; array = refl; failures = refl; size = refl }
+returns c = grind arith

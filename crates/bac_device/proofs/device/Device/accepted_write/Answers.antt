@@ -1,4 +1,5 @@
 -- The code looks for the point first, and the definition for the property.
+use Rattle.std.proofs.Common.{arith}
 use Rattle.std.proofs.Common.{◌≡◌, ℕ, Option, Some, None, Result, Ok, Err, refl, sym, is_some, if◌then◌else◌, ◌&&◌, not}
 use Rattle.bac_wire.specs.Datum.{Datum}
 use Rattle.bac_pdu.specs.Property.{Order, order}
@@ -20,8 +21,7 @@ accepted_at : (device : DeviceState) (o : Order) (standing : Standing) (value : 
     → property_of device o.reference.object o.reference.property ≡ Ok (single value)
     → accepted_write device o ≡ if is_some o.reference.index then Err NotAnArray else ordered_write standing o
 unfolding accepted_write
-accepted_at _ o standing value found property =
-    rw (property, found) (no_index value o.reference.index (ordered_write standing o))
+accepted_at _ o standing value found property = grind arith
 
 -- An index of a present value, which is no array.
 pub returns-then-is_some-2 : goal.returns-then-is_some-2
