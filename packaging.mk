@@ -21,10 +21,10 @@ export PREFIX DESTDIR FORCE ZSH_COMPLETIONS
 .PHONY: install uninstall lint guide deb
 
 install: program
-	@packaging/install.sh $(PROGRAM)
+	@packaging/install.py $(PROGRAM)
 
 uninstall:
-	@packaging/install.sh --remove
+	@packaging/install.py --remove
 
 lint: program
 	@tests/package/pages.py $(PROGRAM)
@@ -32,8 +32,7 @@ lint: program
 	@tests/documents/numbers.sh
 	@tests/package/completions.py $(PROGRAM)
 	@tests/site/lint.sh
-	@tests/package/install.sh $(PROGRAM)
-	@tests/package/deb.py $(PROGRAM)
+	@tests/package/put.py $(PROGRAM)
 	@tests/false_rt.py
 	@if command -v shellcheck >/dev/null; then \
 	    scripts=$$(grep -lE '^#!.*\b(ba)?sh$$' .ci/run */*.sh tests/*/*.sh) && shellcheck -x $$scripts && \

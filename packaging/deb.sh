@@ -1,13 +1,13 @@
 #!/usr/bin/env bash
 # Packs the built program as a Debian package. Usage: packaging/deb.sh PROGRAM FOLDER, which gets
-# bactool_VERSION_ARCH.deb. The version is that of the program's help (packaging/version.sh), and all times are the day
-# that CHANGELOG.md gives to it: the same program and files give the same octets. MAINTAINER, as `Name <address>`, names
-# the one who makes the package; without it an address stands there that reaches nobody.
+# bactool_VERSION_ARCH.deb. The version is that of the program's help, and all times are the day that CHANGELOG.md gives
+# to it: the same program and files give the same octets. MAINTAINER, as `Name <address>`, names the one who makes the
+# package; without it an address stands there that reaches nobody.
 set -euo pipefail
 program=$(realpath "$1")
 folder=$(realpath "$2")
 cd "$(dirname "$0")/.."
-version=$(packaging/version.sh "$program")
+version=$("$program" --help | sed -n '1s/^bactool \([0-9.]*[0-9]\).*/\1/p')
 date=$(sed -n "s/^## $version (\\(.*\\))\$/\\1/p" CHANGELOG.md)
 [ -n "$date" ] || { echo "packaging/deb.sh: CHANGELOG.md has no date of the version $version" >&2; exit 1; }
 SOURCE_DATE_EPOCH=$(date -u -d "$date" +%s)
@@ -20,7 +20,7 @@ root=$room/root
 doc=$root/usr/share/doc/bactool
 umask 022
 
-DESTDIR="$root" PREFIX=/usr ZSH_COMPLETIONS=/usr/share/zsh/vendor-completions packaging/install.sh "$program"
+DESTDIR="$root" PREFIX=/usr ZSH_COMPLETIONS=/usr/share/zsh/vendor-completions packaging/install.py "$program"
 rm -r "$root/usr/share/bactool"
 strip --strip-unneeded --remove-section=.comment --remove-section=.note "$root/usr/bin/bactool"
 gzip -9n "$root"/usr/share/man/man[17]/*.[17]

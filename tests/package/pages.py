@@ -155,7 +155,7 @@ def versions():
     changes, day = re.search(r"(?m)^## ([0-9][0-9.]*) \((.*)\)$", text_of("CHANGELOG.md")).groups()
     days = re.findall(r"(?m)^\.Dd (.*)$", "".join(map(text_of, glob.glob(f"{TOP}/man/*.[17]"))))
     alike("day of the last page and of CHANGELOG.md", [str(max(map(day_of, days)))], [day])
-    version = shown("packaging/version.sh", PROGRAM).strip()
+    version = re.match(r"bactool ([\d.]+\d)", help_of("bactool"))[1]
     alike("version of the program and of CHANGELOG.md", [version], [changes])
     alike("version of bacsite", [shown("python3", "site/bacsite", "--version").strip()], [f"bacsite {version}"])
     named = re.findall(r"/bactool_([0-9.]+)_", text_of("README.md"))

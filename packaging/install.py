@@ -1,0 +1,150 @@
+#!/usr/bin/env python3
+"""Puts the built program, links of the tools' names, bacsite, manual pages, completions, documents and examples below
+PREFIX, or takes them away again. Usage: packaging/install.py PROGRAM | --remove. From the environment: PREFIX
+(/usr/local), DESTDIR, which stands in front of all paths, and ZSH_COMPLETIONS (PREFIX/share/zsh/site-functions), which
+has to lie below PREFIX.
+
+PREFIX/share/bactool/installed lists what was put, by its path behind PREFIX, with a sum of each. A file that is there
+and is not in this list as it stands, such as another vendor's bacrp, is not replaced: all of these are named, and
+nothing is put. FORCE=1 replaces them. What is taken away is what the list has, where it is still as it was put, and
+nothing that is not below PREFIX.
+"""
+import contextlib
+import os
+import pathlib
+import re
+import shutil
+import subprocess
+import sys
+import tempfile
+
+TOP = pathlib.Path(__file__).resolve().parent.parent
+LIST, DOC = "share/bactool/installed", "share/doc/bactool"
+BASH, FISH = "share/bash-completion/completions", "share/fish/vendor_completions.d"
+TOOLS = ["bacrp", "bacwp", "bacwi", "bacdev", "bactrace"]
+
+
+def lay_out(program, version, tree, prefix, zsh):
+    """Makes in a folder the tree of all that is put below a prefix. A manual page has the version at its foot, and what
+    names a place below /usr/local names the one below the prefix. The documents are in the folders that they have in
+    the repository, so that their links lead on."""
+
+    def put(source, path, mode=0o644):
+        target = tree / path
+        target.parent.mkdir(parents=True, exist_ok=True)
+        if path.startswith("share/man/") or path.endswith(".service"):
+            text = re.sub(r"(?m)^\.Os$", f".Os bactool {version}", source.read_text(encoding="utf-8"))
+            target.write_text(re.sub("/usr/local/(share|bin)", rf"{prefix}/\1", text), encoding="utf-8")
+        else:
+            shutil.copyfile(source, target)
+        target.chmod(mode)
+
+    with tempfile.TemporaryDirectory() as folder:
+        room = pathlib.Path(folder)
+        subprocess.run([TOP / "packaging/onefile.py", room / "bacsite"], check=True)
+        subprocess.run([TOP / "completions/make.py", room], check=True)
+        put(program, "bin/bactool", 0o755)
+        put(room / "bacsite", "bin/bacsite", 0o755)
+        for name in ("bactool", "bacsite"):
+            put(room / f"{name}.bash", f"{BASH}/{name}")
+            put(room / f"_{name}", f"{zsh}/_{name}")
+            put(room / f"{name}.fish", f"{FISH}/{name}.fish")
+    for tool in TOOLS:
+        (tree / f"bin/{tool}").symlink_to("bactool")
+        (tree / f"{BASH}/{tool}").symlink_to("bactool")
+        (tree / f"{FISH}/{tool}.fish").symlink_to("bactool.fish")
+    for page in TOP.glob("man/*.[17]"):
+        put(page, f"share/man/man{page.suffix[1:]}/{page.name}")
+    for source in [*TOP.glob("*.md"), TOP / "LICENSE", *TOP.glob("docs/**/*.md"), *TOP.glob("examples/*")]:
+        put(source, f"{DOC}/{source.relative_to(TOP)}", 0o755 if os.access(source, os.X_OK) else 0o644)
+
+
+def sums(root, paths):
+    """Of each path that is there, where a link leads, or the sum of a file."""
+    there = [path for path in paths if os.path.lexists(root / path)]
+    files = [path for path in there if (root / path).is_file() and not (root / path).is_symlink()]
+    command = ["cksum", "/dev/null", *(root / path for path in files)]
+    told = subprocess.run(command, check=True, stdout=subprocess.PIPE, text=True).stdout.splitlines()[1:]
+    found = {path: ":".join(line.split()[:2]) for path, line in zip(files, told)}
+    links = {path: f"link:{os.readlink(root / path)}" for path in there if (root / path).is_symlink()}
+    return {**dict.fromkeys(there, "other"), **found, **links}
+
+
+def listed(root):
+    """The sums of the list by their paths, and the paths that are not below PREFIX or lead out of it, which nothing
+    touches. An earlier version wrote whole paths, of which the first part is what stands in front of bin/bactool."""
+    text = (root / LIST).read_text(encoding="utf-8") if (root / LIST).is_file() else ""
+    before = re.search(r"(?m)^\S+ (/.*/)bin/bactool$", text)
+    text = text.replace(f" {before[1]}", " ") if before else text
+    rows = {path: found for found, _, path in (line.partition(" ") for line in text.splitlines())}
+    outside = [path for path in rows if path.startswith("/") or ".." in path.split("/")]
+    return {path: found for path, found in rows.items() if path not in outside}, outside
+
+
+def remove(root, prefix):
+    if not (root / LIST).is_file():
+        sys.exit(f"make install put nothing below {prefix}: there is no {prefix}/{LIST}")
+    had, outside = listed(root)
+    for path, found in sums(root, had).items():
+        if found == had[path]:
+            (root / path).unlink()
+        else:
+            print(f"left there, since it is not as it was put: {prefix}/{path}")
+    for path in outside:
+        print(f"left there, since it is not below {prefix}: {path}")
+    (root / LIST).unlink()
+    # The folders that only its own files were in.
+    folders = {str(folder) for path in had for folder in pathlib.Path(path).parents if str(folder).startswith(DOC)}
+    for folder in [os.path.dirname(LIST), *sorted(folders, reverse=True)]:
+        with contextlib.suppress(OSError):
+            (root / folder).rmdir()
+    print(f"taken away from {prefix}")
+
+
+def install(tree, root, prefix):
+    """Puts a tree in its place, and answers how many files and links it has."""
+    paths = sorted(str(path.relative_to(tree)) for path in tree.rglob("*") if path.is_symlink() or path.is_file())
+    had, outside = listed(root)
+    new, there = sums(tree, paths), sums(root, {*paths, *had})
+    foreign = [f"{prefix}/{path}" for path in paths if there.get(path, new[path]) not in (new[path], had.get(path))]
+    if foreign and os.environ.get("FORCE") != "1":
+        sys.exit("\n  ".join(["make install did not put these there, or not as they are now. Nothing was installed;"
+                              " FORCE=1 replaces them:", *foreign]))
+    for path in foreign:
+        print(f"replaced: {path}")
+    for path in had:  # what an earlier version put and this one does not have
+        if path not in new and there.get(path) == had[path]:
+            (root / path).unlink()
+    for path in outside:
+        print(f"left there, since it is not below {prefix}: {path}")
+    for path in paths:
+        (root / path).parent.mkdir(parents=True, exist_ok=True)
+        with contextlib.suppress(FileNotFoundError):
+            (root / path).unlink()
+        shutil.copy2(tree / path, root / path, follow_symlinks=False)
+    (root / LIST).parent.mkdir(parents=True, exist_ok=True)
+    (root / LIST).write_text("".join(f"{new[path]} {path}\n" for path in paths), encoding="utf-8")
+    return len(paths)
+
+
+def main(word):
+    os.umask(0o022)
+    prefix = os.path.abspath(os.path.expanduser(os.environ.get("PREFIX") or "/usr/local"))
+    root = pathlib.Path(os.environ.get("DESTDIR", "") + prefix)
+    if word == "--remove":
+        remove(root, prefix)
+        return
+    zsh = os.environ.get("ZSH_COMPLETIONS") or f"{prefix}/share/zsh/site-functions"
+    if not zsh.startswith(f"{prefix}/"):
+        sys.exit(f"packaging/install.py: ZSH_COMPLETIONS is not below {prefix}: {zsh}")
+    told = subprocess.run([word, "--help"], check=True, stdout=subprocess.PIPE, text=True).stdout
+    version = re.match(r"bactool ([\d.]+\d)", told)[1]
+    with tempfile.TemporaryDirectory() as folder:
+        tree = pathlib.Path(folder)
+        lay_out(pathlib.Path(word), version, tree, prefix, os.path.relpath(zsh, prefix))
+        count = install(tree, root, prefix)
+    print(f"bactool {version} and {count - 1} files and links beside it are below {prefix}")
+
+
+if __name__ == "__main__":
+    main(sys.argv[1]) if len(sys.argv) == 2 else sys.exit(__doc__)

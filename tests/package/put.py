@@ -1,0 +1,284 @@
+#!/usr/bin/env python3
+"""Tries make install in a folder of its own: what it puts, replaces, refuses to replace, and takes away, also where
+PREFIX was copied or moved. Then packs the program, and looks at the package: it has what make install puts, and says of
+itself what the tree says; lintian finds no error; and dpkg puts it over an older one, and takes it away again. Usage:
+tests/package/put.py PROGRAM; the package needs dpkg-deb, strip, objdump and gzip, and it says so.
+"""
+import email.utils
+import filecmp
+import gzip
+import hashlib
+import os
+import pathlib
+import re
+import shutil
+import stat
+import subprocess
+import sys
+import tempfile
+
+sys.path.insert(0, os.path.dirname(__file__) + "/..")
+from tree import TOOLS, TOP, WRONG, same, shown, text_of, verdict
+
+PROGRAM = os.path.realpath(sys.argv[1])
+VERSION = re.match(r"bactool ([\d.]+\d)", shown(PROGRAM, "--help"))[1]
+DAY = re.search(rf"(?m)^## {re.escape(VERSION)} \((.*)\)$", text_of("CHANGELOG.md"))[1]
+DOC, LIST = "share/doc/bactool", "share/bactool/installed"
+ENVIRONMENT = {name: it for name, it in os.environ.items() if name not in ("PREFIX", "FORCE", "ZSH_COMPLETIONS")}
+# What is put beside documents and examples, of each tool, of each program, and once: its mode, or where it leads.
+PUT = """bin/TOOL bactool, share/man/man1/TOOL.1 644, share/bash-completion/completions/TOOL bactool,
+    share/fish/vendor_completions.d/TOOL.fish bactool.fish, bin/PROGRAM 755, share/man/man1/PROGRAM.1 644,
+    share/bash-completion/completions/PROGRAM 644, share/fish/vendor_completions.d/PROGRAM.fish 644,
+    share/zsh/site-functions/_PROGRAM 644, share/man/man7/bactool-numbers.7 644, share/bactool/installed 644"""
+
+
+def told(*words, status=0, **settings):
+    """What a command prints, with these settings; that it ends so is a part of the test."""
+    how = {"stdout": subprocess.PIPE, "stderr": subprocess.STDOUT, "text": True, "cwd": TOP}
+    done = subprocess.run(words, check=False, env={**ENVIRONMENT, **settings}, **how)
+    same(f"status of {' '.join(words)[:90]} ({done.stdout.strip()[-200:]})", done.returncode, status)
+    return done.stdout
+
+
+def tree_of(root):
+    """Each file and link below a folder, by its path: its mode, or where it leads."""
+    paths = (os.path.join(place, name) for place, _, names in os.walk(root) for name in names)
+    mode = lambda path: os.readlink(path) if os.path.islink(path) else f"{stat.S_IMODE(os.stat(path).st_mode):o}"
+    return {os.path.relpath(path, root): mode(path) for path in paths}
+
+
+class Room:
+    """A folder in which packaging/install.py puts things below /opt/tools."""
+
+    def __init__(self, folder):
+        self.top, self.put = pathlib.Path(folder), pathlib.Path(folder, "opt/tools")
+
+    def tries(self, said, word=PROGRAM, status=0, **settings):
+        """Calls it, and looks at what it says."""
+        place = {"DESTDIR": str(self.top), "PREFIX": "/opt/tools", **settings}
+        found = told("packaging/install.py", word, status=status, **place)
+        same(f"install.py {word} {settings}: {said} in {found[-200:]}", said in found, True)
+
+    def has(self, count):
+        same("how many files and links are there", len(tree_of(self.top)), count)
+
+    def lists(self, path, name):
+        """Adds a file to the list under a name."""
+        with open(self.put / LIST, "a", encoding="utf-8") as file:
+            file.write(f"{':'.join(told('cksum', str(path)).split()[:2])} {name}\n")
+
+
+def what_is_put(room):
+    """It is all there with its mode; documents and examples are those of the repository, and their links lead on."""
+    wanted = {}
+    for row in PUT.split(","):
+        path, mode = row.split()
+        for name in TOOLS if "TOOL" in path else ("bactool", "bacsite"):
+            wanted[path.replace("TOOL", name).replace("PROGRAM", name)] = mode
+    there = tree_of(room.put)
+    same("all but documents", {path: it for path, it in there.items() if not path.startswith(DOC)}, wanted)
+    folders = [path for path, *_ in os.walk(room.put) if stat.S_IMODE(os.stat(path).st_mode) != 0o755]
+    same("folders of another mode", folders, [])
+    top = pathlib.Path(TOP)
+    documents = [*top.glob("*.md"), top / "LICENSE", *top.glob("docs/**/*.md"), *top.glob("examples/*")]
+    modes = {f"{DOC}/{it.relative_to(top)}": "755" if os.access(it, os.X_OK) else "644" for it in documents}
+    same("documents", {path: it for path, it in there.items() if path.startswith(DOC)}, modes)
+    told("completions/make.py", f"{room.top}/made")
+    told("packaging/onefile.py", f"{room.top}/made/bacsite")
+    pairs = [(PROGRAM, "bin/bacrp"), *((top / path[len(DOC) + 1 :], path) for path in modes if ".service" not in path)]
+    pairs += [(room.top / "made" / name, f"share/zsh/site-functions/{name}") for name in ("_bactool", "_bacsite")]
+    for source, path in [*pairs, (room.top / "made/bacsite", "bin/bacsite")]:
+        same(f"{path} is {source}", filecmp.cmp(source, room.put / path, shallow=False), True)
+    shutil.rmtree(room.top / "made")
+    for path, text in [("share/man/man7/bactool-numbers.7", f"\n.Os bactool {VERSION}\n"),
+                       ("share/man/man1/bacdev.1", "/opt/tools/share/doc/bactool/examples"),
+                       (f"{DOC}/examples/bacdev.service", "\nExecStart=/opt/tools/bin/bacdev ")]:
+        same(f"{path} has {text}", text in (room.put / path).read_text(encoding="utf-8"), True)
+    for document in (room.put / DOC).glob("**/*.md"):
+        for link in re.findall(r"\]\(([^)#:\s]+)[)#]", document.read_text(encoding="utf-8")):
+            same(f"{document.name}: {link} leads somewhere", (document.parent / link).exists(), True)
+
+
+def what_is_replaced(room, count):
+    """Its own files are replaced without a word; another's are not, and nothing else is put then. What an earlier
+    version put and this one does not have is taken away, where it is still as it was put."""
+    tool, other = room.put / "bin/bacrp", room.put / "bin/bacwi"
+    room.tries("files and links")
+    tool.unlink()
+    other.unlink()
+    tool.write_text("foreign\n")
+    room.tries("  /opt/tools/bin/bacrp\n", status=1)
+    same("nothing was put", (tool.read_text(), other.exists()), ("foreign\n", False))
+    room.tries("replaced: /opt/tools/bin/bacrp\n", FORCE="1")
+    same("bacrp", os.readlink(tool), "bactool")
+    room.has(count)
+    poll, watch = (room.put / DOC / f"examples/{name}.sh" for name in ("poll", "watch"))
+    for path in (poll, watch):
+        path.write_text(path.name)
+        room.lists(path, path.relative_to(room.put))
+    watch.write_text("changed")
+    room.tries("files and links")
+    same("what an earlier version put", (poll.exists(), watch.read_text()), (False, "changed"))
+    watch.unlink()
+    room.has(count)
+
+
+def what_is_taken_away(room, count):
+    """What has changed since is left there; a copy is taken away alone, and what was moved where it is."""
+    page = room.put / "share/man/man1/bacwp.1"
+    page.write_text("changed")
+    room.tries(f"left there, since it is not as it was put: /opt/tools/{page.relative_to(room.put)}", "--remove")
+    room.has(1)
+    page.unlink()
+    same("what is named after it", list(room.top.glob("**/*bactool*")), [])
+    room.tries("files and links")
+    shutil.copytree(room.put, room.top / "opt/copy", symlinks=True)
+    room.tries("taken away from /opt/copy", "--remove", PREFIX="/opt/copy")
+    room.has(count)
+    room.put.rename(room.top / "opt/moved")
+    room.tries("make install put nothing", "--remove", status=1)
+    room.tries("taken away from /opt/moved", "--remove", PREFIX="/opt/moved")
+    room.has(0)
+
+
+def whole_paths(room, count):
+    """The list of version 0.2.0 has whole paths; one that is not below PREFIX, or leads out of it, is left."""
+    room.tries("files and links")
+    list_of = (room.put / LIST).read_text()
+    (room.put / LIST).write_text(list_of.replace(" ", " /opt/tools/"))
+    other = room.top / "opt/other"
+    other.write_text("other\n")
+    room.lists(other, "/opt/other")
+    room.lists(other, "/opt/tools/../other")
+    shutil.copytree(room.put, room.top / "opt/second", symlinks=True)
+    room.tries("left there, since it is not below /opt/second: /opt/other", "--remove", PREFIX="/opt/second")
+    room.has(count + 1)
+    room.tries("files and links")
+    same("whole paths of the list", " /" in (room.put / LIST).read_text(), False)
+    room.tries("taken away", "--remove")
+    room.has(1)
+
+
+def places(room):
+    """Where nothing else is said, it is all below /usr/local, as README.md has it."""
+    room.tries("below /usr/local", PREFIX="")
+    same("README.md there", (room.top / "usr/local" / DOC / "README.md").exists(), True)
+    same("the place of bacrp", (room.top / "usr/local/bin/bacrp").exists(), True)
+    place = "into /usr/local/bin, documents into /usr/local/share/doc/bactool"
+    same(f"README.md says: {place}", place in text_of("README.md"), True)
+    room.tries("taken away from /usr/local", "--remove", PREFIX="")
+    same("PREFIX of make", told("make", "-s", "--eval", "prefix: ; @echo $(PREFIX)", "prefix"), "/usr/local\n")
+    room.tries("is not below", status=1, ZSH_COMPLETIONS="/usr/share/zsh")
+    room.has(1)
+
+
+def files_of_the_package(room, package):
+    """The files of make install, but that pages are packed, and that a package has its list elsewhere."""
+    room.tries("below /usr", PREFIX="/usr", ZSH_COMPLETIONS="/usr/share/zsh/vendor-completions")
+    wanted = {f"{path}.gz" if "/man/" in path else path: mode for path, mode in tree_of(room.top / "usr").items()}
+    del wanted[LIST]
+    wanted.update({f"{DOC}/changelog.gz": "644", f"{DOC}/copyright": "644"})
+    told("dpkg-deb", "-x", package, f"{room.top}/there")
+    same("the files of the package", tree_of(room.top / "there/usr"), wanted)
+    listed = [line.split() for line in told("dpkg-deb", "-c", package, TZ="UTC").splitlines()]
+    same("owners and days", {(line[1], line[3]) for line in listed}, {("root/root", DAY)})
+
+
+def what_a_package_says(room, package):
+    """The control file, the sums and the changelog, against the tree and what was unpacked."""
+    told("dpkg-deb", "-e", package, f"{room.top}/control")
+    read = lambda path: (room.top / path).read_text(encoding="utf-8")
+    fields = dict(re.findall(r"(?m)^([A-Z][\w-]*): (.*)$", read("control/control")))
+    called = re.findall(r"GLIBC_([\d.]+)", told("objdump", "-T", PROGRAM))
+    libc = max(called, key=lambda it: [int(part) for part in it.split(".")])
+    machine = told("dpkg", "--print-architecture").strip()
+    wanted = {"Package": "bactool", "Version": VERSION, "Architecture": machine, "Depends": f"libc6 (>= {libc})",
+              "Recommends": "python3 (>= 3.8)"}
+    same("fields of the package", {name: fields.get(name) for name in wanted}, wanted)
+    readme, name = text_of("README.md"), f"bactool_{VERSION}_{machine}.deb"
+    same("the C library of README.md", re.search(r"GNU C library (\d[\d.]*)", readme)[1], libc)
+    for text in (f"# {os.path.dirname(os.path.relpath(PROGRAM, TOP))}/{name}\n", f"./{name}`"):
+        same(f"README.md has {text}", text in readme, True)
+    there = [it for it in (room.top / "there").glob("**/*") if it.is_file() and not it.is_symlink()]
+    sums = {f"{hashlib.md5(it.read_bytes()).hexdigest()}  {it.relative_to(room.top / 'there')}" for it in there}
+    same("sums of the files", {*read("control/md5sums").splitlines()}, sums)
+    changes = gzip.decompress((room.top / f"there/usr/{DOC}/changelog.gz").read_bytes()).decode()
+    same("the head of the changelog", changes.splitlines()[0], f"bactool ({VERSION}) unstable; urgency=medium")
+    entries = text_of("CHANGELOG.md").partition(f"## {VERSION} ")[2].partition("\n## ")[0]
+    same("entries of the changelog", len(re.findall(r"(?m)^  \* ", changes)), len(re.findall(r"(?m)^- ", entries)))
+    same("its first entry", re.search(r"(?m)^- (.{30})", entries)[1] in " ".join(changes.split()), True)
+    day = email.utils.parsedate_to_datetime(changes.splitlines()[-1].split("  ")[-1])
+    same("the day of the changelog", day.isoformat(), f"{DAY}T00:00:00+00:00")
+    copyright_of = read(f"there/usr/{DOC}/copyright").split("License: Expat\n")[-1]
+    licence = re.search(r"(?ms)^Permission .*^SOFTWARE\.$", text_of("LICENSE"))[0]
+    same("the licence", re.sub(r"(?m)^ \.?", "", copyright_of).strip(), licence)
+
+
+def lintian(package):
+    if not shutil.which("lintian"):
+        print("tests/package/put.py: lintian is not installed, left out")
+        return
+    found = told("lintian", "--fail-on", "none", "--allow-root", package).splitlines()
+    same("errors that lintian finds", [line for line in found if line.startswith("E: ")], [])
+
+
+def over_an_older_one(room, package):
+    """dpkg puts the package as version 0.3.0 would have it, with a script that is gone since and another page, and this
+    one over it, in a root of its own, which has nothing: so it is told not to look at what the package depends on."""
+    if os.getuid() != 0:
+        print("tests/package/put.py: dpkg puts packages for root alone, left out")
+        return
+    older, root = room.top / "older", room.top / "root"
+    told("dpkg-deb", "-R", package, str(older))
+    control = older / "DEBIAN/control"
+    control.write_text(re.sub(r"(?m)^Version: .*", "Version: 0.3.0", control.read_text(encoding="utf-8")))
+    for path in (f"{DOC}/examples/poll.sh", "share/man/man1/bacrp.1.gz"):
+        (older / "usr" / path).write_text("as it was\n")
+    told("dpkg-deb", "--build", "--root-owner-group", "-Zgzip", str(older), f"{older}.deb")
+    for name in ("updates", "info"):
+        (root / "var/lib/dpkg" / name).mkdir(parents=True)
+    (root / "var/lib/dpkg/status").touch()
+    dpkg = ["dpkg", f"--root={root}", "--force-depends", "--log=/dev/null"]
+    told(*dpkg, "-i", f"{older}.deb")
+    same("what was put first", (root / f"usr/{DOC}/examples/poll.sh").exists(), True)
+    told(*dpkg, "-i", package)
+    same("the files after an upgrade", tree_of(root / "usr"), tree_of(room.top / "there/usr"))
+    same("what has changed since", told(*dpkg, "-V", "bactool"), "")
+    told(*dpkg, "-P", "bactool")
+    same("what is left behind", tree_of(root / "usr"), {})
+
+
+def the_package(room):
+    lacks = [name for name in ("dpkg-deb", "dpkg", "strip", "objdump", "gzip") if not shutil.which(name)]
+    if lacks:
+        print(f"tests/package/put.py: {', '.join(lacks)}: not installed, left out")
+        return
+    for name in ("one", "two"):
+        (room.top / name).mkdir()
+        told("packaging/deb.sh", PROGRAM, f"{room.top}/{name}")
+    if not WRONG:
+        package, again = (str(next((room.top / name).glob("*.deb"))) for name in ("one", "two"))
+        same("two packages of one program", filecmp.cmp(package, again, shallow=False), True)
+        files_of_the_package(room, package)
+        what_a_package_says(room, package)
+        lintian(package)
+        over_an_older_one(room, package)
+
+
+def main():
+    with tempfile.TemporaryDirectory() as folder, tempfile.TemporaryDirectory() as other:
+        room = Room(folder)
+        room.tries("make install put nothing", "--remove", status=1)
+        room.tries("files and links")
+        what_is_put(room)
+        count = len(tree_of(room.top))
+        for part in (what_is_replaced, what_is_taken_away, whole_paths):
+            part(room, count)
+        places(room)
+        os.chmod(other, 0o755)
+        the_package(Room(other))
+    return verdict("facts of what is put and packed are as they are to be")
+
+
+if __name__ == "__main__":
+    sys.exit(main())
