@@ -32,14 +32,21 @@ import sys
 sys.path.insert(0, os.path.dirname(__file__) + "/..")
 from tree import TOP, all_crates, text_of
 
-SOURCES = [("src", ".rt"), ("specs", ".antt"), ("proofs", ".antt")]
+SOURCES = ["crates/*/src/**/*.rt", "crates/*/specs/**/*.antt", "crates/*/proofs/**/*.antt"]
 OF_STD = {"arrayvec", "byteorder", "clap", "hex", "thiserror", "std", "fault_of", "map", "filter", "flat_map"}
+# What defines a name: of a type or a member, of a variant, of antt, and of a wrong body.
+DEFINES = {
+    SOURCES[0]: r"\b(?:struct|enum|trait|const|type|mod|ghost|fn|ensures) +(\w+)|^ +([A-Z]\w*)(?=[,({])",
+    SOURCES[1]: r"^ *(?:(?:abbrev|record|data|pub|unfoldable) +)*(\w+)(?: [^:\n]*)? :",
+    SOURCES[2]: r"^ *(?:(?:abbrev|record|data|pub|unfoldable) +)*(\w+)(?: [^:\n]*)? :",
+    "crates/*/wrong/*.edits": r"^\[(\w+)\]$",
+    "crates/*/must-fail/*.edit": r"^\[(\w+)\]$",
+}
 TRIALS = {"bac_uses", "bac_trials", "tool_trials"}  # crates that the program does not rest on
 WHOLE = ["docs/", "bench/", "tests/", "tests/[a-z]*/"]  # folders whose row names each file
 PAGES = {"README.md", "CONTRIBUTING.md", "SECURITY.md", "CHANGELOG.md"}
 WELL_KNOWN = PAGES | {"LICENSE", ".gitignore", ".git", "crates", "out"}
 WIDTH = 120
-DIFFERENCES = []
 
 
 def sections(text):
@@ -49,191 +56,178 @@ def sections(text):
 
 
 def tables(text):
-    """The rows of the tables of a text, each as the names of its columns and its cells."""
+    """The rows of the tables of a text, each as its cells by the heads of their columns."""
     head = None
     for line in text.splitlines():
         cells = [cell.strip() for cell in re.split(r"(?<!\\)\|", line)[1:-1]] if line.startswith("|") else None
         if cells and head and not set(line) <= set("|-"):
-            yield head, cells
+            yield dict(zip(head, cells))
         head = cells and (head or cells)
-
-
-def on_one_line(text):
-    return " ".join(text.split())
-
-
-def compare(what, said, there):
-    """Both are sets of names; `what` says of what."""
-    DIFFERENCES.extend(f"{what}: {name} is not in docs/CODE.md" for name in sorted(there - said))
-    DIFFERENCES.extend(f"{what}: docs/CODE.md names {name}, which is not there" for name in sorted(said - there))
-
-
-def rows(section):
-    """The rows of the tables of a section, each as a dictionary from the head of a column to the cell."""
-    return [dict(zip(head, cells)) for head, cells in tables(section)]
 
 
 def names(text):
     return re.findall(r"`([^`]+)`", text)
 
 
-def map_of_crates(parts):
+def first_names(section, *heads):
+    """Of each row the first name below each of these heads."""
+    return {tuple(names(row[head])[0] for head in heads) for row in tables(section)}
+
+
+def names_below(section, head):
+    return {name for row in tables(section) for name in names(row[head])}
+
+
+def on_one_line(text):
+    return " ".join(text.split())
+
+
+def code_of(file):
+    return re.sub(r"//.*" if file.endswith(".rt") else "--.*", "", text_of(file))
+
+
+def files(*places):
+    return sorted(file for place in places for file in glob.glob(place, recursive=True) if os.path.isfile(file))
+
+
+def compare(what, said, there):
+    """Both are sets of names; `what` says of what."""
+    yield from (f"{what}: {name} is not in docs/CODE.md" for name in sorted(there - said))
+    yield from (f"{what}: docs/CODE.md names {name}, which is not there" for name in sorted(said - there))
+
+
+def map_of_crates(section):
     below = all_crates()
-    every = set(below)
-    compare("the table of crates", {names(row["Crate"])[0] for row in rows(parts["The crates"])}, every)
-    drawn = re.search(r"```\n(.*?)```", parts["The crates"], re.S)[1].splitlines()
+    yield from compare("the table of crates", {name for (name,) in first_names(section, "Crate")}, {*below})
+    drawn = re.search(r"```\n(.*?)```", section, re.S)[1].splitlines()
     line_of = {name: number for number, line in enumerate(drawn) for name in line.split()}
-    compare("the drawing", set(line_of), every)
-    for crate in sorted(every & set(line_of)):
-        for lower in sorted(set(below[crate]) & set(line_of)):
+    yield from compare("the drawing", {*line_of}, {*below})
+    for crate in sorted({*below} & {*line_of}):
+        for lower in sorted({*below[crate]} & {*line_of}):
             if line_of[lower] >= line_of[crate]:
-                DIFFERENCES.append(f"the drawing: {crate} rests on {lower}, which is not on a line above it")
+                yield f"the drawing: {crate} rests on {lower}, which is not on a line above it"
 
 
 def map_beside_the_crates(section):
-    named = {name for row in rows(section) for name in names(row["Folder or file"])}
+    named = names_below(section, "Folder or file")
     tops = {name + "/" if os.path.isdir(name) else name for name in os.listdir(".") if name not in WELL_KNOWN}
-    compare("beside the crates", {name for name in named if "/" not in name.rstrip("/")}, tops)
+    yield from compare("beside the crates", {name for name in named if "/" not in name.rstrip("/")}, tops)
     for folder in (it for place in WHOLE for it in glob.glob(place)):
-        told = [row["What it has"] for row in rows(section) if folder in names(row["Folder or file"])]
+        told = [row["What it has"] for row in tables(section) if folder in names(row["Folder or file"])]
         said = {name for text in told for name in names(text) if re.fullmatch(r"[\w-]+\.\w+", name)}
-        compare(folder, said, {name for name in os.listdir(folder) if os.path.isfile(folder + name)})
+        yield from compare(folder, said, {os.path.basename(file) for file in files(f"{folder}*")})
 
 
 def scripts_are_run(section):
     runs = "".join(text_of(file) for file in ("Makefile", "packaging.mk", "measuring.mk", "tests/parts.py"))
     runs = re.sub(r"(?m)^#.*", "", runs)
-    by_hand = {name for row in rows(section) for name in names(row["What it has"].partition("by hand")[2])}
-    for file in sorted(glob.glob("tests/*/*")):
+    by_hand = {name for row in tables(section) for name in names(row["What it has"].partition("by hand")[2])}
+    for file in files("tests/*/*"):
         is_run = os.path.basename(file) in by_hand or re.search(rf"{file}\b", runs)
-        if os.path.isfile(file) and os.access(file, os.X_OK) and not is_run:
-            DIFFERENCES.append(f"{file}: no target of make runs it, and docs/CODE.md does not say `by hand`")
+        if os.access(file, os.X_OK) and not is_run:
+            yield f"{file}: no target of make runs it, and docs/CODE.md does not say `by hand`"
 
 
 def heads_of_sources():
-    for mark, place in (("//!", "src/**/*.rt"), ("--", "specs/**/*.antt"), ("--", "proofs/*.antt")):
-        for file in sorted(glob.glob(f"crates/*/{place}", recursive=True)):
-            if not text_of(file).startswith(mark + " ") and not file.endswith(("/Lib.antt", "/Inner.antt")):
-                DIFFERENCES.append(f"{file}: its first line is no `{mark}` that says what it has")
-    uses = [on_one_line(text_of(file)) for file in glob.glob("crates/bac_uses/src/*.rt")]
-    for file in sorted(glob.glob("crates/*/src/lib.rt")):
-        examples = file.replace("lib.rt", "examples.rt")
-        there = on_one_line(text_of(examples)) if os.path.isfile(examples) else ""
+    for file in files(*SOURCES[:2], "crates/*/proofs/*.antt"):
+        mark = "//!" if file.endswith(".rt") else "--"
+        if not text_of(file).startswith(mark + " ") and not file.endswith(("/Lib.antt", "/Inner.antt")):
+            yield f"{file}: its first line is no `{mark}` that says what it has"
+    uses = [on_one_line(text_of(file)) for file in files("crates/bac_uses/src/*.rt")]
+    for file in files("crates/*/src/lib.rt"):
+        there = on_one_line("".join(map(text_of, files(file.replace("lib.rt", "examples.rt")))))
         for kind, shown in re.findall(r"^//! ```(text|rust)\n(.*?)^//! ```$", text_of(file), re.M | re.S):
+            shown = re.sub(r"(?m)^//!" + r"(?: *//.*)?" * (kind == "text"), "", shown)
+            clauses = re.split(r"(?=\bensures )", shown)[1:]
             if kind == "rust":
-                calls = on_one_line(re.sub(r"^//!", "", shown, flags=re.M))
-                is_there = any(calls in use for use in uses)
+                is_there = any(on_one_line(shown) in use for use in uses)
             else:
-                clauses = re.split(r"(?=\bensures )", re.sub(r"^//!(?: *//.*)?", "", shown, flags=re.M))[1:]
                 is_there = clauses and all(on_one_line(one) in there for one in clauses)
             if not is_there:
-                DIFFERENCES.append(f"{file}: what it shows is not in {examples}, nor its calls in bac_uses")
+                yield f"{file}: what it shows is not in its examples.rt, nor its calls in bac_uses"
 
 
 def names_of_sources():
     """Each name that the sources define, and the clauses of each function."""
-    known, clauses = set(os.listdir("crates")) | OF_STD, collections.defaultdict(set)
-    for folder, ending in [*SOURCES, ("wrong", ".edits"), ("must-fail", ".edit")]:
-        for file in glob.glob(f"crates/*/{folder}/**/*{ending}", recursive=True):
-            known.add(os.path.splitext(os.path.basename(file))[0])
-            text = text_of(file)
-            if ending == ".rt":
-                text = re.sub(r"//.*", "", text)
-                known |= set(re.findall(r"\b(?:struct|enum|trait|const|type|mod|ghost) +(\w+)", text))
-                known |= set(re.findall(r"^ +([A-Z]\w*)(?=[,({])", text, re.M))
-                for part in re.split(r"(?=\bfn \w+)", text)[1:]:
-                    clauses[re.match(r"fn (\w+)", part)[1]] |= set(re.findall(r"\bensures (\w+) *\{", part))
-            elif ending == ".antt":
-                words = "(?:(?:abbrev|record|data|pub|unfoldable) +)*"
-                known |= set(re.findall(rf"^ *{words}(\w+)(?: [^:\n]*)? :", re.sub("--.*", "", text), re.M))
-            elif ending == ".edits":
-                known |= set(re.findall(r"^\[(\w+)\]$", text, re.M))
-    return known | set().union(*clauses.values()) | set(clauses), clauses
+    known, clauses = {*os.listdir("crates"), *OF_STD}, collections.defaultdict(set)
+    for place, pattern in DEFINES.items():
+        for file in files(place):
+            found = re.finditer(pattern, code_of(file), re.M)
+            known.update([os.path.splitext(os.path.basename(file))[0], *(it[1] or it[2] for it in found)])
+    for part in (part for file in files(SOURCES[0]) for part in re.split(r"\bfn (?=\w)", code_of(file))[1:]):
+        clauses[re.match(r"\w+", part)[0]].update(re.findall(r"\bensures (\w+) *\{", part))
+    return known, clauses
 
 
 def names_of_proofs(document, text, known, clauses):
-    for name in sorted(name for laws in re.findall(r"laws? ((?:`\w+`(?:, | and )?)+)", text) for name in names(laws)):
-        if name not in clauses:
-            DIFFERENCES.append(f"{document}: no law {name} stands in the code")
+    laws = {name for laws in re.findall(r"laws? ((?:`\w+`(?:, | and )?)+)", text) for name in names(laws)}
+    yield from (f"{document}: no law {name} stands in the code" for name in sorted(laws - {*clauses}))
     for name in sorted(set(re.findall(r"`((?:\w+::)*[A-Za-z_]\w+)`", text))):
         if name.split("::")[-1] not in (clauses if "::" in name else known):
-            DIFFERENCES.append(f"{document}: nothing in the sources is {name}")
+            yield f"{document}: nothing in the sources is {name}"
     for function, clause in re.findall(r"`(?:\w+::)?(\w+)`, `(\w+)`", text):
         if function in clauses and clause not in clauses and clause not in clauses[function]:
-            DIFFERENCES.append(f"{document}: {function} has no clause {clause}")
+            yield f"{document}: {function} has no clause {clause}"
 
 
 def what_stands_twice(readme, proofs):
     boxes = re.findall(r"^```(\w*)\n(.*?)^```$", readme, re.M | re.S)
     rule = re.search(r"(?ms)^The rule, .*?```\n(.*?)^```$", text_of("docs/reading/client.md"))[1]
     if ("", rule) not in boxes:
-        DIFFERENCES.append("README.md: it does not show the rule as docs/reading/client.md has it from specs/")
+        yield "README.md: it does not show the rule as docs/reading/client.md has it from specs/"
     guide = text_of("docs/GUIDE.md").splitlines()
-    for line in "".join(box for kind, box in boxes if kind == "console").splitlines() or ["of a run"]:
-        if line not in [*guide, ".."]:
-            DIFFERENCES.append(f"README.md: docs/GUIDE.md has no line {line}")
+    shown = "".join(box for kind, box in boxes if kind == "console").splitlines() or ["of a run"]
+    yield from (f"README.md: docs/GUIDE.md has no line {line}" for line in shown if line not in [*guide, ".."])
     proved = sections(readme)["What is proved"]
-    said = {name for row in rows(proved) for name in names(row["Crate"])}
-    for crate in sorted(said ^ (set(all_crates()) - TRIALS)):
-        DIFFERENCES.append(f"README.md: the crate {crate} is in one place alone, its table or crates.txt")
-    trusted = {name for row in rows(proofs["What is trusted of the system"]) for name in names(row["Function"])}
-    for name in sorted(trusted - set(names(proved.partition("**Trusted**")[2]))):
-        DIFFERENCES.append(f"README.md: it does not say that {name} is trusted")
+    for crate in sorted(names_below(proved, "Crate") ^ ({*all_crates()} - TRIALS)):
+        yield f"README.md: the crate {crate} is in one place alone, its table or crates.txt"
+    trusted = names_below(proofs["What is trusted of the system"], "Function")
+    said = {*names(proved.partition("**Trusted**")[2])}
+    yield from (f"README.md: it does not say that {name} is trusted" for name in sorted(trusted - said))
     for counted, most in (readme.splitlines(), 125), (readme.split(), 1300):
         if len(counted) > most:
-            DIFFERENCES.append(f"README.md: {len(counted)} lines or words, where {most} are to do")
+            yield f"README.md: {len(counted)} lines or words, where {most} are to do"
 
 
 def functions_without_a_contract(section):
     """A function of a trait's impl has the trait's contract; any other one has what stands at it."""
-    every, bare, none = 0, 0, set()
-    for file in glob.glob("crates/*/src/**/*.rt", recursive=True):
-        crate = file.split("/")[1]
-        if crate in TRIALS:
-            continue
-        owner = ""
-        for part in re.split(r"(?=\bfn \w+)|(?=^impl\b)|(?=^\}$)", re.sub(r"//.*", "", text_of(file)), flags=re.M):
-            if part.startswith("impl"):
-                owner = part[: part.index("{")].strip()
-            elif part.startswith("}"):
-                owner = ""
+    every, bare, alone = 0, 0, set()
+    for file in files(SOURCES[0]):
+        crate, owner = file.split("/")[1], ""
+        parts = re.split(r"(?=\bfn \w+)|(?=^impl\b)|(?=^\}$)", code_of(file), flags=re.M)
+        for part in parts if crate not in TRIALS else ():
+            if part.startswith(("impl", "}")):
+                owner = part.partition("{")[0]
             elif part.startswith("fn "):
                 every += 1
                 if not re.search(r"^\s*ensures\b", part, re.M):
                     bare += 1
-                    of_type = re.fullmatch(r"impl(?:<.*?>)? (\w+).*", owner, re.S)
-                    name = re.match(r"fn (\w+)", part)[1]
-                    if " for " not in owner:
-                        none.add((crate, f"{of_type[1]}::{name}" if of_type else name))
-    said = {(names(row["Crate"])[0], names(row["Function"])[0]) for row in rows(section)}
-    for crate, name in sorted(said ^ none):
-        DIFFERENCES.append(f"docs/PROOFS.md: {crate}: {name} has a contract, or is missing there")
-    counts = f"{bare} of the {every} functions"
-    if counts not in section:
-        DIFFERENCES.append(f"docs/PROOFS.md: {counts} have no clause of their own")
+                    of_type = "".join(f"{name}::" for name in re.findall(r"^impl(?:<.*?>)? (\w+)", owner, re.S))
+                    alone.update([(crate, of_type + part.split("(")[0][3:])] if " for " not in owner else [])
+    for crate, name in sorted(first_names(section, "Crate", "Function") ^ alone):
+        yield f"docs/PROOFS.md: {crate}: {name} has a contract, or is missing there"
+    if f"{bare} of the {every} functions" not in section:
+        yield f"docs/PROOFS.md: {bare} of the {every} functions have no clause of their own"
 
 
 def texts_of_faults(section):
     """The texts are those of the definitions, with N for a number."""
     equation = re.compile(r"(?m)^(?:\w+_fault_text|usage_told|fault_told)\b.* = (.*codes .*)$")
-    said = [it for file in glob.glob("crates/*/specs/*.antt") for it in equation.findall(text_of(file))]
+    said = [it for file in files("crates/*/specs/*.antt") for it in equation.findall(text_of(file))]
     texts = {"".join(it or "N" for it in re.findall(r'codes "(.*?)"|decimal \w+', text)) for text in said}
-    told = set(names(section[section.index("A fault is") :].split(". ")[0])) - {"bactool: "}
-    for text in sorted(told ^ texts):
-        DIFFERENCES.append(f"docs/PROTOCOL.md: the fault {text} is told in one place alone")
+    told = {*names(section[section.index("A fault is") :].split(". ")[0])} - {"bactool: "}
+    yield from (f"docs/PROTOCOL.md: the fault {text} is told in one place alone" for text in sorted(told ^ texts))
 
 
 def drops_by_hand():
-    for file in glob.glob("crates/*/src/**/*.rt", recursive=True):
+    for file in files(SOURCES[0]):
         for found in re.findall(r"(?m)^ *impl\b[^{;]*?\bDrop\s+for\s+\w+", text_of(file)):
-            DIFFERENCES.append(f"{file}: a `Drop` by hand: {on_one_line(found)}")
+            yield f"{file}: a `Drop` by hand: {on_one_line(found)}"
 
 
 def public_names_without_a_law():
-    for crate in sorted(all_crates()):
-        if crate.endswith("_trials") or crate == "bac_uses":
-            continue
-        text = "\n".join(map(text_of, glob.glob(f"crates/{crate}/src/**/*.rt", recursive=True)))
+    for crate in sorted({*all_crates()} - TRIALS):
+        text = "\n".join(map(text_of, files(f"crates/{crate}/src/**/*.rt")))
         laws = "\n".join(re.findall(r"(?ms)^pub fn [^{]*?\bensures.*?^\{\}$", text))
         other = {new: old for old, new in re.findall(r"\b(\w+) as (\w+)", text)}
         said = {(other.get(name, name), what) for name, what in re.findall(r"⟦<(\w+)\S* as (\w+)>⟧", laws)}
@@ -242,7 +236,7 @@ def public_names_without_a_law():
         kinds |= {(name, what) for what, name in re.findall(r"(?m)^impl(?:<.*?>)? (\w+) for (\w+)", text)}
         bare = {name for name, what in kinds - said if what in ("Clone", "PartialEq")}
         bare |= {it for it in re.findall(r"(?m)^ *pub const (\w+):", text) if not re.search(rf"\b{it} ≡", laws)}
-        DIFFERENCES.extend(f"crates/{crate}: no law says what {it} is, or its clone or `==`" for it in sorted(bare))
+        yield from (f"crates/{crate}: no law says what {it} is, or its clone or `==`" for it in sorted(bare))
 
 
 def pins():
@@ -258,81 +252,81 @@ def pins():
     return found
 
 
+def rows_of_rules(parts):
+    return [(heading, " | ".join(row.values())) for heading, section in parts.items() for row in tables(section)]
+
+
 def rows_are_read_back(parts):
-    """Answers how many rows there are, and how many other texts are read back."""
-    rows = [(heading, " | ".join(cells)) for heading, section in parts.items() for _, cells in tables(section)]
-    named, found = set(), pins()
-    for heading, key, places in found:
-        mine = [row for row in rows if row == (heading, key)]
-        if len(mine) > 1 or not mine and key not in on_one_line(parts.get(heading, "")):
-            DIFFERENCES.append(f"{heading}: {key}: it stands {len(mine)} times in docs/PROTOCOL.md")
+    rows, named = rows_of_rules(parts), set()
+    for heading, key, places in pins():
+        mine = rows.count((heading, key))
+        if mine > 1 or not mine and key not in on_one_line(parts.get(heading, "")):
+            yield f"{heading}: {key}: it stands {mine} times in docs/PROTOCOL.md"
         if not places:
-            DIFFERENCES.append(f"{heading}: {key}: nothing is named that reads it back")
-        named.update(mine)
+            yield f"{heading}: {key}: nothing is named that reads it back"
+        named.add((heading, key))
         for file, text in places:
             file = file if "/" in file else f"tests/program/rows/{file}"
             if not os.path.isfile(file) or on_one_line(text) not in on_one_line(text_of(file)):
-                DIFFERENCES.append(f"{heading}: {key}: {file} has no {text}")
+                yield f"{heading}: {key}: {file} has no {text}"
     for heading, row in rows:
         if (heading, row) not in named:
-            DIFFERENCES.append(f"{heading}: nothing in pins.txt reads this row back: {row[:100]}")
-    return len(rows), len(found) - len(rows)
+            yield f"{heading}: nothing in pins.txt reads this row back: {row[:100]}"
 
 
 def wide_lines():
-    places = [f"crates/*/{folder}/**/*{ending}" for folder, ending in SOURCES]
-    places += ["Makefile", "*.mk", "*.py", "crates/*/oracle/*.py", "site/bacsite/*.py"]
-    endings = ["py", "sh", "c", "awk", "bash", "zsh", "fish", "service"]
+    places = [*SOURCES, "Makefile", "*.mk", "*.py", "crates/*/oracle/*.py", "site/bacsite/*.py"]
     for folder in ("bench", "completions", "examples", "man", "packaging", "tests"):
-        places += [f"{folder}/**/*.{ending}" for ending in endings]
-    for file in sorted(file for place in places for file in glob.glob(place, recursive=True)):
+        places += [f"{folder}/**/*.{ending}" for ending in "py sh c awk bash zsh fish service".split()]
+    for file in files(*places):
         for number, line in enumerate(text_of(file).splitlines(), 1):
             can_be_broken = " " in line[:WIDTH].strip().removeprefix("use ")
             if len(line) > WIDTH and can_be_broken and not line.lstrip().startswith("#["):
-                DIFFERENCES.append(f"{file}:{number}: past {WIDTH} columns")
+                yield f"{file}:{number}: past {WIDTH} columns"
 
 
 def links_and_lines():
-    anchors = {}
-    documents = glob.glob("*.md") + glob.glob("docs/**/*.md", recursive=True)
-    there = {"LICENSE", *documents, *glob.glob("examples/*")}
+    documents = files("*.md", "docs/**/*.md")
+    there, anchors = {"LICENSE", *documents, *glob.glob("examples/*")}, {}
     for file in documents:
         heads = re.findall(r"^#+ (.*)$", text_of(file), re.M)
         anchors[file] = {re.sub(r"[^\w\- ]", "", head.lower()).replace(" ", "-") for head in heads}
-    for file in sorted(documents):
+    for file in documents:
         text = re.sub(r"^```.*?^```$", "", text_of(file), flags=re.M | re.S)
         for link in re.findall(r"\]\(([^)\s]+)\)", text):
             path, _, anchor = link.partition("#")
             target = os.path.normpath(os.path.join(os.path.dirname(file), path)) if path else file
             if "://" not in link and (target not in there or anchor and anchor not in anchors.get(target, ())):
-                DIFFERENCES.append(f"{file}: {link} leads nowhere")
-        wide = [line for line in text.splitlines() if len(line) > WIDTH and not line.startswith("|")]
-        DIFFERENCES.extend(f"{file}: past {WIDTH} columns: {line[:60]}.." for line in wide)
+                yield f"{file}: {link} leads nowhere"
+        wide = (line for line in text.splitlines() if len(line) > WIDTH and not line.startswith("|"))
+        yield from (f"{file}: past {WIDTH} columns: {line[:60]}.." for line in wide)
 
 
 def main():
     os.chdir(TOP)
-    parts = sections(text_of("docs/CODE.md"))
-    map_of_crates(parts)
-    map_beside_the_crates(parts["Beside the crates"])
-    scripts_are_run(parts["Beside the crates"])
-    heads_of_sources()
-    readme, proofs = text_of("README.md"), text_of("docs/PROOFS.md")
-    known, clauses = names_of_sources()
-    names_of_proofs("docs/PROOFS.md", proofs, known, clauses)
-    names_of_proofs("README.md", sections(readme)["What is proved"], known, clauses)
-    what_stands_twice(readme, sections(proofs))
-    functions_without_a_contract(sections(proofs)["Functions without a clause"])
-    rules = sections(text_of("docs/PROTOCOL.md"))
-    texts_of_faults(rules["Statuses and faults"])
-    drops_by_hand()
-    public_names_without_a_law()
-    rows_and_texts = rows_are_read_back(rules)
-    links_and_lines()
-    wide_lines()
-    well = "{} rows of docs/PROTOCOL.md are read back, and {} other texts; the documents agree with the tree"
-    print("\n".join(DIFFERENCES) or f"tests/documents/documents.py: {well.format(*rows_and_texts)}")
-    return 1 if DIFFERENCES else 0
+    readme, proofs, code, rules = map(text_of, ("README.md", "docs/PROOFS.md", "docs/CODE.md", "docs/PROTOCOL.md"))
+    code, rules = sections(code), sections(rules)
+    known = names_of_sources()
+    differences = [
+        *map_of_crates(code["The crates"]),
+        *map_beside_the_crates(code["Beside the crates"]),
+        *scripts_are_run(code["Beside the crates"]),
+        *heads_of_sources(),
+        *names_of_proofs("docs/PROOFS.md", proofs, *known),
+        *names_of_proofs("README.md", sections(readme)["What is proved"], *known),
+        *what_stands_twice(readme, sections(proofs)),
+        *functions_without_a_contract(sections(proofs)["Functions without a clause"]),
+        *texts_of_faults(rules["Statuses and faults"]),
+        *drops_by_hand(),
+        *public_names_without_a_law(),
+        *rows_are_read_back(rules),
+        *links_and_lines(),
+        *wide_lines(),
+    ]
+    count, others = len(rows_of_rules(rules)), len(pins()) - len(rows_of_rules(rules))
+    well = f"{count} rows of docs/PROTOCOL.md are read back, and {others} other texts"
+    print("\n".join(differences) or f"tests/documents/documents.py: {well}; the documents agree with the tree")
+    return 1 if differences else 0
 
 
 sys.exit(main())
