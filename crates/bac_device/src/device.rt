@@ -77,7 +77,7 @@ impl Device {
     /// # Errors
     ///
     /// The first fault in the order of [`AddFault`]; the device is then as it was.
-    #[tactic(auto, unfolding(crate::specs::Device::add_point))]
+    #[tactic(auto, using(crate::proofs::StateLaws::added_held), unfolding(crate::specs::Device::add_point))]
     pub fn add(&mut self, point: &Point<'_>) -> Result<(), AddFault>
         ensures ok { OnOk result (add_point self.old (given point.now) ≡ Ok self.new) }
         ensures held { OnOk result ((writes : List Write) → Holds self.old writes

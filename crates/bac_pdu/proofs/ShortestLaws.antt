@@ -37,7 +37,7 @@ plain_append : (ps qs : List Parameter)
 plain_append [] qs = refl
 plain_append (p ∷ ps) qs = cc (plain_append ps _, append_assoc _ _ _)
 
-optional_plain : (made : ℕ → Parameter) (number : ℕ) → ((n : ℕ) → plain_parameter (made n) ≡ number_octets number n)
+pub optional_plain : (made : ℕ → Parameter) (number : ℕ) → ((n : ℕ) → plain_parameter (made n) ≡ number_octets number n)
     → (i : Option ℕ)
     → flat_map plain_parameter (optional made i) ≡ optional_octets number i
 optional_plain = grind (arith, append-nil)

@@ -90,6 +90,7 @@ pub fn read_iam(body: &[u8]) -> Option<IAm>
 
 /// Appends the body of a Who-Is, each number in its fewest octets. `Full`, with the frame unchanged, only where there
 /// is no room for it.
+#[tactic(auto, using(crate::proofs::ShortestLaws::limits_back, crate::proofs::ShortestLaws::who_is_shortest, std::proofs::lemmas::Result::on_ok_weaker))]
 pub fn write_whois(frame: &mut Frame, who: &WhoIs) -> Result<(), Full>
     ensures appended { Appends frame.old (who_is_octets who.now) frame.new result }
     ensures shortest { OnOk result (IsShortest IsWhoIsBody (who_is_octets who.now) who.now) }
@@ -130,6 +131,7 @@ fn append_limits(frame: &mut Frame, who: &WhoIs) -> Result<(), Full>
 }
 
 // Appends the body of an I-Am. Where there is no room, a front of it may stay.
+#[tactic(auto, using(bac_wire::proofs::Writing::in_parts))]
 fn append_introduction(frame: &mut Frame, i_am: &IAm) -> Result<(), Full>
     requires { (identifier i_am.now.device).kind ≡ 8 }
     ensures appended { AppendsFront frame.old (i_am_octets (introduction i_am.now)) frame.new result }

@@ -107,6 +107,7 @@ pub(crate) fn append_number(body: &mut Frame, number: u8, n: u32) -> Result<(), 
 }
 
 /// Appends whole items between an opening and a closing tag 3. Where there is no room, a front of that may stay.
+#[tactic(auto, using(bac_wire::proofs::Writing::in_parts))]
 pub(crate) fn append_enclosed(body: &mut Frame, items: &[u8]) -> Result<(), Full>
     ensures { AppendsFront body.old (enclosed_octets 3 items.now) body.new result }
 {

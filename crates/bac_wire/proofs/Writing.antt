@@ -1,6 +1,6 @@
 -- One writer after another.
 use Rattle.std.proofs.Common.{◌≡◌, ℕ, List, ◌++◌, Result, Ok, Err, subst, append_assoc, length-append, arith}
-use Rattle.std.{proofs.lemmas.List.{take_at, take_all, take-take}, specs.Result.IsErr}
+use Rattle.std.{proofs.lemmas.List.{append-nil, take_at, take_all, take-take}, specs.Result.IsErr}
 use Rattle.bac_wire.specs.{Writing.Appends, Inner.Writing.AppendsFront}
 
 -- who appends all or nothing appends a front
@@ -27,3 +27,6 @@ stops_whole = grind (arith, length-append)
 pub written_as : {A E : Type 0} {old octets other new : List ℕ} {r : Result A E} → octets ≡ other
     → AppendsFront old octets new r → AppendsFront old other new r
 written_as {old} {new} {r} = subst (λ (l : List ℕ). AppendsFront _ l _ r)
+
+-- what appends one part after another, where each has its room or stops there
+pub ruleset in_parts = (front, then_appends, stops, stops_whole, append-nil)

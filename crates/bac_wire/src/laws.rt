@@ -48,6 +48,7 @@ pub fn values_in_words()
 
 /// Items: none begins another, whatever depth is allowed to either, and none begins with a closing tag. In a region no
 /// more opening tags are open at once than its depth allows, wherever one stops to count.
+#[tactic(auto, using(crate::proofs::ItemLaws::one_item, crate::proofs::ItemLaws::item_opens, crate::proofs::ItemLaws::nesting))]
 pub fn items()
     ensures one { (depth other : ℕ) (a b u v : List ℕ) → IsItem depth a → IsItem other b → a ++ u ≡ b ++ v → a ≡ b }
     ensures opens { (depth number : ℕ) (item closing u v : List ℕ) → IsItem depth item
