@@ -6,4 +6,4 @@ pub use Rattle.bac_tsm.proofs.WholeRun.{drop_head, begins, one_step, run_first, 
 pub use Rattle.bac_tsm.proofs.LookaheadSteps.{both_are}
 pub use Rattle.bac_tsm.proofs.Placed.{sent_first, early_unsent, quiet_unsent, early_unended, past_unended}
 pub use Rattle.bac_tsm.proofs.NumberReuse.{back_late}
-pub use Rattle.bac_tsm.proofs.SendsSoFar.{sends_push, sent_unended}
+pub use Rattle.bac_tsm.proofs.Placed.{sends_push, sent_unended}

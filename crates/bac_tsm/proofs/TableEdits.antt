@@ -3,9 +3,9 @@ use Rattle.std.proofs.{
   Common.{◌≡◌, ℕ, suc, ◌+◌, ◌<◌, ◌≤◌, List, [], ◌∷◌, ◌++◌, length, map, take, set, get_or, replicate, Option, Some},
   Common.{None, All, refl, ap, sym, subst, ◌∙◌, arith, remove, length-append, length-set, length-take, take_at},
   Common.{take-append-drop, append_assoc, get_or-set_same, get_or-set_other},
-  lemmas.{Simd.map-map, List.Edits.{length-remove, remove-append_left}},
+  lemmas.Simd.map-map,
+  lemmas.List.{get_or-replicate, length-map, map-append, get_or-map, Edits.{length-remove, remove-append_left}},
   lemmas.{List.Quantifiers.{all_pairs_push, all_pairs_remove}, Grind.take_at_read},
-  lemmas.List.{get_or-replicate, length-map, map-append, get_or-map},
 }
 use Rattle.std.specs.List.{AllPairs}
 use Rattle.bac_tsm.specs.{
@@ -17,9 +17,9 @@ use Rattle.bac_tsm.specs.{
   Table.{times, held_at, times_of_slot, open_slots, Names, AreNamed, IsTable, AreBySend},
 }
 use Rattle.bac_tsm.proofs.{
-  Held.{itself, held-set, held-push, map-remove, held_got, same_turn, times-append, times_one, times_other},
-  Held.{times-remove, times_got},
-  TableReads.{times_split, few, read_listed, count, rank_within, turn_opened, here, ticket_got, found_at},
+  TableReads.{itself, held-set, held-push, map-remove, held_got, same_turn, times-append, times_one, times_other},
+  TableReads.{times-remove, times_got, times_split, few, read_listed, count, rank_within, turn_opened, here},
+  TableReads.{ticket_got, found_at},
 }
 
 -- ---- the slots of the open requests in the order of their last sends
@@ -34,8 +34,8 @@ all_among : (P : Waiting → Type 0) (slots : List Waiting) (xs ys : List ℕ)
 all_among P slots xs ys among all = λ k d lt. let read = λ (slot : ℕ). get_or slots slot _ in
     let within = rw length-map at lt in
     let there = found_at _ ys (among _ (times_got _ xs k 0 within)) in
-    subst P (get_or-map _ ys _ 0 d there.1.within ∙ ap read there.1.there ∙ sym (get_or-map read xs k 0 d within))
-    (all _ d (rw length-map there.1.within))
+    subst P (get_or-map _ ys _ 0 d there.0 ∙ ap read there.1 ∙ sym (get_or-map read xs k 0 d within))
+    (all _ d (rw length-map there.0))
 
 -- A slot is put behind others, with a request that was sent last.
 pub queue-push : (slots : List Waiting) (rest after : List ℕ) (slot : ℕ) (w : Waiting) → slot < length slots →
@@ -182,99 +182,99 @@ module _ {slots : List Waiting} {numbers : List (Option ℕ)} {order tickets : L
       still number = same_times _ _ _ _ same_number
 
   -- The first free slot is opened, under a number that no open request has, and the greatest ticket.
-  module _ (slot : ℕ) (w : Waiting) (is : slot ≡ get_or order (length tickets) 0)
-      (room : length tickets < length order)
-      (unused : times number_in w.request.invoke_id ws ≡ 0) (latest : All (λ v. v.request.ticket < w.request.ticket) ws)
-    where
-      grown : open_slots order (tickets ++ w.request.ticket ∷ []) ≡ opens ++ slot ∷ []
-      grown = grind (arith, length-append, take_at_read)
+  module _ (items : List ℕ) (are : items ≡ order) (n : ℕ) (long : n ≡ length tickets) (asked : Asked) (body : List ℕ)
+      (few_open : length ws < table_size) (unused : times number_in asked.invoke_id ws ≡ 0)
+      (latest : All (λ v. v.request.ticket < asked.ticket) ws) where
+    abbrev slot : ℕ
+    slot = get_or items n 0
 
-      closed : times_of_slot slot opens ≡ 0
-      closed =
-          let e = times_split t slot (length tickets + 1) in
-          let f = ap (times_of_slot slot) ((take_at_read _ _ 0 room).1 ∙ ap (λ q. opens ++ q ∷ []) (sym is)) in
-          let g = times-append itself slot opens (slot ∷ []) in
-          let one = times_one itself _ slot refl in omega arith
+    abbrev w : Waiting
+    w = begun asked body
 
-      there : slot < length slots
-      there = read_listed t _ _ room (sym is)
+    stands : slot ≡ get_or order (length tickets) 0
+    stands = cc
 
-      opened_view : held_at (set slots slot w) (opens ++ slot ∷ []) ≡ held_at slots opens ++ w ∷ []
-      opened_view = held-push _ _ w _ there closed
+    room : length tickets < length order
+    room = grind (arith, count)
 
-      opened : IsTable (set slots slot w) (set numbers w.request.invoke_id (Some slot)) order
-          (tickets ++ w.request.ticket ∷ [])
-      opened = record {
-        all_slots = length-set _ _ w ∙ t.all_slots;
-        all_ranks = t.all_ranks;
-        within = t.within;
-        once = t.once;
-        numbered =
-            rw grown (named_set _ _ _ _ _ _ _ t.numbered (
-              more _ (omega (arith, times_one itself slot slot refl)),
-              ap number_in (get_or-set_same _ _ w _ there),
-            ) (omega (
-              arith,
-              held w.request.invoke_id,
-              times_one number_in _ w refl,
-              ap (times number_in w.request.invoke_id) view,
-            )) (λ number other. omega (arith, held number, times_other number_in _ w (λ q. other (sym q))))
-            (λ number q other some has. (
-              more q (omega arith),
-              ap number_in (get_or-set_other slots _ q w _ (elsewhere q some)) ∙ has,
-            )));
-        ticketed = grind (arith, grown, opened_view, map-append);
-        rise = all_pairs_push (λ early late. early < late) _ _ t.rise
-            (λ k d lt. let rank : k < length ws = omega (arith, count t ws view) in
-            let e = ticket_got t ws view k rank nothing d in
-            omega arith);
-      }
-        where
-          held : (number : ℕ) → times number_in number (held_at (set slots slot w) (opens ++ slot ∷ []))
-              ≡ times number_in number (held_at slots opens) + times number_in number (w ∷ [])
-          held number = cc (opened_view, times-append _ number _ _)
+    grown : open_slots order (tickets ++ w.request.ticket ∷ []) ≡ opens ++ slot ∷ []
+    grown = grind (arith, length-append, take_at_read order (length tickets) 0 room)
 
-          more : (q : ℕ) → 0 < times_of_slot q opens + times_of_slot q (slot ∷ [])
-              → 0 < times_of_slot q (opens ++ slot ∷ [])
-          more q some = omega (arith, times-append itself q opens (slot ∷ []))
+    closed : times_of_slot slot opens ≡ 0
+    closed =
+        let e = times_split t slot (length tickets + 1) in
+        let f = ap (times_of_slot slot) ((take_at_read _ _ 0 room).1 ∙ ap (λ q. opens ++ q ∷ []) (sym stands)) in
+        let g = times-append itself slot opens (slot ∷ []) in
+        let one = times_one itself _ slot refl in omega arith
 
-          elsewhere : (q : ℕ) → 0 < times_of_slot q opens → q ≡ slot → ⊥
-          elsewhere q some e = let none = subst (λ k. times_of_slot k opens ≡ 0) (sym e) closed in absurd (omega arith)
+    there : slot < length slots
+    there = read_listed t _ _ room (sym stands)
 
-      queued : (sends : List ℕ) → AreBySend slots opens sends → All (λ v. v.base ≤ w.base) ws →
-          AreBySend (set slots slot w) (open_slots order (tickets ++ w.request.ticket ∷ [])) (sends ++ slot ∷ [])
-      queued _ q late =
-          rw grown (queue-push _ _ _ _ w there (omega (arith, length-append opens (slot ∷ [])))
-          (grind (arith, times-append)) (grind (arith, times-append, itself, closed))
-          q.by_send (all_sent q (λ v. v.base ≤ w.base) (rw view late)))
+    opened_view : held_at (set slots slot w) (opens ++ slot ∷ []) ≡ held_at slots opens ++ w ∷ []
+    opened_view = held-push _ _ w _ there closed
 
-  -- As the code makes it.
-  pub opened_by : (sends : List ℕ) → AreBySend slots opens sends → length ws < table_size → (items : List ℕ)
-      → items ≡ order → (n : ℕ) → n ≡ length tickets →
-      (asked : Asked) (body : List ℕ) → times number_in asked.invoke_id ws ≡ 0
-      → All (λ v. v.request.ticket < asked.ticket) ws → All (λ v. v.base ≤ asked.clock) ws →
-      (index : ℕ) (changed : List Waiting) (after sent : List ℕ) → index ≡ asked.invoke_id
-      → changed ≡ set slots (get_or items n 0) (begun asked body) →
-      after ≡ tickets ++ asked.ticket ∷ [] → sent ≡ sends ++ get_or items n 0 ∷ [] →
-      Leaves (waiting_in changed order after ≡ ws ++ begun asked body ∷ []) changed
-      (set numbers index (Some (get_or items n 0))) order after sent
-  opened_by _ q room items are n is _ _ unused latest past _ _ _ _ has made to too =
-      let new = begun _ _ in
-      let slot = get_or items n 0 in
-      let here : slot ≡ get_or order (length tickets) 0 = cc in
-      let fits : length tickets < length order = grind (arith, count) in
-      rw (has, made, to, too) (record {
-        told = ap (held_at _) (grown _ new here fits unused latest) ∙ opened_view _ new here fits unused latest
-            ∙ ap (λ vs. vs ++ new ∷ []) view;
-        whole = record {
-          table = opened _ new here fits unused latest;
-          queue = queued _ new here fits unused latest _ q past;
-        };
-      })
+    opened : IsTable (set slots slot w) (set numbers w.request.invoke_id (Some slot)) order
+        (tickets ++ w.request.ticket ∷ [])
+    opened = record {
+      all_slots = length-set _ _ w ∙ t.all_slots;
+      all_ranks = t.all_ranks;
+      within = t.within;
+      once = t.once;
+      numbered =
+          rw grown (named_set _ _ _ _ _ _ _ t.numbered (
+            more _ (omega (arith, times_one itself slot slot refl)),
+            ap number_in (get_or-set_same _ _ w _ there),
+          ) (omega (
+            arith,
+            held w.request.invoke_id,
+            times_one number_in _ w refl,
+            ap (times number_in w.request.invoke_id) view,
+          )) (λ number other. omega (arith, held number, times_other number_in _ w (λ q. other (sym q))))
+          (λ number q other some has. (
+            more q (omega arith),
+            ap number_in (get_or-set_other slots _ q w _ (elsewhere q some)) ∙ has,
+          )));
+      ticketed = grind (arith, grown, opened_view, map-append);
+      rise = all_pairs_push (λ early late. early < late) _ _ t.rise
+          (λ k d lt. let rank : k < length ws = omega (arith, count t ws view) in
+          let e = ticket_got t ws view k rank nothing d in
+          omega arith);
+    }
+      where
+        held : (number : ℕ) → times number_in number (held_at (set slots slot w) (opens ++ slot ∷ []))
+            ≡ times number_in number (held_at slots opens) + times number_in number (w ∷ [])
+        held number = cc (opened_view, times-append _ number _ _)
+
+        more : (q : ℕ) → 0 < times_of_slot q opens + times_of_slot q (slot ∷ [])
+            → 0 < times_of_slot q (opens ++ slot ∷ [])
+        more q some = omega (arith, times-append itself q opens (slot ∷ []))
+
+        elsewhere : (q : ℕ) → 0 < times_of_slot q opens → q ≡ slot → ⊥
+        elsewhere q some e = grind (arith, closed)
+
+    queued : (sends : List ℕ) → AreBySend slots opens sends → All (λ v. v.base ≤ w.base) ws →
+        AreBySend (set slots slot w) (open_slots order (tickets ++ w.request.ticket ∷ [])) (sends ++ slot ∷ [])
+    queued _ q late =
+        rw grown (queue-push _ _ _ _ w there (omega (arith, length-append opens (slot ∷ [])))
+        (grind (arith, times-append)) (grind (arith, times-append, itself, closed))
+        q.by_send (all_sent q (λ v. v.base ≤ w.base) (rw view late)))
+
+    -- As the code makes it.
+    pub opened_by : {sends : List ℕ} → AreBySend slots opens sends → All (λ v. v.base ≤ asked.clock) ws →
+        {index : ℕ} {changed : List Waiting} {after sent : List ℕ} → index ≡ asked.invoke_id
+        → changed ≡ set slots slot w → after ≡ tickets ++ asked.ticket ∷ [] → sent ≡ sends ++ slot ∷ [] →
+        Leaves (waiting_in changed order after ≡ ws ++ w ∷ []) changed (set numbers index (Some slot)) order after sent
+    opened_by q past has made to too =
+        rw (has, made, to, too) (record {
+          told = ap (held_at _) grown ∙ opened_view ∙ ap (λ vs. vs ++ w ∷ []) view;
+          whole = record { table = opened; queue = queued _ q past };
+        })
 
   -- The request at a rank ends: its slot goes behind all others.
-  module _ (i slot number : ℕ) (lt : i < length ws) (is : slot ≡ get_or order i 0)
-      (has : number ≡ number_at slots slot) where
+  module _ (i slot : ℕ) (lt : i < length ws) (got : slot ≡ get_or order i slot) where
+    is : slot ≡ get_or order i 0
+    is = same_turn _ i _ (rank_within t ws view i lt) got
+
     within_tickets : i < length tickets
     within_tickets = omega (arith, count t ws view)
 
@@ -316,8 +316,9 @@ module _ {slots : List Waiting} {numbers : List (Option ℕ)} {order tickets : L
           ap (λ (v : Waiting). times number_in n (v ∷ [])) (held_got slots _ i slot rank at_rank),
         )
 
-    ended : IsTable slots (set numbers number None) (remove order i ++ slot ∷ []) (remove tickets i)
-    ended = record {
+    ended : (number : ℕ) → number ≡ number_at slots slot
+        → IsTable slots (set numbers number None) (remove order i ++ slot ∷ []) (remove tickets i)
+    ended number has = record {
       all_slots = t.all_slots;
       all_ranks = grind (arith, length-append, length-remove, within_order);
       within = λ q le. moved q ∙ t.within q le;
@@ -337,26 +338,20 @@ module _ {slots : List Waiting} {numbers : List (Option ℕ)} {order tickets : L
         AreBySend slots (open_slots (remove order i ++ slot ∷ []) (remove tickets i)) left
     unqueued _ _ q out = rw shrunk (queue-remove q _ _ out _ (omega (arith, length-remove _ i rank)) gone)
 
-    sent : (sends : List ℕ) → AreBySend slots opens sends → 0 < times_of_slot slot sends
-    sent _ q = let some = subst (λ p. 0 < times_of_slot p opens) at_rank (times_got _ _ i 0 rank) in omega arith
+    pub sent_slot : (sends : List ℕ) → AreBySend slots opens sends → 0 < times_of_slot slot sends
+    sent_slot _ q = let some = subst (λ p. 0 < times_of_slot p opens) at_rank (times_got _ _ i 0 rank) in omega arith
 
-  -- As the code makes it.
-  pub sent_slot : (i : ℕ) → i < length ws → (slot : ℕ) → slot ≡ get_or order i slot → (sends : List ℕ)
-      → AreBySend slots opens sends → 0 < times_of_slot slot sends
-  sent_slot = grind (arith, sent, same_turn, rank_within)
-
-  pub ended_by : (i : ℕ) → i < length ws → (slot index number : ℕ) (removed after rest : List ℕ) (w : Waiting) →
-      slot ≡ get_or order i slot → w ≡ get_or slots slot nothing → number ≡ w.request.invoke_id → index ≡ number →
-      removed ≡ remove order i → after ≡ removed ++ slot ∷ [] → rest ≡ remove tickets i →
-      (sends left : List ℕ) → AreBySend slots opens sends → IsTakenOut slot sends left →
-      Leaves (waiting_in slots after rest ≡ remove ws i) slots (set numbers index None) after rest left
-  ended_by i lt slot index _ _ _ _ w got is has same gone to from _ _ q out =
-      let first = same_turn _ i _ (rank_within t ws view i lt) got in
-      let its : index ≡ number_at slots slot = cc in
-      rw (from, to, gone) (record {
-        told = ended_view i _ _ lt first its;
-        whole = record { table = ended i _ _ lt first its; queue = unqueued i _ _ lt first its _ _ q out };
-      })
+    -- As the code makes it.
+    pub ended_by : {index number : ℕ} {removed after rest sends left : List ℕ} {w : Waiting} →
+        w ≡ get_or slots slot nothing → number ≡ w.request.invoke_id → index ≡ number →
+        removed ≡ remove order i → after ≡ removed ++ slot ∷ [] → rest ≡ remove tickets i →
+        AreBySend slots opens sends → IsTakenOut slot sends left →
+        Leaves (waiting_in slots after rest ≡ remove ws i) slots (set numbers index None) after rest left
+    ended_by reads has same gone to from q out =
+        rw (from, to, gone) (record {
+          told = ended_view;
+          whole = record { table = ended _ (cc); queue = unqueued _ _ q out };
+        })
 
 -- The slots below one, each once.
 pub record IsUpTo (n : ℕ) (slots : List ℕ) : Type 0 where

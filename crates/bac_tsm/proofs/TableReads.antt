@@ -1,19 +1,104 @@
 -- What is read of the table of open requests.
-use Rattle.std.proofs.Common.{◌≡◌, ℕ, zero, suc, nat_lt, ◌+◌, ◌<◌, ◌≤◌, List, [], ◌∷◌, length, map, take, drop, get_or}
-use Rattle.std.proofs.Common.{Option, Some, None, Result, Ok, Err, Bool, true, false, not, nat_eq, if◌then◌else◌, refl}
-use Rattle.std.proofs.Common.{ap, sym, subst, ◌∙◌, arith, ◌%◌, unwrap_or, below_more, remove, position, MatchResult}
-use Rattle.std.proofs.Common.{eqb-true, eq-eqb, ne_eqb, lt-ltb, ltb-false, length-take, take-append-drop, get_or-take}
-use Rattle.std.proofs.lemmas.{Option.{slice_get_within, get_or_from_slice_get}, List.{length-map, get_or-map}}
-use Rattle.std.proofs.lemmas.List.{Sums.passes_at_first, Sorted.searched}
-use Rattle.std.specs.{List.{filter, find, list_any, slice_get, position_or_len}, Option.is_some, Result.result_ok}
-use Rattle.std.specs.{Ordering.nat_cmp, List.Sorted.IsBinarySearchResult}
-use Rattle.bac_tsm.specs.{Limits.table_size, Machine.Waiting, Answers.{Answer, is_answer_to}}
-use Rattle.bac_tsm.specs.{Inner.Table.{waiting_in, IsRankOf}, Inner.Waiting.{ticket_in, number_in}, Waiting.nothing}
-use Rattle.bac_tsm.specs.Lookahead.{first_within, next_invoke_id}
-use Rattle.bac_tsm.specs.Table.{times, held_at, times_of_slot, open_slots, Names, IsTable}
-use Rattle.bac_tsm.proofs.CallNotes.{TicketsRise, by_ticket, pairs_tail}
-use Rattle.bac_tsm.proofs.Held.{held_got, times-append, times_got, none_passes, one_passes}
-use Rattle.bac_tsm.proofs.{RequestLife.{NotBefore, first_from, first_at}, NumberCycle.{is_free, a_step}}
+use Rattle.std.proofs.{
+  Common.{◌≡◌, ℕ, zero, suc, nat_lt, ◌+◌, ◌<◌, ◌≤◌, List, [], ◌∷◌, length, map, take, drop, get_or, Option, Some},
+  Common.{None, Result, Ok, Err, Bool, true, false, not, nat_eq, if◌then◌else◌, refl, ap, sym, subst, ◌∙◌, arith, ◌%◌},
+  Common.{unwrap_or, below_more, remove, MatchResult, eqb-true, eq-eqb, ne_eqb, lt-ltb, ltb-false, length-take},
+  Common.{take-append-drop, get_or-take, ◌++◌, set, get_or-set_same, get_or-set_other, length-append},
+  lemmas.Option.{slice_get_within, get_or_from_slice_get},
+  lemmas.List.{length-map, get_or-map, map-append, take-map, drop-map, get_or_default},
+  lemmas.{List.{Sums.{length-filter, sum_by-remove}, Sorted.searched, Elements.filter-append}, Grind.common_steps},
+  lemmas.Bool.Decides.nat_tests,
+}
+use Rattle.std.specs.{
+  List.{filter, find, list_any, slice_get, position_or_len, Sorted.IsBinarySearchResult},
+  Option.is_some,
+  Result.result_ok,
+  Ordering.nat_cmp,
+}
+use Rattle.bac_tsm.specs.{
+  Answers.{Answer, is_answer_to},
+  Inner.{Table.{waiting_in, IsRankOf}, Waiting.{ticket_in, number_in}},
+  Lookahead.{first_within, next_invoke_id},
+  Table.{times, held_at, times_of_slot, open_slots, Names, IsTable},
+  Limits.table_size,
+  Machine.Waiting,
+  Waiting.nothing,
+}
+use Rattle.bac_tsm.proofs.{
+  CallNotes.{TicketsRise, by_ticket, pairs_tail},
+  RequestLife.{NotBefore, first_from, first_at},
+  OpenRequests.{is_free, a_step},
+}
+
+-- ---- the requests at the slots of a list, where a slot or the list changes
+
+-- ---- how often a number is among those of a list's elements
+
+module _ {A : Type 0} (key : A → ℕ) where
+  pub times-append : (n : ℕ) (xs ys : List A) → times key n (xs ++ ys) ≡ times key n xs + times key n ys
+  times-append n xs ys = cc (filter-append _ xs ys, length-append _ _)
+
+  pub times_one : (n : ℕ) (x : A) → key x ≡ n → times key n (x ∷ []) ≡ 1
+  times_one n x e = rw (eq-eqb _ n e)
+
+  pub times_other : (n : ℕ) (x : A) → (key x ≡ n → ⊥) → times key n (x ∷ []) ≡ 0
+  times_other n x e = rw (ne_eqb _ n e)
+
+  pub times-remove : (n : ℕ) (xs : List A) (i : ℕ) (d : A) → i < length xs →
+      times key n (remove xs i) + times key n (get_or xs i d ∷ []) ≡ times key n xs
+  times-remove = grind (arith, common_steps, length-filter, sum_by-remove)
+
+  pub times_got : (xs : List A) (i : ℕ) (d : A) → i < length xs → 0 < times key (key (get_or xs i d)) xs
+  times_got xs i d lt =
+      let e = times-remove (key (get_or xs i d)) xs i d lt in
+      let f = times_one _ (get_or xs i d) refl in omega arith
+
+-- A test that only elements with one key pass, of which there is at most one.
+module _ {A : Type 0} (key : A → ℕ) (p : A → Bool) (n : ℕ) (says : (x : A) → p x ≡ true → key x ≡ n) where
+  pub none_passes : (xs : List A) → times key n xs ≡ 0 → (filter p xs ≡ []) × (filter (λ x. not (p x)) xs ≡ xs)
+  none_passes [] _ = (refl, refl)
+  none_passes (x ∷ xs) none = grind (arith, none_passes xs, says x)
+
+  pub one_passes : (xs : List A) (i : ℕ) (d : A) → i < length xs → key (get_or xs i d) ≡ n → times key n xs ≤ 1 →
+      (filter p xs ≡ (if p (get_or xs i d) then get_or xs i d ∷ [] else []))
+      × (filter (λ x. not (p x)) xs ≡ (if p (get_or xs i d) then remove xs i else xs))
+  one_passes [] i d lt is few = absurd (omega arith)
+  one_passes (x ∷ xs) zero d lt is few = grind (arith, none_passes xs)
+  one_passes (x ∷ xs) (suc i) d lt is few = grind (arith, times_got, nat_tests, one_passes xs i d)
+
+abbrev pub itself : ℕ → ℕ
+itself slot = slot
+
+-- A slot that is not among these can be filled with what one likes.
+held_elsewhere : (slots : List Waiting) (slot : ℕ) (w : Waiting) (order : List ℕ) → times_of_slot slot order ≡ 0 →
+    held_at (set slots slot w) order ≡ held_at slots order
+held_elsewhere _ _ w [] _ = refl
+held_elsewhere slots slot w (q ∷ qs) none = grind (arith, get_or-set_other, held_elsewhere slots slot w qs)
+
+pub held-set : (slots : List Waiting) (slot : ℕ) (w : Waiting) (order : List ℕ) (i : ℕ) → slot < length slots →
+    i < length order → get_or order i 0 ≡ slot → times_of_slot slot order ≤ 1 →
+    held_at (set slots slot w) order ≡ set (held_at slots order) i w
+held-set _ _ w [] i _ lt is _ = absurd (omega arith)
+held-set _ _ w (q ∷ qs) zero there lt is once = grind (arith, get_or-set_same, held_elsewhere)
+held-set _ slot w (q ∷ qs) (suc i) there lt is once =
+    let later : 0 < times_of_slot slot qs =
+    subst (λ (k : ℕ). 0 < times_of_slot k qs) is (times_got _ qs i 0 (omega arith)) in
+    grind (arith, get_or-set_other, held-set _ _ w qs i there (omega arith) is)
+
+-- A slot that is not among these is filled, and put behind them.
+pub held-push : (slots : List Waiting) (slot : ℕ) (w : Waiting) (order : List ℕ) → slot < length slots
+    → times_of_slot slot order ≡ 0 → held_at (set slots slot w) (order ++ slot ∷ []) ≡ held_at slots order ++ w ∷ []
+held-push = grind (arith, map-append, held_elsewhere, get_or-set_same)
+
+pub map-remove : {A B : Type 0} (f : A → B) (xs : List A) (i : ℕ) → map f (remove xs i) ≡ remove (map f xs) i
+map-remove = grind (arith, map-append, take-map, drop-map)
+
+pub held_got : (slots : List Waiting) (order : List ℕ) (i slot : ℕ) → i < length order → get_or order i 0 ≡ slot →
+    get_or (held_at slots order) i nothing ≡ get_or slots slot nothing
+held_got _ _ i _ lt is = cc (get_or-map _ _ i 0 _ lt, is)
+
+pub same_turn : (order : List ℕ) (i slot : ℕ) → i < length order → slot ≡ get_or order i slot → slot ≡ get_or order i 0
+same_turn _ i _ lt is = is ∙ get_or_default _ i _ 0 lt
 
 -- A number is found among these where one of them has it.
 pub any_number : (number : ℕ) (ws : List Waiting)
@@ -21,28 +106,14 @@ pub any_number : (number : ℕ) (ws : List Waiting)
 any_number _ [] = refl
 any_number number (w ∷ ws) = grind (arith, any_number number ws)
 
--- Where a slot is among these, it stands at a rank, and the first such rank is found.
-pub record StandsAt (slot : ℕ) (order : List ℕ) (i : ℕ) : Type 0 where
-  pub found : position (λ other. nat_eq other slot) order ≡ Some i
-  pub within : i < length order
-  pub there : get_or order i 0 ≡ slot
+-- The first rank at which a slot stands: where it is among these, it stands there.
+abbrev pub rank_of_slot : ℕ → List ℕ → ℕ
+rank_of_slot slot order = position_or_len (λ other. nat_eq other slot) order
 
-pub found_at : (slot : ℕ) (order : List ℕ) → 0 < times_of_slot slot order → (i : ℕ) × StandsAt slot order i
-found_at slot order some =
-    let test = λ (other : ℕ). nat_eq other slot in
-    let within = first _ some in (
-      position_or_len test _,
-      record {
-        found = rw (lt-ltb _ _ within);
-        within = within;
-        there = eqb-true _ _ (passes_at_first test _ 0 within);
-      },
-    )
-  where
-    first : (order : List ℕ) → 0 < times_of_slot slot order
-        → position_or_len (λ other. nat_eq other slot) order < length order
-    first [] some = absurd (omega arith)
-    first (q ∷ qs) some = grind (arith, first qs)
+pub found_at : (slot : ℕ) (order : List ℕ) → 0 < times_of_slot slot order
+    → (rank_of_slot slot order < length order) × (get_or order (rank_of_slot slot order) 0 ≡ slot)
+found_at slot [] some = absurd (omega arith)
+found_at slot (q ∷ qs) some = grind (arith, found_at slot qs)
 
 -- Where tickets rise, the one request with a ticket is the first with it.
 find_rank : (t : ℕ) (ws : List Waiting) (i : ℕ) → TicketsRise ws → i < length ws
@@ -137,29 +208,25 @@ module _ {slots : List Waiting} {numbers : List (Option ℕ)} {order tickets : L
         by : (r : Result ℕ ℕ) → MatchResult r (λ i. (i < length tickets) × (get_or tickets i 0 ≡ ticket))
             (λ i. (i ≤ length tickets) × ((k : ℕ) → k < i → get_or tickets k 0 < ticket)
             × ((k : ℕ) → i ≤ k → k < length tickets → ticket < get_or tickets k 0)) → IsRankOf ticket ws (result_ok r)
-        by (Ok i) h =
-            let e = count in
-            let lt : i < length ws = omega arith in
-            let has = sym (ticket_got i lt _ 0) ∙ h.1 in
-            (lt, has, find_rank _ ws i rising lt has)
+        by (Ok i) h = grind (arith, count, ticket_got, find_rank, rising)
         by (Err i) h = λ k d lt same. grind (arith, h.1 k, h.2 k, count, ticket_got k lt d 0)
 
   -- An open slot, and the rank of the request there.
   module _ (ws : List Waiting) (view : waiting_in slots order tickets ≡ ws) (slot : ℕ)
       (some : 0 < times_of_slot slot opened) where
-    pub rank : (i : ℕ) × StandsAt slot opened i
-    rank = found_at _ _ some
+    abbrev rank : ℕ
+    rank = rank_of_slot slot opened
 
-    pub turn_lt : rank.0 < length ws
-    turn_lt = grind (arith, count, as_many)
+    pub turn_lt : rank < length ws
+    turn_lt = grind (arith, count, as_many, found_at)
 
-    pub stands : get_or order rank.0 0 ≡ slot
-    stands = grind (arith, get_or-take, turn_lt, count)
+    pub stands : get_or order rank 0 ≡ slot
+    stands = grind (arith, get_or-take, turn_lt, count, found_at)
 
     pub open_below : slot < table_size
     open_below = read_within _ _ (rank_within ws view _ turn_lt) stands
 
-    pub open_read : get_or slots slot nothing ≡ get_or ws rank.0 nothing
+    pub open_read : get_or slots slot nothing ≡ get_or ws rank nothing
     open_read = read_held ws view _ _ turn_lt stands
 
   -- The entry of a number.
@@ -176,10 +243,10 @@ module _ {slots : List Waiting} {numbers : List (Option ℕ)} {order tickets : L
             → is_some entry ≡ list_any (λ w. nat_eq number w.request.invoke_id) (waiting_in slots order tickets)
         by None is = sym (any_number number _ ∙ ap (nat_lt 0) (rw is at (t.numbered.named number fits)))
         by (Some slot) is =
-            let rank = found_at slot opened (named slot is).0 in
-            let has = ap number_in (held_got slots opened rank.0 slot rank.1.within rank.1.there) ∙ (named slot is).1 in
+            let at = found_at slot opened (named slot is).0 in
+            let has = ap number_in (held_got slots opened _ slot at.0 at.1) ∙ (named slot is).1 in
             sym (any_number number _ ∙ lt-ltb 0 _
-            (rw (← has) (times_got _ (held_at slots opened) rank.0 nothing (rw length-map rank.1.within))))
+            (rw (← has) (times_got _ (held_at slots opened) _ nothing (rw length-map at.0))))
 
   -- What an answer ends.
   module _ (answer : Answer) (number : ℕ) (its : number ≡ answer.invoke_id) (fits : number < 256) (ws : List Waiting)
@@ -206,19 +273,20 @@ module _ {slots : List Waiting} {numbers : List (Option ℕ)} {order tickets : L
       some = (named _ fits _ is).0
 
       abbrev i : ℕ
-      i = (rank ws view slot some).0
+      i = rank_of_slot slot opened
 
       pub named_below : slot < table_size
       named_below = open_below ws view _ some
 
       module _ (w : Waiting) (reads : w ≡ get_or slots slot nothing) where
         read : w ≡ get_or ws i nothing
-        read = reads ∙ open_read ws _ _ _
+        read = reads ∙ open_read ws view slot some
 
         found : (filter ends ws ≡ (if ends w then w ∷ [] else []))
             × (filter (λ v. not (ends v)) ws ≡ (if ends w then remove ws i else ws))
         found =
-            rw read (one_passes _ _ _ says ws i _ (turn_lt ws _ _ _) (cc (open_read ws _ _ _, (named _ fits _ is).1))
+            rw read (one_passes _ _ _ says ws i _ (turn_lt ws view slot some)
+            (cc (open_read ws view slot some, (named _ fits _ is).1))
             (rw (← view) (t.numbered.apart _)))
 
         pub closed_not : ends w ≡ false → Closes [] ws

@@ -1,6 +1,5 @@
 -- That the slot was there says that the search finds a rank, and that at this rank the slot stands.
-use Rattle.std.proofs.{Common.{sym, ap, ◌∙◌, nat_eq, position, eqb-true}, lemmas.Option.none-some}
-use Rattle.std.proofs.lemmas.List.Quantifiers.{position-Some}
+use Rattle.std.proofs.{Common.{arith, sym, ap, ◌∙◌, nat_eq, position, eqb-true}, lemmas.List.Quantifiers.position-Some}
 use Rattle.bac_tsm.proofs.TableReads.{found_at}
 use Rattle.bac_tsm.proofs.table.take_out.Goals as goal
 
@@ -13,6 +12,4 @@ returns-in-Some c =
 
 pub returns-in_default : goal.returns-in_default
 returns-in_default c =
-    absurd (none-some _ (sym c.in_default.is ∙ c.rank_of_slot.ensures
-    ∙ ap (position (λ other. nat_eq other c.args.slot)) c.deref-else-eq.ensures.0
-    ∙ (found_at c.args.slot c.args.slots.now.items c.requires).1.found))
+    grind (arith, found_at c.args.slot c.args.slots.now.items)

@@ -1,8 +1,7 @@
 -- The induction over the accepted requests says more, of which this is a part.
-use Rattle.std.proofs.Common.{[], append-nil}
 use Rattle.bac_tsm.proofs.NumberReuse.{passed}
 use Rattle.bac_tsm.proofs.theorems.passed_numbers_are_held.Goals as goal
 
 pub returns : goal.returns
 returns c rules first_ticket events n small before since a e =
-    (passed rules first_ticket events small n before a since [] (rw append-nil e)).1.seen
+    (passed rules first_ticket events small n before a since e).1.seen
