@@ -14,7 +14,7 @@ import tempfile
 import time
 from concurrent.futures import ThreadPoolExecutor
 
-from tree import TOP, is_taken, text_of
+from tree import TOP, is_taken, text_of, write
 
 # A false command does what FALSE says of its words: `lib low: exit 1; bad: echo ..` are rules, of which the first whose
 # front the words have is run. Else it does well.
@@ -31,15 +31,8 @@ case $1 in
     ci) mkdir -p crates/bactool/out; echo built >crates/bactool/out/bactool; echo '20 passed, 0 failed' ;;
 esac
 """
-SCRIPT = RULES + 'echo "tests/${0##*/}: 5 calls as they are to be"\n'
-BODIES = RULES + r"""
-case $1 in
-    --list) echo '9 bodies, of which 0 don'"'"'t fit the code' ;;
-    *) echo '9 wrong bodies: 8 shown wrong, and 2 of 2 twins; refused by rt; 1 processor seconds; 0 failed' ;;
-esac
-"""
-SELF_TEST = RULES + "echo '6 bodies and twins with and without a fault, 0 not told as they are to be'\n"
-DROPS = RULES + "echo '10 drops by hand, 0 not refused'\n"
+SCRIPT = RULES + 'echo "$0: 5 calls as they are to be"\n'
+WRONG, SELF_TEST, DROPS = "bodies/wrong_bodies.py", "bodies/self_test.py", "bodies/let_go.py"
 MAKEFILE = """
 examples:
 	@tests/one.sh
@@ -51,7 +44,15 @@ documents:
 """
 GOOD = r"failed, 0 skipped$"
 TRIALS, TEST, GATE = ["./build.py", "--tests"], ["tests/parts.py", "test"], ["tests/parts.py", "gate"]
-NONE = "0 wrong bodies: 0 shown wrong, and 0 of 0 twins; 0 failed"
+NO_TWINS = "9 wrong bodies: 8 shown wrong; 0 of 0 twins proved; 0 failed"
+TWINS = NO_TWINS.replace("0 of 0", "2 of 2")
+
+
+def says(script, text, status=0, word=""):
+    """The rule by which a script says this of what it tried."""
+    return f'{os.path.basename(script)}{word}: echo "tests/{script}: {text}"; exit {status}'
+
+
 # A command, the rules of what is false, the status, and what has to be said.
 ROWS = [
     (["./build.py"], "", 0, r"2 of 2 +bactool +proved"),
@@ -63,55 +64,48 @@ ROWS = [
     (TRIALS, "rt test: echo 'test result: ok. 0 passed; 0 failed'", 1, r"bac_trials has a test"),
     (TRIALS, "rt test: true", 1, r"bac_trials has a test that is not proved, or failed"),
     (TRIALS, "rt try: echo 'test result: FAILED. 6 passed; 1 failed'; exit 1", 1, r"tool_trials has"),
-    (TEST, "", 0, r"\n40 passed, 0 " + GOOD),
+    (TEST, "", 0, r"\n34 passed, 0 " + GOOD),
     (TEST, "rt test: exit 1", 1, r"trials FAILED(.|\n)*failed: trials\n\d+ passed, 1 " + GOOD),
-    (TEST, "two.sh: echo 'tests/two.sh: 0 calls as they are to be'", 1, r"failed: examples\n\d+ passed, 1 " + GOOD),
+    (TEST, says("two.sh", "0 calls as they are to be"), 1, r"failed: examples\n\d+ passed, 1 " + GOOD),
     (TEST, "two.sh: true", 1, r"failed: examples\n\d+ passed, 1 " + GOOD),
-    (TEST, "two.sh: echo 'tests/two.sh: 9 calls, 3 not as they are to be'; exit 1", 1, r"\d+ passed, 3 " + GOOD),
+    (TEST, says("two.sh", "9 calls, 3 not as they are to be", 1), 1, r"\d+ passed, 3 " + GOOD),
     (TEST, "one.sh: exit 1", 1, r"failed: examples\n"),
-    (TEST, "three.sh: echo 'tests/three.sh: cc is not installed, left out'", 1, r"left out\n(.|\n)*failed, 1 skipped$"),
+    (TEST, says("three.sh", "cc is not installed, left out"), 1, r"left out\n(.|\n)*failed, 1 skipped$"),
     (TEST, "three.sh: echo 'tests/three.sh: 2 calls'; echo 'x: cc is not installed, left out'", 0, r", 1 skipped$"),
     (TEST, "wrong_bodies.py: true", 1, r"failed: wrong bodies\n\d+ passed, 1 " + GOOD),
-    (TEST, f"wrong_bodies.py: echo '{NONE}'", 1, r"failed: wrong bodies"),
-    (GATE, "", 0, r"\n68 passed, 0 " + GOOD),
-    ([".ci/run"], "", 0, r"\n68 passed, 0 " + GOOD),
+    (TEST, says(WRONG, TWINS), 0, r"\n9 wrong bodies: 8 shown wrong\n40 passed, 0 " + GOOD),
+    (TEST, says(WRONG, TWINS.replace("0 failed", "3 failed"), 1), 1, r"failed: wrong bodies\n37 passed, 3 " + GOOD),
+    (TEST, says(WRONG, NO_TWINS.replace("9", "0")), 1, r"failed: wrong bodies"),
+    (GATE, "", 0, r"\n60 passed, 0 " + GOOD),
+    ([".ci/run"], "", 0, r"\n60 passed, 0 " + GOOD),
     (GATE, "four.sh: exit 1", 1, r"^((?!rt ci)(.|\n))*failed: documents\n\d+ passed, 1 " + GOOD),
-    (GATE, "wrong_bodies.py --list: echo \"9 bodies, of which 2 don't fit the code\"; exit 1", 1, r"failed: fit\n"),
+    (GATE, says(WRONG, "9 bodies, of which 2 don't fit the code", 1, " --list"), 1, r"failed: fit\n"),
     (GATE, "wrong_bodies.py --list: true", 1, r"failed: fit\n"),
     (GATE, "rt ci: echo 'rt: low NOT PROVED'; sleep 60", 1, r"failed: rt ci\n\d+ passed, 1 " + GOOD),
     (GATE, "rt ci: echo '19 passed, 1 failed'; exit 1", 1, r"failed: rt ci\n"),
     (GATE, "rt ci: echo '0 passed, 0 failed'", 1, r"failed: rt ci\n"),
     (GATE, "rt ci: echo '20 passed, 0 failed'", 1, r"failed: program\n"),
-    (GATE, "self_test.py: echo '6 bodies and twins with and without a fault, 1 not told'", 1, r"failed: self test\n"),
-    (GATE, "let_go.py: echo '10 drops by hand, 1 not refused'; exit 1", 1, r"failed: drops\n\d+ passed, 1 " + GOOD),
-    (GATE, "let_go.py: echo '0 drops by hand, 0 not refused'", 1, r"failed: drops\n"),
+    (GATE, says(SELF_TEST, "6 bodies, 1 not told as they are to be"), 1, r"failed: self test\n"),
+    (GATE, says(DROPS, "10 drops by hand, 1 not refused", 1), 1, r"failed: drops\n\d+ passed, 1 " + GOOD),
+    (GATE, says(DROPS, "0 drops by hand, 0 not refused"), 1, r"failed: drops\n"),
 ]
 
 
 def made(room, rules, is_built=True):
     """A tree with a crate below the program, and the trials, where these rules hold; with what a build has kept."""
-    tree, tools = f"{room}/tree", f"{room}/bin"
-    os.makedirs(f"{tree}/tests/bodies")
-    os.mkdir(tools)
-    os.mkdir(f"{tree}/.ci")
-    for file in ("build.py", "tests/parts.py", "tests/tree.py", ".ci/run"):
-        shutil.copy(f"{TOP}/{file}", f"{tree}/{file}")
     crates = "low:\nbactool: low\nbac_trials: low\ntool_trials: low\n"
-    texts = {"Makefile": MAKEFILE, "HANDLES": "", "crates.txt": crates}
-    texts.update((f"crates/{name}/src/lib.rt", "//! x\n") for name in ("low", "bactool", "bac_trials", "tool_trials"))
-    texts.update((f"tests/{name}.sh", SCRIPT) for name in ("one", "two", "three", "four"))
-    instruments = {"wrong_bodies": BODIES, "self_test": SELF_TEST, "let_go": DROPS}
-    texts.update((f"tests/bodies/{name}.py", text) for name, text in instruments.items())
-    texts["../bin/rt"] = RT
+    texts = {"Makefile": MAKEFILE, "HANDLES": "", "crates.txt": crates, "../bin/rt": RT}
+    texts.update((path, text_of(path)) for path in ("build.py", "tests/parts.py", "tests/tree.py", ".ci/run"))
+    texts.update((f"crates/{name}/src/lib.rt", "//! x\n") for name in re.findall(r"(\w+):", crates))
+    scripts = ("one.sh", "two.sh", "three.sh", "four.sh", WRONG, SELF_TEST, DROPS)
+    texts.update((f"tests/{name}", SCRIPT) for name in scripts)
     wanted = re.search(r"for tool in (.*); do", text_of(".ci/run"))[1].split()
-    texts.update((f"../bin/{name}", RULES) for name in wanted)
+    texts.update((f"../bin/{name}", RULES) for name in wanted if name != "rt")
     for path, text in texts.items():
-        os.makedirs(os.path.dirname(f"{tree}/{path}"), exist_ok=True)
-        with open(f"{tree}/{path}", "w", encoding="utf-8") as file:
-            file.write(text)
-        os.chmod(f"{tree}/{path}", 0o755)
-    how = {"cwd": tree, "text": True, "stdout": subprocess.PIPE, "stderr": subprocess.STDOUT}
-    outer = {**os.environ, "PATH": f"{tools}:{os.environ['PATH']}", "FALSE": ""}
+        write(f"{room}/tree/{path}", text)
+        os.chmod(f"{room}/tree/{path}", 0o755)
+    outer = {**os.environ, "PATH": f"{room}/bin:{os.environ['PATH']}", "FALSE": ""}
+    how = {"cwd": f"{room}/tree", "text": True, "stdout": subprocess.PIPE, "stderr": subprocess.STDOUT}
     if is_built:
         subprocess.run(["./build.py"], check=True, env=outer, **how)
     return {**how, "env": {**outer, "FALSE": rules}}

@@ -1,23 +1,16 @@
 #!/usr/bin/env python3
 """Runs what is tried of the tree, part by part, and ends with a line of counts. Usage: tests/parts.py test|gate
 
-`test` is for whoever has the built program: the tests of the trials, and beside them some wrong bodies of each crate;
-then what runs the program, alone, since clocks and sockets are in it, and make lint. A part that fails ends no other.
+CONTRIBUTING.md (The gate) says what the parts of each are, and in which order they come. In `test` a part that fails
+ends no other; in `gate` it ends all. There `rt ci` sets aside what is kept of the proofs: so it goes on in a copy of
+the tree. That has no must-fail/, for whose edits it would prove each crate once more: they are tried with the wrong
+bodies, each crate's once `rt ci` has proved the crates below. Two parts go side by side where there are 4 GB of free
+memory for each processor. How far a part is stands here, behind the minutes since the beginning; all that it says is
+in out/parts, and the end of that is shown where it fails.
 
-`gate` is what a change has to pass. First it looks whether the documents agree with the tree, and whether the wrong
-bodies fit the code. Then `rt ci` proves, builds and tests everything from nothing, in a copy of the tree, since it sets
-aside what is kept of the proofs. Beside it come all wrong bodies, those of a crate once `rt ci` has proved the crates
-below. Last come the drops by hand, what runs the program, which is the one that `rt ci` built, and make lint. Where a
-part fails, the others are ended.
-The copy has no must-fail/: for its edits `rt ci` would prove each crate once more, and they are tried with the wrong
-bodies. In the tree itself `rt ci` and `rt must-fail` try them too.
-
-Two parts go side by side where there are 4 GB of free memory for each processor. How far a part is stands here,
-behind the minutes since the beginning; all that it says is in out/parts, and the end of that is shown where it fails.
 The last line is `N passed, M failed, K skipped`: so much was left out, as for a tool that is not installed here. Above
-it stand the names of the parts that failed; what was left out; and how many wrong bodies are shown wrong, how many only
-refused, and how many are holes. A row that counts 0 has failed, since nothing was tried there; and so has a script of
-make examples or make lint that says nothing.
+it stand what was left out, how many wrong bodies are shown wrong, only refused, or holes, and the names of the parts
+that failed. A part that tried nothing has failed, and so has one of make a script of which says nothing.
 """
 import glob
 import os
@@ -28,22 +21,32 @@ import subprocess
 import sys
 import tempfile
 import time
-from collections import namedtuple
+import typing
 
-from tree import TOP, free_memory, processors
+from tree import TOP, Job, free_memory, processors
 
 LOGS = "out/parts"
 PROGRAM = "crates/bactool/out/bactool"
 SIGNALS = (signal.SIGINT, signal.SIGTERM, signal.SIGHUP)
+BEGAN = time.monotonic()
 LEFT_OUT, SHOWN = [], []  # what the parts say of what was left out, and of what shows the wrong bodies wrong
-QUIET = 300  # seconds after which a line says what is at work, where nothing else was said
+# What a script says of how much it tried, wrong bodies with their twins, and of how much of it failed.
+TRIED = r"^[\w./]+: (\d+) (?!not )(?:.* of (\d+) twins)?|^examples/\S+: as it is to be$"
+FAILED = r"(\d+) (?:not |don't |failed$)"
 
-# A part: its command; the numbers of what it tried and of what failed, in what it says (where none stands, each find is
-# one); which lines are shown as they come; which one says that it will fail; where it runs, and with what settings; and
-# the scripts of it that have to say what they did.
-Part = namedtuple(
-    "Part", "name command tried failed shown lost place settings scripts", defaults=["", ".", None, ".", {}, ()]
-)
+
+class Part(typing.NamedTuple):
+    """A part, and how what it says is read."""
+
+    name: str
+    command: list
+    scripts: list = []  # those of its scripts that have to say what they tried, each behind its own path
+    tried: str = TRIED  # the numbers of what it tried; where none stands, each find is one
+    failed: str = FAILED
+    shown: str = "."  # which lines are shown as they come
+    lost: str = "$^"  # which line says that it will fail
+    place: str = "."
+    settings: dict = {}
 
 
 def beside(*rows):
@@ -51,22 +54,15 @@ def beside(*rows):
     return rows if free_memory() >= 4000000000 * processors() else [[part for row in rows for part in row]]
 
 
-def gently(*command):
-    return ["nice", "-n", "5", *command]
-
-
-def bodies(name, *words):
-    tried, failed = r"^(\d+) wrong bodies: .* of (\d+) twins", r"; (\d+) failed$"
-    return Part(name, gently("tests/bodies/wrong_bodies.py", *words), tried, failed)
+def gently(name, *command):
+    return Part(name, ["nice", "-n", "5", *command])
 
 
 def target(name):
-    """A target of make that runs the built program, each script of which says what it did behind its own path."""
+    """A target of make that runs the built program."""
     command = ["make", "--no-print-directory", name]
     listed = subprocess.run([*command, "-n"], check=True, stdout=subprocess.PIPE, text=True).stdout
-    scripts = re.findall(r"(?m)^tests/\S+", listed)
-    tried, failed = r"^[\w./]+: (\d+) (?!not )|^examples/\S+: as it is to be$", r"(\d+) not as they are to be"
-    return Part(name, command, tried, failed, scripts=scripts)
+    return Part(name, command, re.findall(r"(?m)^tests/\S+", listed))
 
 
 def whole_proof(room):
@@ -89,128 +85,100 @@ def whole_proof(room):
     )
 
 
-class Clock:
-    """Says things behind the minutes since the beginning."""
-
-    def __init__(self):
-        self.began = self.told = time.monotonic()
-
-    def say(self, text):
-        self.told = time.monotonic()
-        minutes, seconds = divmod(int(self.told - self.began), 60)
-        print(f"{minutes:3}:{seconds:02}  {text}", flush=True)
+def say(text):
+    """Says this behind the minutes since the beginning."""
+    minutes, seconds = divmod(int(time.monotonic() - BEGAN), 60)
+    print(f"{minutes:3}:{seconds:02}  {text}", flush=True)
 
 
-class Work:
-    """A part at work, in a group of processes of its own."""
+class Work(Job):
+    """A part at work."""
 
-    def __init__(self, part, clock):
-        self.part, self.clock, self.rest, self.is_lost = part, clock, "", False
-        self.log = f"{LOGS}/{part.name.replace(' ', '_')}.log"
+    def __init__(self, part):
+        self.part, self.told, self.is_lost = part, 0, False
         outer = {name: it for name, it in os.environ.items() if name not in ("MAKEFLAGS", "MFLAGS", "MAKELEVEL")}
-        how = {"cwd": part.place, "env": {**outer, **part.settings}, "stdin": subprocess.DEVNULL}
-        with open(self.log, "w", encoding="utf-8") as log:
-            self.process = subprocess.Popen(part.command, stdout=log, stderr=log, start_new_session=True, **how)
-        self.lines = open(self.log, encoding="utf-8", errors="replace")
+        log = f"{TOP}/{LOGS}/{part.name.replace(' ', '_')}.log"
+        super().__init__(part.command, log, cwd=part.place, env={**outer, **part.settings})
 
     def has_ended(self):
         """Shows what came since the last look, and answers whether the part has ended, or will fail."""
-        ended = self.process.poll() is not None
-        *lines, self.rest = (self.rest + self.lines.read()).split("\n")
-        for line in lines:
+        ended, lines = super().has_ended(), self.said().split("\n")[:-1]
+        for line in lines[self.told :]:
             if re.search(self.part.shown, line):
-                self.clock.say(f"{self.part.name}: {line}")
-            self.is_lost = self.is_lost or bool(self.part.lost and re.search(self.part.lost, line))
+                say(f"{self.part.name}: {line}")
+            self.is_lost = self.is_lost or bool(re.search(self.part.lost, line))
+        self.told = len(lines)
         return ended or self.is_lost
 
     def counts(self):
-        """How many passed and failed. A part that says no number where one is looked for has failed, or that says 0."""
-        self.lines.seek(0)
-        said = self.lines.read()
+        """How many passed and failed. A part that tried nothing has failed, and one a script of which says nothing."""
+        said = self.said()
         rows = [row.groups() for row in re.finditer(self.part.tried, said, re.M)] if self.part.tried else []
         tried = [sum(int(it) for it in row if it) if any(row) else 1 for row in rows]
-        failed = sum(map(int, re.findall(self.part.failed, said, re.M))) if self.part.failed else 0
-        is_empty = bool(self.part.tried) and (0 in tried or not tried)
+        failed = sum(map(int, re.findall(self.part.failed, said, re.M)))
         silent = [it for it in self.part.scripts if not re.search(rf"^{re.escape(it)}: ", said, re.M)]
-        is_bad = self.is_lost or self.process.returncode != 0 or is_empty or bool(silent)
-        LEFT_OUT.extend(it for it in said.splitlines() if re.search(r"(?<!none )left out", it))
-        SHOWN.extend(re.findall(r"^\d+ wrong bodies: .*?(?=; refused by)", said, re.M))
-        return max(sum(tried) - failed, 0), failed or int(is_bad)
+        is_empty = bool(self.part.tried) and (not tried or 0 in tried)
+        failed = failed or int(self.is_lost or self.process.returncode != 0 or is_empty or bool(silent))
+        return max(sum(tried) - failed, 0), failed
 
     def tell(self):
         """Says what came of it, behind the end of what it said where it failed."""
-        passed, failed = self.counts()
+        (passed, failed), said = self.counts(), self.said()
+        LEFT_OUT.extend(it for it in said.splitlines() if re.search(r"(?<!none )left out", it))
+        SHOWN.extend(re.findall(r"\d+ wrong bodies: .*?(?=; \d+ of .* failed$)", said, re.M))
         if failed:
-            self.lines.seek(0)
-            print("".join(f"    {line}" for line in self.lines.readlines()[-40:]), end="")
-        how = f"FAILED, see {self.log}" if failed else "ended well"
-        self.clock.say(f"{self.part.name} {how}: {passed} passed, {failed} failed")
+            print("".join(f"    {line}\n" for line in said.splitlines()[-40:]), end="")
+        how = f"FAILED, see {os.path.relpath(self.log)}" if failed else "ended well"
+        say(f"{self.part.name} {how}: {passed} passed, {failed} failed")
         return passed, failed
 
-    def stop(self):
-        for number in (signal.SIGTERM, signal.SIGKILL):
-            try:
-                os.killpg(self.process.pid, number)
-                self.process.wait(30)
-            except (ProcessLookupError, subprocess.TimeoutExpired):
-                pass
-        self.lines.close()
 
-
-def run(rows, clock, ends_at_failure):
-    """Runs rows of parts side by side, each in its order. Gives how many passed, and how many failed of which part."""
-    left, working, passed, lost = [list(row) for row in rows], {}, 0, {}
-    try:
-        while (any(left) or working) and not (lost and ends_at_failure):
-            for at, row in enumerate(left):
-                if row and at not in working:
-                    working[at] = Work(row.pop(0), clock)
-            time.sleep(0.5)
-            for at in [at for at, work in working.items() if work.has_ended()]:
-                some, failed = working[at].tell()
-                passed, lost = passed + some, {**lost, **({working[at].part.name: failed} if failed else {})}
-                working.pop(at).stop()
-            if working and time.monotonic() - clock.told > QUIET:
-                clock.say(f"at work: {', '.join(work.part.name for work in working.values())}")
-        return passed, lost
-    finally:
-        for work in working.values():
-            work.stop()
-
-
-def test(clock):
-    print("Here: the tests of both trials, some wrong bodies of each crate, examples, rows and guide, and make lint.")
-    print("Left to make gate: proofs from nothing, and all other wrong bodies.")
-    sys.stdout.flush()
-    trials = Part("trials", ["./build.py", "--tests"], r"(\d+) tests passed")
+def run(steps, ends_at_failure):
+    """Runs steps one behind the other, of each the rows of parts side by side. Gives how many passed, and how many
+    failed of which part."""
     passed, lost = 0, {}
-    others = ("_trials", "/bac_uses")  # the program doesn't rest on them
-    is_kept = all(os.path.isdir(f"{it}/out/incremental") for it in glob.glob("crates/*") if not it.endswith(others))
-    first = [] if is_kept else [[[Part("build", ["./build.py"], r"^ *\d+ of \d+ +\w+ +proved")]]]
-    program = [target("examples"), target("lint")]
-    for rows in (*first, beside([trials], [bodies("wrong bodies", "--sample")]), [program]):
-        more, also = run(rows, clock, False)
-        passed, lost = passed + more, {**lost, **also}
+    for rows in steps:
+        left, working = [list(row) for row in rows], {}
+        try:
+            while (any(left) or working) and not (lost and ends_at_failure):
+                for at, row in enumerate(left):
+                    if row and at not in working:
+                        working[at] = Work(row.pop(0))
+                time.sleep(0.5)
+                for at in [at for at, work in working.items() if work.has_ended()]:
+                    some, failed = working[at].tell()
+                    passed, lost = passed + some, {**lost, **({working[at].part.name: failed} if failed else {})}
+                    working.pop(at).stop()
+        finally:
+            for work in working.values():
+                work.stop()
+        if lost and ends_at_failure:
+            break
     return passed, lost
 
 
-def gate(clock):
-    with tempfile.TemporaryDirectory(prefix="gate-") as room:
-        documents = Part("documents", ["make", "--no-print-directory", "documents"], r"^[\w./]+: (\d+) ")
-        fit = r"^[1-9]\d* bodies, of which \d+ don't fit", r"of which (\d+)"
-        fit = Part("fit", ["tests/bodies/wrong_bodies.py", "--list"], *fit, shown=r"^crates/|fit")
-        tried = bodies("wrong bodies", "--over", f"{room}/tree")
-        told = r"^(\d+) bodies and twins with", r", (\d+) not told"
-        told = Part("self test", gently("tests/bodies/self_test.py"), *told)
-        drops = r"^(\d+) drops by hand", r", (\d+) not refused"
-        drops = Part("drops", ["tests/bodies/let_go.py", "--over", f"{room}/tree"], *drops)
-        program = Part("program", ["install", "-D", f"{room}/tree/{PROGRAM}", PROGRAM], "")
-        passed, lost = run([[documents, fit]], clock, True)
-        last = [drops, program, target("examples"), target("lint")]
-        for rows in (beside([whole_proof(room)], [told, tried]), [last]):
-            more, lost = (0, lost) if lost else run(rows, clock, True)
-            passed += more
-        return passed, lost
+def test(_):
+    """The steps of `test`."""
+    print("Here: the tests of both trials, some wrong bodies of each crate, examples, rows and guide, and make lint.")
+    print("Left to make gate: proofs from nothing, and all other wrong bodies.", flush=True)
+    others = ("_trials", "/bac_uses")  # the program doesn't rest on them
+    if not all(os.path.isdir(f"{it}/out/incremental") for it in glob.glob("crates/*") if not it.endswith(others)):
+        yield [[Part("build", ["./build.py"], tried=r"^ *\d+ of \d+ +\w+ +proved")]]
+    trials = Part("trials", ["./build.py", "--tests"], tried=r"(\d+) tests passed")
+    yield beside([trials], [gently("wrong bodies", "tests/bodies/wrong_bodies.py", "--sample")])
+    yield [[target("examples"), target("lint")]]
+
+
+def gate(room):
+    """The steps of `gate`, in this room."""
+    tree, wrong = f"{room}/tree", "tests/bodies/wrong_bodies.py"
+    documents = Part("documents", ["make", "--no-print-directory", "documents"])
+    yield [[documents, Part("fit", [wrong, "--list"], shown=r"^crates/|fit")]]
+    tried = [gently("self test", "tests/bodies/self_test.py"), gently("wrong bodies", wrong, "--over", tree)]
+    yield beside([whole_proof(room)], tried)
+    drops = Part("drops", ["tests/bodies/let_go.py", "--over", tree])
+    program = Part("program", ["install", "-D", f"{tree}/{PROGRAM}", PROGRAM], tried="")
+    yield [[drops, program, target("examples"), target("lint")]]
 
 
 def main(words):
@@ -218,7 +186,8 @@ def main(words):
         sys.exit(__doc__)
     os.chdir(TOP)
     os.makedirs(LOGS, exist_ok=True)
-    passed, lost = (test if words == ["test"] else gate)(Clock())
+    with tempfile.TemporaryDirectory(prefix="gate-") as room:
+        passed, lost = run((test if words == ["test"] else gate)(room), words == ["gate"])
     print("\n".join([*LEFT_OUT, *SHOWN, *(f"failed: {name}" for name in lost)]))
     print(f"{passed} passed, {sum(lost.values())} failed, {len(LEFT_OUT)} skipped")
     return 1 if lost else 0

@@ -8,6 +8,7 @@ import glob
 import os
 import re
 import shutil
+import signal
 import socket
 import subprocess
 import sys
@@ -25,6 +26,13 @@ def text_of(path):
     """The text of a file of the repository."""
     with open(os.path.join(TOP, path), encoding="utf-8") as file:
         return file.read()
+
+
+def write(path, text):
+    """Writes a file, and the folder that it is in."""
+    os.makedirs(os.path.dirname(path), exist_ok=True)
+    with open(path, "w", encoding="utf-8") as file:
+        file.write(text)
 
 
 def all_crates():
@@ -107,6 +115,30 @@ def failing_library(room):
     command = ["cc", "-O1", "-shared", "-fPIC", "-o", f"{room}/fail.so", f"{TOP}/tests/program/fail.c"]
     subprocess.run(command, check=True)
     return f"{room}/fail.so"
+
+
+class Job:
+    """A command at work, in a group of processes of its own. What it says goes to a file."""
+
+    def __init__(self, command, log, **how):
+        self.log = log
+        with open(log, "w", encoding="utf-8") as file:
+            how = {"stdin": subprocess.DEVNULL, "stdout": file, "stderr": file, "start_new_session": True, **how}
+            self.process = subprocess.Popen(command, **how)
+
+    def said(self):
+        with open(self.log, encoding="utf-8", errors="replace") as file:
+            return file.read()
+
+    def has_ended(self):
+        return self.process.poll() is not None
+
+    def stop(self):
+        """Ends what of the group is still there."""
+        for number in (signal.SIGTERM, signal.SIGKILL):
+            with contextlib.suppress(ProcessLookupError, subprocess.TimeoutExpired):
+                os.killpg(self.process.pid, number)
+                self.process.wait(30)
 
 
 def processors():

@@ -14,10 +14,11 @@ seconds of processor time, so this is no part of the gate.
 import argparse
 import collections
 import concurrent.futures
+import contextlib
 import glob
 import os
+import pathlib
 import re
-import resource
 import shutil
 import socket
 import subprocess
@@ -28,10 +29,10 @@ import time
 
 sys.path.insert(0, os.path.dirname(__file__) + "/..")
 from edits import ROOT, Edit, entries_of
-from tree import all_crates, copy_sources, free_port, text_of
+from tree import all_crates, copy_sources, free_port, text_of, write
 
-TRIALS = re.compile(r"(crates/(?:bac|tool)_trials)/src/tests/")
-MOST = 1800  # seconds that a build may take, on a machine with much else to do
+TRIALS = re.compile(r"(crates/(?:bac|tool)_trials)/src/tests/(.*)\.rt")
+MOST = "1800"  # seconds that a build may take, on a machine with much else to do
 USES = collections.defaultdict(threading.Lock)  # of each test: its ports are the same in each run
 
 
@@ -39,98 +40,72 @@ class NotTried(Exception):
     """A body that could not be tried, with what was said of it."""
 
 
-def write(file, text):
-    with open(file, "w", encoding="utf-8") as it:
-        it.write(text)
-
-
-def replace_in(file, old, new):
-    text = text_of(file)
-    if text.count(old) != 1:
-        raise NotTried(f"{file}: {old!r} stands {text.count(old)} times")
-    write(file, text.replace(old, new))
-
-
-def leave_one_module(room, test):
-    """Of the trials only the module of this file, those that it names and so on; and of the crates below only those
-    that these name."""
-    crate, place = TRIALS.match(test)[1], test[TRIALS.match(test).end() : -len(".rt")]
-    trials = f"{room}/{crate}/src/tests"
-    modules = set(re.findall(r"(?m)^mod (\w+);", text_of(f"{trials}.rt")))
-    files = lambda it: [f"{trials}/{it}.rt", *glob.glob(f"{trials}/{it}/**/*.rt", recursive=True)]
-    kept, rest = set(), {place.split("/")[0]}
-    while rest:
-        kept |= rest
-        texts = [text_of(file) for it in rest for file in files(it)]
-        rest = {it for text in texts for it in re.findall(r"tests::(\w+)", text)} & modules - kept
-    for other in modules - kept:
-        os.remove(f"{trials}/{other}.rt")
-        shutil.rmtree(f"{trials}/{other}", ignore_errors=True)
-        replace_in(f"{trials}.rt", f"mod {other};\n", "")
-    said = "".join(text_of(file) for file in [f"{trials}.rt", *(file for it in kept for file in files(it))])
-    name = os.path.basename(crate)
-    line = re.search(rf"(?m)^{name}:.*", text_of(f"{room}/crates.txt"))[0]
-    below = [it for it in line.split()[1:] if re.search(rf"\b{it}\b", said)]
-    replace_in(f"{room}/crates.txt", line, f"{name}: {' '.join(below)}")
-    return crate, "tests::" + place.replace("/", "::")
-
-
-def of_trials(room, test):
-    """The tests of the file that fail."""
-    crate, module = leave_one_module(room, test)
-    said = run(["rt", "try", "--test", "--seconds", "200"], f"{room}/{crate}")
-    if said.returncode in (4, 6):
-        return ["a test stops, or does not end"]
-    told = re.findall(r"(?m)^test (\S+) \.\.\. (\w+)", said.stdout)
-    mine = [(name, how) for name, how in told if name.startswith(module + "::")]
-    if not mine:
-        raise NotTried(f"none of its tests was run:\n{said.stdout[-2000:]}{said.stderr[-2000:]}")
-    return [name for name, how in mine if how != "ok"]
-
-
 def run(command, folder):
     how = {"stdin": subprocess.DEVNULL, "capture_output": True, "text": True, "errors": "replace"}
     return subprocess.run(command, cwd=folder, check=False, **how)
 
 
+def leave_one_module(trials, module):
+    """Of the trials only this module, those that it names and so on, since the others' tests take long."""
+    root = text_of(f"{trials}.rt")
+    files = lambda it: [f"{trials}/{it}.rt", *glob.glob(f"{trials}/{it}/**/*.rt", recursive=True)]
+    others = {it: files(it) for it in re.findall(r"(?m)^mod (\w+);", root)}
+    rest = {module}
+    while rest:
+        said = "".join(text_of(file) for it in rest for file in others.pop(it))
+        rest = set(re.findall(r"tests::(\w+)", said)) & set(others)
+    for other in others:
+        for file in files(other):
+            os.remove(file)
+        root = root.replace(f"mod {other};\n", "")
+    write(f"{trials}.rt", root)
+
+
+def of_trials(room, test):
+    """The tests of the file that fail."""
+    crate, place = TRIALS.fullmatch(test).groups()
+    leave_one_module(f"{room}/{crate}/src/tests", place.split("/")[0])
+    said = run(["rt", "try", "--test", "--seconds", "200"], f"{room}/{crate}")
+    if said.returncode in (4, 6):
+        return ["a test stops, or does not end"]
+    told = re.findall(rf"(?m)^test (tests::{place.replace('/', '::')}::\S+) \.\.\. (\w+)", said.stdout)
+    if not told:
+        raise NotTried(f"none of its tests was run:\n{said.stdout[-2000:]}{said.stderr[-2000:]}")
+    return [name for name, how in told if how != "ok"]
+
+
 def built(room):
     """The program as `rt try` makes it: a device that is copied while it plays, and ends by the datagram it hears."""
-    port, program = free_port(), f"{room}/bactool"
-    words = ["rt", "try", "--seconds", str(MOST), "--", "bacdev", "1", "--port", str(port), "--count", "1"]
-    with open(f"{room}/said", "w+", encoding="utf-8", errors="replace") as said:
-        how = {"stdin": subprocess.DEVNULL, "stdout": said, "stderr": subprocess.STDOUT}
-        device = subprocess.Popen(words, cwd=f"{room}/crates/bactool", **how)
+    port, program, said = str(free_port()), f"{room}/bactool", pathlib.Path(f"{room}/said")
+    words = ["rt", "try", "--seconds", MOST, "--", "bacdev", "1", "--port", port, "--count", "1"]
+    with said.open("w", encoding="utf-8") as log, socket.socket(socket.AF_INET, socket.SOCK_DGRAM) as desk:
+        device = subprocess.Popen(
+            words, cwd=f"{room}/crates/bactool", stdin=subprocess.DEVNULL, stdout=log, stderr=subprocess.STDOUT
+        )
         while device.poll() is None:
-            found = [it for it in map(program_of, os.listdir("/proc")) if it and it[1] == str(port)]
-            if found and not os.path.exists(program):
-                shutil.copy(found[0][0], program)
-            if found:
-                with socket.socket(socket.AF_INET, socket.SOCK_DGRAM) as desk:
-                    desk.sendto(b"\x81", ("127.0.0.1", port))
+            for file in programs_with(port):
+                if not os.path.exists(program):
+                    shutil.copy(file, program)
+                desk.sendto(b"\x81", ("127.0.0.1", int(port)))
             time.sleep(0.5)
-        said.seek(0)
-        if not os.path.exists(program):
-            raise NotTried(f"the program was not made:\n{said.read()[-3000:]}")
+    if not os.path.exists(program):
+        raise NotTried(f"the program was not made:\n{said.read_text('utf-8', 'replace')[-3000:]}")
     return program
 
 
-def program_of(process):
-    """The program that this process runs as a device, and its port."""
-    try:
-        with open(f"/proc/{process}/cmdline", "rb") as it:
-            words = it.read().decode("utf-8", "replace").split("\0")
-    except OSError:
-        return None
-    files = [it for it in words if it.startswith("/") and it.endswith("/program")]
-    return (files[0], words[words.index("--port") + 1]) if files and "--port" in words else None
+def programs_with(port):
+    """The files of programs that are running with this port among their words."""
+    for place in glob.glob("/proc/[0-9]*/cmdline"):
+        with contextlib.suppress(OSError):
+            words = pathlib.Path(place).read_text("utf-8", "replace").split("\0")
+            yield from (it for it in words if it.startswith("/") and it.endswith("/program") and port in words)
 
 
 def of_program(room, test):
     """What the test says of what is not as it is to be."""
     program = built(room)
     words = [f"{ROOT}/tests/program/rows.py", program, test] if test.endswith(".rows") else [f"{ROOT}/{test}", program]
-    words += ["calls"] * test.endswith("/failing.py")
-    ran = run(["timeout", "300", *words], ROOT)
+    ran = run(["timeout", "300", *words, *["calls"] * test.endswith("/failing.py")], ROOT)
     if ran.returncode == 124:
         return ["it does not end in five minutes"]
     wrong = [line for line in ran.stdout.splitlines() if line.startswith(("not as it is to be", "tests/program/rows/"))]
@@ -139,17 +114,20 @@ def of_program(room, test):
     return wrong
 
 
-def tried(name, edit, test):
-    """Whether the test fails with this wrong body, or passes with the code as it is, and the line that tells of it."""
+def tried(edit, test):
+    """Whether the test fails with this wrong body, or passes with the code as it is; says which."""
+    name = edit.name if edit else "without a body"
     with USES[test], tempfile.TemporaryDirectory(prefix="holes-") as room:
         try:
             copy_sources(room)
             for path, text in edit.applied({}).items() if edit else ():
                 write(f"{room}/crates/{edit.crate}/{path}", text)
             failed = (of_trials if TRIALS.match(test) else of_program)(room, test)
+            is_well, said = bool(failed) == bool(edit), failed[0][:160] if failed else "it passes"
         except NotTried as why:
-            return False, f"{name}: {test}: not tried: {why}"
-    return bool(failed) == bool(edit), f"{name}: {test}: {failed[0][:160] if failed else 'it passes'}"
+            is_well, said = False, f"not tried: {why}"
+    print(f"{'' if is_well else 'FAILED '}{name}: {test}: {said}", flush=True)
+    return is_well
 
 
 def main():
@@ -157,21 +135,15 @@ def main():
     parser.add_argument("--only", default="", metavar="PATTERN", help="take those whose name the pattern is found in")
     parser.add_argument("--jobs", type=int, default=1, metavar="N", help="the builds at a time")
     options = parser.parse_args()
-    edits = [Edit(it, entry) for it in all_crates() for entry in entries_of(it, ["wrong"]) if "\nhole: " in entry.text]
-    unfit = [f"{it.name}: {it.is_unfit}" for it in edits if it.is_unfit]
-    if unfit:
+    edits = [Edit(it, entry) for it in all_crates() for entry in entries_of(it) if "\nhole: " in entry.text]
+    if unfit := [f"{it.name}: {it.is_unfit}" for it in edits if it.is_unfit]:
         sys.exit("\n".join(unfit))
-    holes = [(it.name, it, it.test) for it in edits]
-    holes += [("without a body", None, test) for test in sorted({it.test for it in edits})]
-    holes = [it for it in holes if re.search(options.only, it[0])]
-    wrong = 0
+    holes = [(it, it.test) for it in edits if re.search(options.only, it.name)]
+    if re.search(options.only, "without a body"):
+        holes += [(None, test) for test in sorted({it.test for it in edits})]
     with concurrent.futures.ThreadPoolExecutor(options.jobs) as pool:
-        for ended in concurrent.futures.as_completed([pool.submit(tried, *it) for it in holes]):
-            is_well, said = ended.result()
-            print(("" if is_well else "FAILED ") + said, flush=True)
-            wrong += not is_well
-    used = resource.getrusage(resource.RUSAGE_CHILDREN)
-    print(f"{len(holes)} runs, {wrong} not as they are to be; {used.ru_utime + used.ru_stime:.0f} processor seconds")
+        wrong = [is_well for is_well in pool.map(tried, *zip(*holes)) if not is_well]
+    print(f"{len(holes)} runs, {len(wrong)} not as they are to be")
     return 1 if wrong or not holes else 0
 
 

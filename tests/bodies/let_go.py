@@ -13,7 +13,7 @@ import sys
 import tempfile
 
 sys.path.insert(0, os.path.dirname(__file__) + "/..")
-from tree import TOP, copy_crate, text_of
+from tree import TOP, copy_crate, text_of, write
 from wrong_bodies import command
 
 MOVED, BOUND = {"move-out-of-place"}, {"specialized-drop"}
@@ -49,21 +49,17 @@ TYPES = [
 ]
 
 
-def said_of(crate, file, head, given, kind, does, over):
-    """What a check over the libraries of this tree says where the type has this `Drop` in place of the derived one."""
+def errors_of(crate, file, head, given, kind, does, over):
+    """What a check over the libraries of this tree says where the type has this `Drop` in place of the derived one, and
+    the names of the errors in it."""
     with tempfile.TemporaryDirectory(prefix="let-go-") as here:
         copy_crate(crate, here)
-        text = text_of(f"{here}/src/{file}.rt")
-        derived = f"#[derive(Drop)]\n{head}"
-        if text.count(derived) != 1:
-            return f"{derived!r} stands {text.count(derived)} times"
         by_hand = f"impl{given} Drop for {kind} {{ fn drop(self) {{ {does} }} }}\n{head}"
-        with open(f"{here}/src/{file}.rt", "w", encoding="utf-8") as it:
-            it.write(text.replace(derived, by_hand))
-        words = [*command(crate, over), "--only=nothing"]
-        how = {"cwd": here, "capture_output": True, "text": True, "check": False}
-        ran = subprocess.run(words, stdin=subprocess.DEVNULL, **how)
-        return ran.stdout + ran.stderr
+        source = f"{here}/src/{file}.rt"
+        write(source, text_of(source).replace(f"#[derive(Drop)]\n{head}", by_hand))
+        how = {"stdin": subprocess.DEVNULL, "stdout": subprocess.PIPE, "stderr": subprocess.STDOUT, "text": True}
+        said = subprocess.run([*command(crate, over), "--only=nothing"], cwd=here, check=False, **how).stdout
+    return said, set(re.findall(r"error\[([\w-]+)\]", said))
 
 
 def main():
@@ -73,13 +69,12 @@ def main():
     options = parser.parse_args()
     rows, bad = [row for row in TYPES if not options.crates or row[0] in options.crates], 0
     for *row, errors in rows:
-        said = said_of(*row, options.over)
-        is_well = set(re.findall(r"error\[([\w-]+)\]", said)) == errors
-        bad += not is_well
-        crate, _, _, _, kind, does = row
+        said, found = errors_of(*row, options.over)
+        bad += found != errors
         told = ", ".join(sorted(errors))
-        print(f"{crate}: {kind}: {does}\n    {told if is_well else f'NOT {told}: ' + said[-600:]}", flush=True)
-    print(f"{len(rows)} drops by hand, {bad} not refused")
+        how = told if found == errors else f"NOT {told}: {said[-600:]}"
+        print(f"{row[0]}: {row[4]}: {row[5]}\n    {how}", flush=True)
+    print(f"tests/bodies/let_go.py: {len(rows)} drops by hand, {bad} not refused")
     return 1 if bad or not rows else 0
 
 

@@ -4,19 +4,19 @@ A caller is proved from the contracts of what it calls. So beside a few function
 body, and a stub costs next to nothing: it calls a function that can't be, and so never returns. That the bodies which
 it stands for meet their contracts is proved by `rt ci`, and by whoever builds the crate.
 """
-import contextlib
-import glob
 import os
 import re
 import secrets
 
-from edits import functions_of
+from edits import ANSWERS, functions_of, sources_of
+from tree import write
 
 # Another name in each run: no wrong body, and no twin, can call what is there for the stubs alone.
 PLACE = f"nowhere_{secrets.token_hex(8)}"
 STUB = f"crate::{PLACE}::never()"
-# No function meets this contract, so nothing behind a call of it is ever reached. It passes for one of the C library,
-# for which a check does not look.
+# No function meets the first contract, so nothing behind a call of it is ever reached. It passes for one of the C
+# library, for which a check does not look. The last function has a fault in its answers: else `rattle` would look for
+# the beginning of an answer to all that is left open, up to a third of a check.
 NOWHERE = """ghost use Rattle.std.specs.Prelude.{◌≡◌, false, true};
 
 unsafe extern "C" {
@@ -28,9 +28,11 @@ pub(crate) fn never() -> ! {
     nowhere();
     unreachable!()
 }
+
+pub(crate) fn answered() {}
 """
+FAULT = "use Rattle.{}.proofs.{}.answered.Goals as goal\n\npub no_goal : goal.no_goal\nno_goal c = ?\n"
 LINKED = "//bazel/native:glibc"
-ANSWERS = ("Proof.antt", "Invariants.antt", "Answers.antt")
 
 
 def may_be_stub(lines, it):
@@ -39,31 +41,28 @@ def may_be_stub(lines, it):
     head = lines[it.first]
     indent = head[: len(head) - len(head.lstrip())]
     is_of_trait = bool(indent) and "::" not in it.shown
-    is_bound = is_of_trait or re.search(r"\bconst\b.*\bfn\b", head) or isinstance(it.key[1], str)
+    is_bound = is_of_trait or re.search(r"\bconst\b.*\bfn\b", head) or it.in_cycle
     return not is_bound and it.last > it.body + 1 and lines[it.body].endswith("{") and lines[it.last] == indent + "}"
 
 
-def put_stubs(crate, home, is_tried):
-    """Puts stubs into the crate in this folder, but for functions of which `is_tried` says, by file and function, that
-    they are tried. What answers goals of the bodies goes with them."""
-    proofs, gone = f"{home}/proofs", []
-    for file in glob.glob(f"{home}/src/**/*.rt", recursive=True):
-        path = os.path.relpath(file, home)
-        with open(file, encoding="utf-8") as it:
-            text = it.read()
+def put_stubs(crate, home, texts, is_tried):
+    """Writes a crate into this folder, with these texts of its files, and stubs but for functions of which `is_tried`
+    says, by file and function, that they are tried. What answers goals of the bodies goes with them. Returns what a
+    check has to be asked for besides."""
+    gone = []
+    for path, text in {**sources_of(crate), **texts}.items():
         lines = text.split("\n")
         found = [it for it in functions_of(crate, path, text) if may_be_stub(lines, it) and not is_tried(path, it)]
         for it in reversed(found):
             lines[it.body + 1 : it.last] = [STUB] + [""] * (it.last - it.body - 2)  # what stands below keeps its line
         if path in ("src/lib.rt", "src/main.rt"):
             lines.append(f"mod {PLACE};\n")
-        with open(file, "w", encoding="utf-8") as it:
-            it.write("\n".join(lines))
+        write(f"{home}/{path}", "\n".join(lines))
         gone += [it.symbols for it in found]
-    with open(f"{home}/src/{PLACE}.rt", "w", encoding="utf-8") as it:
-        it.write(NOWHERE)
-    for place, _, _ in list(os.walk(proofs)):
-        name = "::".join([crate, *os.path.relpath(place, proofs).split("/")])
-        for answers in ANSWERS if any(it.match(name) for it in gone) else ():
-            with contextlib.suppress(FileNotFoundError):
-                os.remove(f"{place}/{answers}")
+    for place, _, files in os.walk(f"{home}/proofs"):
+        name = "::".join([crate, *os.path.relpath(place, f"{home}/proofs").split("/")])
+        for answers in set(files) & set(ANSWERS) if any(it.match(name) for it in gone) else ():
+            os.remove(f"{place}/{answers}")
+    write(f"{home}/src/{PLACE}.rt", NOWHERE)
+    write(f"{home}/proofs/{PLACE}/answered/Answers.antt", FAULT.format(crate, PLACE))
+    return f"{PLACE}::answered"

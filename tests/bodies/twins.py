@@ -1,14 +1,7 @@
-"""What a twin may say. It is to show that a body is refused for its mistake and not for its shape, and shows nothing
-
-    where it says what stood there in other words: a part with another name, brackets, a sum or product that changes
-    nothing, as `n / 1`;
-    where the wrong text has products, shifts or operations on bits that neither the twin nor what stood there has: a
-    right text with these may be too hard for the prover;
-    where a branch of its own is never taken: then nobody looks at what stands there. So it is tried once more for each
-    such branch, with `unreachable!()` in the place of what the branch does, and that may not be proved. A branch that
-    the wrong text has too needs no such try: were it never taken, the wrong body would be proved.
-
-This finds some twins that say nothing, and not all of them: whoever reads one still has to see what it differs in.
+"""What of a twin shows nothing, as CONTRIBUTING.md (A wrong body) has it: other words for what stood there, a right
+text without what is hard in the wrong one, a branch of its own that is never taken. A twin is tried once more for each
+such branch, with `unreachable!()` in the place of what the branch does, and that may not be proved. A branch that the
+wrong text has too needs no such try: were it never taken, the wrong body would be proved.
 """
 import re
 
@@ -49,28 +42,13 @@ def plain(text):
     return [it for it in said.split() if it not in "(){}[]&*;," and it != "mut"]
 
 
-def parts_of(text):
-    """What stands between the commas of this text, outside brackets."""
-    parts, depth = [""], 0
-    for at, sign in enumerate(text):
-        depth += (sign in "([{<") - (sign in ")]}" or (sign == ">" and text[at - 1] not in "-="))
-        if sign == "," and not depth:
-            parts.append("")
-        else:
-            parts[-1] += sign
-    return [it.strip() for it in parts if it.strip()]
-
-
 def call_of(head):
     """How a function with these lines for its head is called by the right body that does nothing but call it."""
     text = " ".join(it.strip() for it in head if not it.strip().startswith(("//", "#[")))
     name, rest = re.search(r"\bfn (\w+)(.*)", text).groups()
-    begin = rest.index("(")
-    end = closing(rest, begin) or len(rest)  # without clauses the bracket may be closed in the first line of the body
-    given = parts_of(rest[begin + 1 : end])
-    given = [it.partition(":")[0].removeprefix("mut ") for it in given]
-    of_self = [it for it in given if re.search(r"\bself$", it)]
-    return f"{'self.' * bool(of_self)}{name}({', '.join(it for it in given if it not in of_self)})"
+    given = re.split(r"\)(?: ->| where| requires| ensures| ghost| {|$)", rest[rest.index("(") :])[0]
+    names = ", ".join(re.findall(r"\b(\w+): ", given))
+    return f"self.{name}({names})" if re.search(r"\bself\b", given) else f"{name}({names})"
 
 
 def hard(text):
@@ -81,12 +59,11 @@ def hard(text):
     return {it.rstrip("=") for it in found} | {it for at, it in enumerate(said) if it in "*&|" and of_two(at)}
 
 
-def fault(olds, wrongs, twins):
-    """Why twins beside these wrong texts show nothing, each list in the order of what stood there, or ""."""
-    is_same = lambda old, twin: plain(old) in (plain(twin), plain(re.sub(r"\blet _ = [^;]*;", "", twin)))
-    if all(is_same(old, twin) for old, twin in zip(olds, twins)):
+def fault(old, wrong, twin):
+    """Why a twin beside this wrong text shows nothing, where this stood there, or ""."""
+    if plain(old) in (plain(twin), plain(re.sub(r"\blet _ = [^;]*;", "", twin))):
         return "its twin is what stood there in other words"
-    lacking = hard(" ".join(wrongs)) - hard(" ".join(twins)) - hard(" ".join(olds))
+    lacking = hard(wrong) - hard(twin) - hard(old)
     return f"its twin lacks {' '.join(sorted(lacking))}" if lacking else ""
 
 
