@@ -17,8 +17,9 @@ where they differ, and says in what.
 - docs/PROTOCOL.md: the texts of faults are those of the code. Each row of a table is read back from outside: named in
   pins.txt, once, with the worked row or example that would fail were it wrong in a definition and in the code at once.
   What is named there stands in the document, and the text which is named for it in its file.
-- No type has a `Drop` that is written by hand, which could do anything when a value is let go. Each public constant,
-  and the clone and the `==` of each public type, is said by a law.
+- No type has a `Drop` that is written by hand, which could do anything when a value is let go. bac_pdu has no loop, and
+  above bac_wire one function walks over a region. Each public constant, and the clone and the `==` of each public type,
+  is said by a law.
 - Links lead to what a package has: a document, or a file of examples/.
 - Lines have at most 120 columns, in the documents but for tables and what is printed; in scripts; and in src/, specs/
   and proofs/ but for attributes, which `rt fmt` lays out, and words that are longer.
@@ -225,6 +226,19 @@ def drops_by_hand():
             yield f"{file}: a `Drop` by hand: {on_one_line(found)}"
 
 
+def other_walks():
+    """What would make the work of a datagram more than PROOFS says: a loop in bac_pdu, or a second call of `region`."""
+    walks = [
+        f"{file}: {line.strip()}"
+        for file in files(SOURCES[0])
+        for line in text_of(file).split("\n")
+        if file.startswith("crates/bac_pdu/") and re.match(r" *(?:while|for|loop)\b", line)
+        or re.search(r"\bregion\(", line) and file.split("/")[1] not in TRIALS | {"bac_wire"}
+    ]
+    if len(walks) != 1:
+        yield from (f"{walk}: one walk over a region is all that PROOFS tells" for walk in walks)
+
+
 def public_names_without_a_law():
     for crate in sorted({*all_crates()} - TRIALS):
         text = "\n".join(map(text_of, files(f"crates/{crate}/src/**/*.rt")))
@@ -318,6 +332,7 @@ def main():
         *functions_without_a_contract(sections(proofs)["Functions without a clause"]),
         *texts_of_faults(rules["Statuses and faults"]),
         *drops_by_hand(),
+        *other_walks(),
         *public_names_without_a_law(),
         *rows_are_read_back(rules),
         *links_and_lines(),
