@@ -1,9 +1,8 @@
-/* Loaded in front of the C library, it has one call of a program to the system fail: that with the number FAILED, from
-   1, among the calls that open a socket, send, receive, read and write. It fails by the error with the number ERRNO,
-   else by EIO, and says on the descriptor 3, where that is open, which call it was. Where SHORT is set, a send that
-   fails sends all, and says that it sent an octet less. Where EACH is set, each call is said, and of a wait that is set
-   its microseconds. Where ONE_OCTET is set, a read gives at most one octet. So it is with the request for memory that
-   has the number REFUSED among those. */
+/* Loaded in front of the C library, it says on the descriptor 3, where that is open, each call of a program that opens
+   a socket, sends, receives, reads or writes, and of a wait that is set its microseconds. The call with the number
+   FAILED, from 1, fails by the error with the number ERRNO. Where SHORT is set, a send that fails sends all, and says
+   that it sent an octet less. Where ONE_OCTET is set, a read gives at most one octet. The request for memory that has
+   the number REFUSED among those fails, and is said. */
 #define _GNU_SOURCE
 #include <dlfcn.h>
 #include <errno.h>
@@ -11,18 +10,9 @@
 #include <stdlib.h>
 #include <string.h>
 #include <sys/socket.h>
+#include <sys/syscall.h>
 #include <sys/time.h>
 #include <unistd.h>
-
-static long calls;
-
-static void say(const char *name)
-{
-    static ssize_t (*next)(int, const void *, size_t);
-    if (!next)
-        next = dlsym(RTLD_NEXT, "write");
-    (void)!next(3, name, strlen(name));
-}
 
 static long setting(const char *name)
 {
@@ -30,28 +20,30 @@ static long setting(const char *name)
     return number ? atol(number) : 0;
 }
 
+/* Not by dprintf, which makes a request for memory of its own. */
+static void say(const char *word)
+{
+    (void)!syscall(SYS_write, 3, word, strlen(word));
+    (void)!syscall(SYS_write, 3, " ", 1);
+}
+
 static int fails(const char *name)
 {
-    calls++;
-    if (getenv("EACH")) {
-        say(name);
-        say(" ");
-    }
-    if (calls != setting("FAILED"))
-        return 0;
+    static long calls;
     say(name);
-    errno = setting("ERRNO") ? setting("ERRNO") : EIO;
+    if (++calls != setting("FAILED"))
+        return 0;
+    errno = setting("ERRNO");
     return 1;
 }
 
-static int fails_to_set(int level, int name, const void *value)
+static int fails_to_set(int level, int name, const struct timeval *wait)
 {
     if (fails("setsockopt"))
         return 1;
-    if (getenv("EACH") && level == SOL_SOCKET && name == SO_RCVTIMEO) {
-        const struct timeval *wait = value;
+    if (level == SOL_SOCKET && name == SO_RCVTIMEO) {
         char text[40];
-        snprintf(text, sizeof text, "%ld ", (long)(wait->tv_sec * 1000000 + wait->tv_usec));
+        snprintf(text, sizeof text, "%ld", (long)(wait->tv_sec * 1000000 + wait->tv_usec));
         say(text);
     }
     return 0;

@@ -4,11 +4,15 @@ status 4. And has each call of the program to the system fail so, by each of the
 sending, receiving, reading, writing. Every such run has to end with status 3 and the line of its fault, after a front
 of what it prints otherwise. But where a receive fails by what is silence, it goes on as if nothing had come; a device
 goes on where it can't send a reply, too. Where none fails, the program makes the calls that are wanted, and no others.
-Usage: tests/program/failing.py PROGRAM [calls]; it needs cc, and says so where there is none. With `calls` no request
-for memory is refused: a program that `rt try` makes has its memory from elsewhere.
+
+Usage: tests/program/failing.py PROGRAM [tried]; it needs cc, and says so where there is none. Of a program that
+`rt try` has made (`tried`) no request for memory is refused, since it has its memory from elsewhere. But there it shows
+whether what was searched of a line is searched again at each read, which takes some six times as long as it should: a
+program that LLVM makes searches so fast that its reads hide it.
 """
 import errno
 import glob
+import itertools
 import os
 import shutil
 import subprocess
@@ -32,13 +36,26 @@ LINES = {"socket": "bind failed", "bind": "bind failed", "memory": "out of memor
 LINES.update({"setsockopt": "receiving failed", "recvfrom": "receiving failed", "sendto": "sending failed"})
 LINES.update({"read": "reading failed", "write": "writing failed"})
 SCRIPT = "read 127.0.0.1:47808 0 5 85\ntick 3000\ntick 6000\ntick 9000\ntick 12000\n"
+NO_LINE_FEED = "read 127.0.0.1:47808 0 5 85\ntick 3000"
 PORT = str(free_port())
 SILENT = ["--mac", "127.0.0.1:" + PORT, "--apdu-timeout", "7"]
 READ, WRITE = ["bacrp", "1234", "0", "5", "85"], ["bacwp", "1234", "1", "1", "85", "8", "-1", "4", "41a00000"]
 DEVICE = ["bacdev", "1234", "--port", PORT, "--count"]
+OPENED = "socket bind sendto setsockopt 7000 recvfrom"
+# What is run: the status where nothing fails, the calls that are made then, words, and a script. What the lines of one
+# read print goes out at once.
+RUNS = [
+    (0, "read", ["bactrace"], ""),
+    (0, "read write read", ["bactrace"], SCRIPT),
+    (0, "read write read write", ["bactrace"], NO_LINE_FEED),
+    (1, f"{OPENED} write", [*READ, *SILENT, "--apdu-retries", "0"], ""),
+    (1, f"{OPENED} sendto recvfrom write", [*READ, *SILENT, "--apdu-retries", "1"], ""),
+    (1, f"{OPENED} write", [*WRITE, *SILENT, "--apdu-retries", "0"], ""),
+    (1, f"{OPENED} sendto recvfrom write", [*WRITE, *SILENT, "--apdu-retries", "1"], ""),
+    (1, OPENED, ["bacwi", *SILENT], ""),
+]
 PROGRAM, ROOM = os.path.realpath(sys.argv[1]), tempfile.mkdtemp()
 Ended = namedtuple("Ended", "status output error said")
-WHOLE = Ended(0, "", "", "")
 
 
 def run(words, given="", error="EIO", **settings):
@@ -46,9 +63,9 @@ def run(words, given="", error="EIO", **settings):
     settings["ERRNO"] = getattr(errno, error)
     environment = {**os.environ, **{name: str(number) for name, number in settings.items()}}
     command = ["sh", "-c", f'exec env LD_PRELOAD={ROOM}/fail.so "$0" "$@" 3>{ROOM}/said', PROGRAM, *words]
-    how = {"input": given, "capture_output": True, "text": True, "timeout": 20}
+    how = {"input": given, "capture_output": True, "text": True, "timeout": 60}
     it = subprocess.run(command, check=False, env=environment, **how)
-    return Ended(it.returncode, it.stdout, it.stderr, text_of(f"{ROOM}/said").strip())
+    return Ended(it.returncode, it.stdout, it.stderr, text_of(f"{ROOM}/said").split())
 
 
 def expect(is_so, what, ended):
@@ -57,50 +74,44 @@ def expect(is_so, what, ended):
         sys.exit(1)
 
 
-def is_fault(ended, whole, status=3):
-    """What was printed is a front of the whole, and the fault is that of the call."""
-    is_told = ended.error == f"bactool: {LINES[ended.said]}\n"
-    return ended.status == status and is_told and whole.output.startswith(ended.output)
+def is_fault(ended, call, whole="", status=3):
+    """The last call but the telling is this one, the fault is its, and what was printed is a front of the whole."""
+    is_told = ended.error == f"bactool: {LINES[call]}\n" and ended.said[-2:] == [call, "tell"]
+    return ended.status == status and is_told and whole.startswith(ended.output)
 
 
-def each_by(setting, words, given, error="EIO"):
-    """How the words end, once for each number of a call or a request that there is."""
-    number = 1
-    while (ended := run(words, given, error, **{setting: number})).said:
-        yield ended
-        number += 1
-    expect(number > 1, f"no {setting} of {words}", ended)
-
-
-def refused(status, words, given=""):
+def memory_refused(status, words, given=""):
     """Each request for memory is refused in turn; with none refused the status is this one."""
-    ended = run(words, given)
-    expect(ended.status == status, words, ended)
-    ends = list(each_by("REFUSED", words, given))
-    for ended in ends:
-        expect(is_fault(ended, WHOLE, 4), f"a request of {words} refused", ended)
-    return len(ends)
+    for number in itertools.count(1):
+        ended = run(words, given, REFUSED=number)
+        if "memory" not in ended.said:
+            expect(number > 1 and ended.status == status, words, ended)
+            return number - 1
+        expect(is_fault(ended, "memory", status=4), f"request {number} of {words} refused", ended)
 
 
-def in_turn(status, words, given=""):
-    """What the words print and this status, where nothing fails; then each call fails in turn, by each error."""
-    whole, count = run(words, given), 0
-    expect(whole.status == status, words, whole)
-    for error in ERRORS:
-        for ended in each_by("FAILED", words, given, error):
-            if ended.said == "recvfrom" and error in SILENCE:
-                is_right = ended[:3] == (status, whole.output, "")
-            else:
-                is_right = is_fault(ended, whole if ended.said == "write" or words == ["bactrace"] else WHOLE)
-            expect(is_right, f"{error} of {words}", ended)
-            count += 1
-    return count
+def memory():
+    requests = sum(memory_refused(0, ["bactrace"], text_of(script)) for script in glob.glob(f"{TOP}/examples/*.trace"))
+    bad = [[], READ[:4], [*READ, "--mac", "1.2.3"], [*WRITE[:5], "16", "-1", "4", "zz", "--mac", "127.0.0.1"]]
+    bad.append(["bacwi", "1", "2", "--mac", "1.2.3"])
+    for status, words in [(0, ["--help"]), (0, ["bacwp", "--help"]), *((2, words) for words in bad)]:
+        requests += memory_refused(status, words)
+    print(f"tests/program/failing.py: {requests} requests for memory refused, each told as it is to be", flush=True)
 
 
-def each(calls, words, number=0, given=""):
-    """The words make these calls and no others, and set a wait of so many microseconds."""
-    ended = run(words, given, EACH=1, FAILED=number)
-    expect(ended.said == calls, words, ended)
+def in_turn(status, calls, words, given):
+    """The words make these calls and no others, with this status; then each of them fails, by each error."""
+    whole = run(words, given)
+    expect((whole.status, " ".join(whole.said)) == (status, calls), words, whole)
+    names = [it for it in calls.split() if not it.isdigit()]
+    for error, (number, call) in itertools.product(ERRORS, enumerate(names, 1)):
+        ended = run(words, given, error, FAILED=number)
+        if call == "recvfrom" and error in SILENCE:
+            is_right = ended[:3] == whole[:3]
+        else:
+            is_right = is_fault(ended, call, whole.output if "write" in names[:number] else "")
+        expect(is_right, f"{error} at call {number} of {words}", ended)
+    return len(ERRORS) * len(names)
 
 
 def lives_on(number, error):
@@ -113,63 +124,52 @@ def lives_on(number, error):
         heard = subprocess.run(words, check=False, stdout=subprocess.PIPE, text=True).stdout
         ended = device.result()
     expect((heard, ended.status) == ("4290999a\n", 0), f"a device by {error}, heard {heard!r}", ended)
-    return ended
 
 
 def devices():
-    """Two calls open the socket of a device, and one sets its wait; then each turn is a receive and a send."""
+    """Three calls open the socket of a device, which waits for a second at a time; then each turn is a receive and a
+    send."""
+    calls = "socket bind setsockopt 1000000 recvfrom".split()
     for error in ERRORS:
         for number, call in enumerate(["socket", "bind", "setsockopt", "recvfrom", "sendto"], 1):
             if call == "sendto" or call == "recvfrom" and error not in FAULTS:
-                ended = lives_on(number, error)
+                lives_on(number, error)
             else:
                 ended = run([*DEVICE, "1"], error=error, FAILED=number)
-                expect(is_fault(ended, WHOLE), f"a device by {error}", ended)
-            expect(ended.said == call, f"call {number} of a device", ended)
+                wanted = calls[: calls.index(call) + 1] + ["tell"]
+                expect(ended.said == wanted and is_fault(ended, call), f"a device by {error}", ended)
     return 5 * len(ERRORS)
 
 
-def memory():
-    requests = sum(refused(0, ["bactrace"], text_of(script)) for script in glob.glob(f"{TOP}/examples/*.trace"))
-    bad = [[], READ[:4], [*READ, "--mac", "1.2.3"], [*WRITE[:5], "16", "-1", "4", "zz", "--mac", "127.0.0.1"]]
-    for status, words in [(0, ["--help"]), (0, ["bacwp", "--help"]), *((2, words) for words in bad)]:
-        requests += refused(status, words)
-    requests += refused(2, ["bacwi", "1", "2", "--mac", "1.2.3"])
-    print(f"tests/program/failing.py: {requests} requests for memory refused, each told as it is to be", flush=True)
-
-
 def calls_of_the_system():
-    calls = in_turn(0, ["bactrace"], SCRIPT)
-    # What stands behind the last line feed is no line where the read behind it fails: the third call, after a write.
-    last = "".join(SCRIPT.partition("tick 3000")[:2])
-    calls += in_turn(0, ["bactrace"], last)
-    ended = run(["bactrace"], last, FAILED=3)
-    front = run(["bactrace"], SCRIPT).output.splitlines(keepends=True)[0]
-    expect(ended[:2] + ended[3:] == (3, front, "read"), "a last line without its line feed", ended)
-    calls += in_turn(1, [*READ, *SILENT, "--apdu-retries", "1"])
-    calls += in_turn(1, [*WRITE, *SILENT, "--apdu-retries", "0"])
-    calls += in_turn(1, ["bacwi", *SILENT])
+    calls = sum(in_turn(*it) for it in RUNS) + devices()
+    # What stands behind the last line feed is no line where the read behind it fails.
+    front = run(["bactrace"], NO_LINE_FEED).output.splitlines(keepends=True)[0]
+    ended = run(["bactrace"], NO_LINE_FEED, FAILED=3)
+    expect(is_fault(ended, "read", front) and ended.output, "a last line without its line feed", ended)
     # A send of fewer octets than there are has failed. It is the third call, after those that open the socket.
     ended = run([*READ, *SILENT], FAILED=3, SHORT=1)
-    expect(is_fault(ended, WHOLE) and ended.said == "sendto", "a short send", ended)
-
-    each("socket bind sendto setsockopt 7000 recvfrom write", [*READ, *SILENT, "--apdu-retries", "0"])
-    each("socket bind sendto setsockopt 7000 recvfrom sendto recvfrom write", [*WRITE, *SILENT, "--apdu-retries", "1"])
-    each("socket bind sendto setsockopt 7000 recvfrom", ["bacwi", *SILENT])
-    each("read", ["bactrace"])
-    # What the lines of one read print goes out at once.
-    each("read write read", ["bactrace"], given=SCRIPT)
-    each("tell", [*READ, "--mac", "1.2.3"])
-    # A device waits for a second at a time.
-    each("socket bind setsockopt 1000000 recvfrom recvfromtell", [*DEVICE, "1"], 4)
-    calls += devices()
+    expect(is_fault(ended, "sendto"), "a short send", ended)
+    ended = run([*READ, "--mac", "1.2.3"])
+    expect(ended.said == ["tell"], "words that are refused", ended)
     print(f"tests/program/failing.py: {calls} calls failed in turn, each told as it is to be, or taken for silence")
+
+
+def searching():
+    """Of a script that comes one octet a read, lines of the greatest length may take three times the time that short
+    lines of as many octets take."""
+    took = []
+    for length in (32, 4096):
+        begun = os.times().children_user
+        ended = run(["bactrace"], ("tick 1".ljust(length - 1) + "\n") * (256 * 1024 // length), ONE_OCTET=1)
+        expect(ended.status == 0, "a script of long lines", ended[:1])
+        took.append(os.times().children_user - begun)
+    expect(took[1] <= 3 * took[0], "the seconds of short lines and of long ones", took)
 
 
 try:
     if failing_library(ROOM):
-        if sys.argv[2:] != ["calls"]:
-            memory()
+        searching() if sys.argv[2:] == ["tried"] else memory()
         calls_of_the_system()
 finally:
     shutil.rmtree(ROOM)
