@@ -1,28 +1,30 @@
 #!/usr/bin/env python3
-"""Runs the tools and nmap against bacdev through a relay that keeps every datagram, and has tshark read them all.
+"""Runs the tools and nmap against bacdev, and has tshark read every datagram that goes over the loopback interface.
 
 Usage: tests/program/interop.py, once the program is built; interop.txt has what is asked and what has to be found. It
-installs nmap and tshark by apt-get where they are missing; nmap needs root for UDP. It ends with 1 where something is
-not as it is to be, and says what: a tool or nmap that prints something else, a datagram that tshark finds malformed or
-reads as something else than it is.
+needs root, and installs nmap and tshark by apt-get where they are missing. It ends with 1 where something is not as it
+is to be, and says what: a tool or nmap that prints something else, a datagram that tshark finds malformed or reads as
+something else than it is.
 """
+import contextlib
 import os
 import re
-import select
 import shutil
 import socket
 import subprocess
 import sys
 import tempfile
-import threading
 import time
 
 sys.path[:0] = [os.path.dirname(__file__) + "/..", os.path.dirname(__file__) + "/../site"]
 from building import pcap, udp
-from tree import PROGRAM, device, local_socket, text_of
+from tree import PROGRAM, device, local_socket, same, text_of, verdict
 
-FAILURES = []
-DEVICE = "127.0.0.1:47808"  # what the device is called in the lines that are kept, whichever port it has
+from bacsite.frames import Passed, datagram_of
+from bacsite.pcap import Packet
+
+RAW = 101  # the link type of packets that begin with IP
+ETH_P_IP = 0x0800
 WHO_IS, READ, WRITE = "Unconfirmed-REQ who-Is", "readProperty[1]", "writeProperty[1]"
 VALVE = f"Confirmed-REQ {WRITE} analog-output,1 present-value"
 
@@ -37,92 +39,61 @@ def sections():
 ASKED = dict(sections())
 
 
-def compare(what, found, wanted):
-    if found != wanted:
-        FAILURES.append(f"{what}: {found!r}, not {wanted!r}")
-
-
 def output_of(words, status=(0,)):
-    ended = subprocess.run(words, capture_output=True, stdin=subprocess.DEVNULL, text=True)
-    if ended.returncode not in status:
-        FAILURES.append(f"{' '.join(words)}: status {ended.returncode}, {ended.stderr}")
+    ended = subprocess.run(words, capture_output=True, stdin=subprocess.DEVNULL, text=True, check=False)
+    same(f"the status of {' '.join(words)} {ended.stderr}", ended.returncode in status, True)
     return ended.stdout
 
 
-class Relay:
-    """Between clients and a device, on 127.0.0.1. `lines` has each datagram: its time in nanoseconds, who sends and
-    to whom, and its octets. Clients have the ports from 50000 on there, in the order of their first datagrams, so that
-    no port of theirs is one that a dissector knows for something else."""
-
-    def __init__(self, device_port):
-        self.front, self.device = local_socket(), ("127.0.0.1", device_port)
-        self.port = self.front.getsockname()[1]
-        self.backs, self.names, self.lines = {}, {}, []
-        threading.Thread(target=self.run, daemon=True).start()
-
-    def keep(self, sender, receiver, octets):
-        self.lines.append(f"{time.time_ns()} {sender} {receiver} {octets.hex()}")
-
-    def back_of(self, client):
-        """The socket that speaks with the device for a client."""
-        if client not in self.backs:
-            self.names[client] = f"127.0.0.1:{50000 + len(self.names)}"
-            self.backs[client] = socket.socket(socket.AF_INET, socket.SOCK_DGRAM)
-            self.backs[client].connect(self.device)
-        return self.backs[client]
-
-    def run(self):
-        while True:
-            for one in select.select([self.front, *self.backs.values()], [], [])[0]:
-                try:
-                    octets, sender = one.recvfrom(2048)
-                except OSError:
-                    continue
-                if one is self.front:
-                    back = self.back_of(sender)
-                    self.keep(self.names[sender], DEVICE, octets)
-                    back.send(octets)
-                else:
-                    client = next(it for it, back in self.backs.items() if back is one)
-                    self.keep(DEVICE, self.names[client], octets)
-                    self.front.sendto(octets, client)
-
-
 class Recorded:
-    """What was asked by whom, and the datagrams of it."""
+    """What is asked of the device, and the datagrams of it. `wanted` has, by their places, what tshark has to find in
+    them; `by_hand` has the places of those that no tool sent."""
 
-    def __init__(self, relay):
-        self.relay, self.mac, self.rows, self.by_hand = relay, f"127.0.0.1:{relay.port}", [], []
+    def __init__(self, port):
+        self.port, self.mac = port, f"127.0.0.1:{port}"
+        self.datagrams, self.wanted, self.by_hand = [], [], set()
+        self.wire = socket.socket(socket.AF_PACKET, socket.SOCK_DGRAM, socket.htons(ETH_P_IP))
+        self.wire.bind(("lo", ETH_P_IP))
+        self.wire.setblocking(False)
 
-    def run(self, tool, words, wanted, asked, answered):
-        """Runs a tool; tshark must find `asked` in its datagram and `answered` in the reply (None: no reply)."""
-        before = len(self.relay.lines)
+    def look(self):
+        """The places of the device's datagrams that came since the last look."""
+        before = len(self.datagrams)
+        with contextlib.suppress(BlockingIOError):
+            while True:
+                packet = Packet(time.time_ns(), RAW, 0, self.wire.recv(65535))
+                with contextlib.suppress(Passed):
+                    found = datagram_of(packet)
+                    self.datagrams += [found] if self.mac in (found.sender, found.receiver) else []
+        return range(before, len(self.datagrams))
+
+    def expect(self, *wanted):
+        """Each datagram since the last look is one of these, in which tshark has to find so much."""
+        found = self.look()
+        same(f"datagrams of {wanted}", len(found), len(wanted))
+        self.wanted += zip(found, wanted)
+        return found
+
+    def run(self, tool, words, printed, *wanted):
         words = [*words.split(), "--mac", self.mac, *(["--apdu-timeout", "300"] if tool == "bacwi" else [])]
-        printed = output_of([PROGRAM, tool, *words], (0, 1)).rstrip("\n").replace(self.mac, "PEER")
-        compare(f"{tool} {' '.join(words)}", printed, wanted)
-        self.expect(before, asked, answered)
+        came = output_of([PROGRAM, tool, *words], (0, 1)).rstrip("\n").replace(self.mac, "PEER")
+        same(f"{tool} {' '.join(words)}", came, printed)
+        self.expect(*wanted)
 
-    def send(self, octets, wanted, answered):
-        before = len(self.relay.lines)
-        self.by_hand.append(before)
+    def send(self, octets, reply, name):
         with local_socket() as client:
             client.settimeout(2)
-            client.sendto(bytes.fromhex(octets), ("127.0.0.1", self.relay.port))
-            compare(octets, client.recv(2048).hex(), wanted)
-        self.expect(before, [], [answered])
-
-    def expect(self, before, asked, answered):
-        time.sleep(0.01)
-        count = len(self.relay.lines) - before
-        compare(f"datagrams of {asked}", count, 1 if answered is None else 2)
-        self.rows += [(before, asked)] + ([(before + 1, answered)] if count == 2 else [])
+            client.sendto(bytes.fromhex(octets), ("127.0.0.1", self.port))
+            same(octets, client.recv(2048).hex(), reply)
+        self.by_hand.update(self.expect([], [name])[:1])
 
     def ask_everything(self):
-        found = "1234 PEER 1476 3 260", ["Unconfirmed-REQ i-Am device,1234"]
-        for limits, (printed, reply) in {"": found, " 1000 2000": found, " 2000 3000": ("", None)}.items():
-            self.run("bacwi", limits, printed, [WHO_IS + limits], reply)
-        asked, answered = [VALVE, "Present Value (real): 20"], [f"Simple-ACK {WRITE}"]
-        self.run("bacwp", "1234 1 1 85 8 -1 4 41a00000", "ok", asked, answered)
+        found = ["Unconfirmed-REQ i-Am device,1234"]
+        for limits in ("", " 1000 2000"):
+            self.run("bacwi", limits, "1234 PEER 1476 3 260", [WHO_IS + limits], found)
+        self.run("bacwi", "2000 3000", "", [WHO_IS + " 2000 3000"])
+        asked = [VALVE, "Present Value (real): 20"]
+        self.run("bacwp", "1234 1 1 85 8 -1 4 41a00000", "ok", asked, [f"Simple-ACK {WRITE}"])
         for words, printed, name in ASKED["reads"]:
             asked, answered = [f"Confirmed-REQ {READ} {name}"], [f"Complex-ACK {READ} {name}"]
             self.run("bacrp", f"1234 {words}", printed, asked, answered)
@@ -137,66 +108,63 @@ class Recorded:
             self.send(octets, reply, name)
 
     def nmap(self):
-        """Has nmap ask the device, and answers with the number of its first datagram."""
-        before = len(self.relay.lines)
-        words = ["nmap", "-sU", "-Pn", "-n", "-p", str(self.relay.port), "--script", "+bacnet-info", "127.0.0.1"]
+        """The places of what nmap sends, and of what it gets."""
+        words = ["nmap", "-sU", "-Pn", "-n", "-p", str(self.port), "--script", "+bacnet-info", "127.0.0.1"]
         found = dict(re.findall(r"(?m)^\|[ _]+([^:\n]+): (.+)$", output_of(words)))
         found.pop("bacnet-info", None)
-        compare("nmap", found, dict(ASKED["nmap"]))
-        return before
+        same("nmap", found, dict(ASKED["nmap"]))
+        return self.look()
 
 
-def read_by_tshark(lines):
-    """For each datagram its one line and its whole text, as tshark has them, and which it finds malformed."""
-    with tempfile.TemporaryDirectory() as room:
-        path = room + "/all.pcap"
-        packets = [(int(nanos), udp(sender, receiver, bytes.fromhex(octets)))
-                   for nanos, sender, receiver, octets in map(str.split, lines)]
-        with open(path, "wb") as file:
-            file.write(pcap(packets))
-        fields = ["tshark", "-r", path, "-T", "fields"]
-        brief = output_of([*fields, "-e", "_ws.col.Info"])
-        whole = output_of(["tshark", "-r", path, "-V"])
+def read_by_tshark(recorded):
+    """What tshark says of each datagram, from its line on, and the places of those that it can't read."""
+    with tempfile.NamedTemporaryFile(suffix=".pcap") as file:
+        file.write(pcap((it.nanos, udp(it.sender, it.receiver, it.octets)) for it in recorded.datagrams))
+        file.flush()
+        words = ["tshark", "-r", file.name, "-d", f"udp.port=={recorded.port},bvlc"]
+        whole = output_of([*words, "-P", "-V"])
         is_bad = "_ws.malformed or _ws.expert.severity >= 0x600000 or not bacapp"
-        bad = output_of([*fields, "-Y", is_bad, "-e", "frame.number"])
-    briefs = [re.sub(r"\s+", " ", re.sub(r"\[\s+", "[", line)).strip() for line in brief.splitlines()]
-    return briefs, re.split(r"(?m)^Frame \d+: ", whole)[1:], [int(number) - 1 for number in bad.split()]
+        bad = output_of([*words, "-T", "fields", "-Y", is_bad, "-e", "frame.number"])
+    texts = re.split(r"(?m)^ +\d+ +[\d.]+ (?=127\.)", re.sub(r" +", " ", re.sub(r"\[ +", "[", whole)))[1:]
+    return texts, {int(number) - 1 for number in bad.split()}
 
 
-def compare_with_example(lines):
+def compare_with_example(recorded):
     """Each datagram of examples/tools.hex must be one that a tool or the device has written here."""
     rows = [row.split() for row in text_of("examples/tools.hex").splitlines() if not row.startswith("#")]
-    seen = {(line.split()[1] == DEVICE, line.split()[3]) for line in lines}
-    missing = [octets for _, sender, _, octets in rows if (sender == DEVICE, octets) not in seen]
-    compare("datagrams of examples/tools.hex that nothing has written here", missing, [])
+    seen = {(it.sender == recorded.mac, it.octets.hex()) for it in recorded.datagrams}
+    missing = [octets for _, sender, _, octets in rows if (sender == "127.0.0.1:47808", octets) not in seen]
+    same("datagrams of examples/tools.hex that nothing has written here", missing, [])
 
 
-def main():
+def install_what_is_missing():
     if not shutil.which("nmap") or not shutil.which("tshark"):
         how = {"check": True, "stdin": subprocess.DEVNULL, "env": {**os.environ, "DEBIAN_FRONTEND": "noninteractive"}}
         subprocess.run(["apt-get", "update", "-q"], **how)
         subprocess.run(["apt-get", "install", "-qy", "--no-install-recommends", "nmap", "tshark"], **how)
+
+
+def main():
+    install_what_is_missing()
     with device(stderr=subprocess.DEVNULL) as (_, port):
-        recorded = Recorded(Relay(port))
+        recorded = Recorded(port)
         recorded.ask_everything()
-        compare_with_example(recorded.relay.lines)
+        compare_with_example(recorded)
         of_nmap = recorded.nmap()
-        time.sleep(0.1)
-        lines = list(recorded.relay.lines)
-    briefs, texts, bad = read_by_tshark(lines)
-    compare("datagrams that tshark lists", len(briefs), len(lines))
-    foreign = {*recorded.by_hand, *range(of_nmap, len(lines))}
-    written_here = [at for at, line in enumerate(lines) if line.split()[1] == DEVICE or at not in foreign]
-    compare("malformed", [at for at in bad if at in written_here], [])
-    asked_place = [at for at in range(of_nmap, len(lines)) if briefs[at].endswith(" location")]
-    compare("nmap's questions for a location, which the device hasn't", len(asked_place), 1)
-    recorded.rows += [(at + 1, ["Error readProperty", "Error Code: unknown-property (32)"]) for at in asked_place]
-    for at, wanted in recorded.rows:
+    texts, bad = read_by_tshark(recorded)
+    same("datagrams that tshark lists", len(texts), len(recorded.datagrams))
+    sent = {at for at, it in enumerate(recorded.datagrams) if it.sender != recorded.mac}
+    foreign = recorded.by_hand | sent.intersection(of_nmap)
+    same("malformed", bad - foreign, set())
+    asked_place = [at for at in of_nmap if re.match(r".* location *\n", texts[at])]
+    same("nmap's questions for a location, which the device hasn't", len(asked_place), 1)
+    recorded.wanted += [(at + 1, ["Error readProperty", "Error Code: unknown-property (32)"]) for at in asked_place]
+    for at, wanted in recorded.wanted:
         for text in wanted:
-            if text not in briefs[at] and text not in texts[at]:
-                FAILURES.append(f"tshark reads {lines[at].split()[3]} as {briefs[at]}, not as {text}")
-    print(f"{len(lines)} datagrams, {len(written_here)} of them of the tools or the device, {len(FAILURES)} failures")
-    sys.exit("\n".join(f"NOT AS IT IS TO BE: {failure}" for failure in FAILURES) or None)
+            octets = recorded.datagrams[at].octets.hex()
+            same(f"{text} in {octets}: {texts[at].splitlines()[0]}", text in texts[at], True)
+    ours = len(texts) - len(foreign)
+    return verdict(f"things are as they are to be, of {len(texts)} datagrams, {ours} by the tools or the device")
 
 
-main()
+sys.exit(main())
