@@ -19,29 +19,15 @@ say() {
     printf '\n# %s\n' "$1"
 }
 
-# Whether a socket has the port.
-is_open() {
-    grep -q "^ *[0-9]*: [0-9A-F]*:$(printf %04X "$port") " /proc/net/udp
-}
-
-# Waits, for ten seconds at most, until a command succeeds.
-until_it() {
-    tries=100
-    until "$@" || [ $((tries -= 1)) = 0 ]; do
-        sleep 0.1
-    done
-}
-
-device_ended() {
-    ! kill -0 "$device" 2>/dev/null
-}
-
 echo '# A small device with eleven points; it ends after eight datagrams'
 echo "\$ bactool bacdev 1234 --port $port --count 8 &"
-"$program" bacdev 1234 --port "$port" --count 8 &
+timeout 60 "$program" bacdev 1234 --port "$port" --count 8 &
 device=$!
 trap 'kill $device 2>/dev/null || true' EXIT
-until_it is_open
+for _ in $(seq 100); do
+    ! grep -q "^ *[0-9]*: [0-9A-F]*:$(printf %04X "$port") " /proc/net/udp || break
+    sleep 0.1
+done
 
 say 'Which devices are there? Instance, address, greatest APDU, segmentation (3 is none), vendor'
 run bacwi --mac "127.0.0.1:$port" --apdu-timeout 500
@@ -65,8 +51,6 @@ run bacrp 1234 0 99 85 --mac "127.0.0.1:$port"
 
 say 'That was the eighth datagram, and the device has ended'
 echo '$ wait'
-until_it device_ended
-kill "$device" 2>/dev/null || true
 status=0
-wait "$device" || status=$?
+wait $device || status=$?
 echo "status $status"
