@@ -36,36 +36,14 @@ def of_region(octets):
 def tally(parts):
     """How many parts there are; their tags, with the sums of numbers, counts and octets; their values and regions, with
     their octets."""
-    sums = [0] * 9
-    for part in parts:
-        counted = (1, *of_tag(part), *of_value(part), *of_region(part))
-        sums = [have + more for have, more in zip(sums, counted)]
-    return sums
+    return [sum(column) for column in zip(*((1, *of_tag(it), *of_value(it), *of_region(it)) for it in parts))]
 
 
-def prefixes(datagrams):
-    for datagram in datagrams:
-        for end in range(len(datagram) + 1):
-            for start in range(end):
-                yield datagram[start:end]
-
-
-def changes(datagrams):
-    for datagram in datagrams:
-        for place in range(len(datagram)):
-            for octet in CHANGES:
-                changed = datagram[:place] + bytes([octet]) + datagram[place + 1:]
-                for start in range(len(changed)):
-                    yield changed[start:]
-
-
-def main():
-    text = pathlib.Path("src/tests/datagrams.rt").read_text()
-    datagrams = [bytes.fromhex(found) for found in re.findall(r"\b81[0-9a-f]+", text)]
-    print(len(datagrams), "datagrams")
-    print("prefixes", tally(prefixes(datagrams)))
-    print("changes", tally(changes(datagrams)))
-
-
-if __name__ == "__main__":
-    main()
+text = pathlib.Path("src/tests/datagrams.rt").read_text(encoding="utf-8")
+datagrams = [bytes.fromhex(found) for found in re.findall(r"\b81[0-9a-f]+", text)]
+changed = [
+    it[:place] + bytes([octet]) + it[place + 1 :] for it in datagrams for place in range(len(it)) for octet in CHANGES
+]
+print(len(datagrams), "datagrams")
+print("prefixes", tally(it[start:end] for it in datagrams for end in range(len(it) + 1) for start in range(end)))
+print("changes", tally(it[start:] for it in changed for start in range(len(it))))
