@@ -63,7 +63,7 @@ def run(words, given="", error="EIO", **settings):
     settings["ERRNO"] = getattr(errno, error)
     environment = {**os.environ, **{name: str(number) for name, number in settings.items()}}
     command = ["sh", "-c", f'exec env LD_PRELOAD={ROOM}/fail.so "$0" "$@" 3>{ROOM}/said', PROGRAM, *words]
-    how = {"input": given, "capture_output": True, "text": True, "timeout": 60}
+    how = {"input": given, "capture_output": True, "text": True, "timeout": 200}
     it = subprocess.run(command, check=False, env=environment, **how)
     return Ended(it.returncode, it.stdout, it.stderr, text_of(f"{ROOM}/said").split())
 
@@ -161,7 +161,7 @@ def searching():
     took = []
     for length in (32, 4096):
         begun = os.times().children_user
-        ended = run(["bactrace"], ("tick 1".ljust(length - 1) + "\n") * (256 * 1024 // length), ONE_OCTET=1)
+        ended = run(["bactrace"], ("tick 1".ljust(length - 1) + "\n") * (64 * 1024 // length), ONE_OCTET=1)
         expect(ended.status == 0, "a script of long lines", ended[:1])
         took.append(os.times().children_user - begun)
     expect(took[1] <= 3 * took[0], "the seconds of short lines and of long ones", took)
