@@ -11,6 +11,7 @@ of crontab, with each of its points in the file, and the command for Nagios, as 
 import difflib
 import os
 import re
+import shlex
 import shutil
 import signal
 import subprocess
@@ -24,70 +25,57 @@ from tree import TOP, free_port, put_tools, text_of
 UNTIL_TAKEN = "for _ in {1..1000}; do grep -q ' [0-9A-F]*:%04X ' /proc/net/udp && break; sleep 0.01; done\n"
 
 
-def with_ports(line, first, second):
-    """A line of a block, with these ports in place of 47808, also where none is said, and of 48000."""
+def with_ports(text, first, second):
+    """The guide with these ports in place of 47808, also where none is said, and of 48000."""
     if (first, second) == (47808, 48000):
-        return line
-    line = re.sub(r"(127\.0\.0\.1:|--port )48000\b", rf"\1@{second}", line)
-    line = re.sub(r"([ @]127\.0\.0\.\d)(?![.:\d])", rf"\1:{first}", line)
-    line = re.sub(r"\b(bacdev \d+) &", rf"\1 --port {first} &", line)
-    return re.sub(r"(127\.0\.0\.1):47808\b", rf"\1:{first}", line).replace("@" + str(second), str(second))
+        return text
+    text = re.sub(r"(127\.0\.0\.1:|--port )48000\b", rf"\1@{second}", text)
+    text = re.sub(r"([ @]127\.0\.0\.\d)(?![.:\d])", rf"\1:{first}", text)
+    text = re.sub(r"\b(bacdev \d+) &", rf"\1 --port {first} &", text)
+    return re.sub(r"(127\.0\.0\.1):47808\b", rf"\1:{first}", text).replace(f"@{second}", str(second))
 
 
 def scheduled(line, address):
-    """A command that says whether a line of crontab, or the command of a check, does what it is to do: the first makes
+    """A command that prints whether a line of crontab, or the command of a check, does what it is to do: the first makes
     a file that has each point of its list, the second prints a line for Nagios."""
     words = {"HOSTADDRESS": address, "ARG1": "60:80", "ARG2": "50:90", "ARG3": "0 5 85"}
-    told, run = re.fullmatch(r"(.*?)(/usr/local/bin/.*)", line).groups()
+    told, run = re.fullmatch(r"(.*?)/usr/local/bin/(.*)", line).groups()
     if told.split() == ["command_line"]:
-        command = re.sub(r"\$(\w+)\$", lambda it: words[it[1]], run.replace("/usr/local/bin/", ""))
-        return f'[ "$({command})" = "BACNET OK - 72.3 | value=72.3;60:80;50:90" ] && echo as it is to be'
-    fields, file = told.split(), run.split()[-1]
-    if len(fields) != 5 or not all(re.fullmatch(r"(\*|\d+)(/[1-9]\d*)?", it) for it in fields) or "%" in run:
+        command = re.sub(r"\$(\w+)\$", lambda it: words[it[1]], run)
+        return f'[ "$({command})" = "BACNET OK - 72.3 | value=72.3;60:80;50:90" ] && echo well'
+    if not re.fullmatch(r"((\*|\d+)(/[1-9]\d*)? ){5}", told) or "%" in run:
         return f"echo no line of crontab: {line!r}"
+    file = run.split()[-1]
     place = "put/" + os.path.basename(file)
-    command = run.replace("/usr/local/bin/", "").replace(file, place).replace("$HOME", ".")
     points = f"$(grep -o '^[^# ]*' points | grep -cf - {place})"
-    return f"mkdir -p put; {command}; [ {points} -ge $(grep -c '^[^#]' points) ] && echo as it is to be"
+    command = run.replace(file, place).replace("$HOME", ".")
+    return f"mkdir -p put; {command}; [ {points} -ge $(grep -c '^[^#]' points) ] && echo well"
 
 
 def commands(first, second):
-    """Each command: where its first line stands, its text, and what it is to print."""
-    found, later, inside = [], [], False
-    for number, line in enumerate(text_of("docs/GUIDE.md").splitlines(), 1):
-        opened = re.fullmatch(r"```(.*)", line)
-        if opened and not inside:
-            name, _, needed = opened[1].partition(" ")
-            inside = name or "other"
-            if name == "console" and needed and not shutil.which(needed):
-                print(f"tests/program/guide.py: line {number} is left out, since it needs {needed}")
-                inside = "other"
-        elif opened:
-            inside = False
-        elif inside == "other" and "/usr/local/bin/" in line:
-            later.append((number, [scheduled(line, f"127.0.0.1:{first}")], ["as it is to be"]))
-        elif inside == "console":
-            line = with_ports(line, first, second)
-            if line.startswith("$ "):
-                found.append((number, [line[2:]], []))
-            elif line.startswith(">"):
-                found[-1][1].append(line[2:])
-            else:
-                found[-1][2].append(line)
-    found += later
-    return [(number, "\n".join(text), "".join(f"{line}\n" for line in printed)) for number, text, printed in found]
+    """Each command, and what it is to print."""
+    text, later = with_ports(text_of("docs/GUIDE.md"), first, second), []
+    for kind, needed, body in re.findall(r"(?ms)^```(\S*) ?(\S*)\n(.*?)^```$", text):
+        if kind != "console":
+            lines = [line for line in body.splitlines() if "/usr/local/bin/" in line]
+            later += [(scheduled(line, f"127.0.0.1:{first}"), "well\n") for line in lines]
+        elif needed and not shutil.which(needed):
+            print(f"tests/program/guide.py: a block is left out, since it needs {needed}")
+        else:
+            for command, printed in re.findall(r"(?m)^\$ (.*\n(?:> ?.*\n)*)((?:(?!\$ ).*\n)*)", body):
+                yield re.sub(r"(?m)^> ?", "", command.rstrip("\n")), printed
+    yield from later
 
 
 def script(rows, first, second):
-    """A script of the commands, each of which finds the status of the one before; and what it is to print: behind what
-    each command prints, where that stands."""
+    """A script of the commands, each of which finds the status of the one before; and what it is to print: each
+    command, and behind it what it prints."""
     text, shown = "status=0\n", ""
-    for number, command, printed in rows:
-        text += f"(exit $status)\n{command}\nstatus=$?\n"
+    for command, printed in rows:
+        text += f"echo {shlex.quote('$ ' + command)}\n(exit $status)\n{command}\nstatus=$?\n"
         if command.endswith("&"):
             text += UNTIL_TAKEN % (second if str(second) in command else first)
-        text += f"echo '[line {number}]'\n"
-        shown += f"{printed}[line {number}]\n"
+        shown += f"$ {command}\n{printed}"
     return text, shown
 
 
@@ -108,7 +96,7 @@ def run(text, program, room):
 
 def main(program):
     first, second = free_port(), free_port(48000)
-    rows = commands(first, second)
+    rows = list(commands(first, second))
     text, shown = script(rows, first, second)
     with tempfile.TemporaryDirectory() as room:
         came = run(text, program, room)
