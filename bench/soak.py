@@ -209,40 +209,32 @@ def pool(dice):
 
 
 class Followed:
-    """What the printed lines say of the requests: those that are open, each with its datagram and its sends."""
+    """What the printed lines say of the requests: those that are open, each with its datagram, its number, and how
+    often it was sent again."""
 
     def __init__(self):
-        self.open, self.numbers, self.next, self.counts = {}, set(), 0, Counter()
-
-    def is_sent(self, ticket, datagram):
-        if ticket == self.next:
-            number = read(bytes.fromhex(datagram[1])).apdu.invoke
-            is_free = number not in self.numbers and len(self.open) < PLACES
-            self.open[ticket], self.next = [datagram, 0, number], ticket + 1
-            self.numbers.add(number)
-            return is_free
-        request = self.open.get(ticket, [None, 0, 0])
-        request[1] += 1
-        self.counts["sent again"] += 1
-        return request[0] == datagram and request[1] <= RETRIES
-
-    def is_ended(self, ticket, by_timeout):
-        if ticket not in self.open:
-            return False
-        _, again, number = self.open.pop(ticket)
-        self.numbers.remove(number)
-        return again == RETRIES or not by_timeout
+        self.open, self.next, self.counts = {}, 0, Counter()
 
     def holds(self, line):
+        """Whether a line fits those before it."""
         if not PRINTED.fullmatch(line):
             return False
-        word, *words = line.split(" ")
+        word, *words = line.split(" ", 2)
         self.counts[word] += 1
-        if word == "send":
-            return self.is_sent(int(words[0]), words[1:])
-        if word in ("done", "timeout"):
-            return self.is_ended(int(words[0]), word == "timeout")
-        return word != "full" or len(self.open) == PLACES
+        if word not in ("send", "done", "timeout"):
+            return word != "full" or len(self.open) == PLACES
+        ticket = int(words[0])
+        if word == "send" and ticket == self.next:
+            number = read(bytes.fromhex(words[1].split()[1])).apdu.invoke
+            is_free = len(self.open) < PLACES and all(number != it[1] for it in self.open.values())
+            self.open[ticket], self.next = [words[1], number, 0], ticket + 1
+            return is_free
+        datagram, number, again = self.open.pop(ticket, (None, None, None))
+        if word == "send" and datagram:
+            self.counts["sent again"] += 1
+            self.open[ticket] = [datagram, number, again + 1]
+            return words[1] == datagram and again < RETRIES
+        return bool(datagram) and (word == "done" or again == RETRIES)
 
     def asked(self):
         """The lines of the script that these lines answer."""
@@ -264,10 +256,8 @@ def soak_script(dice, lines):
             process.stdin.flush()
             while not (line := process.stdout.readline()).startswith(REPLY):
                 if not seen.holds(line.rstrip("\n")):
-                    process.kill()
                     sys.exit(f"does not fit: {line!r}; it was printed over:\n" + "\n".join(part))
             if seen.asked() != asked:
-                process.kill()
                 sys.exit(f"{seen.asked()} lines printed for {asked}, the last of them:\n" + "\n".join(part))
         seen.counts["KB of memory at most"] = resident(process.pid, "VmHWM")
         process.stdin.close()

@@ -36,8 +36,8 @@ def with_ports(text, first, second):
 
 
 def scheduled(line, address):
-    """A command that prints whether a line of crontab, or the command of a check, does what it is to do: the first makes
-    a file that has each point of its list, the second prints a line for Nagios."""
+    """A command that prints whether a line of crontab, or the command of a check, does what it is to do: the first
+    makes a file that has each point of its list, the second prints a line for Nagios."""
     words = {"HOSTADDRESS": address, "ARG1": "60:80", "ARG2": "50:90", "ARG3": "0 5 85"}
     told, run = re.fullmatch(r"(.*?)/usr/local/bin/(.*)", line).groups()
     if told.split() == ["command_line"]:
