@@ -44,7 +44,7 @@ pub item_read : (count depth top : ℕ) (octets item rest : List ℕ) → depth 
     → IsItem depth item
     → octets ≡ item ++ rest → item_at (behind_items count) top octets ≡ Some rest
 item_read _ _ top _ _ _ le short i e = ap (item_at _ top) e
-    ∙ item_again _ _ _ _ _ _ (items_again _) le (rw e at short) i
+    ∙ item_again _ _ _ (items_again _) _ _ _ le (rw e at short) i
 
 -- no item begins another, whatever depth is allowed to either
 pub one_item : (depth other : ℕ) (a b u v : List ℕ) → IsItem depth a → IsItem other b → a ++ u ≡ b ++ v → a ≡ b
@@ -175,35 +175,32 @@ rest_none _ (x ∷ xs) e some = cc
 pub behind_shorter : (depth : ℕ) (octets rest : List ℕ) → LeavesBehind depth octets rest → length rest < length octets
 behind_shorter _ _ _ l = rw l.whole (item_shorter _ _ _ l.item)
 
--- an item was found, or none
-pub rest_step : (depth : ℕ) (octets : List ℕ) (tag : Tag) (after : List ℕ) (found : Option (List ℕ))
-    → found_at tag after ≡ tag_at octets
-    → (tag.shape ≡ Closing → ⊥) → Finds (LeavesBehind depth octets) found
-    → rest_of depth octets ≡ (found >>= rest_of depth)
-rest_step _ octets _ _ None e going finds =
-    one_step _ _ _ _ _ (sym e) going ∙ rw (found_by _ None (item_reads (length octets) _ _ (omega arith)) finds) refl
-rest_step _ octets _ _ (Some next) e going finds =
-    let reads = items_read _ _ _ (behind_shorter _ _ _ finds) in
-    one_step _ _ _ _ _ (sym e) going ∙ rw (found_by _ (Some _) (item_reads (length octets) _ _ (omega arith)) finds)
-    (found_by _ _ reads (rest_found _ _ _ refl))
+-- what the first tag leaves
+module _ (depth : ℕ) (octets : List ℕ) (tag : Tag) (after : List ℕ) (e : found_at tag after ≡ tag_at octets) where
+  -- an item was found, or none
+  pub rest_step : (found : Option (List ℕ)) → (tag.shape ≡ Closing → ⊥) → Finds (LeavesBehind depth octets) found
+      → rest_of depth octets ≡ (found >>= rest_of depth)
+  rest_step None going finds =
+      one_step _ _ _ _ _ (sym e) going ∙ rw (found_by _ None (item_reads (length octets) _ _ (omega arith)) finds) refl
+  rest_step (Some next) going finds =
+      let reads = items_read _ _ _ (behind_shorter _ _ _ finds) in
+      one_step _ _ _ _ _ (sym e) going ∙ rw (found_by _ (Some _) (item_reads (length octets) _ _ (omega arith)) finds)
+      (found_by _ _ reads (rest_found _ _ _ refl))
 
--- what the tag leaves, as it is read
-pub item_found : (depth : ℕ) (octets : List ℕ) (tag : Tag) (shape : Shape) (after : List ℕ) (found : Option (List ℕ))
-    → found_at tag after ≡ tag_at octets → tag.shape ≡ shape
-    → behind_item (behind_items (length octets)) depth tag shape after ≡ found
-    → Finds (LeavesBehind depth octets) found
-item_found depth octets tag _ _ found e is f =
-    let read : item_at (behind_items (length octets)) depth octets ≡ found = cc in
-    subst (Finds _) read (finds_by _ (item_reads (length octets) depth octets (omega arith)))
+  -- as it is read
+  pub item_found : (shape : Shape) (found : Option (List ℕ)) → tag.shape ≡ shape
+      → behind_item (behind_items (length octets)) depth tag shape after ≡ found → Finds (LeavesBehind depth octets) found
+  item_found _ found is f =
+      let read : item_at (behind_items (length octets)) depth octets ≡ found = cc in
+      subst (Finds _) read (finds_by _ (item_reads (length octets) depth octets (omega arith)))
 
--- the items inside of an item were found, or none
-pub opening_found : (depth below : ℕ) (octets : List ℕ) (tag : Tag) (after : List ℕ) (inside found : Option (List ℕ))
-    → depth ≡ suc below
-    → found_at tag after ≡ tag_at octets → tag.shape ≡ Opening → Finds (LeavesRest below after) inside
-    → (inside >>= behind_closing tag.number) ≡ found → Finds (LeavesBehind depth octets) found
-opening_found _ _ _ _ _ _ _ deeper e is finds f =
-    let within = found_by _ _ (items_read _ _ _ (after_shorter _ _ _ (sym e))) finds in
-    item_found _ _ _ _ _ _ e is cc
+  -- the items inside of an item were found, or none
+  pub opening_found : (below : ℕ) (inside found : Option (List ℕ)) → depth ≡ suc below → tag.shape ≡ Opening
+      → Finds (LeavesRest below after) inside → (inside >>= behind_closing tag.number) ≡ found
+      → Finds (LeavesBehind depth octets) found
+  opening_found _ _ _ deeper is finds f =
+      let within = found_by _ _ (items_read _ _ _ (after_shorter _ _ _ (sym e))) finds in
+      item_found _ _ is cc
 
 -- ---- a region
 

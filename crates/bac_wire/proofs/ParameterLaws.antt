@@ -66,7 +66,7 @@ context_takes = grind (arith, counted_takes)
 context_again : (number : ℕ) (front contents rest : List ℕ) → SpellsContext number front contents
     → context_at number (front ++ rest) ≡ found_at contents rest
 unfolding context_at
-context_again _ _ _ _ s = rw (tag_again _ _ _ _ _ s.whole s.spelled) (counted_again _ _ _)
+context_again _ _ _ _ s = rw (tag_again _ _ _ _ s) (counted_again _ _ _)
 
 -- ---- numbers and objects
 
@@ -135,8 +135,7 @@ pub enclosed_reader : (number : ℕ) → IsReader (SpellsEnclosed number) (enclo
 unfolding enclosed_at behind_opening
 enclosed_reader _ =
     reader_of _ _ (enclosed_takes _) (λ front region rest s.
-    let o = s.opened in
-    rw (tag_again _ _ _ _ _ o.whole o.spelled, eq-eqb _ _ refl)
+    rw (tag_again _ _ _ _ s.opened, eq-eqb _ _ refl)
     ((region_reader _).again _ _ _ (record { closing = s.closing; whole = refl; items = s.parts; closed = s.closed })))
 
 -- items between tags are no number
@@ -144,8 +143,7 @@ pub enclosed_no_number : (number other : ℕ) (octets front region rest : List �
     → octets ≡ front ++ rest → number_at number octets ≡ None
 unfolding number_at context_at
 enclosed_no_number _ _ _ _ _ _ s e =
-    let o = s.opened in
-    rw (e, tag_again _ _ _ _ _ o.whole o.spelled) refl
+    rw (e, tag_again _ _ _ _ s.opened) refl
 
 -- ---- values of one kind
 

@@ -17,7 +17,7 @@ use Rattle.bac_wire.specs.{
   Region.{closing_tag, Counts, IsPrimitive, none, more, IsBracketed, IsItem, IsRegion, HasEnded, LeavesRest},
   Inner.Region.LeavesBehind,
 }
-use Rattle.bac_wire.proofs.{Readers.{found_at, chosen, unless}, TagLaws.{tag_reader, bind_some}}
+use Rattle.bac_wire.proofs.{Readers.{begins_read, found_at, chosen, unless}, TagLaws.{tag_reader, bind_some}}
 
 pub no_octets : tag_at [] ≡ None
 unfolding tag_at
@@ -39,10 +39,10 @@ pub tag_parts : (tag : Tag) (number : ℕ) (shape : Shape) → tag.shape ≡ sha
 tag_parts _ _ _ e f = rw (← e, ← f) refl
 
 -- a tag and what stands behind it, in front of a rest
-pub tag_again : (front spelling others rest : List ℕ) (tag : Tag) → front ≡ spelling ++ others → SpellsTag spelling tag
+pub tag_again : (front others rest : List ℕ) (tag : Tag) → Begins SpellsTag front tag others
     → tag_at (front ++ rest) ≡ found_at tag (others ++ rest)
-tag_again _ _ _ rest _ e s = ap (λ (w : List ℕ). tag_at (w ++ rest)) e
-    ∙ ap tag_at (append_assoc _ _ rest) ∙ tag_reader.again _ _ _ s
+tag_again _ _ rest _ b = ap (λ (w : List ℕ). tag_at (w ++ rest)) b.whole
+    ∙ ap tag_at (append_assoc _ _ rest) ∙ tag_reader.again _ _ _ b.spelled
 
 -- ---- a closing tag
 
@@ -52,7 +52,7 @@ IsClosedBy number octets rest = Begins SpellsTag octets (closing_tag number) res
 
 pub closing_read : (number : ℕ) (octets rest : List ℕ) → IsClosedBy number octets rest
     → tag_at octets ≡ found_at (closing_tag number) rest
-closing_read _ _ _ c = ap tag_at c.whole ∙ tag_reader.again _ _ _ c.spelled
+closing_read _ _ _ = begins_read _ _ tag_reader _ _ _
 
 closed_since : (tag : Tag) (number : ℕ) (octets rest : List ℕ) → tag_at octets ≡ found_at tag rest → tag.shape ≡ Closing
     → tag.number ≡ number → IsClosedBy number octets rest
@@ -121,106 +121,92 @@ primitive_item : (depth : ℕ) (item : List ℕ) → IsPrimitive item → IsItem
 primitive_item zero _ p = p
 primitive_item (suc depth) _ p = inl p
 
-counted_behind : (depth : ℕ) (octets : List ℕ) (tag : Tag) (contents rest : List ℕ)
-    → tag_at octets ≡ found_at tag (contents ++ rest)
-    → Counts tag.number tag.shape (length contents) → LeavesBehind depth octets rest
-counted_behind _ _ tag contents _ e counted =
-    let taken = tag_reader.takes _ _ _ e in
-    let item : IsPrimitive (taken.front ++ contents) =
-    record {
-      tag = tag;
-      contents = contents;
-      tagged = record { front = taken.front; spelled = taken.spelled; whole = refl };
-      counted = counted;
-    } in
-    record {
-      front = taken.front ++ contents;
-      item = primitive_item _ _ item;
-      whole = grind (arith, append_assoc);
-    }
-
--- so many octets behind the tag
-count_behind : (depth count : ℕ) (octets : List ℕ) (tag : Tag) (after rest : List ℕ)
-    → tag_at octets ≡ found_at tag after
-    → ((n : ℕ) → n ≡ count → Counts tag.number tag.shape n) → behind_count count after ≡ Some rest
-    → LeavesBehind depth octets rest
-count_behind _ count _ _ after rest e counts f =
-    let room = unless _ f in
-    let line : after ≡ take count after ++ rest = grind (arith, take-append-drop, same_Some) in
-    counted_behind _ _ _ _ _ (e ∙ ap (found_at _) line) (counts _ (length-take-le _ _ (ltb-false _ _ room.0)))
-
-item_takes : (items : ℕ → List ℕ → Option (List ℕ)) (depth : ℕ) (octets : List ℕ) (tag : Tag) (shape : Shape)
-    (after rest : List ℕ)
-    → Takes items → tag_at octets ≡ found_at tag after → tag.shape ≡ shape
-    → behind_item items depth tag shape after ≡ Some rest
-    → LeavesBehind depth octets rest
-item_takes _ _ _ tag (App n) _ _ takes e is f = elim (chosen (eqb tag.number 1) _ _ _ f) [
-  | inl one ↦ counted_behind _ _ _ [] _ (e ∙ ap (found_at _) (same_Some _ _ one.1)) (rw (is, one.0) refl)
-  | inr other ↦ count_behind _ n _ _ _ _ e (λ m same. rw (is, other.0) same) other.1
-]
-item_takes _ _ _ _ (Context n) _ _ takes e is f = grind (arith, count_behind)
-item_takes _ (suc depth) octets tag Opening _ rest takes e is f =
-    let inside = bind_some _ _ _ f in
-    let l = takes _ _ _ inside.1 in
-    let c = closed_takes _ _ _ inside.2 in
-    let taken = tag_reader.takes _ _ _ e in
-    let opened = subst (SpellsTag _) (tag_parts _ _ _ is refl) taken.spelled in
-    let line : octets ≡ (taken.front ++ (l.front ++ c.front)) ++ rest = grind (arith, append_assoc) in
-    record {
-      front = taken.front ++ _;
-      item = inr (
-        tag.number,
-        l.front,
-        record {
-          closing = c.front;
-          opened = record { front = taken.front; spelled = opened; whole = refl };
-          parts = l.region;
-          closed = c.spelled;
-        },
-      );
-      whole = line;
-    }
-item_takes _ _ _ _ _ _ _ _ e is f = absurd (none-some _ f)
-
-pub item_at_takes : (items : ℕ → List ℕ → Option (List ℕ)) (depth : ℕ) (octets rest : List ℕ) → Takes items
-    → item_at items depth octets ≡ Some rest → LeavesBehind depth octets rest
-item_at_takes = grind (arith, item_takes)
-
 ended_leaves : (depth : ℕ) (octets rest : List ℕ) → HasEnded octets
     → ◌≡◌ {A = Option (List ℕ)} (Some octets) (Some rest) → LeavesRest depth octets rest
 ended_leaves _ _ _ ended e =
     let same = same_Some _ _ e in
     record { front = []; region = none; whole = same; ended = subst HasEnded same ended }
 
--- the items behind the first one
-more_takes : (items : ℕ → List ℕ → Option (List ℕ)) (depth : ℕ) (octets : List ℕ) (tag : Tag) (shape : Shape)
-    (after rest : List ℕ)
-    → Takes items → tag_at octets ≡ found_at tag after → tag.shape ≡ shape
-    → behind_tag items depth octets tag shape after ≡ Some rest
-    → LeavesRest depth octets rest
-more_takes _ _ _ tag Closing _ _ _ e is f = grind (arith, ended_leaves, ended_since)
-more_takes _ _ _ tag _ _ _ takes e is f =
-    let a = bind_some _ _ _ f in
-    let i = item_takes _ _ _ tag _ _ a.0 takes e is a.1 in
-    let l = takes _ a.0 _ a.2 in
-    record {
-      front = i.front ++ l.front;
-      region = more i.item l.region;
-      whole = grind (arith, append_assoc);
-      ended = l.ended;
-    }
+-- behind this tag
+module _ (octets : List ℕ) (tag : Tag) (after : List ℕ) (e : tag_at octets ≡ found_at tag after) where
+  counted_behind : (depth : ℕ) (contents rest : List ℕ) → after ≡ contents ++ rest
+      → Counts tag.number tag.shape (length contents) → LeavesBehind depth octets rest
+  counted_behind _ contents _ line counted =
+      let taken = tag_reader.takes _ _ _ e in
+      let item : IsPrimitive (taken.front ++ contents) =
+      record {
+        tag = tag;
+        contents = contents;
+        tagged = record { front = taken.front; spelled = taken.spelled; whole = refl };
+        counted = counted;
+      } in
+      record { front = taken.front ++ contents; item = primitive_item _ _ item; whole = grind (arith, append_assoc) }
 
-found_takes : (items : ℕ → List ℕ → Option (List ℕ)) (depth : ℕ) (octets : List ℕ) (read : Option (Tag × List ℕ))
-    (rest : List ℕ)
-    → Takes items → tag_at octets ≡ read → behind_tag_found items depth octets read ≡ Some rest
-    → LeavesRest depth octets rest
-found_takes = grind (arith, ended_leaves, more_takes)
+  -- so many octets behind the tag
+  count_behind : (depth count : ℕ) (rest : List ℕ) → ((n : ℕ) → n ≡ count → Counts tag.number tag.shape n)
+      → behind_count count after ≡ Some rest → LeavesBehind depth octets rest
+  count_behind _ count rest counts f =
+      let room = unless _ f in
+      let line : after ≡ take count after ++ rest = grind (arith, take-append-drop, same_Some) in
+      counted_behind _ _ _ line (counts _ (length-take-le _ _ (ltb-false _ _ room.0)))
 
-pub items_take : (count depth : ℕ) (octets rest : List ℕ) → behind_items count depth octets ≡ Some rest
-    → LeavesRest depth octets rest
+  module _ (items : ℕ → List ℕ → Option (List ℕ)) (takes : Takes items) where
+    item_takes : (depth : ℕ) (shape : Shape) (rest : List ℕ) → tag.shape ≡ shape
+        → behind_item items depth tag shape after ≡ Some rest → LeavesBehind depth octets rest
+    item_takes _ (App n) _ is f = elim (chosen (eqb tag.number 1) _ _ _ f) [
+      | inl one ↦ counted_behind _ [] _ (same_Some _ _ one.1) (rw (is, one.0) refl)
+      | inr other ↦ count_behind _ n _ (λ m same. rw (is, other.0) same) other.1
+    ]
+    item_takes _ (Context n) _ is f = grind (arith, count_behind)
+    item_takes (suc depth) Opening _ is f =
+        let inside = bind_some _ _ _ f in
+        let l = takes _ _ _ inside.1 in
+        let c = closed_takes _ _ _ inside.2 in
+        let taken = tag_reader.takes _ _ _ e in
+        let opened = subst (SpellsTag _) (tag_parts _ _ _ is refl) taken.spelled in
+        record {
+          front = taken.front ++ (l.front ++ c.front);
+          item = inr (
+            tag.number,
+            l.front,
+            record {
+              closing = c.front;
+              opened = record { front = taken.front; spelled = opened; whole = refl };
+              parts = l.region;
+              closed = c.spelled;
+            },
+          );
+          whole = grind (arith, append_assoc);
+        }
+    item_takes _ _ _ is f = absurd (none-some _ f)
+
+    -- the items behind the first one
+    more_takes : (depth : ℕ) (shape : Shape) (rest : List ℕ) → tag.shape ≡ shape
+        → behind_tag items depth octets tag shape after ≡ Some rest → LeavesRest depth octets rest
+    more_takes _ Closing _ is f = grind (arith, ended_leaves, ended_since)
+    more_takes _ shape _ is f =
+        let a = bind_some _ _ _ f in
+        let i = item_takes _ shape a.0 is a.1 in
+        let l = takes _ a.0 _ a.2 in
+        record {
+          front = i.front ++ l.front;
+          region = more i.item l.region;
+          whole = grind (arith, append_assoc);
+          ended = l.ended;
+        }
+
+module _ (items : ℕ → List ℕ → Option (List ℕ)) (takes : Takes items) (depth : ℕ) (octets rest : List ℕ) where
+  pub item_at_takes : item_at items depth octets ≡ Some rest → LeavesBehind depth octets rest
+  item_at_takes = grind (arith, item_takes)
+
+  found_takes : (read : Option (Tag × List ℕ)) → tag_at octets ≡ read
+      → behind_tag_found items depth octets read ≡ Some rest → LeavesRest depth octets rest
+  found_takes = grind (arith, ended_leaves, more_takes)
+
+pub items_take : (count : ℕ) → Takes (behind_items count)
 unfolding behind_items
 items_take zero _ _ _ e = absurd (none-some _ e)
-items_take (suc count) _ _ _ e = found_takes _ _ _ _ _ (items_take count) refl e
+items_take (suc count) _ _ _ e = found_takes _ (items_take count) _ _ _ _ refl e
 
 -- ---- what is there is read
 
@@ -238,36 +224,33 @@ boolean_again : (b : Bool) (n : ℕ) (contents rest : List ℕ) → length conte
 boolean_again true n _ _ e = rw (nil_from_length _ e) refl
 boolean_again false n _ _ e = count_again n _ _ e
 
-counted_again : (items : ℕ → List ℕ → Option (List ℕ)) (top : ℕ) (tag : Tag) (shape : Shape) (contents rest : List ℕ)
-    → Counts tag.number shape (length contents) → behind_item items top tag shape (contents ++ rest) ≡ Some rest
-counted_again = grind (arith, boolean_again, count_again)
+-- behind an item, whatever reads the items inside of it
+module _ (items : ℕ → List ℕ → Option (List ℕ)) (rest : List ℕ) where
+  counted_again : (top : ℕ) (tag : Tag) (shape : Shape) (contents : List ℕ)
+      → Counts tag.number shape (length contents) → behind_item items top tag shape (contents ++ rest) ≡ Some rest
+  counted_again = grind (arith, boolean_again, count_again)
 
-primitive_again : (items : ℕ → List ℕ → Option (List ℕ)) (top : ℕ) (item rest : List ℕ) → IsPrimitive item
-    → item_at items top (item ++ rest) ≡ Some rest
-primitive_again _ top _ _ p =
-    rw (tag_again _ _ _ _ _ p.tagged.whole p.tagged.spelled) (counted_again _ top _ _ _ _ p.counted)
+  primitive_again : (top : ℕ) (item : List ℕ) → IsPrimitive item → item_at items top (item ++ rest) ≡ Some rest
+  primitive_again top _ p = rw (tag_again _ _ _ _ p.tagged) (counted_again top _ _ _ p.counted)
 
-bracket_again : (items : ℕ → List ℕ → Option (List ℕ)) (most depth top number : ℕ) (item inside rest : List ℕ)
-    → Again items most → depth ≤ top
-    → length (item ++ rest) < suc most → IsBracketed (IsItem depth) number item inside
-    → item_at items (suc top) (item ++ rest) ≡ Some rest
-bracket_again _ _ _ top number _ inside rest again le short b =
-    let read = tag_again _ _ _ rest _ b.opened.whole b.opened.spelled in
-    let line = append_assoc inside b.closing rest in
-    let c : IsClosedBy number (b.closing ++ rest) rest =
-    record { front = b.closing; spelled = b.closed; whole = refl } in
-    let within = again _ top _ _ le (grind (arith, after_shorter)) b.parts (inr (number, rest, c)) in
-    rw (read, line, within, closed_again _ _ rest c) refl
+  module _ (most : ℕ) (again : Again items most) where
+    bracket_again : (depth top number : ℕ) (item inside : List ℕ) → depth ≤ top → length (item ++ rest) < suc most
+        → IsBracketed (IsItem depth) number item inside → item_at items (suc top) (item ++ rest) ≡ Some rest
+    bracket_again _ top number _ inside le short b =
+        let c : IsClosedBy number (b.closing ++ rest) rest =
+        record { front = b.closing; spelled = b.closed; whole = refl } in
+        let read = tag_again _ _ rest _ b.opened in
+        let line = append_assoc inside b.closing rest in
+        let within = again _ top _ _ le (grind (arith, after_shorter)) b.parts (inr (number, rest, c)) in
+        rw (read, line, within, closed_again _ _ rest c) refl
 
-pub item_again : (items : ℕ → List ℕ → Option (List ℕ)) (most depth top : ℕ) (item rest : List ℕ) → Again items most
-    → depth ≤ top
-    → length (item ++ rest) < suc most → IsItem depth item → item_at items top (item ++ rest) ≡ Some rest
-item_again _ _ zero top _ _ _ le _ p = primitive_again _ top _ _ p
-item_again _ _ (suc depth) zero _ _ again le short i = absurd (omega arith)
-item_again items _ (suc depth) (suc top) _ _ again le short i =
-    elim i [
-      | inl p ↦ primitive_again items (suc _) _ _ p
-      | inr b ↦ bracket_again items _ _ top b.0 _ b.1 _ again (omega arith) short b.2
+    pub item_again : (depth top : ℕ) (item : List ℕ) → depth ≤ top → length (item ++ rest) < suc most
+        → IsItem depth item → item_at items top (item ++ rest) ≡ Some rest
+    item_again zero _ _ _ _ p = primitive_again _ _ p
+    item_again (suc depth) zero _ le _ i = absurd (omega arith)
+    item_again (suc depth) (suc top) _ le short i = elim i [
+      | inl p ↦ primitive_again (suc _) _ p
+      | inr b ↦ bracket_again _ top b.0 _ b.1 (omega arith) short b.2
     ]
 
 pub item_shorter : (depth : ℕ) (item rest : List ℕ) → IsItem depth item → length rest < length (item ++ rest)
@@ -281,12 +264,11 @@ more_again count top _ _ e =
     one_step _ _ _ _ _ a.1 (λ closing. none-some _ (rw closing at a.2))
     ∙ ap (λ (r : Option (List ℕ)). r >>= behind_items count top) e
 
-pub items_again : (count depth top : ℕ) (front rest : List ℕ) → depth ≤ top → length (front ++ rest) < count
-    → IsRegion depth front → HasEnded rest → behind_items count top (front ++ rest) ≡ Some rest
+pub items_again : (count : ℕ) → Again (behind_items count) count
 items_again zero _ _ _ _ le short r ended = absurd (omega arith)
 items_again (suc count) _ top _ rest le _ none ended = ended_again _ top rest ended
 items_again (suc count) depth top _ rest le short (more {first} {rest = others} i s) ended =
     let line = append_assoc first others rest in
     let shorter = item_shorter _ _ (others ++ rest) i in
-    let read = item_again _ _ _ top _ _ (items_again count) le (rw line at short) i in
+    let read = item_again _ _ _ (items_again count) _ top _ le (rw line at short) i in
     rw line (more_again _ top _ _ read ∙ items_again count depth top _ rest le (omega (arith, ap length line)) s ended)

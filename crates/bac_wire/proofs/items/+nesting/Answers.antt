@@ -8,33 +8,33 @@ pub behind_item-returns-in_err-checked_sub-in-Opening-clause-found
     : goal.behind_item-returns-in_err-checked_sub-in-Opening-clause-found
 behind_item-returns-in_err-checked_sub-in-Opening-clause-found t c = λ octets e.
     let none : c.args.depth ≡ 0 = omega arith in
-    rw c.from_residual.ensures (item_found _ _ _ _ _ None e c.in-Opening.is (rw none refl))
+    rw c.from_residual.ensures (item_found _ _ _ _ e _ None c.in-Opening.is (rw none refl))
 
 pub behind_item-returns-in_err-rest-in-Opening-clause-found
     : goal.behind_item-returns-in_err-rest-in-Opening-clause-found
 behind_item-returns-in_err-rest-in-Opening-clause-found t c = λ octets e.
-    rw c.from_residual-in_err-rest-in-Opening.ensures (opening_found _ _ _ _ _ None _
-    (omega arith) e c.in-Opening.is c.in_err-rest-in-Opening.ensures.found refl)
+    rw c.from_residual-in_err-rest-in-Opening.ensures (opening_found _ _ _ _ e _ None _
+    (omega arith) c.in-Opening.is c.in_err-rest-in-Opening.ensures.found refl)
 
 pub behind_item-returns-in-App-clause-found : goal.behind_item-returns-in-App-clause-found
 behind_item-returns-in-App-clause-found t c = λ octets e.
-    item_found _ _ _ _ _ (Some _) e c.in-App.is (rw c.if-tag-eq1.true refl)
+    item_found _ _ _ _ e _ (Some _) c.in-App.is (rw c.if-tag-eq1.true refl)
 
 pub behind_item-returns-in_ok-rest-in-Opening-clause-found : goal.behind_item-returns-in_ok-rest-in-Opening-clause-found
 behind_item-returns-in_ok-rest-in-Opening-clause-found t c = λ octets e.
-    opening_found _ _ _ _ _ (Some _) _ (omega arith) e
+    opening_found _ _ _ _ e _ (Some _) _ (omega arith)
     c.in-Opening.is c.in_ok-rest-in-Opening.ensures.found (sym c.behind_closing.ensures.found)
 
 pub behind_item-returns-in-Closing-clause-found : goal.behind_item-returns-in-Closing-clause-found
-behind_item-returns-in-Closing-clause-found t c = λ octets e. item_found _ _ _ _ _ _ e c.in-Closing.is refl
+behind_item-returns-in-Closing-clause-found t c = λ octets e. item_found _ _ _ _ e _ _ c.in-Closing.is refl
 
 pub behind_item-returns-in-App-2-clause-found : goal.behind_item-returns-in-App-2-clause-found
 behind_item-returns-in-App-2-clause-found t c = λ octets e.
-    item_found _ _ _ _ _ _ e c.in-App-2.is (grind (arith, ne_eqb, found_by, count_reads))
+    item_found _ _ _ _ e _ _ c.in-App-2.is (grind (arith, ne_eqb, found_by, count_reads))
 
 pub behind_item-returns-in-Context-clause-found : goal.behind_item-returns-in-Context-clause-found
 behind_item-returns-in-Context-clause-found t c = λ octets e.
-    item_found _ _ _ _ _ _ e c.in-Context.is (grind (arith, found_by, count_reads))
+    item_found _ _ _ _ e _ _ c.in-Context.is (grind (arith, found_by, count_reads))
 
 pub behind_items-returns-in-Closing-clause-found : goal.behind_items-returns-in-Closing-clause-found
 behind_items-returns-in-Closing-clause-found t c =
@@ -44,7 +44,7 @@ behind_items-returns-in-Closing-clause-found t c =
 pub behind_items-returns-in_err-rest-clause-found : goal.behind_items-returns-in_err-rest-clause-found
 behind_items-returns-in_err-rest-clause-found t c =
     rw c.from_residual.ensures (rest_found _ _ _ (c.loop-tag.invariant.found
-    ∙ rest_step _ _ _ _ None c.in-Some.ensures.tag c.in_default-shape.not-Closing
+    ∙ rest_step _ _ _ _ c.in-Some.ensures.tag None c.in_default-shape.not-Closing
     (c.in_err-rest.ensures.found _ c.in-Some.ensures.tag)))
 
 pub behind_items-loop-tag-smaller : goal.behind_items-loop-tag-smaller
@@ -52,8 +52,8 @@ behind_items-loop-tag-smaller t c = grind (arith, behind_shorter)
 
 pub behind_items-loop-tag-preserved : goal.behind_items-loop-tag-preserved
 behind_items-loop-tag-preserved t c = record {
-  found = c.loop-tag.invariant.found ∙ rest_step _ _ _ _ (Some _)
-      c.in-Some.ensures.tag c.in_default-shape.not-Closing (c.in_ok-rest.ensures.found _ c.in-Some.ensures.tag);
+  found = c.loop-tag.invariant.found ∙ rest_step _ _ _ _ c.in-Some.ensures.tag (Some _)
+      c.in_default-shape.not-Closing (c.in_ok-rest.ensures.found _ c.in-Some.ensures.tag);
   work = grind arith;
 }
 
