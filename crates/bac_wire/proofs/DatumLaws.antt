@@ -87,11 +87,7 @@ contents_take (suc (suc (suc (suc (suc (suc zero)))))) _ _ e = grind (arith, sam
 contents_take (suc (suc (suc (suc (suc (suc (suc zero))))))) _ _ e = chars_takes _ _ e
 contents_take (suc (suc (suc (suc (suc (suc (suc (suc zero)))))))) _ _ e = bits_takes _ _ e
 contents_take (suc (suc (suc (suc (suc (suc (suc (suc (suc zero))))))))) _ _ e = grind (arith, number_takes)
-contents_take (suc (suc (suc (suc (suc (suc (suc (suc (suc (suc zero)))))))))) _ _ e = grind (arith, exact_takes)
-contents_take (suc (suc (suc (suc (suc (suc (suc (suc (suc (suc (suc zero))))))))))) _ _ e = grind (arith, exact_takes)
-contents_take (suc (suc (suc (suc (suc (suc (suc (suc (suc (suc (suc (suc zero)))))))))))) _ _ e =
-    grind (arith, exact_takes)
-contents_take _ _ _ e = grind (arith, none-some, common_steps)
+contents_take _ _ _ e = grind (arith, exact_takes, none-some, common_steps)
 
 -- ---- a value
 

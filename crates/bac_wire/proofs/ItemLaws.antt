@@ -15,7 +15,7 @@ use Rattle.bac_wire.specs.{
   ItemReading.{behind_count, behind_closing, behind_item, behind_items, region_at},
 }
 use Rattle.bac_wire.proofs.{
-  Readers.{IsReader, found_at, take_front},
+  Readers.{Begins, IsReader, found_at, take_front},
   TagLaws.{tag_reader, bind_some},
   RegionReading.{closing_read, after_shorter, item_shorter, item_at, one_step, closed_takes, closed_again},
   RegionReading.{item_at_takes, items_take, item_again, items_again, IsClosedBy},
@@ -189,7 +189,8 @@ module _ (depth : ℕ) (octets : List ℕ) (tag : Tag) (after : List ℕ) (e : f
 
   -- as it is read
   pub item_found : (shape : Shape) (found : Option (List ℕ)) → tag.shape ≡ shape
-      → behind_item (behind_items (length octets)) depth tag shape after ≡ found → Finds (LeavesBehind depth octets) found
+      → behind_item (behind_items (length octets)) depth tag shape after ≡ found
+      → Finds (LeavesBehind depth octets) found
   item_found _ found is f =
       let read : item_at (behind_items (length octets)) depth octets ≡ found = cc in
       subst (Finds _) read (finds_by _ (item_reads (length octets) depth octets (omega arith)))
@@ -217,56 +218,47 @@ region_again _ octets region r =
     ) refl
 
 region_takes : (number : ℕ) (octets region rest : List ℕ) → region_at number octets ≡ found_at region rest
-    → (r : IsClosedRegion 32 number octets region) × (r.rest ≡ rest)
+    → Begins (SpellsClosed number) octets region rest
 unfolding region_at
-region_takes number octets region rest e =
+region_takes _ _ region rest e =
     let a = bind_some _ _ (region, rest) e in
     let b = bind_some _ _ (region, rest) a.2 in
     let parts = some_pair_parts _ _ _ _ b.2 in
     let l = items_take _ 32 _ _ a.1 in
+    let c = closed_takes _ _ _ b.1 in
     let same : l.front ≡ region = sym (take_front _ _ _ l.whole).2 ∙ parts.0 in
-    let r : IsClosedRegion 32 number octets l.front =
+    let items = subst (IsRegion 32) same l.region in
     record {
-      behind = a.0;
-      rest = b.0;
-      region = l.region;
-      whole = l.whole;
-      closed = closed_takes _ _ _ b.1;
-    } in
-    subst (λ w. (r : IsClosedRegion 32 number octets w) × (r.rest ≡ rest)) same (r, parts.1)
+      front = region ++ c.front;
+      spelled = record { closing = c.front; whole = refl; items = items; closed = c.spelled };
+      whole = grind (arith, append_assoc);
+    }
 
-abbrev closed_line : (number : ℕ) (front region rest : List ℕ) (s : SpellsClosed number front region)
-    → IsClosedRegion 32 number (front ++ rest) region
-closed_line number front region rest s =
-    let line = ap (λ (w : List ℕ). w ++ rest) s.whole ∙ append_assoc region s.closing rest in
+-- a region at the front, and its closing tag
+abbrev closed_region : (number : ℕ) (octets region rest : List ℕ) (b : Begins (SpellsClosed number) octets region rest)
+    → IsClosedRegion 32 number octets region
+closed_region _ _ _ rest b =
+    let s = b.spelled in
     record {
       behind = s.closing ++ rest;
       rest = rest;
       region = s.items;
-      whole = line;
+      whole = grind (arith, append_assoc);
       closed = record { front = s.closing; spelled = s.closed; whole = refl };
     }
 
 pub region_reader : (number : ℕ) → IsReader (SpellsClosed number) (region_at number)
 region_reader _ = record {
-  takes = λ octets region rest e.
-      let t = region_takes _ _ _ _ e in
-      let c = t.0.closed in
-      let line = t.0.whole ∙ ap (λ w. region ++ w) (c.whole ∙ ap (λ w. c.front ++ w) t.1)
-      ∙ sym (append_assoc _ _ rest) in
-      record {
-        front = region ++ c.front;
-        spelled = grind arith;
-        whole = line;
-      };
-  again = λ front region rest s. region_again _ _ _ (closed_line _ _ _ rest s);
+  takes = region_takes _;
+  again = λ front region rest s.
+      region_again _ _ _ (closed_region _ _ _ rest (record { front = front; spelled = s; whole = refl }));
 }
 
 -- where no region was found none is read
 none_read : (number : ℕ) (octets : List ℕ) (read : Option (List ℕ × List ℕ)) → region_at number octets ≡ read
     → FindsRegion 32 number octets None → None ≡ read
 none_read _ _ None e _ = refl
-none_read _ _ (Some x) e finds = absurd (none-some _ (finds.all _ (region_takes _ _ _ _ e).0))
+none_read _ _ (Some x) e finds = absurd (none-some _ (finds.all _ (closed_region _ _ _ _ (region_takes _ _ _ _ e))))
 
 pub no_region : (number : ℕ) (octets : List ℕ) → FindsRegion 32 number octets None → None ≡ region_at number octets
 no_region _ _ = none_read _ _ _ refl

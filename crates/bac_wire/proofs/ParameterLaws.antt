@@ -1,7 +1,7 @@
 -- Reading a parameter, or a value of one kind, finds what its relation says, and what is written of one is a spelling
 -- of it.
 use Rattle.std.proofs.{
-  Common.{◌≡◌, ℕ, ◌^◌, ◌<◌, List, [], ◌++◌, length, Option, Some, None, refl, sym, ap, subst, ◌∙◌, append_assoc, arith},
+  Common.{◌≡◌, ℕ, ◌^◌, ◌<◌, List, [], ◌++◌, length, Option, Some, None, refl, ap, subst, ◌∙◌, append_assoc, arith},
   lemmas.Bool.{eqb-true, eq-eqb, ltb-false, le-ltb},
   lemmas.List.{take_at, drop_at, take-append-drop, length-append, length-take-le},
   lemmas.Option.{none-some, some_pair_parts, cond_some},
@@ -22,7 +22,7 @@ use Rattle.bac_wire.specs.{
   ParameterReading.{enumerated_in, object_in, kind_at},
 }
 use Rattle.bac_wire.proofs.{
-  Readers.{reader_of, found_at, only_if, unless},
+  Readers.{Took, reader_of, found_at, only_if, unless},
   TagLaws.{tag_reader, bind_some, plain_tag_spells},
   DatumLaws.{within_again, same_identifier, within_takes, value_reader},
   PlainDatum.{count_low, count_four, count_fits},
@@ -36,7 +36,7 @@ use Rattle.bac_wire.specs.Datum as values
 counted_takes : (number : ℕ) (octets : List ℕ) (tag : Tag) (shape : Shape) (after contents rest : List ℕ)
     → tag_at octets ≡ found_at tag after → tag.shape ≡ shape
     → counted_of number tag shape after ≡ found_at contents rest
-    → (front : List ℕ) × SpellsContext number front contents × (octets ≡ front ++ rest)
+    → Took (SpellsContext number) octets contents rest
 counted_takes number _ tag (Context n) after contents rest e is f =
     let same = only_if _ f in
     let room = unless _ same.1 in
@@ -59,7 +59,7 @@ counted_again : (number : ℕ) (contents rest : List ℕ)
 counted_again = grind (arith, length-append, le-ltb, take_at, drop_at)
 
 context_takes : (number : ℕ) (octets contents rest : List ℕ) → context_at number octets ≡ found_at contents rest
-    → (front : List ℕ) × SpellsContext number front contents × (octets ≡ front ++ rest)
+    → Took (SpellsContext number) octets contents rest
 unfolding context_at
 context_takes = grind (arith, counted_takes)
 
@@ -107,7 +107,7 @@ opening_takes : (number : ℕ) (tag : Tag) (shape : Shape) (after rest : List �
 opening_takes = grind arith
 
 enclosed_takes : (number : ℕ) (octets region rest : List ℕ) → enclosed_at number octets ≡ found_at region rest
-    → (front : List ℕ) × SpellsEnclosed number front region × (octets ≡ front ++ rest)
+    → Took (SpellsEnclosed number) octets region rest
 unfolding enclosed_at behind_opening
 enclosed_takes _ _ region rest e =
     let a = bind_some _ _ (region, rest) e in
@@ -115,20 +115,15 @@ enclosed_takes _ _ region rest e =
     let same = opening_takes _ o.0.0 _ _ a.0 o.2 in
     let t = tag_reader.takes _ _ _ o.1 in
     let b = (region_reader _).takes a.0 _ _ a.2 in
-    let opened = subst (SpellsTag _) (tag_parts _ _ _ same.0 same.1) t.spelled in
-    let line = t.whole ∙ ap (λ (w : List ℕ). t.front ++ w) (same.2 ∙ b.whole) ∙ sym (append_assoc _ _ rest) in (
+    let opened = subst (SpellsTag _) (tag_parts _ _ _ same.0 same.1) t.spelled in (
       t.front ++ b.front,
       record {
         closing = b.spelled.closing;
-        opened = record {
-          front = t.front;
-          spelled = opened;
-          whole = ap (λ (w : List ℕ). t.front ++ w) b.spelled.whole;
-        };
+        opened = record { front = t.front; spelled = opened; whole = grind arith };
         parts = b.spelled.items;
         closed = b.spelled.closed;
       },
-      line,
+      grind (arith, append_assoc),
     )
 
 pub enclosed_reader : (number : ℕ) → IsReader (SpellsEnclosed number) (enclosed_at number)

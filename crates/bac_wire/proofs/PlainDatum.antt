@@ -1,7 +1,7 @@
 -- The shortest spelling of a value is a spelling.
 use Rattle.std.proofs.{
-  Common.{◌≡◌, ℕ, ℤ, pos, negsuc, suc, slice_index_or, ◌+◌, ◌-◌, ◌*◌, ◌^◌, ◌%◌, ◌<◌, ◌≤◌, zero, Bool, true, false},
-  Common.{cond, ltb, List, [], ◌∷◌, ◌++◌, length, take, refl, sym, ap, ◌∙◌, arith, unwrap_or, Option, Some, None},
+  Common.{◌≡◌, ℕ, ℤ, pos, negsuc, suc, slice_index_or, ◌+◌, ◌-◌, ◌*◌, ◌^◌, ◌%◌, ◌<◌, ◌≤◌, zero},
+  Common.{cond, ltb, List, [], ◌∷◌, ◌++◌, length, take, sym, ap, ◌∙◌, arith},
   lemmas.{Int.ints, Bool.{lt-ltb, le-ltb}, Grind.common_steps, List.{append-nil, take_at}},
 }
 use Rattle.std.specs.{Prelude.FitsSigned, Int.w64}
@@ -19,25 +19,8 @@ count_by_cases n =
     cond (ltb n (256 ^ 1)) 1 (cond (ltb n (256 ^ 2)) 2 (cond (ltb n (256 ^ 3)) 3 (cond (ltb n (256 ^ 4)) 4
     (cond (ltb n (256 ^ 5)) 5 (cond (ltb n (256 ^ 6)) 6 (cond (ltb n (256 ^ 7)) 7 8))))))
 
--- a count that was found, or eight
-abbrev pub or_eight : Option ℕ → ℕ
-or_eight found = unwrap_or found 8
-
 pub count_is : (n : ℕ) → octet_count n ≡ count_by_cases n
-count_is n = go _ _ _ _ _ _ _
-  where
-    go : (a b c d e f g : Bool)
-        → or_eight (cond a (Some 1) (cond b (Some 2) (cond c (Some 3) (cond d (Some 4) (cond e (Some 5)
-        (cond f (Some 6) (cond g (Some 7) None)))))))
-        ≡ cond a 1 (cond b 2 (cond c 3 (cond d 4 (cond e 5 (cond f 6 (cond g 7 8))))))
-    go true b c d e f g = refl
-    go false true c d e f g = refl
-    go false false true d e f g = refl
-    go false false false true e f g = refl
-    go false false false false true f g = refl
-    go false false false false false true g = refl
-    go false false false false false false true = refl
-    go false false false false false false false = refl
+count_is = grind arith
 
 pub count_low : (n : ℕ) → 1 ≤ octet_count n
 count_low n = grind (arith, count_is, common_steps)
@@ -66,7 +49,7 @@ bytes_taken k n _ = append-nil _ ∙ take_at _ _ k (length-bytes_high_first k n)
 -- ---- two's complement
 
 not_negative : (k n : ℕ) → n < 2 ^ (8 * k - 1) → n % 2 ^ (8 * k) ≡ n → twos_complement k (n % 2 ^ (8 * k)) ≡ pos n
-not_negative k n low same = rw (same, lt-ltb n _ low) refl
+not_negative = grind (arith, lt-ltb)
 
 negative : (k n x : ℕ) → x ≡ 2 ^ (8 * k) - suc n → 2 ^ (8 * k - 1) ≤ x → suc n ≤ 2 ^ (8 * k)
     → twos_complement k x ≡ negsuc n

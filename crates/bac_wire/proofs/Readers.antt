@@ -52,10 +52,6 @@ pub unless : {A : Type 0} (b : Bool) {x : Option A} {y : A} → cond b None x �
 unless true e = absurd cc
 unless false e = (refl, e)
 
-pub begins : {A : Type 0} (Spells : List ℕ → A → Type 0) (at : List ℕ → Option (A × List ℕ)) → IsReader Spells at
-    → (octets : List ℕ) (x : A) (rest : List ℕ) → at octets ≡ found_at x rest → Begins Spells octets x rest
-begins Spells at reader _ x _ = reader.takes _ x _
-
 pub begins_read : {A : Type 0} (Spells : List ℕ → A → Type 0) (at : List ℕ → Option (A × List ℕ)) → IsReader Spells at
     → (octets : List ℕ) (x : A) (rest : List ℕ) → Begins Spells octets x rest → at octets ≡ found_at x rest
 begins_read Spells at reader _ x _ b = ap at b.whole ∙ reader.again _ x _ b.spelled

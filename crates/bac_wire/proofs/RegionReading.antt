@@ -24,15 +24,9 @@ unfolding tag_at
 no_octets = refl
 
 -- a tag has an octet at least
-pub tag_shorter : (spelling others front rest : List ℕ) (tag : Tag) → SpellsTag spelling tag
-    → front ≡ spelling ++ others → length rest < length (front ++ rest)
-tag_shorter = grind (arith, length-append)
-
 pub after_shorter : (octets : List ℕ) (tag : Tag) (after : List ℕ) → tag_at octets ≡ found_at tag after
     → length after < length octets
-after_shorter _ _ after e =
-    let taken = tag_reader.takes _ _ _ e in
-    omega (arith, ap length taken.whole, length-append taken.front after, ap length taken.spelled.whole)
+after_shorter _ tag _ e = let taken = tag_reader.takes _ tag _ e in grind (arith, common_steps)
 
 pub tag_parts : (tag : Tag) (number : ℕ) (shape : Shape) → tag.shape ≡ shape → tag.number ≡ number
     → tag ≡ record { number = number; shape = shape }

@@ -1,13 +1,13 @@
 -- No spelling of a value has fewer octets than the plain one.
 use Rattle.std.proofs.{
-  Common.{◌≡◌, ℕ, ℤ, zero, suc, ◌+◌, ◌-◌, ◌*◌, ◌^◌, ◌<◌, ◌≤◌, List, [], ◌∷◌, ◌++◌, length, ap, subst, arith},
+  Common.{◌≡◌, ℕ, ℤ, zero, suc, ◌+◌, ◌-◌, ◌*◌, ◌^◌, ◌<◌, ◌≤◌, List, [], ◌∷◌, ◌++◌, length, subst, arith},
   lemmas.{Grind.common_steps, Bool.{le-ltb}, List.length-append},
 }
 use Rattle.byteorder.{proofs.Bytes.pow256, specs.Endian.{big_number, big_bytes, twos_complement}}
 use Rattle.byteorder.specs.Numbers.{big_from-lt, length-bytes_high_first}
 use Rattle.bac_wire.{
   specs.{declared.tag.Shape.TheVariants.App, Front.{AreOctets, IsShortest}, Tag.plain_tag},
-  specs.Datum.{Datum, boolean, unsigned, signed, enumerated, tag_number, StandsFor, shape_number, tag_before, Spells},
+  specs.Datum.{Datum, boolean, tag_number, StandsFor, shape_number, Spells},
   specs.Datum.{octet_count, signed_count, plain_contents, plain, InRange, IsDatum},
   proofs.{TagLaws.{tag_least, behind}, PlainDatum.{count_by_cases, count_is, cases_high, plain_spells}},
 }
@@ -38,11 +38,7 @@ unsigned_least contents n fit low e =
 
 contents_least : (contents : List ℕ) (value : Datum) → AreOctets contents → StandsFor contents value
     → length (plain_contents value) ≤ length contents
-contents_least _ (unsigned n) fit h = unsigned_least _ n fit h.0 h.2
-contents_least _ (signed z) fit h =
-    rw (length-bytes_high_first _ _) (signed_count_least _ _ z h.0 (big_from-lt 0 _ _ fit) h.2)
-contents_least _ (enumerated n) fit h = unsigned_least _ n fit h.0 h.2
-contents_least _ _ fit h = grind arith
+contents_least = grind (arith, unsigned_least, length-bytes_high_first, signed_count_least, big_from-lt)
 
 -- ---- the tag before them
 
@@ -72,12 +68,7 @@ value_least _ value fit s =
     let tag = tag_least _ _ (ahead _ _ fits) t.spelled in
     let count = shape_number_grows value _ _ contents in
     let grows = tag_grows (tag_number value) _ _ count in
-    omega (
-      arith,
-      ap length t.whole,
-      length-append t.front s.contents,
-      length-append (plain_tag (tag_before value (length (plain_contents value)))) (plain_contents value),
-    )
+    grind (arith, length-append)
 
 pub plain_shortest : (value : Datum) → IsDatum value → IsShortest Spells (plain value) value
 plain_shortest _ h = grind (arith, plain_spells, value_least)

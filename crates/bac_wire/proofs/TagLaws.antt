@@ -159,9 +159,7 @@ number_least = grind arith
 
 length_least : (low : ℕ) (octets : List ℕ) (n : ℕ) → AreOctets octets → SpellsLength low octets n
     → length (plain_length n) ≤ length octets
-length_least _ (a ∷ b ∷ c ∷ []) n fit s = let first = fit 1 in let second = fit 2 in grind arith
-length_least _ (a ∷ b ∷ c ∷ d ∷ e ∷ []) n fit s = grind arith
-length_least _ _ n fit s = grind arith
+length_least _ octets n fit s = let first = fit 1 in let second = fit 2 in grind arith
 
 shape_least : (low : ℕ) (octets : List ℕ) (shape : Shape) → AreOctets octets → SpellsShape low octets shape
     → length (plain_length (count_of shape)) ≤ length octets

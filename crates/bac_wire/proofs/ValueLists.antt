@@ -1,20 +1,16 @@
 -- The values that a region is, from its front.
 use Rattle.std.proofs.Common.{◌≡◌, ℕ, zero, suc, ◌+◌, ◌<◌, ◌≤◌, List, [], ◌∷◌, length, Option, Some, None, refl, sym}
-use Rattle.std.proofs.{Common.{◌∙◌, ap, subst, arith}, lemmas.Bool.Decides.nat_tests}
+use Rattle.std.proofs.{Common.{◌∙◌, ap, arith}, lemmas.{Bool.Decides.nat_tests, Grind.common_steps}}
 use Rattle.std.specs.Prelude.{◌↔◌, option_map}
 use Rattle.bac_wire.{
   specs.{Datum.{Datum, Spells}, Front.SpellsAll, Steps.◌>>=◌, DatumReading.{value_at, values_within, values_of}},
-  proofs.{DatumLaws.value_reader, RegionReading.tag_shorter, Readers.{begins, begins_read}},
+  proofs.{TagLaws.bind_some, DatumLaws.value_reader, Readers.begins_read},
 }
 
 -- A value has an octet at least.
 pub value-shorter : (octets : List ℕ) (value : Datum) (rest : List ℕ) → value_at octets ≡ Some (value, rest)
     → length rest < length octets
-value-shorter octets value rest e =
-    let b = begins Spells value_at value_reader octets value rest e in
-    let t = b.spelled.tagged in
-    subst (λ (w : List ℕ). length rest < length w) (sym b.whole)
-    (tag_shorter t.front b.spelled.contents b.front rest _ t.spelled t.whole)
+value-shorter _ value _ e = let taken = value_reader.takes _ value _ e in grind (arith, common_steps)
 
 -- The values of the octets behind the first, after it.
 abbrev then_others : ℕ → Option (Datum × List ℕ) → Option (List Datum)
@@ -24,12 +20,9 @@ then_others count found = found >>= (λ first. values_within count first.1 >>= (
 enough : (count other : ℕ) (octets : List ℕ) → length octets ≤ count → length octets ≤ other
     → values_within count octets ≡ values_within other octets
 unfolding values_within
-enough zero zero [] h k = refl
-enough zero (suc n) [] h k = refl
-enough (suc m) zero [] h k = refl
+enough zero _ _ h k = grind arith
+enough (suc m) zero _ h k = grind arith
 enough (suc m) (suc n) [] h k = refl
-enough zero n (x ∷ xs) h k = absurd (omega arith)
-enough (suc m) zero (x ∷ xs) h k = absurd (omega arith)
 enough (suc m) (suc n) (x ∷ xs) h k = go (λ rest. enough m n rest) (value_at (x ∷ xs)) refl
   where
     go : ((rest : List ℕ) → length rest ≤ m → length rest ≤ n → values_within m rest ≡ values_within n rest) →
@@ -96,23 +89,14 @@ pub spelled : (values : List Datum) (octets : List ℕ) → values_of octets ≡
 unfolding values_within
 spelled [] octets e = values-empty octets e
 spelled (value ∷ others) [] e = absurd (let bad : [] ≡ value ∷ others = cc in cc)
-spelled (value ∷ others) (x ∷ xs) e = go (λ rest. spelled others rest) (value_at (x ∷ xs)) refl
+spelled (value ∷ others) (x ∷ xs) e =
+    let a = bind_some _ _ (value ∷ others) e in
+    let both = parts a.0.0 (values_of a.0.1) (sym (values-first _ _ _ a.1) ∙ e) in
+    (a.0.1, value_reader.takes _ value _ (a.1 ∙ ap (λ (v : Datum). Some (v, a.0.1)) both.0), spelled others _ both.1)
   where
     parts : (first : Datum) (found : Option (List Datum))
         → option_map (λ more. first ∷ more) found ≡ Some (value ∷ others) → (first ≡ value) × (found ≡ Some others)
     parts first found h = grind arith
-
-    go : ((rest : List ℕ) → values_of rest ≡ Some others → SpellsAll Spells rest others) →
-        (found : Option (Datum × List ℕ)) → value_at (x ∷ xs) ≡ found → SpellsAll Spells (x ∷ xs) (value ∷ others)
-    go after None f = grind arith
-    go after (Some first) f =
-        let found : value_at (x ∷ xs) ≡ Some (first.0, first.1) = f in
-        let both = parts first.0 (values_of first.1) (sym (values-first (x ∷ xs) first.0 first.1 found) ∙ e) in (
-          first.1,
-          begins Spells value_at value_reader (x ∷ xs) value first.1
-              (found ∙ ap (λ (v : Datum). Some (v, first.1)) both.0),
-          after first.1 both.1,
-        )
 
 -- what octets spell, their values are
 pub read_all : (values : List Datum) (octets : List ℕ) → SpellsAll Spells octets values → values_of octets ≡ Some values
