@@ -6,19 +6,6 @@ set -eu
 program=$1
 port=$2
 
-# Shows a command, runs it, and shows its status.
-run() {
-    echo "\$ bactool $*"
-    status=0
-    "$program" "$@" || status=$?
-    echo "status $status"
-}
-
-# A line on what comes next.
-say() {
-    printf '\n# %s\n' "$1"
-}
-
 echo '# A small device with eleven points; it ends after eight datagrams'
 echo "\$ bactool bacdev 1234 --port $port --count 8 &"
 timeout 60 "$program" bacdev 1234 --port "$port" --count 8 &
@@ -29,27 +16,35 @@ for _ in $(seq 100); do
     sleep 0.1
 done
 
-say 'Which devices are there? Instance, address, greatest APDU, segmentation (3 is none), vendor'
-run bacwi --mac "127.0.0.1:$port" --apdu-timeout 500
-
-say 'The present value (85) of analog input (0) 5, the outdoor temperature: the octets of the Real 72.3'
-run bacrp 1234 0 5 85 --mac "127.0.0.1:$port"
-
-say 'Command analog output (1) 1, a valve, to 20.0 at priority 8'
-run bacwp 1234 1 1 85 8 -1 4 41a00000 --mac "127.0.0.1:$port"
-
-say 'Its present value, and its priority array (87)'
-run bacrp 1234 1 1 85 --mac "127.0.0.1:$port"
-run bacrp 1234 1 1 87 --mac "127.0.0.1:$port"
-
-say 'Relinquish priority 8, and the valve is back at its default'
-run bacwp 1234 1 1 85 8 -1 0 null --mac "127.0.0.1:$port"
-run bacrp 1234 1 1 85 --mac "127.0.0.1:$port"
-
-say 'There is no analog input 99: error class 1 (object), code 31 (unknown object)'
-run bacrp 1234 0 99 85 --mac "127.0.0.1:$port"
-
-say 'That was the eighth datagram, and the device has ended'
+# Shows each remark, and runs each command.
+while read -r line; do
+    case $line in
+        '#'*) printf '\n%s\n' "$line" ;;
+        *)
+            echo "\$ bactool $line"
+            status=0
+            # shellcheck disable=SC2086  # several words
+            "$program" $line </dev/null || status=$?
+            echo "status $status"
+            ;;
+    esac
+done <<EOF
+# Which devices are there? Instance, address, greatest APDU, segmentation (3 is none), vendor
+bacwi --mac 127.0.0.1:$port --apdu-timeout 500
+# The present value (85) of analog input (0) 5, the outdoor temperature: the octets of the Real 72.3
+bacrp 1234 0 5 85 --mac 127.0.0.1:$port
+# Command analog output (1) 1, a valve, to 20.0 at priority 8
+bacwp 1234 1 1 85 8 -1 4 41a00000 --mac 127.0.0.1:$port
+# Its present value, and its priority array (87)
+bacrp 1234 1 1 85 --mac 127.0.0.1:$port
+bacrp 1234 1 1 87 --mac 127.0.0.1:$port
+# Relinquish priority 8, and the valve is back at its default
+bacwp 1234 1 1 85 8 -1 0 null --mac 127.0.0.1:$port
+bacrp 1234 1 1 85 --mac 127.0.0.1:$port
+# There is no analog input 99: error class 1 (object), code 31 (unknown object)
+bacrp 1234 0 99 85 --mac 127.0.0.1:$port
+# That was the eighth datagram, and the device has ended
+EOF
 echo '$ wait'
 status=0
 wait $device || status=$?
