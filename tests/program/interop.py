@@ -25,18 +25,12 @@ from bacsite.pcap import Packet
 
 RAW = 101  # the link type of packets that begin with IP
 ETH_P_IP = 0x0800
-WHO_IS, READ, WRITE = "Unconfirmed-REQ who-Is", "readProperty[1]", "writeProperty[1]"
-VALVE = f"Confirmed-REQ {WRITE} analog-output,1 present-value"
-
 
 def sections():
-    """The rows of each section of interop.txt."""
+    """The head and the rows of each section of interop.txt."""
     for part in re.split(r"(?m)^= ", text_of("tests/program/interop.txt"))[1:]:
-        name, *lines = part.splitlines()
-        yield name, [line.split(" | ") for line in lines if line and line[0] != "#"]
-
-
-ASKED = dict(sections())
+        head, *lines = part.splitlines()
+        yield head, [line.split(" | ") for line in lines if line and line[0] != "#"]
 
 
 def output_of(words, status=(0,)):
@@ -74,45 +68,24 @@ class Recorded:
         self.wanted += zip(found, wanted)
         return found
 
-    def run(self, tool, words, printed, *wanted):
-        words = [*words.split(), "--mac", self.mac, *(["--apdu-timeout", "300"] if tool == "bacwi" else [])]
-        came = output_of([PROGRAM, tool, *words], (0, 1)).rstrip("\n").replace(self.mac, "PEER")
-        same(f"{tool} {' '.join(words)}", came, printed)
-        self.expect(*wanted)
+    def run(self, words, printed, *wanted):
+        came = output_of([PROGRAM, *words.split(), "--mac", self.mac], (0, 1)).rstrip("\n").replace(self.mac, "PEER")
+        same(words, came, printed)
+        self.expect(*(texts.split(" & ") for texts in wanted))
 
-    def send(self, octets, reply, name):
+    def send(self, octets, _, reply, name):
         with local_socket() as client:
             client.settimeout(2)
             client.sendto(bytes.fromhex(octets), ("127.0.0.1", self.port))
             same(octets, client.recv(2048).hex(), reply)
         self.by_hand.update(self.expect([], [name])[:1])
 
-    def ask_everything(self):
-        found = ["Unconfirmed-REQ i-Am device,1234"]
-        for limits in ("", " 1000 2000"):
-            self.run("bacwi", limits, "1234 PEER 1476 3 260", [WHO_IS + limits], found)
-        self.run("bacwi", "2000 3000", "", [WHO_IS + " 2000 3000"])
-        asked = [VALVE, "Present Value (real): 20"]
-        self.run("bacwp", "1234 1 1 85 8 -1 4 41a00000", "ok", asked, [f"Simple-ACK {WRITE}"])
-        for words, printed, name in ASKED["reads"]:
-            asked, answered = [f"Confirmed-REQ {READ} {name}"], [f"Complex-ACK {READ} {name}"]
-            self.run("bacrp", f"1234 {words}", printed, asked, answered)
-        for words, printed, error_class, code in ASKED["refused"]:
-            reply = [f"Error {READ}", f"Error Class: {error_class}", f"Error Code: {code}"]
-            self.run("bacrp", f"1234 {words}", printed, [f"Confirmed-REQ {READ}"], reply)
-        for words, printed, value in ASKED["writes"]:
-            refused = [f"Error {WRITE}", "Error Code: invalid-data-type"]
-            reply = [f"Simple-ACK {WRITE}"] if printed == "ok" else refused
-            self.run("bacwp", f"1234 1 1 85 8 -1 {words}", printed, [VALVE, value], reply)
-        for octets, _, reply, name in ASKED["others"]:
-            self.send(octets, reply, name)
-
-    def nmap(self):
+    def nmap(self, wanted):
         """The places of what nmap sends, and of what it gets."""
         words = ["nmap", "-sU", "-Pn", "-n", "-p", str(self.port), "--script", "+bacnet-info", "127.0.0.1"]
         found = dict(re.findall(r"(?m)^\|[ _]+([^:\n]+): (.+)$", output_of(words)))
         found.pop("bacnet-info", None)
-        same("nmap", found, dict(ASKED["nmap"]))
+        same("nmap", found, wanted)
         return self.look()
 
 
@@ -148,15 +121,19 @@ def main():
     install_what_is_missing()
     with device(stderr=subprocess.DEVNULL) as (_, port):
         recorded = Recorded(port)
-        recorded.ask_everything()
+        *asked, (_, by_hand), (_, of_nmap) = sections()
+        for words in (head.format(*row).split(" | ") for head, rows in asked for row in rows):
+            recorded.run(*words)
+        for row in by_hand:
+            recorded.send(*row)
         compare_with_example(recorded)
-        of_nmap = recorded.nmap()
+        by_nmap = recorded.nmap(dict(of_nmap))
     texts, bad = read_by_tshark(recorded)
     same("datagrams that tshark lists", len(texts), len(recorded.datagrams))
     sent = {at for at, it in enumerate(recorded.datagrams) if it.sender != recorded.mac}
-    foreign = recorded.by_hand | sent.intersection(of_nmap)
+    foreign = recorded.by_hand | sent.intersection(by_nmap)
     same("malformed", bad - foreign, set())
-    asked_place = [at for at in of_nmap if re.match(r".* location *\n", texts[at])]
+    asked_place = [at for at in by_nmap if re.match(r".* location *\n", texts[at])]
     same("nmap's questions for a location, which the device hasn't", len(asked_place), 1)
     recorded.wanted += [(at + 1, ["Error readProperty", "Error Code: unknown-property (32)"]) for at in asked_place]
     for at, wanted in recorded.wanted:
