@@ -9,7 +9,6 @@ all; with --write what comes is written there.
 
 BACTOOL names another program than the repository's own, and ROUNDS how often two servers are compared.
 """
-import contextlib
 import datetime
 import os
 import re
@@ -21,12 +20,11 @@ import tempfile
 import time
 
 sys.path.insert(0, os.path.dirname(__file__) + "/../tests")
-from tree import PROGRAM, TOP, all_crates, device, free_port, processors, resident, server, text_of
+from tree import PROGRAM, TOP, all_crates, device, processors, resident, text_of
 
 ROUNDS = int(os.environ.get("ROUNDS", 15))
 REPLIES, MANY_REPLIES, RUNS, LINES = 20000, 60000, 200, 10000000
 UDP = f"{TOP}/out/udp"
-ECHO, BACDEV = [UDP, "echo"], [PROGRAM, "bacdev", "1234", "--port"]
 BACRP = ["bacrp", "1234", "0", "5", "85", "--mac"]
 CALLGRIND = ["valgrind", "--tool=callgrind", "--callgrind-out-file=/dev/null", PROGRAM]
 MIXED = [
@@ -55,14 +53,6 @@ def wide(name, one, many):
 
 # ---- over 127.0.0.1 ----
 
-@contextlib.contextmanager
-def serving(*words):
-    """A server at a free port, which stands behind its words: its process, and the port."""
-    port = str(free_port())
-    with server(port, *words, port) as process:
-        yield process, port
-
-
 def load(port, outstanding, count):
     """The replies a second of a server, with so many requests on their way."""
     return int(subprocess.check_output([UDP, "load", str(port), str(outstanding), str(count)]))
@@ -75,12 +65,12 @@ def spread(numbers, form="{}"):
 
 
 def servers():
-    rates = {(outstanding, *words): [] for outstanding in (1, 32) for words in (ECHO, BACDEV)}
+    rates = {(program, outstanding): [] for outstanding in (1, 32) for program in (UDP, PROGRAM)}
     for _ in range(ROUNDS):
-        for (outstanding, *words), found in rates.items():
-            with serving(*words) as (_, port):
+        for (program, outstanding), found in rates.items():
+            with device(program=[program]) as (_, port):
                 found.append(load(port, outstanding, REPLIES))
-    echoes, ours = ([rates[(outstanding, *words)] for outstanding in (1, 32)] for words in (ECHO, BACDEV))
+    echoes, ours = ([rates[program, outstanding] for outstanding in (1, 32)] for program in (UDP, PROGRAM))
     yield wide(f"replies a second, {ROUNDS} x {REPLIES}", "one outstanding", "32 outstanding")
     yield wide("bare echo server", *map(spread, echoes))
     yield wide("bacdev, a ReadProperty", *map(spread, ours))
@@ -95,8 +85,8 @@ def shares():
     if not shutil.which("perf"):
         return
     kept = f"{TOP}/out/perf"
-    record = ["perf", "record", "-q", "-e", "cpu-clock", "-o", kept, PROGRAM, "bacdev", "1234"]
-    with serving(*record, "--count", str(MANY_REPLIES), "--port") as (process, port):
+    record = ["perf", "record", "-q", "-e", "cpu-clock", "-o", kept, PROGRAM]
+    with device("--count", str(MANY_REPLIES), program=record) as (process, port):
         load(port, 32, MANY_REPLIES)
         process.wait()
     words = ["perf", "report", "-i", kept, "--sort", "dso", "--stdio"]
@@ -108,11 +98,11 @@ def shares():
 def clients():
     """The median and the least of the microseconds that a command takes, run one after the other."""
     yield row(f"\nmicroseconds a run, {RUNS} runs", "median", "least")
-    with serving(*BACDEV) as (_, port):
+    with device() as (_, port):
         for name, *words in [
             ("true, a process alone", "true"),
             ("bactool --help, with its words", PROGRAM, "--help"),
-            ("bare client, one question", UDP, "load", port, "1", "1"),
+            ("bare client, one question", UDP, "load", str(port), "1", "1"),
             ("bacrp, one value", PROGRAM, *BACRP, f"127.0.0.1:{port}"),
         ]:
             took, silently = [], [(os.POSIX_SPAWN_OPEN, 1, "/dev/null", os.O_WRONLY, 0)]
@@ -127,7 +117,7 @@ def clients():
 
 def memory():
     yield row("\nresident memory, kilobytes", "early", "late", "most")
-    with serving(*BACDEV) as (process, port):
+    with device() as (process, port):
         load(port, 32, 1000)
         early = resident(process.pid)
         load(port, 32, MANY_REPLIES)
@@ -180,7 +170,7 @@ def instructions():
     few, many = (of_a_run("bactrace", given="".join(mixed(count))) for count in (6000, 66000))
     yield f"{(many - few) / 60000:9.0f} instructions for a line of a script of mixed lines"
     yield f"{(of_replies(2200) - of_replies(200)) / 2000:9.0f} for a ReadProperty that bacdev answers"
-    with serving(*BACDEV) as (_, port):
+    with device() as (_, port):
         yield f"{of_a_run(*BACRP, f'127.0.0.1:{port}'):9} for a run of bacrp"
     yield f"{of_a_run('--help'):9} for a run that prints the help"
 

@@ -1,6 +1,7 @@
 /* The yardsticks of the device and of its clients: plain programs over UDP on 127.0.0.1, as measure.py calls them.
  *
- * udp echo PORT: sends each datagram back to where it came from. As bacdev, it listens on all addresses.
+ * udp bacdev 1234 --port PORT: sends each datagram back to where it came from. It has bacdev's words, and as that does
+ *     it listens on all addresses.
  * udp load PORT OUTSTANDING COUNT: asks a server for one property, COUNT times, and prints how many requests it answers
  *     a second. OUTSTANDING are on their way at a time, and are answered in their order. */
 #include <arpa/inet.h>
@@ -56,12 +57,11 @@ static void load(int client, long outstanding, long count)
 
 int main(int count, char **words)
 {
-    int is_echo = count == 3 && strcmp(words[1], "echo") == 0;
-    if (!is_echo && (count != 5 || strcmp(words[1], "load") != 0))
-        errx(2, "usage: udp echo PORT, or udp load PORT OUTSTANDING COUNT");
-    struct sockaddr_in place = { .sin_family = AF_INET, .sin_port = htons(atoi(words[2])) };
+    if (count != 5)
+        errx(2, "usage: udp bacdev 1234 --port PORT, or udp load PORT OUTSTANDING COUNT");
+    int is_echo = strcmp(words[1], "bacdev") == 0, made = socket(AF_INET, SOCK_DGRAM, 0);
+    struct sockaddr_in place = { .sin_family = AF_INET, .sin_port = htons(atoi(words[is_echo ? 4 : 2])) };
     struct timeval wait = { .tv_sec = 10 };
-    int made = socket(AF_INET, SOCK_DGRAM, 0);
     place.sin_addr.s_addr = htonl(is_echo ? INADDR_ANY : INADDR_LOOPBACK);
     if (setsockopt(made, SOL_SOCKET, SO_RCVTIMEO, &wait, sizeof wait) != 0
         || (is_echo ? bind : connect)(made, (struct sockaddr *)&place, sizeof place) != 0)
