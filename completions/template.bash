@@ -1,21 +1,21 @@
 # Completion of @program@ for bash, which completions/make.py made.
 
 _@program@() {
-    local current tool options word at=0 value=none ended=no kind repeats
-    local -a before kinds
+    local current tool word at=0 ended=no
+    local -a before kinds repeats options value offered
     # Words by spaces alone: bash itself would split addresses at their colon.
     read -ra before <<<"${COMP_LINE:0:COMP_POINT}"
     [[ ${COMP_LINE:0:COMP_POINT} == *[[:space:]] ]] && before+=("")
     current=${before[-1]}
     before=("${before[@]:0:${#before[@]}-1}")
     @walk@
-    COMPREPLY=()
-    case $kind in
-        OPTION) COMPREPLY=($(compgen -W "$options" -- "$current")) ;;
+    case $value in
+        OPTION) offered=("${options[@]}") ;;
         FILE) compopt -o default 2>/dev/null ;;
         FOLDER) compopt -o dirnames 2>/dev/null ;;
         @kinds@
     esac
+    COMPREPLY=($(compgen -W "${offered[*]}" -- "$current"))
 }
 
 complete -F _@program@ @names@

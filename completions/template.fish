@@ -1,7 +1,8 @@
 # Completion of @program@ for fish, which completions/make.py made.
 
-# The tool that a line is of, and the kind of the word at the cursor; none behind an option that has a value.
-function __@program@_line
+# What may stand at the cursor, behind the words before it.
+function __@program@_words
+    set -l current (commandline -ct)
     set -l words (commandline -opc)
     set -l tool (string replace -r '.*/' '' -- $words[1])
     set -e words[1]
@@ -10,42 +11,46 @@ function __@program@_line
         set -e words[1]
     end
     set -l kinds
-    set -l repeats 0
-    switch $tool
+    set -l options
+    set -l repeats
+    switch "$tool"
         @tools@
     end
     set -l at 1
-    set -l value no
+    set -l value
     set -l ended no
     for word in $words
-        if test $value = yes
-            set value no
-        else if test $ended = no; and test "x$word" = x--
-            set ended yes
-        else if test $ended = no; and contains -- "$tool $word" @values@
-            set value yes
-        else if test $ended = yes; or not string match -q -- '--*' $word
-            set at (math $at + 1)
+        if test -n "$value"
+            set value
+            continue
+        end
+        switch "$ended $tool $word"
+            case "no $tool --"
+                set ended yes
+            @values@
+            case "no $tool --*"
+            case '*'
+                set at (math $at + 1)
         end
     end
-    if test $repeats = 1 -a $at -gt (count $kinds)
+    if test "$repeats" = 1 -a $at -gt (count $kinds)
         set at (math (count $kinds) - 1 + "($at - $(count $kinds) - 1)" % 2)
     end
-    test $value = yes; and set kinds
-    echo $tool $kinds[$at]
-end
-
-function __@program@_is
-    contains -- (string split ' ' (__@program@_line))[1] $argv
-end
-
-function __@program@_wants
-    test "$(string split ' ' (__@program@_line))[2]" = $argv[1]
+    test -n "$value"; or set value $kinds[$at]
+    string match -q -- '-*' "$current"; and test $ended = no; and set value OPTION
+    set -l offered
+    switch "$value"
+        case OPTION
+            set offered $options
+        case FILE
+            __fish_complete_path "$current"
+        case FOLDER
+            __fish_complete_directories "$current"
+        @kinds@
+    end
+    printf '%s\n' $offered
 end
 
 for name in @names@
-    complete -c $name -f
-    complete -c $name -n '__@program@_wants FILE' -F
-    @options@
-    @kinds@
+    complete -c $name -f -k -a '(__@program@_words)'
 end

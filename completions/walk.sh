@@ -9,21 +9,20 @@ case $tool in
     @tools@
 esac
 for word in "${before[@]}"; do
-    if [[ $value != none ]]; then
-        value=none
-    elif [[ $ended == no && $word == -- ]]; then
-        ended=yes
-    else
-        [[ $ended == no ]] && case "$tool $word" in
-            @values@
-        esac
-        [[ $value == none && ($ended == yes || $word != --*) ]] && ((at += 1))
+    if [[ -n $value ]]; then
+        value=()
+        continue
     fi
+    case "$ended $tool $word" in
+        "no $tool --") ended=yes ;;
+        @values@
+        "no $tool --"*) ;;
+        *) ((at += 1)) ;;
+    esac
 done
-kind=$value
-if [[ $value == none && $ended == no && $current == -* ]]; then
-    kind=OPTION
-elif [[ $value == none ]]; then
+if [[ -z $value && $ended == no && $current == -* ]]; then
+    value=(OPTION)
+elif [[ -z $value ]]; then
     ((at < ${#kinds[@]} || !repeats)) || ((at = ${#kinds[@]} - 2 + (at - ${#kinds[@]}) % 2))
-    kind=${kinds[@]:$at:1}
+    value=("${kinds[@]:$at:1}")
 fi
