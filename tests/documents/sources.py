@@ -3,8 +3,8 @@
 A definition of specs/ says its signature, its cases, and the parameters of the module round it. A call says its clauses
 and its signature; a trait the same of its methods, and its ghost members; a type of src/ its fields and what its
 `impl Model` shows, and apart from that what its invariant keeps. A name is what the file defines or brings in. The
-prover refuses a file that says any other, so a name that is neither is a variable; so is one that is bound where it
-stands: before a colon, behind a λ, in the pattern of a case.
+prover refuses a file that says any other, so a name that is neither is a variable; so is a small one that is bound:
+before a colon, behind a λ or a `let`, in the pattern of a case.
 
 The layout is rt fmt's: what belongs to a line is set in further. Lines are counted without comments, blank lines and
 attributes.
@@ -32,12 +32,9 @@ NO_CODE = {
     "antt": re.compile(r"(?m)(?:^| )--(?: .*)?$"),
 }
 TOKEN = re.compile(r'"(?:\\.|[^"\\])*"|\[\]|λ|[(){}\[\],;]|[^\s(){}\[\],;λ"]+')
-WORD = re.compile(r"[^\W\d][\w'-]*$")
 LABEL = re.compile(r"(?<=[{;])\s*[^\s={;]+ =(?=\s)")  # a field, or an argument by its name
-# Where a term binds names: before a colon, behind a λ or a `let`, before an arrow of `do` and one of a case.
-BINDERS = [r"[({]\s*((?:[^\W\d][\w'-]*\s+)+):(?=\s)", r"λ ([^.]*)\.", r"\blet (\S+)\s+="]
-BINDERS += [r"(?:^|do|;)\s*([^\n;]+?) ←", r"[\[;|]([^\[;|]*?)↦"]
-BINDER = re.compile("|".join(BINDERS), re.M)
+# Where a term binds names: before a colon, behind a λ or a `let`.
+BINDER = re.compile(r"[({]\s*((?:[^\W\d][\w'-]*\s+)+):(?=\s)|λ ([^.]*)\.|\blet (\S+)\s+=")
 
 # A use line, which may take several; a group of it; how definitions and the items of src/ begin.
 USE = re.compile(
@@ -102,7 +99,6 @@ class Item:
 
     def __init__(self, file, name, kind, start, end):
         self.file, self.name, self.kind, self.place, self.lines = file, name, kind, start, file.lines_in(start, end)
-        self.constructors = set()
 
     @functools.cached_property
     def needs(self):
@@ -123,34 +119,28 @@ class Definition(Item):
     def __init__(self, file, name, kind, start, end, around, head, parts):
         super().__init__(file, name, kind or "definition", start, end)
         self.around, self.head, self.parts = around, head, parts
-        self.constructors = {part.split()[0] for part in parts if kind == "data"}
 
     def says(self):
         bound = set()
         for text in [*self.around, self.head]:
-            said, there = self.file.said(self.file.names, text, bound=bound)
+            said, bound = self.file.said(self.file.names, text, bound=bound)
             yield from said
-            bound = bound if self.kind == "definition" and text is self.head else there
         for part in self.parts:
             left, right = re.split(r"\s[:=]\s", part, maxsplit=1)
-            pattern = left.partition(self.name)[2] or left
-            yield from self.file.said(self.file.names, right, pattern if self.kind == "definition" else "", bound)[0]
-            bound |= {left.split()[-1]} if self.kind == "record" else set()
+            pattern = left.partition(self.name)[2] or left if self.kind == "definition" else ""
+            yield from self.file.said(self.file.names, right, pattern, bound)[0]
 
 
 class Declared(Item):
-    """What src/ declares: its text, and its clauses, each as the names there, its own text, and what is bound round it.
-    What a type shows and what it keeps are such clauses too."""
+    """What src/ declares: its text, and its clauses, each as the names that are brought in there, and its own text. What
+    a type shows and what it keeps are such clauses too."""
 
     def __init__(self, file, name, kind, start, end, names, around=""):
         super().__init__(file, name, kind, start, end)
-        found = list(CLAUSE.finditer(file.code, start, end))
-        self.text = around + CLAUSE.sub("", re.sub(r"\bghost use [^;]*;|\btype \w+", "", file.code[start:end]))
-        bound = {*re.findall(r"(\w+)\s*:(?!:)", self.text), *(it[2] for it in found if it[1] == "ghost")}
-        self.clauses = [({**file.names, **names}, it[3], bound) for it in found]
+        self.text = around + CLAUSE.sub("", re.sub(r"\bghost use [^;]*;", "", file.code[start:end]))
+        self.clauses = [({**file.names, **names}, it[3]) for it in CLAUSE.finditer(file.code, start, end)]
         self.shown, self.kept, self.public = [], [], True
         if kind == "enum":
-            self.constructors = {*re.findall(r"[{,]\s*([A-Z]\w*)", self.text)}
             self.text = re.sub(r"([{,]\s*)[A-Z]\w*", r"\1", self.text)
 
     def says(self):
@@ -186,19 +176,10 @@ class File:
             return defined(module, there or rest.partition(".")[0])
         return self.known.get(head)
 
-    def binds(self, names, token):
-        """Whether a token of a pattern is a variable; else it is a constructor."""
-        target = self.meant(names, token)
-        if target is None or not WORD.match(token):
-            return target is None
-        if isinstance(target, Item):
-            return token not in target.constructors
-        return token[0].islower() and token not in CONSTRUCTORS
-
     def said(self, names, text, pattern="", bound=()):
         """What a term says, behind a pattern; and what is bound in it."""
-        binders = " ".join([pattern, *("".join(found) for found in BINDER.findall(text))])
-        bound = {*bound, *(token for token in TOKEN.findall(binders) if self.binds(names, token))}
+        binders = TOKEN.findall(" ".join([pattern, *("".join(found) for found in BINDER.findall(text))]))
+        bound = {*bound, *(it for it in binders if it[0].islower() and "." not in it and it not in CONSTRUCTORS)}
         tokens = [token.rstrip(".") or token for token in TOKEN.findall(f"{pattern} {LABEL.sub('', text)}")]
         tokens += [">>="] if "do" in tokens else []
         free = (token for token in tokens if not {token, token.partition(".")[0]} & bound)
@@ -229,7 +210,8 @@ class Specs(File):
                 head, *parts = (self.code[one:next] for one, next in zip(begins, begins[1:]))
                 head = head[DEFINITION.match(block).end() :]
                 item = self.items[name] = Definition(self, name, kind, first, last, around, head, parts)
-                self.known.update(dict.fromkeys([*item.constructors, *parts_of(name), name], item))
+                constructors = [part.split()[0] for part in parts if kind == "data"]
+                self.known.update(dict.fromkeys([*constructors, *parts_of(name), name], item))
 
     def find(self, name):
         passed = defined(*self.passed[name]) if name in self.passed else None
@@ -318,11 +300,11 @@ class Source(File):
         return super().meant(names, token) or (self.find(head) if head[:1].isupper() else None)
 
     def said_in(self, clauses):
-        for names, text, bound in clauses:
+        for names, text in clauses:
             for of, *member in IMPL.findall(text):
                 yield from filter(None, [MEMBERS.get(tuple(member))])
                 yield from self.types(of)
-            yield from self.said(names, re.sub("⟦.*?⟧", "", text), bound=bound)[0]
+            yield from self.said(names, re.sub("⟦.*?⟧", "", text))[0]
 
 
 def defined(module, name):
