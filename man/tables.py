@@ -6,9 +6,11 @@ and ends with 1 where one is not as it is made.
 import os
 import re
 import sys
+import textwrap
 
 sys.path.insert(0, os.path.dirname(__file__) + "/../tests")
 from tree import TOP, text_of
+
 
 def sections():
     """Each section: its title, how many columns a heading of its list joins (0: a table), its text, and its rows."""
@@ -19,13 +21,13 @@ def sections():
         yield head.split(" | ")[0], joins, text, [line.split(" | ") for line in lines if not line.startswith(": ")]
 
 
-def folded(words, width, by_sentences=False):
-    """Lines of at most so many columns, in which a sentence begins a line, if that is asked for."""
-    lines = []
-    for word in words:
-        begins = not lines or by_sentences and lines[-1].endswith(".") or len(f"{lines[-1]} {word}") > width
-        lines[len(lines) - (not begins):] = [word if begins else f"{lines[-1]} {word}"]
-    return "".join(f"{line}\n" for line in lines)
+def folded(text, width):
+    return textwrap.fill(text, width, break_long_words=False, break_on_hyphens=False) + "\n" if text else ""
+
+
+def sentences(text):
+    """The lines of a text on the page, where each sentence begins a line."""
+    return "".join(folded(sentence, 78) for sentence in re.split(r"(?<=\.) ", plain(text)))
 
 
 def plain(text):
@@ -34,7 +36,6 @@ def plain(text):
 
 
 def on_page(title, joins, text, rows):
-    sentences = lambda words: folded(plain(words).split(), 78, by_sentences=True)
     if joins:
         lines = [f".It Sy {plain(' '.join(row[:joins]))}\n{sentences(' '.join(row[joins:]))}" for row in rows[1:]]
         head = "-tag -width 4n"
@@ -48,7 +49,7 @@ def on_page(title, joins, text, rows):
 def in_document(title, _, text, rows):
     lines = [f"| {' | '.join(row)} |\n" for row in rows]
     lines.insert(1, "|---" * len(rows[0]) + "|\n")
-    return f"## {title}\n\n" + (folded(text.split(), 120) + "\n" if text else "") + "".join(lines)
+    return f"## {title}\n\n" + (folded(text, 120) + "\n" if text else "") + "".join(lines)
 
 
 def main(checks):

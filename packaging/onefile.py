@@ -7,7 +7,6 @@ names, with the earliest time and one mode, and are not compressed, since that d
 import io
 import pathlib
 import sys
-import zipapp
 import zipfile
 
 PACKAGE = pathlib.Path(__file__).resolve().parent.parent / "site" / "bacsite"
@@ -32,10 +31,9 @@ def main(target):
             part = zipfile.ZipInfo(name)
             part.create_system, part.external_attr = 3, 0o100644 << 16  # of Unix
             file.writestr(part, text)
-    octets.seek(0)
-    zipapp.create_archive(octets, target, interpreter="/usr/bin/env python3")
-    pathlib.Path(target).chmod(0o755)
+    target.write_bytes(b"#!/usr/bin/env python3\n" + octets.getvalue())
+    target.chmod(0o755)
 
 
 if __name__ == "__main__":
-    main(sys.argv[1]) if len(sys.argv) == 2 else sys.exit(__doc__)
+    main(pathlib.Path(sys.argv[1])) if len(sys.argv) == 2 else sys.exit(__doc__)
