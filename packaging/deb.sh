@@ -51,27 +51,12 @@ report=$(sed -n '/^Report a fault/,$p' SECURITY.md | tr '\n' ' ' | sed 's/ Send 
 
 # The C library of the least version that has what the program calls.
 libc=$(objdump -T "$root/usr/bin/bactool" | sed -n 's/.*GLIBC_\([0-9.]*\).*/\1/p' | sort -V | tail -n 1)
-cat >"$root/DEBIAN/control" <<CONTROL
-Package: bactool
-Version: $version
-Architecture: $architecture
-Maintainer: $maintainer
-Installed-Size: $(find "$root/usr" -printf '%y %s\n' |
+size=$(find "$root/usr" -printf '%y %s\n' |
     awk '{ size += $1 == "f" ? int(($2 + 1023) / 1024) : 1 } END { print size }')
-Depends: libc6${libc:+ (>= $libc)}
-Recommends: python3 (>= 3.8)
-Section: net
-Priority: optional
-Description: BACnet/IP tools whose behaviour is proved
- Reads and writes properties of BACnet/IP controllers (bacrp, bacwp), finds
- devices (bacwi), plays a small device (bacdev), and runs scripts of requests
- and datagrams with no network (bactrace). The protocol is ANSI/ASHRAE 135.
- bacsite beside them, which needs Python, surveys and monitors a whole site.
- .
- What bactool does is proved, by contracts; bacsite is not. README.md in
- /usr/share/doc/bactool says more, and docs/GUIDE.md there shows the use.
- .
-$(fold -s -w 78 <<<"$report" | sed 's/^/ /; s/ *$//')
-CONTROL
+{
+    sed "s/@version@/$version/; s/@architecture@/$architecture/; s|@maintainer@|$maintainer|; s/@size@/$size/
+        s/@libc@/$libc/" packaging/control
+    fold -s -w 78 <<<"$report" | sed 's/^/ /; s/ *$//'
+} >"$root/DEBIAN/control"
 (cd "$root" && find usr -type f -print0 | LC_ALL=C sort -z | xargs -0 md5sum) >"$root/DEBIAN/md5sums"
 dpkg-deb --build --root-owner-group -Zgzip "$root" "$folder/bactool_${version}_$architecture.deb"
