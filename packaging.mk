@@ -29,7 +29,6 @@ uninstall:
 lint: program
 	@tests/package/pages.py $(PROGRAM)
 	@tests/package/facts.py $(PROGRAM)
-	@tests/documents/numbers.sh
 	@tests/package/completions.py $(PROGRAM)
 	@tests/site/lint.sh
 	@tests/package/put.py $(PROGRAM)

@@ -132,8 +132,8 @@ class Definition(Item):
 
 
 class Declared(Item):
-    """What src/ declares: its text, and its clauses, each as the names that are brought in there, and its own text. What
-    a type shows and what it keeps are such clauses too."""
+    """What src/ declares: its text, and its clauses, each as the names that are brought in there, and its text. What a
+    type shows and what it keeps are such clauses too."""
 
     def __init__(self, file, name, kind, start, end, names, around=""):
         super().__init__(file, name, kind, start, end)

@@ -1,6 +1,6 @@
 #!/usr/bin/env python3
-"""Asks bash, zsh and fish what each line completes to, by the files that completions/make.py makes, and compares. It
-says which of them is not installed. Usage: tests/package/completions.py PROGRAM
+"""Asks bash, zsh and fish what each line of completions.txt completes to, by the files that completions/make.py makes,
+and compares. It says which of them is not installed. Usage: tests/package/completions.py PROGRAM
 """
 import os
 import re
@@ -10,10 +10,9 @@ import sys
 import tempfile
 
 sys.path.insert(0, os.path.dirname(__file__) + "/..")
-from tree import TOOLS, TOP, shown
+from tree import TOOLS, TOP, shown, text_of
 
 PROGRAM = os.path.realpath(sys.argv[1])
-TAGS = [str(tag) for tag in range(13)]
 BASH = """for line in "${@:2}"; do
     tool=${line%% *}; [[ $tool == bacsite ]] || tool=bactool
     source "$1/$tool.bash"
@@ -35,36 +34,17 @@ def options(*words):
 
 
 def rows():
-    """Lines that are being typed, and what may follow each."""
+    """Lines that are being typed, and what may follow each: those of the table, and options of tools and commands."""
     site = ["python3", TOP + "/site/bacsite"]
     commands = re.findall(r"(?m)^    ([a-z]+)(?: .*)?$", shown(*site, "--help"))
-    for line, words in {"bactool bac": TOOLS, "bactool help ": TOOLS, "bactool ": [*TOOLS, "help"]}.items():
-        yield line, words
+    lists = {"TOOLS": TOOLS, "COMMANDS": commands, "TAGS": [str(tag) for tag in range(13)]}
+    for line, words in re.findall(r"(?m)^([^#\n].*)\|(.*)$", text_of("tests/package/completions.txt")):
+        yield line, [it for word in words.split() for it in lists.get(word, [word])]
     for tool in TOOLS:
         yield f"{tool} --", options(PROGRAM, tool)
         yield f"bactool {tool} 1 --", options(PROGRAM, tool)
-    for front in ("bacwp", "bactool bacwp --mac 127.0.0.1:47808", "/usr/bin/bacwp --mac=127.0.0.1:47808"):
-        yield f"{front} 1234 1 1 85 8 -1 ", TAGS
-        yield f"{front} 1234 1 1 85 8 -1 1", ["1", "10", "11", "12"]
-        yield f"{front} 1234 1 1 85 8 -1 4 41a00000 ", TAGS
-        yield f"{front} 1234 1 1 85 8 -1 4 ", []
-        yield f"{front} 1234 1 1 85 8 ", []
-    yield "bacrp 1234 0 5 85 --mac ", []
-    yield "bacwp 1234 1 1 85 8 -1 -- 4 --port ", TAGS  # behind -- nothing is an option
-    yield "bacsite ", commands
-    yield "bacsite p", [name for name in commands if name[0] == "p"]
-    yield "bacsite --", ["--help", "--version"]
     for command in commands:
         yield f"bacsite {command} x --", options(*site, command)
-    yield "bacsite read --apdu-timeout ", []
-    for typed, wanted in [("analog-o", ["analog-output"]), ("present-v", ["present-value"])]:
-        for front in ("read 192.0.2.7", "check -w 1:2 192.0.2.7 1 1", "properties 192.0.2.7 real"):
-            yield f"bacsite {front} {typed}", wanted
-    for front in ("write 192.0.2.7", "write 192.0.2.7 1 1 20 --property"):
-        yield f"bacsite {front} analog-o", ["analog-output"]
-    yield "bacsite write 192.0.2.7 1 1 20 --type dou", ["double"]
-    yield "bacsite capture site.pcap --only ", ["failed", "slow"]
-    yield "bacsite read analog-o", []
 
 
 def completed(shell, folder, lines):
