@@ -140,22 +140,14 @@ def kind_of(reply, route, invoke_id, room):
     return next((kind.format(*(int(it, 16) for it in found.groups())) for kind, found in matches if found), None)
 
 
-def replies_to(desk, batch, count):
-    """What a device sends back, at most so many datagrams."""
-    replies = []
-    with contextlib.suppress(OSError):
-        for datagram in batch:
-            desk.send(datagram)
-        while len(replies) < count:
-            replies.append(desk.recv(2048))
-    return replies
-
-
 def tried(desk, batch):
     """The kinds of what a batch gets. Its last datagram is ours, and has its reply in its place only where no reply was
     too many."""
-    wanted = [it for it in map(expected, batch) if it]
-    replies = replies_to(desk, batch, len(wanted))
+    wanted, replies = [it for it in map(expected, batch) if it], []
+    with contextlib.suppress(OSError):
+        for datagram in batch:
+            desk.send(datagram)
+        replies.extend(desk.recv(2048) for _ in wanted)
     kinds = [kind_of(reply, *one) for reply, one in itertools.zip_longest(replies, wanted, fillvalue=b"")]
     if not all(kinds):
         sent = "\n".join(f"  {it.hex()} expects {expected(it)}" for it in batch)
