@@ -19,10 +19,9 @@ import subprocess
 import sys
 import tempfile
 from collections import namedtuple
-from concurrent.futures import ThreadPoolExecutor
 
 sys.path.insert(0, os.path.dirname(__file__) + "/..")
-from tree import TOP, failing_library, free_port, is_taken, text_of
+from tree import TOP, failing_library, free_port, text_of
 
 # The errors, by what a receive that fails so is: a fault; a fault to the tool that sent, since its peer refuses what
 # was sent, or no way leads there, while a device has its peers from strangers; and silence to both, an interruption or
@@ -114,30 +113,23 @@ def in_turn(status, calls, words, given):
     return len(ERRORS) * len(names)
 
 
-def lives_on(number, error):
-    """A device whose call of this number fails so answers a later request, and has then taken so many datagrams."""
-    with ThreadPoolExecutor() as pool:
-        device = pool.submit(run, [*DEVICE, str(number - 3)], error=error, FAILED=number)
-        while not is_taken(PORT) and not device.done():
-            pass
-        words = [PROGRAM, *READ, "--mac", "127.0.0.1:" + PORT, "--apdu-timeout", "300", "--apdu-retries", "9"]
-        heard = subprocess.run(words, check=False, stdout=subprocess.PIPE, text=True).stdout
-        ended = device.result()
-    expect((heard, ended.status) == ("4290999a\n", 0), f"a device by {error}, heard {heard!r}", ended)
-
-
 def devices():
     """Three calls open the socket of a device, which waits for a second at a time; then each turn is a receive and a
-    send."""
-    calls = "socket bind setsockopt 1000000 recvfrom".split()
-    for error in ERRORS:
-        for number, call in enumerate(["socket", "bind", "setsockopt", "recvfrom", "sendto"], 1):
-            if call == "sendto" or call == "recvfrom" and error not in FAULTS:
-                lives_on(number, error)
-            else:
-                ended = run([*DEVICE, "1"], error=error, FAILED=number)
-                wanted = calls[: calls.index(call) + 1] + ["tell"]
-                expect(ended.said == wanted and is_fault(ended, call), f"a device by {error}", ended)
+    send. Where it goes on it answers a later request, and has then taken so many datagrams."""
+    client = [PROGRAM, *READ, "--mac", "127.0.0.1:" + PORT, "--apdu-timeout", "300", "--apdu-retries", "9"]
+    opened = ["socket", "bind", "setsockopt", "1000000", "recvfrom"]
+    for error, (number, call) in itertools.product(ERRORS, enumerate([*opened[:3], "recvfrom", "sendto"], 1)):
+        goes_on = call == "sendto" or call == "recvfrom" and error not in FAULTS
+        with subprocess.Popen(client, stdout=subprocess.PIPE, text=True) as asking:
+            ended = run([*DEVICE, str(max(1, number - 3))], error=error, FAILED=number)
+            if not goes_on:
+                asking.kill()
+            heard = asking.stdout.read()
+        if goes_on:
+            is_right = (heard, ended.status) == ("4290999a\n", 0)
+        else:
+            is_right = is_fault(ended, call) and ended.said == opened[: opened.index(call) + 1] + ["tell"]
+        expect(is_right, f"a device by {error} at call {number}, heard {heard!r}", ended)
     return 5 * len(ERRORS)
 
 
