@@ -33,12 +33,11 @@ count_again = grind (arith, length-append, take_at, drop_at)
 address_takes : (octets : List ℕ) (station : NetworkAddress) (rest : List ℕ) → address_at octets ≡ found_at station rest
     → Took SpellsAddress octets station rest
 unfolding address_at
-address_takes (high ∷ low ∷ count ∷ octets) _ _ e =
-    let a = bind_some _ _ _ e in
-    let counted = count_takes _ _ _ _ a.1 in
+address_takes (high ∷ low ∷ count ∷ octets) station rest e =
+    let a = bind_some _ _ (station, rest) e in
+    let counted = count_takes count octets _ _ a.1 in
     let front : List ℕ = high ∷ low ∷ length a.0.0 ∷ a.0.0 in
-    let line : high ∷ low ∷ count ∷ octets ≡ front ++ a.0.1 = ap (λ (k : ℕ). high ∷ low ∷ k ∷ octets) counted.1
-    ∙ ap (λ (w : List ℕ). high ∷ low ∷ length a.0.0 ∷ w) counted.0 in
+    let line : high ∷ low ∷ count ∷ octets ≡ front ++ a.0.1 = grind arith in
     let made : NetworkAddress = record { network = big_number 2 (high ∷ low ∷ []); address = a.0.0 } in
     rw line (took SpellsAddress _ _ _ _ _ a.2 (record { high = high; low = low; whole = refl; number = refl }))
 address_takes _ station rest e = absurd (none-some (station, rest) e)
@@ -69,9 +68,7 @@ hops_take : (b : Bool) (octets rest : List ℕ) → behind_hops b octets ≡ Som
     × (octets ≡ front ++ rest)
 hops_take false _ _ e = ([], refl, cc)
 hops_take true [] _ e = absurd (none-some _ e)
-hops_take true (count ∷ octets) rest e =
-    let same : octets ≡ rest = cc in
-    (count ∷ [], refl, ap (λ (w : List ℕ). count ∷ w) same)
+hops_take true (count ∷ octets) rest e = (count ∷ [], refl, grind arith)
 
 hops_again : (b : Bool) (front rest : List ℕ) → SpellsHops b front → behind_hops b (front ++ rest) ≡ Some rest
 hops_again false _ _ s = rw (nil_from_length _ s) refl
@@ -93,8 +90,6 @@ control_takes control octets header rest carries e =
     let source = announced_takes _ _ _ _ b.1 in
     let hops = hops_take _ _ _ c.1 in
     let front : List ℕ = 1 ∷ control ∷ (destination.0 ++ (source.0 ++ hops.0)) in
-    let inner : octets ≡ destination.0 ++ (source.0 ++ (hops.0 ++ c.0)) = destination.2
-    ∙ ap (λ (w : List ℕ). destination.0 ++ w) (source.2 ∙ ap (λ (w : List ℕ). source.0 ++ w) hops.2) in
     let line : 1 ∷ control ∷ octets ≡ front ++ c.0 = grind (arith, behind_all) in
     let made : NetworkHeader = record { destination = a.0.0; source = b.0.0 } in
     rw line (took SpellsHeader front made header c.0 rest c.2 (record {
@@ -288,50 +283,47 @@ carried_is _ _ d = (carried_takes _ _ d, carried_again _ _ d)
 
 -- ---- what is written
 
--- what is written takes the APDU to the station
-pub wrapped_takes : (to : Option NetworkAddress) (expect : Bool) (apdu : List ℕ) → IfSome to IsRoutable
-    → length (wrapped to expect apdu) < 65536 → Takes to expect apdu (wrapped to expect apdu)
-unfolding wrapped
-wrapped_takes to expect apdu routable fits =
-    let n : ℕ = 4 + length (plain_header to expect ++ apdu) in
-    let short : n < 65536 = omega arith in
-    let counted = big_number-reads_back 2 n [] short in
-    let header = header_written _ _ routable in
-    record {
-      high = n / 256 % 256;
-      low = n % 256;
-      header = plain_header _ _;
-      whole = refl;
-      counted = counted ∙ omega arith;
-      headed = header.spelled;
-      expected = header.expected;
-    }
-
--- how many octets are written round the APDU, at most
-pub wrapped_short : (to : Option NetworkAddress) (expect : Bool) (apdu : List ℕ) → IfSome to IsRoutable
-    → length (wrapped to expect apdu) ≤ 17 + length apdu
-unfolding wrapped
-wrapped_short = grind (arith, length-append)
-
--- the front and the APDU are the datagram
-pub front_before : (to : Option NetworkAddress) (expect : Bool) (apdu : List ℕ)
-    → front_octets to expect (length apdu) ++ apdu ≡ wrapped to expect apdu
-unfolding front_octets wrapped
-front_before = grind (arith, length-append)
-
-pub length_wrapped : (to : Option NetworkAddress) (expect : Bool) (apdu : List ℕ)
-    → length (wrapped to expect apdu) ≡ length (front_octets to expect (length apdu)) + length apdu
-length_wrapped to _ _ = sym (ap length (front_before _ _ _)) ∙ length-append _ _
-
--- the exact count of the octets before an APDU, and of the whole datagram
+-- the exact count of the octets before an APDU
 pub length_front : (to : Option NetworkAddress) (expect : Bool) (size : ℕ)
     → length (front_octets to expect size) ≡ front_count to
 unfolding front_octets
 length_front = grind (arith, length-append)
 
-pub count_wrapped : (to : Option NetworkAddress) (expect : Bool) (apdu : List ℕ)
-    → length (wrapped to expect apdu) ≡ front_count to + length apdu
-count_wrapped = grind (arith, length_wrapped, length_front)
+module _ (to : Option NetworkAddress) (expect : Bool) (apdu : List ℕ) where
+  -- the front and the APDU are the datagram
+  pub front_before : front_octets to expect (length apdu) ++ apdu ≡ wrapped to expect apdu
+  unfolding front_octets wrapped
+  front_before = grind (arith, length-append)
+
+  pub length_wrapped : length (wrapped to expect apdu) ≡ length (front_octets to expect (length apdu)) + length apdu
+  length_wrapped = sym (ap length front_before) ∙ length-append _ _
+
+  -- the exact count of the octets of the datagram
+  pub count_wrapped : length (wrapped to expect apdu) ≡ front_count to + length apdu
+  count_wrapped = grind (arith, length_wrapped, length_front)
+
+  -- what is written takes the APDU to the station
+  pub wrapped_takes : IfSome to IsRoutable → length (wrapped to expect apdu) < 65536
+      → Takes to expect apdu (wrapped to expect apdu)
+  unfolding wrapped
+  wrapped_takes routable fits =
+      let n : ℕ = 4 + length (plain_header to expect ++ apdu) in
+      let counted = big_number-reads_back 2 n [] (omega arith) in
+      let header = header_written _ _ routable in
+      record {
+        high = n / 256 % 256;
+        low = n % 256;
+        header = plain_header _ _;
+        whole = refl;
+        counted = counted ∙ omega arith;
+        headed = header.spelled;
+        expected = header.expected;
+      }
+
+  -- how many octets are written round the APDU, at most
+  pub wrapped_short : IfSome to IsRoutable → length (wrapped to expect apdu) ≤ 17 + length apdu
+  unfolding wrapped
+  wrapped_short = grind (arith, length-append)
 
 -- the six octets before an APDU for a station of this network
 pub local_front : (expect : Bool) (size : ℕ) (header : List ℕ) → size ≤ 1497 → header ≡ plain_header None expect

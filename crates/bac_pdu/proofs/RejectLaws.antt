@@ -1,6 +1,6 @@
 -- Reading a body of a confirmed request answers its one outcome.
 use Rattle.std.proofs.Common.{arith, ◌≡◌, ℕ, List, [], ◌∷◌, Option, Some, None, Result, Ok, Err, refl, sym, ap, ◌∙◌}
-use Rattle.std.{proofs.Common.{inl, inr}, specs.Prelude.{◌↔◌, ◌⊎◌}, specs.Option.ok_or, proofs.lemmas.Option.none-some}
+use Rattle.std.{specs.Prelude.{◌↔◌, ◌⊎◌}, specs.Option.ok_or, proofs.lemmas.Option.none-some}
 use Rattle.bac_wire.{specs.Front.Begins, proofs.ParameterLaws.IsStep}
 use Rattle.bac_pdu.specs.declared.reject.RejectReason.{RejectReason, TheVariants.{InvalidTag, MissingParameter}}
 use Rattle.bac_pdu.specs.declared.reject.RejectReason.TheVariants.{OutOfRange, TooMany, UnknownService}
@@ -51,10 +51,7 @@ ended_err = grind arith
 pub one_first : {A : Type 0} (Applies : A → Type 0) (xs : List A) (a b : A) → IsFirst Applies xs a
     → IsFirst Applies xs b → a ≡ b
 one_first Applies [] a b s t = absurd s
-one_first Applies (x ∷ xs) a b s t = elim s [
-  | inl here ↦ elim t [ inl there ↦ here.1 ∙ sym there.1 | inr later ↦ absurd (later.0 here.0) ]
-  | inr after ↦ elim t [ inl there ↦ absurd (after.0 there.0) | inr later ↦ one_first _ xs a b after.1 later.1 ]
-]
+one_first Applies (x ∷ xs) a b s t = grind (arith, one_first Applies xs a b)
 
 -- ---- the outcome of a body
 
@@ -78,7 +75,7 @@ IsRejectReason HasFault body reason =
     IsFirst (HasFault body) (OutOfRange ∷ TooMany ∷ MissingParameter ∷ InvalidTag ∷ []) reason
 
 one_reason : {A : Type 0} (r : Result A RejectReason) (a b : RejectReason) → r ≡ Err a → r ≡ Err b → a ≡ b
-one_reason r a b e f = let two : Err a ≡ Err b = sym e ∙ f in cc
+one_reason = grind arith
 
 module _ {A : Type 0} {IsWhole : List ℕ → A → Type 0} {HasFault : List ℕ → RejectReason → Type 0}
     {of : List ℕ → Result A RejectReason} (judge : IsJudge IsWhole HasFault of) (body : List ℕ) where

@@ -4,7 +4,7 @@ use Rattle.std.proofs.{Common.{sym, ap, subst, append_assoc, arith}, lemmas.List
 use Rattle.std.specs.{Prelude.IfSome, List.{AllByRecursion, flat_map}}
 use Rattle.byteorder.specs.{Endian.big_bytes, Numbers.big_from-lt}
 use Rattle.bac_wire.specs.{Identifier.{Identifier, IsIdentifier}, Front.{AreOctets, IsShortest, SpellsTo, SpellsAll}}
-use Rattle.bac_wire.specs.{Tag.{plain_number, plain_tag}, Region.{IsRegion, opening_tag, closing_tag}}
+use Rattle.bac_wire.specs.{Tag.{plain_number, plain_tag}, Region.{IsRegion}}
 use Rattle.bac_wire.specs.{Datum.{Datum, Spells, unsigned, enumerated, plain, IsDatum}, Parameter.context_tag}
 use Rattle.bac_wire.specs.Parameter.{SpellsContext, SpellsIn, SpellsEnclosed, context_octets, number_octets}
 use Rattle.bac_wire.{specs.Parameter.{object_octets, enclosed_octets}, proofs.TagLaws.{behind, tag_least}}
@@ -91,14 +91,7 @@ enclosed_shortest number region _ fit s =
     let fits = subst AreOctets o.whole fit in
     let opening = tag_least _ _ (ahead _ _ fits) o.spelled in
     let closing = tag_least _ _ (behind region _ (behind o.front _ fits)) s.closed in
-    omega (
-      arith,
-      ap length o.whole,
-      length-append o.front (region ++ s.closing),
-      length-append region s.closing,
-      length-append (plain_tag (opening_tag number)) (region ++ plain_tag (closing_tag number)),
-      length-append region (plain_tag (closing_tag number)),
-    )
+    grind (arith, length-append)
 
 parameter_shortest : (p : Parameter) → IsParameter p → IsShortest SpellsParameter (plain_parameter p) p
 unfolding plain_parameter
@@ -119,7 +112,7 @@ module _ {A : Type 0} (Spells : List ℕ → A → Type 0) (plain : A → List �
       let fits = subst AreOctets s.1.whole fit in
       let first = (each x h.0).shortest _ (ahead _ _ fits) s.1.spelled in
       let others = all_least xs _ _ h.1 (behind _ _ fits) s.2 in
-      omega (arith, ap length s.1.whole, length-append s.1.front s.0, length-append (plain x) (flat_map plain xs))
+      grind (arith, length-append)
 
   all_shortest : (xs : List A) → AllByRecursion Is xs
       → IsShortest (SpellsAll Spells) (flat_map plain xs) xs
@@ -211,19 +204,15 @@ error_shortest class code a b = record {
 }
 
 -- what is written of an error is read back, whatever follows
-error_again : (Is : Datum → Type 0) → ((x : Datum) → Is x → Spells (plain x) x) → (class code : ℕ) (rest : List ℕ)
-    → AllByRecursion Is (enumerated class ∷ enumerated code ∷ [])
+pub error_is_back : (class code : ℕ) (rest : List ℕ) → Spells (plain (enumerated class)) (enumerated class)
+    → Spells (plain (enumerated code)) (enumerated code)
     → error_of (error_octets class code ++ rest) ≡ Some (class, code)
-error_again Is spell class code rest h =
-    (error_is _ (class, code)).1 (rest, all_spell _ _ _ spell (enumerated _ ∷ enumerated _ ∷ []) _ h)
+error_is_back class code rest s t = (error_is _ (class, code)).1
+    (rest, all_spell _ _ (λ x. Spells (plain x) x) (λ x s. s) (enumerated _ ∷ enumerated _ ∷ []) _ (s, (t, tt)))
 
 pub error_back : (class code : ℕ) (rest : List ℕ) → AllByRecursion IsDatum (enumerated class ∷ enumerated code ∷ [])
     → error_of (error_octets class code ++ rest) ≡ Some (class, code)
-error_back = error_again _ plain_spells
-
-pub error_is_back : (class code : ℕ) → IsLeast (enumerated class) → IsLeast (enumerated code) → (rest : List ℕ)
-    → error_of (error_octets class code ++ rest) ≡ Some (class, code)
-error_is_back _ _ a b _ = error_again IsLeast (λ x is. is.spelled) _ _ _ (a, (b, tt))
+error_back = grind (arith, error_is_back, plain_spells)
 
 -- ---- the parameters of a request
 

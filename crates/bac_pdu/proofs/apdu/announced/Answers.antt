@@ -1,12 +1,9 @@
 -- The sixteen codes: those above five announce as much as five does.
-use Rattle.std.proofs.{Common.{◌≡◌, ◌%◌, ◌∙◌, arith, bit_and}, lemmas.Nat.and_mask}
+use Rattle.std.proofs.{Common.{◌≡◌, ◌%◌, arith, bit_and}, lemmas.Nat.and_mask}
 use Rattle.bac_pdu.proofs.ApduLaws.{announced_other}
 use Rattle.bac_pdu.proofs.apdu.announced.Goals as goal
 
 pub returns-in_default : goal.returns-in_default
 returns-in_default c =
     let same : bit_and c.args.code 15 ≡ c.args.code % 16 = and_mask _ 4 in
-    let other = announced_other _ (λ e. let f = same ∙ e in grind arith)
-    (λ e. let f = same ∙ e in grind arith) (λ e. let f = same ∙ e in grind arith)
-    (λ e. let f = same ∙ e in grind arith) (λ e. let f = same ∙ e in grind arith) in
-    omega arith
+    grind (arith, announced_other)
