@@ -43,6 +43,16 @@ def mixed(count):
         yield MIXED[line % 6].format(line=line, number=(line // 3 + 1) % 256)
 
 
+def timed(words, given=None, output=subprocess.DEVNULL):
+    """The seconds that a command takes, and those of the processor."""
+    begun = time.monotonic()
+    process = subprocess.Popen(words, stdin=given, stdout=output)
+    _, status, used = os.wait4(process.pid, 0)
+    if status != 0:
+        sys.exit(f"{words}: its status is not 0")
+    return time.monotonic() - begun, used.ru_utime + used.ru_stime
+
+
 def row(name, *cells):
     return f"{name:34}" + "".join(f" {cell:>8}" for cell in cells)
 
@@ -105,13 +115,7 @@ def clients():
             ("bare client, one question", UDP, "load", str(port), "1", "1"),
             ("bacrp, one value", PROGRAM, *BACRP, f"127.0.0.1:{port}"),
         ]:
-            took, silently = [], [(os.POSIX_SPAWN_OPEN, 1, "/dev/null", os.O_WRONLY, 0)]
-            for _ in range(RUNS):
-                begun = time.monotonic()
-                process = os.posix_spawnp(words[0], words, os.environ, file_actions=silently)
-                if os.waitpid(process, 0)[1] != 0:
-                    sys.exit(f"{name}: its status is not 0")
-                took.append(1e6 * (time.monotonic() - begun))
+            took = [1e6 * timed(words)[0] for _ in range(RUNS)]
             yield row(name, f"{statistics.median(took):.0f}", f"{min(took):.0f}")
 
 
@@ -185,9 +189,7 @@ def script():
         for words in list(took) * 5:
             lines.seek(0)
             output.seek(0)
-            begun = time.monotonic()
-            used = os.wait4(subprocess.Popen(words, stdin=lines, stdout=output).pid, 0)[2]
-            took[words].append((time.monotonic() - begun, used.ru_utime + used.ru_stime))
+            took[words].append(timed(words, lines, output))
     least = [[min(seconds) for seconds in zip(*rounds)] for rounds in took.values()]
     for words, (passed, used) in zip(took, least):
         yield f"{' '.join(words).split('/')[-1]:16} {passed:5.2f} s in all, {used:5.2f} s of processor time"
