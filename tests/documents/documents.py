@@ -29,6 +29,7 @@ import glob
 import os
 import re
 import sys
+import textwrap
 
 sys.path.insert(0, os.path.dirname(__file__) + "/..")
 from tree import TOP, all_crates, text_of
@@ -136,15 +137,12 @@ def heads_of_sources():
             yield f"{file}: its first line is no `{mark}` that says what it has"
     uses = [on_one_line(text_of(file)) for file in files("crates/bac_uses/src/*.rt")]
     for file in files("crates/*/src/lib.rt"):
-        there = on_one_line("".join(map(text_of, files(file.replace("lib.rt", "examples.rt")))))
+        examples = [on_one_line(text_of(it)) for it in files(file.replace("lib.rt", "examples.rt"))]
         for kind, shown in re.findall(r"^//! ```(text|rust)\n(.*?)^//! ```$", text_of(file), re.M | re.S):
             shown = re.sub(r"(?m)^//!" + r"(?: *//.*)?" * (kind == "text"), "", shown)
-            clauses = re.split(r"(?=\bensures )", shown)[1:]
-            if kind == "rust":
-                is_there = any(on_one_line(shown) in use for use in uses)
-            else:
-                is_there = clauses and all(on_one_line(one) in there for one in clauses)
-            if not is_there:
+            parts = [shown] if kind == "rust" else re.split(r"(?=\bensures )", shown)[1:]
+            places = uses if kind == "rust" else examples
+            if not parts or not all(any(on_one_line(part) in place for place in places) for part in parts):
                 yield f"{file}: what it shows is not in its examples.rt, nor its calls in bac_uses"
 
 
@@ -173,9 +171,10 @@ def names_of_proofs(document, text, known, clauses):
 
 def what_stands_twice(readme, proofs):
     boxes = re.findall(r"^```(\w*)\n(.*?)^```$", readme, re.M | re.S)
-    rule = re.search(r"(?ms)^The rule, .*?```\n(.*?)^```$", text_of("docs/reading/client.md"))[1]
-    if ("", rule) not in boxes:
-        yield "README.md: it does not show the rule as docs/reading/client.md has it from specs/"
+    cases = r"(?m)^  (?:due|end|sends_within|sends) [^:\n]*=.*\n(?: {6}.*\n)*"
+    rule = "".join(re.findall(cases, text_of("crates/bac_tsm/specs/Lookahead.antt")))
+    if ("", textwrap.dedent(rule)) not in boxes:
+        yield "README.md: it does not show the rule as crates/bac_tsm/specs/Lookahead.antt has it"
     guide = text_of("docs/GUIDE.md").splitlines()
     shown = "".join(box for kind, box in boxes if kind == "console").splitlines() or ["of a run"]
     yield from (f"README.md: docs/GUIDE.md has no line {line}" for line in shown if line not in [*guide, ".."])

@@ -17,14 +17,12 @@ import sys
 import textwrap
 
 sys.path.insert(0, os.path.dirname(__file__) + "/..")
-from sources import CLAUSE, CRATES, SOURCES, SPECS, TOKEN, USE, Item
+from sources import CLAUSE, CRATES, SPECS, TOKEN, USE, Item
 from sources import closed, code_of, defined, parts_of, public_calls, read_tree, uses_in
 from tree import TOP, text_of
 
 FOLDER = "docs/reading"
 TRIALS = {"bac_trials", "tool_trials", "bac_uses"}  # no crate rests on their clauses
-# What a page shows at its head: a file of specs/, and the definitions of it.
-RULE = {"client": ("bac_tsm.specs.Lookahead", ["due", "end", "sends_within", "sends"])}
 SIZE = r"\[([\d,]+) lines\]\(docs/reading/(\w+)\.md\)"  # as README.md tells it
 TOLD = {"client", "device", "program"}  # the pages whose sizes it tells
 PROBLEMS = []
@@ -55,19 +53,14 @@ def listed(items, comments=False):
             yield columns(f"- `{item.name}` ({item.lines}){': ' if item.comment else ''}{item.comment}", "  ")
 
 
-def page_of(page, title, calls):
+def page_of(title, calls):
     items, kept = closed(calls.values()), closed(calls.values(), kept=True)
     lines = [f"# {title}", "", "How to read this page is said on [the first one](README.md).", ""]
-    module, names = RULE.get(page, (None, []))
-    rule = [SPECS[module].items[name] for name in names]
-    if rule:
-        cases = "".join(part.rstrip() + "\n" for item in rule for part in item.parts)
-        lines += [f"The rule, of `{rule[0].file.path}`:", "", "```", textwrap.dedent(cases) + "```", ""]
     lines += ["| Call | Definitions | Lines |", "|---|---|---|"]
     lists = {f"`{name}`": closed([call]) for name, call in calls.items()}
     for name, found in [*lists.items(), *([("together", items)] if len(calls) > 1 else [])]:
         lines.append(f"| {name} | {len(found)} | {size(found)} |")
-    in_turn = dict.fromkeys([*rule, *(item for found in lists.values() for item in found)])
+    in_turn = dict.fromkeys(item for found in lists.values() for item in found)
     lines += ["", *listed(in_turn), "", "What the libraries add:", ""]
     outside = collections.defaultdict(set)
     for module, name in (need for item in items for need in item.needs if not isinstance(need, Item)):
@@ -94,7 +87,7 @@ def pages():
             other = "" if len(found) == sum(one.startswith(name[:-1]) for one in every) else "other "
             shown.append(f"the {other}public calls of `{name[:-3]}`" if name.endswith("*") else f"`{name}`")
             rest = {one: call for one, call in rest.items() if one not in found}
-        texts[f"{FOLDER}/{page}.md"], items = page_of(page, title, calls)
+        texts[f"{FOLDER}/{page}.md"], items = page_of(title, calls)
         sizes[page] = size(items)
         files = len({item.file for item in items})
         cells = f"[{title}]({page}.md) | {', '.join(shown)} | {len(items)} | {sizes[page]} | {files}"

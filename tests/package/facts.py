@@ -28,9 +28,17 @@ def run(line):
     return done.returncode, done.stdout
 
 
-def numbers_in(pattern, path):
-    """The numbers that a pattern finds first in a file."""
-    return [int(it.replace("_", "")) for it in re.search(pattern, text_of(path), re.M).groups()]
+def numbers(rows):
+    """What a pattern finds in a file or in what a command prints, by its name, and what follows from that."""
+    found = {}
+    for name, place, pattern in (row.split(" | ") for row in rows):
+        text = run(place)[1] if place.endswith("--help") else text_of(place)
+        found[name] = int(re.search(pattern, text, re.M)[1])
+    sends = [found["timeout"] // 1000 * time for time in range(found["retries"] + 2)]
+    found.update({"seconds": sends[1], "early": ", ".join(map(str, sends[:-2])), "last": sends[-2], "whole": sends[-1]})
+    found.update({"hours": found["turns"] // 3600, "last port": found["first port"] + found["ports"] - 1})
+    times = ["once", "twice", "three times", "four times"][found["site retries"]]
+    return {**found, "site tries": times, "ports of Linux": round(60999 - 32768, -3)}
 
 
 def statuses(rows):
@@ -46,33 +54,14 @@ def statuses(rows):
 
 
 def request():
-    """The request that bacrp sends, and when it is sent where nobody answers, by the defaults."""
-    timeout, retries = map(int, re.findall(r"\[default: (\d+)\]", run("bacrp --help")[1])[:2])
+    """The number and the length of the request that bacrp sends."""
     with local_socket() as field:
         field.settimeout(10)
         mac = "127.0.0.1:%d" % field.getsockname()[1]
         with subprocess.Popen([PROGRAM, "bacrp", "1234", "0", "5", "85", "--mac", mac]) as tool:
             octets = field.recv(2048)
             tool.kill()
-    *early, last = [str(timeout // 1000 * time) for time in range(retries + 1)]
-    found = {"timeout": timeout // 1000, "retries": retries, "whole": timeout // 1000 * (retries + 1)}
-    return {**found, "early": ", ".join(early), "last": last, "number": octets[8], "octets": len(octets)}
-
-
-def limits():
-    """Numbers that stand in the sources and in help."""
-    (most,) = numbers_in(r"pub const PLACES: usize = (\d+);", "crates/bac_tsm/src/limits.rt")
-    (body,) = numbers_in(r"LONGEST_BODY: usize = (\d+)", "crates/bac_pdu/src/apdu.rt")
-    (turns,) = numbers_in(r"^most_turns = (\d+)$", "crates/bac_links/specs/Limits.antt")
-    first, ports = numbers_in(r"FIRST_PORT, PORTS = (\d+), (\d+)", "site/bacsite/calls.py")
-    asked = dict(re.findall(r"(--apdu-\w+) N +\d+ to \d+; (\d+)", run("bacsite read --help")[1]))
-    kinds = re.search(r"(?m)^segmentation-supported \| (.*)$", text_of("site/bacsite/numbers.txt"))[1].split(", ")
-    found = {"most": most, "body": body, "turns": turns, "hours": turns // 3600, "first port": first, "ports": ports}
-    found.update({"last port": first + ports - 1, "ports of Linux": round(60999 - 32768, -3)})
-    found["count"] = int(re.search(r"\[default: (\d+)\]\n  -h", run("bacdev --help")[1])[1])
-    found["site timeout"] = asked["--apdu-timeout"]
-    found["site tries"] = ["once", "twice", "three times", "four times"][int(asked["--apdu-retries"])]
-    return {**found, **{name: number for number, name in (kind.split(" ", 1) for kind in kinds)}}
+    return {"number": octets[8], "octets": len(octets)}
 
 
 def values():
@@ -150,7 +139,7 @@ def main():
     rows = {title: text.strip().splitlines() for title, text in zip(sections[1::2], sections[2::2])}
     with device(program=[PROGRAM]) as (_, port):
         SETTINGS["DEV"] = f"127.0.0.1:{port}"
-        measured = {"points": points(), **request(), **limits()}
+        measured = {"points": points(), **request(), **numbers(rows.pop("Numbers"))}
         ranges()
         tools_of_readme()
         measured.update(statuses(rows.pop("Statuses")))
