@@ -1,8 +1,7 @@
 -- The replies of a device, one after another, are those of the definition.
-use Rattle.std.proofs.Common.{◌≡◌, ℕ, List, [], ◌∷◌, Option, refl, ap, ◌∙◌, arith}
-use Rattle.bac_pdu.specs.Peer.{Station}
+use Rattle.std.proofs.Common.{◌≡◌, List, [], ◌∷◌, refl, arith}
 use Rattle.bac_device.specs.{Info.Info, Point.Description}
-use Rattle.bac_device.specs.{Places.Write, Device.{DeviceState, device_after, Holds}, Reply.{reply_to, writes_after}}
+use Rattle.bac_device.specs.{Places.Write, Device.{DeviceState, device_after, Holds}, Reply.{writes_after}}
 use Rattle.bac_device.{specs.Turns.{Arrival, AreDefined, all_writes, replies_to}, proofs.Answering.next_after}
 use Rattle.bac_links.specs.Serve.{device_behind, replies_of}
 
@@ -11,17 +10,14 @@ module _ (info : Info) (points : List Description) where
       → replies_of (device_after info points writes) arrivals ≡ replies_to info points writes arrivals
   replied_after _ [] = refl
   replied_after writes (came ∷ arrivals) =
-      ap (λ (rest : List (Option (Station × List ℕ))). reply_to info points writes came.from came.datagram ∷ rest)
-      (ap (λ (d : DeviceState). replies_of d arrivals) (next_after info points writes came.from came.datagram)
-      ∙ replied_after (writes_after info points writes came.from came.datagram) arrivals)
+      grind (arith, next_after, replied_after (writes_after info points writes came.from came.datagram) arrivals)
 
   left_after : (writes : List Write) (arrivals : List Arrival)
       → device_behind (device_after info points writes) arrivals
       ≡ device_after info points (all_writes info points writes arrivals)
   left_after _ [] = refl
   left_after writes (came ∷ arrivals) =
-      ap (λ (d : DeviceState). device_behind d arrivals) (next_after info points writes came.from came.datagram)
-      ∙ left_after (writes_after info points writes came.from came.datagram) arrivals
+      grind (arith, next_after, left_after (writes_after info points writes came.from came.datagram) arrivals)
 
 pub defined : (device : DeviceState) (writes : List Write) (arrivals : List Arrival) → Holds device writes
     → AreDefined device writes arrivals (replies_of device arrivals) (device_behind device arrivals)

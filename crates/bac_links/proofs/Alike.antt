@@ -1,5 +1,5 @@
 -- Two calls that are answered alike ask alike, end alike, and print one line.
-use Rattle.std.proofs.Common.{◌≡◌, ◌≢◌, ℕ, List, [], Option, Result, Ok, Err, refl, sym, ap, ◌∙◌, subst}
+use Rattle.std.proofs.Common.{◌≡◌, ◌≢◌, ℕ, List, [], Option, Result, Ok, Err, arith, refl, sym, ap, subst}
 use Rattle.bac_text.specs.declared.jobs.Call.{Call}
 use Rattle.bac_print.{specs.{declared.checked.Checked.Checked, Checked.Took}, proofs.Known.Took-none}
 use Rattle.bac_links.{
@@ -66,14 +66,5 @@ module _ (purpose : Purpose) (call : Call) where
     calls_so_far seen left seen' left' result result' first rest first' rest' tells tells' gains gains' same =
         let a = went contents before after seen left result tells in
         let b = went contents' before' after' seen' left' result' tells' in
-        to_the_end (move purpose call) EndAlike PrintAlike seen left seen' left' first rest first' rest' a.comes b.comes
-        result result' a.plays b.plays
-        (λ one here there none none' so_far. (
-          λ written written'. a.answers written ∙ ap result_of one ∙ sym (b.answers written'),
-          (
-            line_of a.comes,
-            a.prints,
-            subst (λ (c : Comes). Printed contents' before' after' (line_of c) result') (sym one) b.prints,
-          ),
-        ))
+        to_the_end EndAlike PrintAlike result result' a.plays b.plays (grind (arith, a, b)) first rest first' rest'
         gains gains' same

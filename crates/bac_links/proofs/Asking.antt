@@ -44,10 +44,8 @@ module _ {R : Type 0} (move : List Entry → Option Entry → Move R) where
   pub follows_push : (before xs : List Entry) (x : Entry) → Follows move before xs
       → next_move move (before ++ xs) ≡ Asks (question_of x) → Follows move before (xs ++ x ∷ [])
   follows_push _ [] x _ due = (ap (next_move move) (sym (append-nil _)) ∙ due, tt)
-  follows_push _ (y ∷ xs) x follows due = (
-    follows.0,
-    follows_push _ xs x follows.1 (ap (next_move move) (append_assoc _ _ xs) ∙ due),
-  )
+  follows_push _ (y ∷ xs) x (asks, later) due =
+      (asks, follows_push _ xs x later (ap (next_move move) (append_assoc _ _ xs) ∙ due))
 
   -- What holds at first, and behind each entry more that follows, holds behind all that follow.
   pub followed : (P : List Entry → Type 0)
@@ -58,26 +56,21 @@ module _ {R : Type 0} (move : List Entry → Option Entry → Move R) where
       go : (before later : List Entry) → Follows move [] before → P before → Follows move before later
           → P (before ++ later)
       go before [] here so _ = subst P (sym (append-nil before)) so
-      go before (x ∷ later) here so follows =
+      go before (x ∷ later) here so (asks, follows) =
           subst P (append_assoc before (x ∷ []) later) (go (before ++ x ∷ []) later
-          (follows_push [] before x here follows.0) (more before x here follows.0 so) follows.1)
+          (follows_push [] before x here asks) (more before x here asks so) follows)
 
   follows_behind : (before xs ys : List Entry) → Follows move before (xs ++ ys) → Follows move (before ++ xs) ys
-  follows_behind _ [] ys follows = subst (λ (b : List Entry). Follows move b ys) (sym (append-nil _)) follows
-  follows_behind _ (x ∷ xs) ys follows =
-      subst (λ (b : List Entry). Follows move b ys) (append_assoc _ _ xs) (follows_behind _ xs ys follows.1)
+  follows_behind _ [] ys follows = grind (arith, append-nil)
+  follows_behind before (x ∷ xs) ys (_, later) =
+      grind (arith, append_assoc, follows_behind (before ++ x ∷ []) xs ys later)
 
   -- As far as they were answered alike they asked alike.
   pub same_so_far : (before first other rest other_rest : List Entry) → Follows move before (first ++ rest)
       → Follows move before (other ++ other_rest) → answers_of first ≡ answers_of other → first ≡ other
   same_so_far _ [] [] _ _ p q e = refl
-  same_so_far before (x ∷ first) (y ∷ other) rest other_rest p q e =
-      let answer : answer_of x ≡ answer_of y = cc in
-      let later : answers_of first ≡ answers_of other = cc in
-      let same = one_entry x y (let e = sym p.0 ∙ q.0 in cc) answer in
-      let q' = subst (λ (z : Entry). Follows move (before ++ z ∷ []) (other ++ other_rest)) (sym same) q.1 in
-      let all = same_so_far (before ++ x ∷ []) first other rest other_rest p.1 q' later in
-      (λ i. same i ∷ all i)
+  same_so_far before (x ∷ first) (y ∷ other) rest other_rest (asks, later) (other_asks, other_later) e =
+      grind (arith, one_entry, same_so_far (before ++ x ∷ []) first other rest other_rest later)
   same_so_far _ [] (y ∷ other) _ _ p q e = cc
   same_so_far _ (x ∷ first) [] _ _ p q e = cc
 
@@ -97,8 +90,8 @@ module _ {R : Type 0} (move : List Entry → Option Entry → Move R) where
     so_far = grind (arith, go_on, follows_behind)
 
 -- What was gained, by a history as it stands.
-pub played : {Origin R : Type 0} (move : List Entry → Option Entry → Move R) (seen left : Account Origin) (result : R)
-    (gained : List Entry) → (plays : Plays move seen left result) → left.history ≡ seen.history ++ gained
+pub played : {Origin R : Type 0} {move : List Entry → Option Entry → Move R} {seen left : Account Origin} {result : R}
+    {gained : List Entry} (plays : Plays move seen left result) → left.history ≡ seen.history ++ gained
     → plays.gained ≡ gained
 played = grind (arith, append_cancel_left)
 
@@ -108,40 +101,26 @@ pub record PlaysAll {R : Type 0} (move : List Entry → Option Entry → Move R)
     pub follows : Follows move [] gained
     pub over : next_move move gained ≡ Over result
 
-pub plays_all : {Origin R : Type 0} (move : List Entry → Option Entry → Move R) (seen left : Account Origin)
-    (result : R) (gained : List Entry) → Plays move seen left result → left.history ≡ seen.history ++ gained
+pub plays_all : {Origin R : Type 0} {move : List Entry → Option Entry → Move R} {seen left : Account Origin}
+    {result : R} {gained : List Entry} → Plays move seen left result → left.history ≡ seen.history ++ gained
     → PlaysAll move gained result
-plays_all move seen left result gained plays gains =
-    rw (← played move seen left result gained plays gains) (record { follows = plays.follows; over = plays.over })
+plays_all plays gains = rw (← played plays gains) (record { follows = plays.follows; over = plays.over })
 
 -- Two that play to their ends: they stop together.
-module _ {Origin Other R A : Type 0} (move : List Entry → Option Entry → Move R) (EndAlike PrintAlike : A → A → Type 0)
-    (seen left : Account Origin) (other_seen other_left : Account Other) (first rest other other_rest : List Entry)
-    (c d : R) (r s : A)
+module _ {Origin Other R A : Type 0} {move : List Entry → Option Entry → Move R} (EndAlike PrintAlike : A → A → Type 0)
+    {seen left : Account Origin} {other_seen other_left : Account Other} {c d : R} (r s : A)
     (plays : Plays move seen left c) (others : Plays move other_seen other_left d)
-    (ends : c ≡ d → plays.gained ≡ first ++ rest → others.gained ≡ other ++ other_rest → rest ≡ [] → other_rest ≡ []
-    → first ≡ other → EndAlike r s × PrintAlike r s) where
-  pub to_the_end : left.history ≡ seen.history ++ (first ++ rest)
+    (ends : c ≡ d → plays.gained ≡ others.gained → EndAlike r s × PrintAlike r s) where
+  pub to_the_end : (first rest other other_rest : List Entry) → left.history ≡ seen.history ++ (first ++ rest)
       → other_left.history ≡ other_seen.history ++ (other ++ other_rest) → answers_of first ≡ answers_of other
       → (first ≡ other) × GoOnAlike (λ r. ⊥) EndAlike PrintAlike r s rest other_rest
-  to_the_end gains other_gains same =
-      let here = plays_all move seen left c (first ++ rest) plays gains in
-      let there = plays_all move other_seen other_left d (other ++ other_rest) others other_gains in
-      let one = same_so_far move [] first other rest other_rest here.follows there.follows same in
-      let over : rest ≡ [] → next_move move first ≡ Over c = λ none. rw (none, append-nil) at here.over in
-      let other_over : other_rest ≡ [] → next_move move first ≡ Over d = λ none.
-      rw (none, append-nil, ← one) at there.over in (
+  to_the_end first rest other other_rest gains other_gains same =
+      let here = plays_all plays gains in
+      let there = plays_all others other_gains in
+      let one = same_so_far move [] first other rest other_rest here.follows there.follows same in (
         one,
-        so_far move (λ r. ⊥) EndAlike PrintAlike _ rest _ r s (λ none x asks. absurd (never c x (over none) asks))
-            (λ none x asks. absurd (never d x (other_over none) asks))
-            (λ none other_none. ends (both (over none) (other_over other_none))
-            (played move seen left c (first ++ rest) plays gains)
-            (played move other_seen other_left d (other ++ other_rest) others other_gains) none other_none one)
-            _ one here.follows there.follows,
+        so_far move (λ r. ⊥) EndAlike PrintAlike first rest other_rest r s (grind (arith, append-nil, here))
+            (grind (arith, append-nil, there, one))
+            (grind (arith, append-nil, here, there, one, ends, played plays gains, played others other_gains))
+            other one here.follows there.follows,
       )
-    where
-      never : (e : R) (x : Entry) → next_move move first ≡ Over e → next_move move first ≡ Asks (question_of x) → ⊥
-      never e x over asks = let no = sym over ∙ asks in cc
-
-      both : next_move move first ≡ Over c → next_move move first ≡ Over d → c ≡ d
-      both over other_over = let same = sym over ∙ other_over in cc

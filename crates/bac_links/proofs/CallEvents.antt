@@ -73,20 +73,9 @@ module _ (purpose : Purpose) (call : Call) (time : ℕ) where
       accepted (rules_for call) 0 (begun_at purpose call time later) (suc (suc j)) ≡ asked purpose call ∷ []
   unfolding refusal_of next_invoke_id
   accepted_is _ short quiet zero = rw (fitting short) refl
-  accepted_is later short quiet (suc j) =
-      let before = accepted_is later short quiet j in
-      rw (
-        none_at (rules_for call) _ (suc (suc j)) _ later j quiet,
-        before,
-      ) refl
+  accepted_is later short quiet (suc j) = grind (arith, none_at, accepted_is later short quiet j)
 
 -- ---- the ends and the sends among notes
-
-endings_sent : (rules : Rules) (events : List Event) (i : ℕ) (a : Accepted) → endings (send_notes rules events i a) ≡ []
-endings_sent = grind arith
-
-posts_ended : (i : ℕ) (request : Request) (e : Option End) → posts (end_notes i request e) ≡ []
-posts_ended = grind arith
 
 not_silent : (request : Request) (x : Option End) (y : End) → x ≡ Some y → endings (end_notes y.position request x) ≡ []
     → ⊥
@@ -162,10 +151,10 @@ module _ (purpose : Purpose) (call : Call) (time : ℕ) (later : List Event)
 
   told : (i : ℕ) → i < length all → TellsPlaced (rules_for call) all (asked purpose call) i
   told i within =
-      let here = drop_head all i within in
+      let (event, here, _) = drop_head all i within in
       record {
-        sends = told_at post_in refl i here.0 here.1 ∙ sends_placed (rules_for call) all i (asked purpose call);
-        ends = told_at ending_in refl i here.0 here.1 ∙ ends_placed (rules_for call) all i (asked purpose call);
+        sends = told_at post_in refl i event here ∙ sends_placed (rules_for call) all i (asked purpose call);
+        ends = told_at ending_in refl i event here ∙ ends_placed (rules_for call) all i (asked purpose call);
       }
 
   -- The request ends among the events.
@@ -262,17 +251,13 @@ module _ {purpose : Purpose} {call : Call} {time : ℕ} {later : List Event} {cl
   -- Without an end the call goes on.
   pub carries_on : endings handed.notes ≡ [] → (left : Client) → left ≡ keeping client handed.after
       → CarriesOn purpose call time (later ++ event ∷ []) left
-  carries_on none _ e = record {
+  carries_on none left e = record {
     short = far.short;
     quiet = grind (arith, quiet_after);
     unended = none_if _ (λ x e.
         let there = end_is_last purpose call time later far.short far.quiet event news far.unended x e in
-        let silent = ap (λ (i : ℕ). endings (end_notes i (asked purpose call).request (end_in purpose call next))) there
-        ∙ sym ends_told ∙ none in
-        not_silent (asked purpose call).request _ x e silent);
-    client_is =
-        e ∙ ap (λ (c : Client). keeping c handed.after) far.client_is
-        ∙ ap (λ (s : Stepped). Client_of call s.after) handed_is;
+        not_silent (asked purpose call).request _ x e (rw there (sym ends_told ∙ none)));
+    client_is = grind (arith, far.client_is, handed_is);
   }
 
   -- An end is the request's.

@@ -16,7 +16,7 @@ use Rattle.bac_links.{
   specs.Inner.CallSteps.{posts, sent_last, or_sent, wait_of, begun_at, endings, GainsLost},
   specs.Inner.CallSteps.{heard_step, ticked, AsksNothing, IsAlone, CarriesOn, Hears, Ticks, TicksLost, Underway},
   specs.Asking.{Move, Asks, Over, ForTime, ToSend, question_of, Follows, Plays, next_move, waits_in, turn_after},
-  specs.{Call.{rules_for, events_of, end_in, Comes, or_ended, move, Tells}, Ending.{ending_line, exit_of}},
+  specs.{Call.{events_of, end_in, Comes, or_ended, move, Tells}, Ending.{ending_line, exit_of}},
   proofs.{Histories.gains_both, Asking.{last_push, follows_push, waits_push, turn_begins, turns_over}},
   proofs.CallEvents.{carries_on, ends_next, sends_next, carried_alone, submitted, begins, begins_sent},
 }
@@ -24,9 +24,9 @@ use Rattle.bac_links.{
 -- ---- one open request
 
 -- An open request is one send.
-pub one_post : (state : State) (ticket : ℕ) (to : Station × List ℕ) → Some to ≡ to_send state ticket
-    → posts (sent state ticket) ≡ Posted to.0 to.1 ∷ []
-one_post _ _ to e = rw (← e) refl
+pub one_post : (state : State) (ticket : ℕ) (to : Station) (octets : List ℕ)
+    → Some (to, octets) ≡ to_send state ticket → posts (sent state ticket) ≡ Posted to octets ∷ []
+one_post _ _ to octets e = rw (← e) refl
 
 -- Where one request is open and a tick ends it, the tick sends nothing.
 unsent_at_end : (rules : Rules) (state : State) (now : ℕ) → IsAlone state →
@@ -150,24 +150,15 @@ module _ {purpose : Purpose} {call : Call} {time : ℕ} (more : List Entry) {cli
   module _ {Origin : Type 0} {seen left : Account Origin} where
     -- What is due was sent, or nothing is.
     goes_on : OneOrNone due → GainsAll (Timed time ∷ (more ++ due)) seen left → Underway purpose call seen left client n
-    goes_on (inl none) gains = record {
-      time = time;
-      more = more;
-      gains = subst (λ (xs : List Entry). GainsAll (Timed time ∷ xs) seen left)
-          (ap (λ (xs : List Entry). more ++ xs) none ∙ append-nil more) gains;
-      carried = carried;
-      follows = follows;
-      next = next ∙ ap (λ (d : List Entry). or_sent d (turn_after (wait_of call) n)) none;
-      turns = turns;
-    }
-    goes_on (inr one) gains =
-        let x = Posted one.0 one.1 in
+    goes_on (inl none) gains = grind (arith, append-nil)
+    goes_on (inr (to, octets, one)) gains =
+        let x = Posted to octets in
         record {
           time = time;
           more = more ++ x ∷ [];
-          gains = subst (λ (xs : List Entry). GainsAll (Timed time ∷ (more ++ xs)) seen left) one.2 gains;
+          gains = rw one at gains;
           carried = same_so more carried x refl;
-          follows = follows_sent x one.0 one.1 one.2 refl;
+          follows = follows_sent x to octets one refl;
           next = behind purpose call (Timed time ∷ more) x ∙ ap (turn_after (wait_of call)) (turned x refl);
           turns = turned x refl;
         }
@@ -276,23 +267,18 @@ module _ {Origin : Type 0} {purpose : Purpose} {call : Call} {seen mid next : Ac
   on ticks =
       let now = ticks.time in
       goes_on (timed now) (carried_then now ticks.ends _ ticks.handed) (follows_timed now) _ (next_then now ticks.ends)
-      (turned now) (subst OneOrNone (due_is now)
-      (one_or_none (rules_for call) (events_of purpose call (Timed far.time ∷ timed now)) _ _))
-      (gains_timed now _ ticks.gains)
+      (turned now) (grind (arith, due_is now, one_or_none)) (gains_timed now _ ticks.gains)
 
   -- The time runs out.
   pub timed_out : {last : Account Origin} {after : Client} → Ticks middle after true next last
       → Plays (move purpose call) seen last (Ok None)
-  timed_out {last} ticks = let now = ticks.time in record {
+  timed_out ticks = let now = ticks.time in record {
     gained = Timed far.time ∷ timed now;
-    gains = subst (λ (xs : List Entry). GainsAll (Timed far.time ∷ xs) seen last)
-        (ap (λ (xs : List Entry). timed now ++ xs) (unsent_at_end (rules_of middle) middle.state now alone ticks.ends)
-        ∙ append-nil (timed now)) (gains_timed now _ ticks.gains);
+    gains = grind (arith, unsent_at_end, alone, append-nil, gains_timed now _ ticks.gains);
     follows = follows_timed now;
-    over = behind_now purpose call (Timed far.time ∷ so_far) now ∙ ap (λ (e : Option End). or_ended e
-        (or_sent (sent_last purpose call (events_of purpose call (Timed far.time ∷ timed now)))
-        (turn_after (wait_of call) (waits_in (timed now)))))
-        (ends_so so_far carried (Timed now) (Tick now) tt refl None ticks.ends);
+    over =
+        behind_now purpose call (Timed far.time ∷ so_far) now
+        ∙ rw (ends_so so_far carried (Timed now) (Tick now) tt refl None ticks.ends) refl;
   }
 
   -- The request could not be sent again.
@@ -324,7 +310,7 @@ module _ (purpose : Purpose) (call : Call) (time : ℕ) (short : length call.bod
 
   pub begun : {Origin : Type 0} {seen left : Account Origin}
       → GainsAll (Timed time ∷ posts (sent client.state 0)) seen left → Underway purpose call seen left client 0
-  begun gains = goes_on [] carried_first (refl, tt) _ next_first refl (grind (arith, begins_sent, one_or_none)) gains
+  begun gains = grind (arith, goes_on, carried_first, next_first, begins_sent, one_or_none)
 
   pub unbegun : {Origin : Type 0} {seen mid left : Account Origin} → Gains (Timed time) seen mid
       → GainsLost (sent client.state 0) [] mid left → Plays (move purpose call) seen left (Err SendFailed)

@@ -6,8 +6,6 @@ mod CallTurns
 mod Searches
 mod Sendings
 mod Servings
-mod ServerSends
-mod SearchSends
 mod CallSends
 mod Accepted
 mod Progress

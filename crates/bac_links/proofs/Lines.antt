@@ -1,5 +1,5 @@
 -- The line of a call that met no fault: for a crate above.
-use Rattle.std.proofs.Common.{◌≡◌, ◌<◌, List, ℕ, Option, Result, Ok, Err, ap, arith}
+use Rattle.std.proofs.Common.{◌≡◌, ◌<◌, List, ℕ, Option, Result, Ok, Err, arith}
 use Rattle.bac_tsm.specs.Events.{Outcome}
 use Rattle.bac_text.specs.declared.jobs.Call.{Call}
 use Rattle.bac_print.specs.{Checked.Took, declared.checked.Checked.Checked}
@@ -12,5 +12,5 @@ pub line_of : {Origin W : Type 0} (purpose : Purpose) (call : Call) (contents : 
     → Tells purpose call contents before after seen left answer → status_of answer < 3
     → (ending : Option Outcome) × (status_of answer ≡ status_of (Ok (exit_of purpose ending)))
     × Took contents before after (ending_line purpose ending)
-line_of _ _ _ _ _ _ _ (Ok exit) told _ = (told.ending, ap (λ (e : Exit). status_of (Ok e)) told.exit_is, told.printed)
+line_of _ _ _ _ _ _ _ (Ok exit) told _ = grind arith
 line_of _ _ _ _ _ _ _ (Err fault) told below = absurd (omega (arith, below))

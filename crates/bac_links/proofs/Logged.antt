@@ -21,8 +21,7 @@ module _ (refused : OnRefusal) where
       → AreCallsFor refused waits time xs calls
       → CallsFor refused (waits_behind_all waits xs) (time_behind_all time xs) x more
       → AreCallsFor refused waits time (xs ++ x ∷ []) (calls ++ more)
-  calls_more _ _ [] x _ more none last =
-      (more, [], ap (λ (before : List SystemCall). before ++ more) none ∙ sym (append-nil more), last, refl)
+  calls_more _ _ [] x _ more none last = grind (arith, append-nil)
   calls_more waits time (y ∷ xs) x _ more (first, rest, split, is, others) last = (
     first,
     rest ++ more,

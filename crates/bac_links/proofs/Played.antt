@@ -23,14 +23,12 @@ behind_more stage (y ∷ xs) x = behind_more (behind stage y) xs x
 played_more : (stage : ToPlay) (xs : List Entry) (x : Entry) → ArePlayed stage xs → IsPlayed (behind_all stage xs) x
     → ArePlayed stage (xs ++ x ∷ [])
 played_more _ [] x _ last = (last, tt)
-played_more stage (y ∷ xs) x played last = (played.0, played_more (behind stage y) xs x played.1 last)
+played_more stage (y ∷ xs) x (first, later) last = (first, played_more (behind stage y) xs x later last)
 
 sendings_more : (stage : ToPlay) (xs : List Entry) (x : Entry)
     → sendings stage (xs ++ x ∷ []) ≡ sendings stage xs ++ sending_in (behind_all stage xs).time x
 sendings_more _ [] x = append-nil _
-sendings_more stage (y ∷ xs) x =
-    ap (λ (later : List Sending). sending_in stage.time y ++ later) (sendings_more (behind stage y) xs x)
-    ∙ sym (append_assoc (sending_in _ y) _ _)
+sendings_more stage (y ∷ xs) x = grind (arith, append_assoc, sendings_more (behind stage y) xs x)
 
 drop_one : (scene : Scene) (ss : List Scene) (n : ℕ) → slice_get ss n ≡ Some scene
     → drop n ss ≡ scene ∷ drop (suc n) ss
@@ -86,15 +84,16 @@ module _ (scenes : List Scene) (xs : List Entry) (next time : ℕ) (sent : List 
 
 coded_network : Coded NetworkAddress
 coded_network = code_by (ℕ × List ℕ) (coded× coded_ℕ (coded_list coded_ℕ)) (λ n. (n.network, n.address))
-    (λ p. record { network = p.0; address = p.1 }) (λ _. refl)
+    (λ (network, address). record { network = network; address = address }) (λ _. refl)
 
 coded_station : Coded Station
 coded_station = code_by (ℕ × (ℕ × Option NetworkAddress)) (coded× coded_ℕ (coded× coded_ℕ (coded_option coded_network)))
-    (λ s. (s.ip, (s.port, s.route))) (λ p. record { ip = p.0; port = p.1.0; route = p.1.1 }) (λ _. refl)
+    (λ s. (s.ip, (s.port, s.route))) (λ (ip, (port, route)). record { ip = ip; port = port; route = route }) (λ _. refl)
 
 coded_sending : Coded Sending
 coded_sending = code_by (ℕ × (Station × List ℕ)) (coded× coded_ℕ (coded× coded_station (coded_list coded_ℕ)))
-    (λ s. (s.time, (s.to, s.octets))) (λ p. record { time = p.0; to = p.1.0; octets = p.1.1 }) (λ _. refl)
+    (λ s. (s.time, (s.to, s.octets))) (λ (time, (to, octets)). record { time = time; to = to; octets = octets })
+    (λ _. refl)
 
 abbrev from_heard : Heard → Option (Option (Station × List ℕ))
 from_heard Silence = None
@@ -104,7 +103,7 @@ from_heard (Arrived from octets) = Some (Some (from, octets))
 abbrev to_heard : Option (Option (Station × List ℕ)) → Heard
 to_heard None = Silence
 to_heard (Some None) = Failure
-to_heard (Some (Some it)) = Arrived it.0 it.1
+to_heard (Some (Some (from, octets))) = Arrived from octets
 
 back_to_heard : (heard : Heard) → to_heard (from_heard heard) ≡ heard
 back_to_heard = grind arith

@@ -8,7 +8,7 @@ use Rattle.bac_tsm.{specs.{Events.{Event, Tick}, Lookahead.clock}, proofs.Progre
 use Rattle.bac_text.specs.declared.jobs.Call.{Call}
 use Rattle.bac_print.specs.declared.checked.Checked.{Checked}
 use Rattle.bac_links.{
-  specs.History.{Heard, Silence, Arrived, Failure, Entry, Waited, Timed, Posted, Unposted, Account},
+  specs.History.{Heard, Silence, Arrived, Failure, Entry, Waited, Timed, Posted, Account},
   specs.Asking.{Asks, Question, ForDatagram, ForTime, question_of, Follows, next_move, waits_in},
   specs.{Handed.handed_of, Call.{rules_for, asked, end_in, events_of, move, Tells}},
   specs.{Progress.{AreTold, ArePrompt}, declared.{ending.Purpose.Purpose, exit.Exit.Exit, fault.ToolFault.ToolFault}},
@@ -41,9 +41,7 @@ steady_more d first next before bound j lt = elim (cases_lt j (length first)) [
 greatest_tick-append : (first next : List Event)
     → greatest_tick (first ++ next) ≡ max (greatest_tick first) (greatest_tick next)
 greatest_tick-append [] _ = omega arith
-greatest_tick-append (Tick now ∷ first) next =
-    let h : greatest_tick (first ++ next) ≡ max (greatest_tick first) (greatest_tick next) =
-    greatest_tick-append first next in omega arith
+greatest_tick-append (Tick now ∷ first) next = grind (arith, greatest_tick-append first next)
 greatest_tick-append (_ ∷ first) next = greatest_tick-append first next
 
 -- ---- a send and a wait are asked for while the request is open
@@ -59,9 +57,13 @@ module _ (purpose : Purpose) (call : Call) where
   IsOpen gained = end_in purpose call (events_of purpose call gained) ≡ None
 
   -- What is asked but the time is asked once the time was told, of a call whose request is open.
+  record IsReady (gained : List Entry) (last : Entry) : Type 0 where
+    timely : IsTimely last
+    unended : IsOpen gained
+
   ready : (gained : List Entry) (last : Entry) (question : Question) → (question ≡ ForTime → ⊥)
       → ((to : Station) (octets : List ℕ) → last ≡ Posted to octets → IsOpen gained)
-      → move purpose call gained (Some last) ≡ Asks question → IsTimely last × IsOpen gained
+      → move purpose call gained (Some last) ≡ Asks question → IsReady gained last
   ready = grind arith
 
   -- ---- one entry after another
@@ -129,8 +131,8 @@ module _ (purpose : Purpose) (call : Call) where
     at_wait before last wait heard n now is asks prompt =
         let asked = ready (Timed first ∷ before) last (ForDatagram wait) (λ e. cc) is.sent
         (ap (move purpose call (Timed first ∷ before)) (sym is.came_last) ∙ asks) in
-        let soon = open_in_time before now is.steady asked.1 in
-        let told = is.told asked.0 in
+        let soon = open_in_time before now is.steady asked.unended in
+        let told = is.told asked.timely in
         record {
           came_last = last_push (Some (Timed first)) before (Waited wait heard);
           steady = further before (Waited wait heard) now now is.steady (small heard) (omega arith);
@@ -161,23 +163,17 @@ module _ (purpose : Purpose) (call : Call) where
         → Goes before rest → AreTold time_behind n rest
         → ((k : ℕ) → k < n + waits_in rest → time_behind (suc k) ≤ time_behind k + longest)
         → time_behind (n + waits_in rest) ≤ bound
-    in_bound _ _ n _ [] is goes told prompt = subst (λ (k : ℕ). time_behind k ≤ bound) (omega arith) is.within
-    in_bound before last n now (Waited wait heard ∷ rest) is goes told prompt =
-        let more : suc n + waits_in rest ≡ n + suc (waits_in rest) = omega arith in
-        subst (λ (k : ℕ). time_behind k ≤ bound) more
-        (in_bound (before ++ Waited wait heard ∷ []) (Waited wait heard) (suc n) now rest
-        (at_wait before last wait heard n now is goes.0 (prompt n (omega arith))) goes.1 told
-        (λ k less. prompt k (omega (arith, less, more))))
-    in_bound before last n now (Timed time ∷ rest) is goes told prompt =
-        in_bound (before ++ Timed time ∷ []) (Timed time) n time rest
-        (subst (λ (t : ℕ). IsAt (before ++ Timed t ∷ []) (Timed t) n t) (sym told.0) (at_time _ last n now is))
-        goes.1 told.1 prompt
-    in_bound before last n now (Posted to octets ∷ rest) is goes told prompt =
-        in_bound (before ++ Posted to octets ∷ []) (Posted to octets) n now rest
-        (at_send before last (Posted to octets) n now is refl (λ e. cc) goes.0) goes.1 told prompt
-    in_bound before last n now (Unposted to octets ∷ rest) is goes told prompt =
-        in_bound (before ++ Unposted to octets ∷ []) (Unposted to octets) n now rest
-        (at_send before last (Unposted to octets) n now is refl (λ e. cc) goes.0) goes.1 told prompt
+    in_bound _ _ n _ [] is goes told prompt = grind arith
+    in_bound before last n now (Waited wait heard ∷ rest) is (asks, later) told prompt =
+        let more = in_bound (before ++ Waited wait heard ∷ []) (Waited wait heard) (suc n) now rest
+        (at_wait before last wait heard n now is asks (prompt n (omega arith))) later told
+        (λ k less. prompt k (omega (arith, less))) in
+        grind (arith, more)
+    in_bound before last n now (Timed time ∷ rest) is (_, later) (shown, told) prompt =
+        in_bound (before ++ Timed time ∷ []) (Timed time) n time rest (rw shown (at_time before last n now is)) later
+        told prompt
+    in_bound before last n now (x ∷ rest) is (asks, later) told prompt =
+        in_bound (before ++ x ∷ []) x n now rest (at_send before last x n now is refl (λ e. cc) asks) later told prompt
 
     begun : first ≡ time_behind 0 → IsAt [] (Timed first) 0 first
     begun = grind (arith, all_by)
@@ -185,12 +181,10 @@ module _ (purpose : Purpose) (call : Call) where
   in_time : (time_behind : ℕ → ℕ) (longest : ℕ) (gained : List Entry) → Follows (move purpose call) [] gained
       → AreTold time_behind 0 gained → ArePrompt time_behind longest (waits_in gained)
       → time_behind (waits_in gained) ≤ time_behind 0 + suc call.retries * (call.timeout + longest)
-  in_time time_behind longest (Timed time ∷ more) follows told prompt =
-      let all : 0 + waits_in more ≡ waits_in more = omega arith in
-      subst (λ (t : ℕ). time_behind (waits_in more) ≤ t + suc call.retries * (call.timeout + longest)) told.0
-      (subst (λ (n : ℕ). time_behind n ≤ time + suc call.retries * (call.timeout + longest)) all
-      (in_bound time_behind longest time [] (Timed time) 0 time more (begun time_behind longest time told.0) follows.1
-      told.1 (λ n less. prompt n (omega (arith, less, all)))))
+  in_time time_behind longest (Timed time ∷ more) (_, follows) (shown, told) prompt =
+      let in_all = in_bound time_behind longest time [] (Timed time) 0 time more (begun time_behind longest time shown)
+      follows told (λ n less. prompt n (omega (arith, less))) in
+      grind (arith, in_all)
   in_time _ _ _ follows told prompt = grind arith
 
 pub told_in_time : {Origin W : Type 0} (contents : W → Option (List ℕ)) (purpose : Purpose) (call : Call)
@@ -201,5 +195,4 @@ pub told_in_time : {Origin W : Type 0} (contents : W → Option (List ℕ)) (pur
     → time_behind (waits_in gained) ≤ time_behind 0 + suc call.retries * (call.timeout + longest)
 told_in_time contents purpose call before after seen left result gained time_behind longest tells gains =
     let it = went purpose call contents before after seen left result tells in
-    in_time purpose call time_behind longest gained
-    (plays_all (move purpose call) seen left _ gained it.plays gains).follows
+    in_time purpose call time_behind longest gained (plays_all it.plays gains).follows

@@ -154,8 +154,8 @@ module _ {Origin : Type 0} {before device : DeviceState} {seen mid : Account Ori
       follows_waited : Follows (serve_move count before) [] waited
       follows_waited = grind (arith, follows_push, turn_so, turn_begins)
 
-      follows_sent : heard ≢ Failure → (x : Entry) (reply : Station × List ℕ)
-          → replies_of device (brought_by heard) ≡ Some reply ∷ [] → ToSend reply.0 reply.1 ≡ question_of x
+      follows_sent : heard ≢ Failure → (x : Entry) (to : Station) (octets : List ℕ)
+          → replies_of device (brought_by heard) ≡ Some (to, octets) ∷ [] → ToSend to octets ≡ question_of x
           → Follows (serve_move count before) [] (waited ++ x ∷ [])
       follows_sent = grind (arith, follows_push, follows_waited, behind_wait)
 
@@ -182,11 +182,11 @@ module _ {Origin : Type 0} {before device : DeviceState} {seen mid : Account Ori
             ServeGoes before after seen left count (came + came_in brings) (replied + replied_in brings) (suc n)
         go [] e few more = silent [] e few refl more
         go (None ∷ []) e few more = silent (None ∷ []) e few refl more
-        go (Some reply ∷ []) e few more =
-            let x = Posted reply.0 reply.1 in
+        go (Some (to, octets) ∷ []) e few more =
+            let x = Posted to octets in
             on_with turn.heard turn.leaves (waited turn.heard ++ x ∷ []) (behind_sent turn.heard x refl refl) brings
-            turn.came turn.replied
-            (gains_waited turn.heard (x ∷ []) more) (follows_sent turn.heard within fewer turn.received x reply e refl)
+            turn.came turn.replied (gains_waited turn.heard (x ∷ []) more)
+            (follows_sent turn.heard within fewer turn.received x to octets e refl)
             (behind count before (waited turn.heard) x)
         go (r ∷ s ∷ rs) e few more = absurd few
 

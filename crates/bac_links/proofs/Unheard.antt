@@ -2,12 +2,12 @@
 use Rattle.std.proofs.{Common.{◌≡◌, ℕ, List, [], Option, Ok, sym}, lemmas.List.append-nil}
 use Rattle.bac_text.specs.declared.jobs.Call.{Call}
 use Rattle.bac_print.specs.declared.checked.Checked.{Checked}
-use Rattle.bac_links.specs.{History.Account, Asking.{Asks, Over, ForTime}, Call.{move, Tells}}
+use Rattle.bac_links.specs.{History.Account, Asking.{Asks, Over, ForTime}, Call.{Tells}}
 use Rattle.bac_links.{specs.declared.{ending.Purpose.Purpose, exit.Exit.Exit}, proofs.Asking.plays_all}
 
 pub not_ended : {Origin W : Type 0} (contents : W → Option (List ℕ)) (purpose : Purpose) (call : Call)
     (before after : Checked W)
     (seen : Account Origin) (exit : Exit) → Tells purpose call contents before after seen seen (Ok exit) → ⊥
 not_ended _ purpose call _ _ seen exit tells =
-    let plays = plays_all (move purpose call) seen seen _ [] tells.plays (sym (append-nil _)) in
+    let plays = plays_all {gained = []} tells.plays (sym (append-nil _)) in
     let over : Asks ForTime ≡ Over (Ok tells.ending) = plays.over in cc

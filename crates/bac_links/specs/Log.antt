@@ -11,5 +11,5 @@ call_of (note.Bind at) = Bind at
 call_of (note.Limit limit done) = Limit (as_nanos limit) (is_ok done.now)
 call_of (note.SendTo octets to sent) = SendTo octets.now to (result_ok sent.now)
 call_of (note.Receive room came) =
-    Receive (length room.now) (result_map_both (λ c. (take c.0 room.now, c.1)) error_kind came.now)
+    Receive (length room.now) (result_map_both (λ (taken, from). (take taken room.now, from)) error_kind came.now)
 call_of (note.Elapsed passed) = Elapsed (result_ok passed.now)

@@ -37,7 +37,7 @@ reply_count replies = length (flat_map option_to_list replies)
 
 -- Where there is a reply it is sent.
 abbrev pub or_reply : Option (Option (Station × List ℕ)) → Move (Result ℕ ToolFault) → Move (Result ℕ ToolFault)
-or_reply (Some (Some reply)) other = Asks (ToSend reply.0 reply.1)
+or_reply (Some (Some (to, octets))) other = Asks (ToSend to octets)
 or_reply _ other = other
 
 module _ (count : ℕ) (device : DeviceState) where

@@ -90,7 +90,8 @@ is_quiet refused kind = false
 
 -- What is heard where a receive is answered so.
 abbrev pub hears : OnRefusal → Result (List ℕ × SocketAddr) ErrorKind → Heard
-hears refused (Ok came) = option_map_or (λ peer. Arrived (station peer) came.0) (heard_from came.1 came.0) Silence
+hears refused (Ok (octets, from)) =
+    option_map_or (λ peer. Arrived (station peer) octets) (heard_from from octets) Silence
 hears refused (Err kind) = if is_quiet refused kind then Silence else Failure
 
 -- What a socket whose receives wait so long is asked for, so that they wait this long, in milliseconds: nothing where

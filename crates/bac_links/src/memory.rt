@@ -89,8 +89,8 @@ impl<A: Allocator> MemoryLink<A> {
     pub fn sent(&self, n: usize) -> Option<(u64, Peer, &[u8])>
         ensures { MatchOption result
             (slice_get (sent_by (account_with self.now.steps.items self.now.history.items)) n ≡ None)
-            (λ s. slice_get (sent_by (account_with self.now.steps.items self.now.history.items)) n
-            ≡ Some (record { time = s.0; to = station s.1; octets = s.2.now })) }
+            (λ (time, to, octets). slice_get (sent_by (account_with self.now.steps.items self.now.history.items)) n
+            ≡ Some (record { time = time; to = station to; octets = octets.now })) }
     {
         sending(&self.sent, n)
     }
@@ -199,8 +199,8 @@ fn keep<A: Allocator>(alloc: A, step: &Step<'_>) -> Result<Kept<A>, AllocError>
 // What the record with this number tells.
 fn sending<A: Allocator>(sent: &[Record<A>], n: usize) -> Option<(u64, Peer, &[u8])>
     ensures { MatchOption result (slice_get (map sending_of sent.now) n ≡ None)
-        (λ s. slice_get (map sending_of sent.now) n
-        ≡ Some (record { time = s.0; to = station s.1; octets = s.2.now })) }
+        (λ (time, to, octets). slice_get (map sending_of sent.now) n
+        ≡ Some (record { time = time; to = station to; octets = octets.now })) }
 {
     let record = sent.get(n)?;
     Some((record.time, record.to, record.octets.as_slice()))

@@ -29,9 +29,9 @@ pub trait Socket {
 
     /// Waits for a datagram, puts as much of it there as there is room for, and tells how much and from where it came.
     fn recv_from(&mut self, room: &mut [u8]) -> io::Result<(usize, SocketAddr)>
-        ensures within { IfOk result (λ came. came.0 ≤ length room.new) }
+        ensures within { IfOk result (λ (taken, from). taken ≤ length room.new) }
         ensures log { log self.new ≡ log self.old ++ Receive (length room.old)
-            (result_map_both (λ came. (take came.0 room.new, came.1)) error_kind result) ∷ [] };
+            (result_map_both (λ (taken, from). (take taken room.new, from)) error_kind result) ∷ [] };
 
     /// How long ago the socket was made.
     fn elapsed(&mut self) -> io::Result<Duration>
@@ -119,9 +119,9 @@ impl<R: Clock + Drop> Socket for SystemSocket<R> {
     }
 
     fn recv_from(&mut self, room: &mut [u8]) -> io::Result<(usize, SocketAddr)>
-        ensures within { IfOk result (λ came. came.0 ≤ length room.new) }
+        ensures within { IfOk result (λ (taken, from). taken ≤ length room.new) }
         ensures log { self.new.log.items ≡ self.old.log.items ++ Receive (length room.old)
-            (result_map_both (λ came. (take came.0 room.new, came.1)) error_kind result) ∷ [] }
+            (result_map_both (λ (taken, from). (take taken room.new, from)) error_kind result) ∷ [] }
         ensures left { self.new ≡ record self.old { log = self.new.log } }
     {
         let came = self.socket.recv_from(room);

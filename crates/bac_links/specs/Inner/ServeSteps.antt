@@ -31,7 +31,7 @@ LeavesDevice before heard after = after ≡ device_behind before (brought_by hea
 
 -- The sends of these replies.
 abbrev pub sends_of : List (Option (Station × List ℕ)) → List Entry
-sends_of replies = map (λ (reply : Station × List ℕ). Posted reply.0 reply.1) (flat_map option_to_list replies)
+sends_of replies = map (λ ((to, octets) : Station × List ℕ). Posted to octets) (flat_map option_to_list replies)
 
 module _ {Origin : Type 0} (before after : DeviceState) (seen left : Account Origin) where
   -- A wait heard this, and the reply to it was sent, where there is one.
@@ -46,11 +46,12 @@ module _ {Origin : Type 0} (before after : DeviceState) (seen left : Account Ori
   -- A wait heard this, and the reply to it could not be sent.
   pub record LosesReply : Type 0 where
     pub heard : Heard
-    pub reply : Station × List ℕ
+    pub to : Station
+    pub octets : List ℕ
     pub leaves : LeavesDevice before heard after
     pub received : heard ≢ Failure
-    pub replies : replies_of before (brought_by heard) ≡ Some reply ∷ []
-    pub gains : GainsAll (Waited serve_wait heard ∷ Unposted reply.0 reply.1 ∷ []) seen left
+    pub replies : replies_of before (brought_by heard) ≡ Some (to, octets) ∷ []
+    pub gains : GainsAll (Waited serve_wait heard ∷ Unposted to octets ∷ []) seen left
 
   -- A wait failed.
   pub record WaitFails : Type 0 where

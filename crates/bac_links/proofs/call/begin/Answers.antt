@@ -33,7 +33,7 @@ returns-clause-ok g c =
 
 pub returns-in_err-send_request-clause-over : goal.returns-in_err-send_request-clause-over
 returns-in_err-send_request-clause-over g c =
-    let p = err_from_is_err_and c.from_residual.result c.from_residual.ensures.1 in
+    let (_, was, _) = err_from_is_err_and c.from_residual.result c.from_residual.ensures.1 in
     let short = rw c.as_slice.ensures.value at c.as_slice.ensures.fits in
     let answer = rw (
       c.tick.ensures.left,
@@ -46,4 +46,4 @@ returns-in_err-send_request-clause-over g c =
     let client = rw (c.tick.ensures.left, c.new-client.ensures, c.service_of.ensures, c.as_slice.ensures.value) at
     c.submit.ensures.left in
     let lost = rw first at c.in_err-send_request.ensures.lost in
-    rw p.1 (unbegun c.args.purpose c.args.call.now c.now.result short client c.now.ensures.told lost)
+    rw was (unbegun c.args.purpose c.args.call.now c.now.result short client c.now.ensures.told lost)

@@ -5,13 +5,14 @@ use Rattle.bac_links.proofs.call.run.Goals as goal
 
 pub returns-in_err-client-clause-told : goal.returns-in_err-client-clause-told
 returns-in_err-client-clause-told g c =
-    let p = err_from_is_err_and c.from_residual.result c.from_residual.ensures.1 in
-    rw (p.1, p.2, c.in_err-client.ensures.err) (record { unprinted = refl; plays = c.in_err-client.ensures.over })
+    let (_, was, same) = err_from_is_err_and c.from_residual.result c.from_residual.ensures.1 in
+    rw (was, same, c.in_err-client.ensures.err) (record { unprinted = refl; plays = c.in_err-client.ensures.over })
 
 pub returns-in_err-ending-clause-told : goal.returns-in_err-ending-clause-told
 returns-in_err-ending-clause-told g c =
-    let p = err_from_is_err_and c.from_residual-in_err-ending.result c.from_residual-in_err-ending.ensures.1 in
-    rw (p.1, p.2)
+    let residual = c.from_residual-in_err-ending in
+    let (_, was, same) = err_from_is_err_and residual.result residual.ensures.1 in
+    rw (was, same)
     (fails_so c.args.purpose c.args.call.now g.W.Write.contents _ _ _ c.in_err-ending.ensures.err
     c.loop-turn.invariant.unwritten
     (c.in_err-ending.ensures.over c.args.purpose c.args.call.now _ _ c.turn_wait-wait_ms.ensures

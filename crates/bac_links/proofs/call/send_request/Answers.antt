@@ -7,6 +7,6 @@ pub returns-then-is_err-clause-lost : goal.returns-then-is_err-clause-lost
 returns-then-is_err-clause-lost g c = record {
   to = _;
   octets = _;
-  one = one_post c.args.client.now.state c.args.ticket _ c.in-Some.ensures;
+  one = one_post c.args.client.now.state c.args.ticket _ _ c.in-Some.ensures;
   gains = search rules;
 }

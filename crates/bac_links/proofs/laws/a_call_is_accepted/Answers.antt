@@ -3,7 +3,7 @@ use Rattle.std.proofs.Common.{◌≤◌, List, ◌∷◌, length, arith}
 use Rattle.bac_pdu.specs.Apdu.{longest_body}
 use Rattle.bac_text.specs.declared.jobs.Call.{Call}
 use Rattle.bac_links.specs.History.{Entry, Timed}
-use Rattle.bac_links.specs.{Call.{Comes, IsAccepted, events_of, move}, Handed.handed, declared.ending.Purpose.Purpose}
+use Rattle.bac_links.specs.{Call.{Comes, IsAccepted, events_of, move}, declared.ending.Purpose.Purpose}
 use Rattle.bac_links.proofs.{Alike.went, Asking.{plays_all, PlaysAll}, CallEvents.is_accepted, CallTurns.quiet_handed}
 use Rattle.bac_links.proofs.laws.a_call_is_accepted.Goals as goal
 
@@ -11,11 +11,10 @@ module _ (purpose : Purpose) (call : Call) where
   -- Who follows the moves of a call to its end asks for the time first.
   accepted_in : (comes : Comes) (gained : List Entry) → length call.body.items ≤ longest_body
       → PlaysAll (move purpose call) gained comes → IsAccepted purpose call (events_of purpose call gained)
-  accepted_in _ (Timed time ∷ more) short plays =
-      is_accepted purpose call time (handed more) short (quiet_handed more)
+  accepted_in _ (Timed time ∷ more) short plays = grind (arith, is_accepted, quiet_handed)
   accepted_in _ _ short plays = grind arith
 
 pub returns : goal.returns
 returns g c = λ purpose call before after seen left result gained short tells gains.
     let it = went purpose call g.W.Write.contents before after seen left result tells in
-    accepted_in purpose call it.comes gained short (plays_all (move purpose call) seen left _ gained it.plays gains)
+    accepted_in purpose call it.comes gained short (plays_all it.plays gains)

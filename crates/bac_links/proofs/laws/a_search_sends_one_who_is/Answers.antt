@@ -1,4 +1,4 @@
-use Rattle.bac_links.proofs.SearchSends.{one_sent}
+use Rattle.bac_links.proofs.Sendings.{one_sent}
 use Rattle.bac_links.proofs.laws.a_search_sends_one_who_is.Goals as goal
 
 pub returns : goal.returns

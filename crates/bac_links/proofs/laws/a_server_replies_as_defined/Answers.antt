@@ -1,13 +1,13 @@
 -- What came is told by the history, and the definition goes by what came.
 use Rattle.std.proofs.Common.{List, ◌∙◌, ap, sym, subst}
 use Rattle.bac_device.specs.Turns.{AreDefined}
-use Rattle.bac_links.specs.{History.Entry, Serve.{arrivals_in, device_behind, replies_of, serve_move}}
+use Rattle.bac_links.specs.{History.Entry, Serve.{arrivals_in, device_behind, replies_of}}
 use Rattle.bac_links.proofs.{Accepted.defined, Asking.played}
 use Rattle.bac_links.proofs.laws.a_server_replies_as_defined.Goals as goal
 
 pub returns : goal.returns
 returns g c = λ count before after seen left result gained writes serves gains holds.
-    let is = played (serve_move count before) seen left result gained serves.plays gains in
+    let is = played serves.plays gains in
     let left_so = serves.device ∙ ap (λ (xs : List Entry). device_behind before (arrivals_in xs)) is in
     subst (AreDefined before writes (arrivals_in gained) (replies_of before (arrivals_in gained))) (sym left_so)
     (defined before writes (arrivals_in gained) holds)

@@ -18,18 +18,18 @@ returns-in_ok-show_found-in-Some-clause-told g c =
 
 pub returns-in_err-show_found-in-Some-clause-told : goal.returns-in_err-show_found-in-Some-clause-told
 returns-in_err-show_found-in-Some-clause-told g c =
-    let p = err_from_is_err_and c.from_residual.result c.from_residual.ensures.1 in
+    let (_, was, same) = err_from_is_err_and c.from_residual.result c.from_residual.ensures.1 in
     let gains = rw (c.in-Ok-Some.field-0-is, ← c.as_slice.ensures.value) at c.in-Ok-Some.ensures.told in
-    let text = c.in_err-show_found-in-Some.ensures.text in
-    rw (p.1, p.2, c.in_err-show_found-in-Some.ensures.fault) (record {
+    let (taken, rest, line, printed) = c.in_err-show_found-in-Some.ensures.text in
+    rw (was, same, c.in_err-show_found-in-Some.ensures.fault) (record {
       heard = Arrived (station c.in-Ok-Some.from) c.as_slice.result.now;
       gains = gains;
       last = found_seen c.in-Some.found;
       finds = rw (← c.in-Some.ensures) refl;
-      taken = text.0;
-      rest = text.1;
-      line = text.2;
-      printed = text.3;
+      taken = taken;
+      rest = rest;
+      line = line;
+      printed = printed;
     })
 
 pub returns-in-None-clause-told : goal.returns-in-None-clause-told

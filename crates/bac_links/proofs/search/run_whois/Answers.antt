@@ -6,8 +6,8 @@ use Rattle.bac_links.proofs.search.run_whois.Goals as goal
 
 pub returns-in_err-ask-clause-told : goal.returns-in_err-ask-clause-told
 returns-in_err-ask-clause-told g c =
-    let p = err_from_is_err_and c.from_residual.result c.from_residual.ensures.1 in
-    rw (p.1, p.2, c.in_err-ask.ensures.err)
+    let (_, was, same) = err_from_is_err_and c.from_residual.result c.from_residual.ensures.1 in
+    rw (was, same, c.in_err-ask.ensures.err)
     (unbegun c.args.search.now c.now-first.result c.now-first.ensures.told c.in_err-ask.ensures.told)
 
 pub loop-turn-init : goal.loop-turn-init
@@ -20,8 +20,8 @@ loop-turn-init g c = record {
 
 pub returns-in_err-any-clause-told : goal.returns-in_err-any-clause-told
 returns-in_err-any-clause-told g c =
-    let p = err_from_is_err_and c.from_residual-in_err-any.result c.from_residual-in_err-any.ensures.1 in
-    rw (p.1, p.2) (fails c.loop-turn.invariant.goes
+    let (_, was, same) = err_from_is_err_and c.from_residual-in_err-any.result c.from_residual-in_err-any.ensures.1 in
+    rw (was, same) (fails c.loop-turn.invariant.goes
     (rw c.most_turns-turn-end.ensures at c.loop-turn-test.true) _ _ _ c.turn_wait-wait_ms.ensures
     c.in_err-any.ensures.told)
 

@@ -5,9 +5,9 @@ use Rattle.bac_links.proofs.search.show_found.Goals as goal
 
 pub returns-in_err-finish-clause-text : goal.returns-in_err-finish-clause-text
 returns-in_err-finish-clause-text g c =
-    let p = err_from_is_err_and c.from_residual.result c.from_residual.ensures.1 in
-    rw p.1
-    (shown {A = Unit {0}} {after = c.finish.new.self.0} (Err p.0) (search rules) c.new-page.ensures.writer
+    let (fault, was, _) = err_from_is_err_and c.from_residual.result c.from_residual.ensures.1 in
+    rw was
+    (shown {A = Unit {0}} {after = c.finish.new.self.0} (Err fault) (search rules) c.new-page.ensures.writer
     c.new-page.ensures.empty
     c.print_found.ensures c.in_err-finish.ensures.printed c.in_err-finish.ensures.failed)
 

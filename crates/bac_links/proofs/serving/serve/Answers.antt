@@ -16,9 +16,9 @@ loop-turn-init g c = record {
 
 pub returns-in_err-brought-clause-told : goal.returns-in_err-brought-clause-told
 returns-in_err-brought-clause-told g c =
-    let p = err_from_is_err_and c.from_residual.result c.from_residual.ensures.1 in
+    let (_, was, same) = err_from_is_err_and c.from_residual.result c.from_residual.ensures.1 in
     let all = c.loop-turn.invariant in
-    rw (p.1, p.2)
+    rw (was, same)
     (serve_fails all.goes (rw c.most_turns-turn-end.ensures at c.loop-turn-test.true) all.fewer _
     c.in_err-brought.ensures.told)
 

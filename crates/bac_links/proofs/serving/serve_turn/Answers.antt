@@ -11,7 +11,8 @@ returns-in-Err-send-clause-told g c =
     let sends = rw c.as_slice-2.ensures.value at c.in-Err-send.ensures.told in
     record {
       heard = heard;
-      reply = (station c.in-Some.to, c.answer.new.frame);
+      to = station c.in-Some.to;
+      octets = c.answer.new.frame;
       leaves = c.in-Some.ensures.written;
       received = λ q. cc;
       replies = rw (← c.in-Some.ensures.standing) refl;
