@@ -85,7 +85,8 @@ def heard_by_tools():
     for length in SOME:
         with local_socket() as field:
             field.settimeout(10)
-            words = [PROGRAM, *READ, "127.0.0.1:%d" % field.getsockname()[1], "--apdu-timeout", "5000"]
+            mac = "127.0.0.1:%d" % field.getsockname()[1]
+            words = [PROGRAM, *READ, mac, "--apdu-timeout", "5000", "--apdu-retries", "0"]
             with subprocess.Popen(words, stdout=subprocess.PIPE, text=True) as tool:
                 with contextlib.suppress(OSError):
                     _, desk = field.recvfrom(LONGEST)
