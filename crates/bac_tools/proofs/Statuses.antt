@@ -27,27 +27,25 @@ given_status : (fault : Option Fault) (failed : Bool) (report : Report) → IsTo
 given_status = grind arith
 
 module _ {N Origin L R W : Type 0} (gives : N → Binding → Result L NoSocket → Type 0) (out : Outside Origin L R W)
-    (network : N) (reader reader' : Checked R) (writer writer' : Checked W) (ran : Ran N L) where
-  ended_status : (answer : Result Job UsageFault) (o : Option (Result L NoSocket))
+    (network : N) (reader reader' : Checked R) (writer : Checked W) where
+  ended_status : (writer' : Checked W) (ran : Ran N L) (answer : Result Job UsageFault) (o : Option (Result L NoSocket))
       → RunsAsRead gives out network reader reader' writer writer' ran answer o → IsTold ran.report
   ended_status = grind (arith, tool_status, trace_status)
 
-  pub program_status : (words : List Text) → Program gives out network reader reader' writer writer' ran words
+  pub program_status : {writer' : Checked W} {ran : Ran N L} {words : List Text}
+      → Program gives out network reader reader' writer writer' ran words
       → IsStatusOf ran.report.fault ran.report.status
-  program_status words p = ended_status p.answer p.opened p.ends
+  program_status p = ended_status _ _ p.answer p.opened p.ends
 
-  called_status : (typed : Result (List Text) ErrorKind)
+  called_status : (writer' : Checked W) (ran : Ran N L) (typed : Result (List Text) ErrorKind)
       → IsCalled gives out network reader reader' writer writer' ran typed → IsTold ran.report
-  called_status (Ok typed) (inl p) = program_status _ p
-  called_status _ only = grind arith
+  called_status _ _ (Ok typed) (inl p) = program_status p
+  called_status _ _ _ only = grind arith
 
-pub run_status : {N Origin L R W E : Type 0} {gives : N → Binding → Result L NoSocket → Type 0}
-    {out : Outside Origin L R W} {contents : E → Option (List ℕ)} {network : N} {reader reader' : Checked R}
-    {writer writer' : Checked W} {errors errors' : Checked E} {ran : Ran N L}
-    {typed : Result (List Text) ErrorKind}
-    → IsRun gives out contents network reader reader' writer writer' errors errors' ran typed
-    → IsStatusOf ran.report.fault ran.report.status
-run_status {gives} {out} {network} {reader} {reader'} {writer} {writer'} {ran} {typed} run =
-    rw run.reported (given_status run.report.fault (has_failed writer') run.report
-    (called_status gives out network reader reader' writer run.unhelped (record ran { report = run.report }) typed
-    run.called))
+  pub run_status : {E : Type 0} {contents : E → Option (List ℕ)} {writer' : Checked W} {errors errors' : Checked E}
+      {ran : Ran N L} {typed : Result (List Text) ErrorKind}
+      → IsRun gives out contents network reader reader' writer writer' errors errors' ran typed
+      → IsStatusOf ran.report.fault ran.report.status
+  run_status {writer'} {ran} {typed} run =
+      rw run.reported (given_status run.report.fault (has_failed writer') run.report
+      (called_status run.unhelped (record ran { report = run.report }) typed run.called))

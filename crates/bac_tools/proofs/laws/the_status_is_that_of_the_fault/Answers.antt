@@ -2,7 +2,8 @@ use Rattle.bac_tools.proofs.Statuses.{program_status, run_status}
 use Rattle.bac_tools.proofs.laws.the_status_is_that_of_the_fault.Goals as goal
 
 pub returns-clause-run : goal.returns-clause-run
-returns-clause-run g c = λ network reader reader' writer writer' errors errors' ran typed run. run_status run
+returns-clause-run g c = λ network reader reader' writer writer' errors errors' ran typed run.
+    run_status _ _ _ _ _ _ run
 
 pub returns-clause-words : goal.returns-clause-words
-returns-clause-words g c = program_status _ _
+returns-clause-words g c = λ network reader reader' writer writer' ran words p. program_status _ _ _ _ _ _ p
