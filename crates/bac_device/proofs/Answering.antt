@@ -1,9 +1,9 @@
 -- What a device replies to a datagram, and what it is then, by the writes that it holds.
-use Rattle.std.proofs.Common.{◌≡◌, ℕ, Bool, List, Option, Result, Ok, Err, IfSome, refl, arith, subst, ap, ◌∙◌}
+use Rattle.std.proofs.Common.{◌≡◌, ℕ, Bool, List, Option, Result, Ok, Err, IfSome, refl, arith, subst, ap}
 use Rattle.std.{proofs.lemmas.Bool.cases_Bool, specs.Prelude.if◌then◌else◌, specs.Option.{ok_or}}
 use Rattle.std.specs.Result.{result_ok}
 use Rattle.bac_pdu.specs.{Peer.Station, Apdu.Message, Property.{Order, IsPriority}, PropertyReading.write_of}
-use Rattle.bac_pdu.{specs.Steps.◌>>=◌, proofs.WriteLaws.write_is}
+use Rattle.bac_pdu.{specs.Steps.◌>>=◌, proofs.PropertyLaws.write_is}
 use Rattle.bac_device.specs.{Info.Info, Point.Description, Places.{Write, Standing}, Inner.Places.IsUrgent}
 use Rattle.bac_device.specs.Device.{DeviceState, points_of, device_after, Holds}
 use Rattle.bac_device.specs.Access.{urgency, ordered_write, accepted_write}
@@ -72,7 +72,4 @@ pub next_after : (info : Info) (points : List Description) (writes : List Write)
     → with_write (device_after info points writes) (write_in_datagram (device_after info points writes) from datagram)
     ≡ device_after info points (writes_after info points writes from datagram)
 next_after info points writes from datagram =
-    write_held (device_after info points writes) writes _ (after_holds info points writes)
-    (datagram_urgent (device_after info points writes) from datagram)
-    ∙ ap (λ (p : List Description). device_after info p (writes_after info points writes from datagram))
-    (points_after info points writes)
+    rw (points_after info points writes) at (after_held _ writes from datagram (after_holds info points writes))

@@ -7,7 +7,7 @@ use Rattle.bac_device.specs.{Point.Description, Places.{Write, NoneTo, is_to, pl
 
 pub map_same : {A B : Type 0} (f g : A → B) → ((x : A) → f x ≡ g x) → (xs : List A) → map f xs ≡ map g xs
 map_same f g _ [] = refl
-map_same f g same (x ∷ xs) = let head = same x in let rest = map_same f g same xs in cc
+map_same f g same (x ∷ xs) = cc (same x, map_same f g same xs)
 
 -- ---- the sixteen places
 
@@ -61,7 +61,7 @@ put_after _ _ _ most least = grind (arith, set_place, map_same, place_more)
 none_chosen : (writes : List Write) (object : Identifier) (priority : ℕ) → NoneTo object writes
     → filter (is_to object priority) writes ≡ []
 none_chosen [] _ _ _ = refl
-none_chosen (_ ∷ writes) object priority none = rw none.0 (none_chosen writes object priority none.1)
+none_chosen (_ ∷ writes) object priority none = grind (arith, none_chosen writes object priority none.1)
 
 -- where no write is to the object its places are NULL
 pub place_none : (writes : List Write) (object : Identifier) (priority : ℕ) → NoneTo object writes

@@ -1,6 +1,6 @@
 -- How long replies are: each to a confirmed request fits the announced size, or is the stated Abort.
-use Rattle.std.proofs.Common.{◌≡◌, ℕ, ◌≤◌, Bool, true, false, List, [], ◌∷◌, length, Option, Some, None, refl, sym, ap}
-use Rattle.std.proofs.{Common.{subst, arith, inl, inr, ◌⊎◌, IfSome, if◌then◌else◌, leb-true}, lemmas.Bool.cond_both}
+use Rattle.std.proofs.Common.{◌≡◌, ℕ, ◌≤◌, Bool, true, false, List, [], ◌∷◌, length, Option, Some, None, refl, sym}
+use Rattle.std.proofs.{Common.{subst, arith, ◌⊎◌, IfSome, if◌then◌else◌, leb-true}, lemmas.Bool.cond_both}
 use Rattle.std.{proofs.lemmas.Option.{none-some, some_pair_parts}, specs.Option.{option_map, option_and_then, ForSome}}
 use Rattle.bac_wire.specs.{Datum.plain, Tag.plain_tag, Steps.◌>>=◌}
 use Rattle.bac_pdu.specs.{
@@ -18,7 +18,7 @@ use Rattle.bac_device.specs.Reply.{fitting, i_am, reply_message, reply_of, who_i
 -- a route leads to whom a datagram is from
 pub carried_routable : (from : Station) (datagram : List ℕ) (delivery : Delivery) → Carries from datagram delivery
     → IfSome delivery.peer.route IsRoutable
-carried_routable _ _ _ carries = grind arith
+carried_routable = grind arith
 
 -- what is sent to the peer of a delivery where this is the reply
 abbrev sent : Delivery → Option Message → Option (Station × List ℕ)
@@ -55,8 +55,7 @@ abbrev Short : ℕ → ℕ → Message → Type 0
 Short code id m = (length (laid_out m) ≤ announced_size code) ⊎ (laid_out m ≡ 0x71 ∷ id ∷ 0x04 ∷ [])
 
 no_longer : (code id : ℕ) (m : Message) → Short code id m → length (laid_out m) ≤ 1476
-no_longer code id m (inl few) = omega (arith, announced_most code)
-no_longer _ id m (inr abort) = omega (arith, ap length abort)
+no_longer = grind (arith, announced_most)
 
 unless_broadcast : (b : Bool) (code id : ℕ) (full : Message)
     → IfSome (if b then None else Some (fitting code id full)) (Short code id)
@@ -82,9 +81,7 @@ abbrev Fits : Message → Message → Type 0
 Fits request m = FitsRequest request (laid_out m)
 
 short : (request m : Message) → Fits request m → length (laid_out m) ≤ 1476
-short (confirmed part code id service body) m fits = no_longer code id m fits
-short (unconfirmed service body) m long = omega arith
-short _ m none = absurd none
+short = grind (arith, no_longer)
 
 message_fits : (device : DeviceState) (broadcast : Bool) (request : Message)
     → IfSome (reply_message device broadcast request) (Fits request)
@@ -95,10 +92,10 @@ message_fits _ _ _ = tt
 
 pub reply_fits : (device : DeviceState) (from : Station) (datagram : List ℕ)
     → ForSome (reply_of device from datagram) (ReplyFits from datagram)
-reply_fits device from datagram =
-    λ reply e delivery request carries laid. let all = message_fits device delivery.broadcast request in
-    let t = reply_takes device from reply.0 datagram reply.1 delivery request (Fits request) carries laid
-    (short request) all e in (laid_out t.0, t.2, t.1)
+reply_fits device from datagram = λ reply e delivery request carries laid.
+    let all = message_fits device delivery.broadcast request in
+    let t = reply_takes _ _ _ _ _ _ _ (Fits request) carries laid (short request) all e in
+    (laid_out t.0, t.2, t.1)
 
 -- ---- the code's reply
 

@@ -1,7 +1,7 @@
 -- A device whose places are those after some writes.
 use Rattle.std.proofs.Common.{◌≡◌, ℕ, Bool, true, false, List, [], ◌∷◌, ◌++◌, map, find, Option, Some, None, refl}
 use Rattle.std.proofs.{Common.{IfSome, sym, ap, subst, ◌∙◌, append-nil, arith, if◌then◌else◌}, lemmas.Bool.cases_Bool}
-use Rattle.std.proofs.lemmas.{Grind.common_steps, Option.{none-some, same_Some}, Simd.map-map}
+use Rattle.std.proofs.lemmas.{Grind.common_steps, Option.none-some, Simd.map-map}
 use Rattle.std.specs.{Option.{option_map, option_and_then, option_to_list}, Result.result_ok}
 use Rattle.bac_pdu.specs.{declared.apdu.Part.Part, Peer.Station, DatagramReading.carried, Apdu.{Message, confirmed}}
 use Rattle.bac_pdu.specs.{ApduReading.apdu_of, Property.Order}
@@ -46,7 +46,7 @@ pub points_after : (info : Info) (points : List Description) (writes : List Writ
     → points_of (device_after info points writes) ≡ points
 unfolding standing_after
 points_after _ [] _ = refl
-points_after info (point ∷ points) writes = grind (arith, points_after info points writes)
+points_after info (_ ∷ points) writes = grind (arith, points_after info points writes)
 
 -- a device once a write is made, if there is one
 pub write_held : (device : DeviceState) (writes : List Write) (write : Option Write) → Holds device writes
@@ -101,7 +101,7 @@ more_held : (device : DeviceState) (point : Description) (writes : List Write) �
 unfolding standing_after
 more_held device point writes holds none =
     let same = untouched writes point none in
-    ap (λ (s : List Standing). record { info = device.info; standings = s }) (grind (arith, common_steps))
+    grind (arith, common_steps)
 
 described_object : (point : Given) (d : Description) → description_of point ≡ Some d → d.object ≡ point.object
 unfolding description_of
@@ -112,16 +112,7 @@ pub added_held : (device : DeviceState) (standing : Standing) (point : Given) (w
     → Some standing ≡ option_map (standing_after []) (description_of point) → Holds device writes
     → NoneTo point.object writes
     → Holds (record { info = device.info; standings = device.standings ++ standing ∷ [] }) writes
-added_held device standing point writes made holds none = go (description_of point) refl (sym made)
-  where
-    go : (found : Option Description) → description_of point ≡ found
-        → option_map (standing_after []) found ≡ Some standing
-        → Holds (record { info = device.info; standings = device.standings ++ standing ∷ [] }) writes
-    go None at is = absurd (none-some standing is)
-    go (Some d) at is =
-        subst (λ (s : Standing). Holds (record { info = device.info; standings = device.standings ++ s ∷ [] }) writes)
-        (same_Some _ _ is) (more_held device d writes holds
-        (subst (λ (o : Identifier). NoneTo o writes) (sym (described_object point d at)) none))
+added_held = grind (arith, more_held, described_object)
 
 -- a device after some writes holds them
 pub after_holds : (info : Info) (points : List Description) (writes : List Write)
@@ -148,7 +139,7 @@ pub answers : (device : DeviceState) (arrival : Arrival) (reply : Option (Statio
     → ((writes : List Write) → Holds device writes → after ≡ device_after device.info (points_of device)
     (writes_after device.info (points_of device) writes arrival.from arrival.datagram))
     → Replies device arrival reply after
-answers _ _ _ _ replied written = grind arith
+answers = grind arith
 
 -- a device that replies to datagrams in turn
 pub in_turn : (device : DeviceState) (arrivals : List Arrival) (replies : List (Option (Station × List ℕ)))

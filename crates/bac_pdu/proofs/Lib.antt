@@ -4,8 +4,7 @@ pub mod DatagramLaws
 pub mod ApduLaws
 pub mod ParameterLaws
 pub mod RejectLaws
-pub mod ReadLaws
-pub mod WriteLaws
+pub mod PropertyLaws
 pub mod DiscoveryLaws
 pub mod ShortestLaws
 pub mod LengthLaws

@@ -8,7 +8,7 @@ use Rattle.bac_wire.specs.{Tag.{plain_number, plain_tag}, Region.{IsRegion}}
 use Rattle.bac_wire.specs.{Datum.{Datum, Spells, unsigned, enumerated, plain, IsDatum}, Parameter.context_tag}
 use Rattle.bac_wire.specs.Parameter.{SpellsContext, SpellsIn, SpellsEnclosed, context_octets, number_octets}
 use Rattle.bac_wire.{specs.Parameter.{object_octets, enclosed_octets}, proofs.TagLaws.{behind, tag_least}}
-use Rattle.bac_wire.proofs.{PlainDatum.plain_spells, ShortestDatum.{octet_count_least, ahead}}
+use Rattle.bac_wire.proofs.PlainDatum.{plain_spells, octet_count_least, ahead}
 use Rattle.bac_wire.proofs.ParameterLaws.{number_spells, object_spells, enclosed_spells}
 use Rattle.bac_pdu.specs.{
   declared.discovery.WhoIs.WhoIs,
@@ -23,8 +23,7 @@ use Rattle.bac_pdu.specs.{
 }
 use Rattle.bac_pdu.proofs.{
   SequenceLaws.{all_spell, whole_spell},
-  ReadLaws.{read_again, ack_is},
-  WriteLaws.write_again,
+  PropertyLaws.{read_again, write_again, ack_is},
   DiscoveryLaws.{who_is_is, introduction_is, error_is},
 }
 use Rattle.bac_wire.specs.Datum as values

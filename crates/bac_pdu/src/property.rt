@@ -106,7 +106,7 @@ pub fn read_write(body: &[u8]) -> Result<WriteRequest<'_>, RejectReason>
 
 /// What the body of a ReadProperty-ACK says: a property, and its value. None where the body is not whole, or where more
 /// follows.
-#[tactic(auto, using(crate::proofs::ReadLaws::value_there), unfolding(crate::specs::PropertyReading::ack_of))]
+#[tactic(auto, using(crate::proofs::PropertyLaws::value_there), unfolding(crate::specs::PropertyReading::ack_of))]
 pub fn read_ack(body: &[u8]) -> Option<Ack<'_>>
     ensures value { option_map ack_seen result ≡ ack_of body.now }
 {

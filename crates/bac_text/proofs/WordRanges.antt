@@ -3,7 +3,7 @@ use Rattle.std.proofs.Common.{◌≡◌, ℕ, ◌+◌, ◌≤◌, Bool, List, []
 use Rattle.std.{proofs.lemmas.Bool.Decides.nat_tests, specs.Prelude.{◌==◌, if◌then◌else◌, option_map, IfSome, IfOk}}
 use Rattle.std.specs.{List.{AllByRecursion, flat_map}, Result.result_ok}
 use Rattle.hex.{proofs.HexLemmas.{decode_of-ok, decode_sized-ok, decode_sized-twice}, specs.Hex.decode_sized}
-use Rattle.bac_wire.{specs.Datum.{Datum, signed, InRange, IsDatum, plain}, proofs.ShortestDatum.written_datum}
+use Rattle.bac_wire.{specs.Datum.{Datum, signed, InRange, IsDatum, plain}, proofs.PlainDatum.written_datum}
 use Rattle.bac_text.specs.{ValueWords.{signed_in, value_under}, Pairs.{value_before, pairs_from, values_in}}
 
 either : (b : Bool) (x y : Option Datum) → IfSome x InRange → IfSome y InRange → IfSome (if b then x else y) InRange

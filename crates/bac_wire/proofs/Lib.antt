@@ -3,7 +3,6 @@ pub mod Writing
 pub mod TagLaws
 pub mod DatumLaws
 pub mod PlainDatum
-pub mod ShortestDatum
 pub mod RegionReading
 pub mod ValueLists
 pub mod Pieces

@@ -1,5 +1,5 @@
 -- Each clause is the lemma of its file.
-use Rattle.bac_pdu.proofs.{DatagramLaws.carried_is, ApduLaws.apdu_is, ReadLaws.{read_is, ack_is}, WriteLaws.write_is}
+use Rattle.bac_pdu.proofs.{DatagramLaws.carried_is, ApduLaws.apdu_is, PropertyLaws.{read_is, write_is, ack_is}}
 use Rattle.bac_pdu.proofs.DiscoveryLaws.{who_is_is, introduction_is, error_is}
 use Rattle.bac_pdu.proofs.laws.in_words.Goals as goal
 
