@@ -52,7 +52,8 @@ Took-none = grind (arith, append-nil)
 OnlyWrites-more : (xs ys : List StreamCall) (a b c : Bool) → OnlyWrites a xs b → OnlyWrites b ys c
     → OnlyWrites a (xs ++ ys) c
 OnlyWrites-more [] ys a b c p q = rw p at q
-OnlyWrites-more (WriteCall octets answer ∷ xs) ys a b c p q = (p.0, p.1, OnlyWrites-more xs _ _ b c p.2 q)
+OnlyWrites-more (WriteCall octets answer ∷ xs) ys a b c (sound, some, later) q =
+    (sound, some, OnlyWrites-more xs _ _ b c later q)
 OnlyWrites-more (ReadCall room given ∷ xs) ys a b c p q = absurd p
 OnlyWrites-more (FlushCall done ∷ xs) ys a b c p q = absurd p
 

@@ -77,14 +77,14 @@ module _ {W : Type 0} {contents : W → Option (List ℕ)} where
       PrintsFront contents before after region behind
   front_more {rest} {behind} {value} so_far found first second = record {
     front = λ values e.
-        let f = so_far.front values e in
-        let more = behind_first value f.1 _ (sym (values-first rest value _ found) ∙ f.2) in (
-          f.0 ++ (datum_text value ++ separator behind),
-          more.0,
-          more.1,
-          f.3 ∙ ap (λ (all : List Datum). f.0 ++ joined all) more.2
-              ∙ ap (λ (text : List ℕ). f.0 ++ text) (one_more value _ behind more.1) ∙ sym (append_assoc f.0 _ _),
-          f.4 ⨾ first ⨾ second,
+        let (front, others, left, parts, printed) = so_far.front values e in
+        let (later, left, is) = behind_first value others _ (sym (values-first rest value _ found) ∙ left) in (
+          front ++ (datum_text value ++ separator behind),
+          later,
+          left,
+          parts ∙ ap (λ (all : List Datum). front ++ joined all) is
+              ∙ ap (λ (text : List ℕ). front ++ text) (one_more value _ behind left) ∙ sym (append_assoc front _ _),
+          printed ⨾ first ⨾ second,
         );
   }
 

@@ -1,13 +1,14 @@
 -- What the machine prints for all that a script says is what the look-ahead gives.
 use Rattle.std.proofs.Common.{◌≡◌, ℕ, zero, suc, List, [], ◌∷◌, ◌++◌}
-use Rattle.std.{proofs.Common.{drop, length, Option, Some, slice_get, refl, sym, ◌∙◌, ap}, specs.List.AllByRecursion}
+use Rattle.std.proofs.Common.{drop, length, Option, Some, slice_get, refl, sym, ◌∙◌, ap, arith}
+use Rattle.std.specs.List.{AllByRecursion}
 use Rattle.bac_pdu.specs.Peer.{Station}
 use Rattle.bac_tsm.specs.{Events.{Event, Note}, Lookahead.output, Machine.{State, Stepped}}
 use Rattle.bac_tsm.specs.{Limits.table_size, Laws.{state_at, NumbersComeBackLate}, Client.{client_rules, keeping}}
 use Rattle.bac_tsm.proofs.Laws.{by_number, few_open, begins, one_step, back_late}
 use Rattle.bac_device.specs.{Places.Write, Demo.demo_points, Turns.replies_to}
 use Rattle.bac_script.specs.{Line.{Said, Nothing, Settings, Happens, Asks}, Text.notes_text}
-use Rattle.bac_script.specs.{Running.small_device, Inner.Running.{Stage, new_client, ran, reply_after, writes_with}}
+use Rattle.bac_script.specs.{Running.small_device, Inner.Running.{Stage, new_client, ran, writes_with}}
 use Rattle.bac_script.specs.Script.{settings_in, events_in, arrivals_in, requests_in, printed, text_of}
 
 -- What a script runs on before its first line.
@@ -73,16 +74,16 @@ module _ (timeout retries first_ticket : ℕ) (events : List Event) where
   pub prints_output : (n : ℕ) (writes : List Write) (all : List Said) → NoSettings all → drop n events ≡ events_in all →
       text_from (stage_at n writes) all ≡ printed notes n all (replies_after writes all)
   prints_output n _ [] h e = refl
-  prints_output n writes (Nothing ∷ later) h e = prints_output n writes later h.1 e
-  prints_output n _ (Settings t r f ∷ _) h e = absurd h.0
-  prints_output n writes (Happens event ∷ later) h e =
-      let here = drop_next events n event (events_in later) e in
+  prints_output n writes (Nothing ∷ later) (_, none) e = prints_output n writes later none e
+  prints_output n _ (Settings t r f ∷ _) (other, _) e = absurd other
+  prints_output n writes (Happens event ∷ later) (_, none) e =
+      let (here, behind) = drop_next events n event (events_in later) e in
       let now = one_step (client_rules timeout retries) first_ticket events (by_number timeout retries) few_open n
-      event here.0 in
+      event here in
       ap (text_after n writes later) now
-      ∙ ap (λ (xs : List ℕ). notes_text (notes n) ++ xs) (prints_output (suc n) writes later h.1 here.1)
-  prints_output n writes (Asks arrival ∷ later) h e =
-      ap (λ (xs : List ℕ). reply_after writes arrival ++ xs) (prints_output n (writes_with writes arrival) later h.1 e)
+      ∙ ap (λ (xs : List ℕ). notes_text (notes n) ++ xs) (prints_output (suc n) writes later none behind)
+  prints_output n writes (Asks arrival ∷ later) (_, none) e =
+      grind (arith, prints_output n (writes_with writes arrival) later none e)
 
   pub prints_all : (all : List Said) → NoSettings all → events ≡ events_in all →
       text_from (record { client = new_client timeout retries first_ticket; writes = [] }) all

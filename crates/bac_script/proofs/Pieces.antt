@@ -9,11 +9,11 @@ use Rattle.bac_script.specs.{declared.line.LineFault.TheVariants.TooLong, Line.{
 
 pub pieces-line : (text more : List ℕ) → HasNoFeed text → pieces (text ++ 10 ∷ more) ≡ (text ++ 10 ∷ []) ∷ pieces more
 pieces-line [] _ h = refl
-pieces-line (x ∷ xs) more h = rw (ne_eqb x 10 h.0, pieces-line xs more h.1) refl
+pieces-line (x ∷ xs) more (differs, later) = rw (ne_eqb x 10 differs, pieces-line xs more later) refl
 
 pub pieces-open : (x : ℕ) (xs : List ℕ) → HasNoFeed (x ∷ xs) → pieces (x ∷ xs) ≡ (x ∷ xs) ∷ []
-pieces-open x [] h = rw (ne_eqb x 10 h.0) refl
-pieces-open x (y ∷ ys) h = rw (ne_eqb x 10 h.0, pieces-open y ys h.1) refl
+pieces-open x [] (differs, _) = rw (ne_eqb x 10 differs) refl
+pieces-open x (y ∷ ys) (differs, later) = rw (ne_eqb x 10 differs, pieces-open y ys later) refl
 
 -- The first piece begins with this
 pub record Begun (line more : List ℕ) : Type 0 where
@@ -27,16 +27,16 @@ onto_begun x [] = ([], [], refl)
 onto_begun x (p ∷ ps) = (p, ps, refl)
 
 pub pieces-begun : (x : ℕ) (xs more : List ℕ) → HasNoFeed (x ∷ xs) → Begun (x ∷ xs) more
-pieces-begun x [] more h =
-    let b = onto_begun x (pieces more) in
-    record { front = b.0; others = b.1; is = rw (ne_eqb x 10 h.0) b.2 }
-pieces-begun x (y ∷ ys) more h =
-    let b = pieces-begun y ys more h.1 in
-    record { front = b.front; others = b.others; is = rw (ne_eqb x 10 h.0, b.is) refl }
+pieces-begun x [] more (differs, _) =
+    let (front, others, is) = onto_begun x (pieces more) in
+    record { front = front; others = others; is = rw (ne_eqb x 10 differs) is }
+pieces-begun x (y ∷ ys) more (differs, later) =
+    let b = pieces-begun y ys more later in
+    record { front = b.front; others = b.others; is = rw (ne_eqb x 10 differs, b.is) refl }
 
 last_no_feed : (x : ℕ) (xs : List ℕ) → HasNoFeed (x ∷ xs) → get_or (x ∷ xs) (length xs) 0 ≢ 10
-last_no_feed x [] h = h.0
-last_no_feed x (y ∷ ys) h = last_no_feed y ys h.1
+last_no_feed x [] (differs, _) = differs
+last_no_feed x (y ∷ ys) (_, later) = last_no_feed y ys later
 
 pub ends_with_feed-none : (line : List ℕ) → HasNoFeed line → ends_with_feed line ≡ false
 ends_with_feed-none = grind (arith, common_steps, last_no_feed)

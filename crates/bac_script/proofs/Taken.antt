@@ -41,8 +41,8 @@ pub still_for_line : {R W : Type 0} {contents : W → Option (List ℕ)} {a b : 
     → ReadForLine a b page page'' held now
 still_for_line (inl same) _ = inl same
 still_for_line (inr r) then =
-    let more = further _ then (r.turned_in.later, r.turned_in.out) in
-    inr (record { last = r.last; turned_in = record { sound = r.turned_in.sound; later = more.0; out = more.1 } })
+    let (later, out) = further _ then (r.turned_in.later, r.turned_in.out) in
+    inr (record { last = r.last; turned_in = record { sound = r.turned_in.sound; later = later; out = out } })
 
 -- One more read, where no line is held, or none, since the reads are spent.
 pub read_for_line : {R W : Type 0} {remaining : R → Option (List ℕ)} {contents : W → Option (List ℕ)}
@@ -85,7 +85,7 @@ no_feed_below (x ∷ xs) (suc i) h =
 
 pub no_feed_on : (xs ys : List ℕ) → HasNoFeed xs → HasNoFeed ys → HasNoFeed (xs ++ ys)
 no_feed_on [] ys h k = k
-no_feed_on (x ∷ xs) ys h k = (h.0, no_feed_on xs ys h.1 k)
+no_feed_on (x ∷ xs) ys (differs, later) k = (differs, no_feed_on xs ys later k)
 
 -- Where none was found that passes, each fails.
 pub none_passes : (p : ℕ → Bool) (xs : List ℕ) → position p xs ≡ None → (k : ℕ) → k < length xs
@@ -105,9 +105,10 @@ pub record FeedAt (held : List ℕ) (i : ℕ) : Type 0 where
 
 pub feed_at : (held : List ℕ) (i : ℕ) → position (λ octet. octet == 10) held ≡ Some i → FeedAt held i
 feed_at held i found =
-    let p = position-Some (λ octet. octet == 10) held i 0 found in
+    let (within, is_feed, none_before) = position-Some (λ octet. octet == 10) held i 0 found in
     record {
-      within = omega (arith, p.0);
-      before = no_feed_below held i p.2;
-      ended = take_more held i 0 p.0 ∙ ap (λ octet. take i held ++ octet ∷ []) (eqb-true (get_or held i 0) 10 p.1);
+      within = omega (arith, within);
+      before = no_feed_below held i none_before;
+      ended = take_more held i 0 within
+          ∙ ap (λ octet. take i held ++ octet ∷ []) (eqb-true (get_or held i 0) 10 is_feed);
     }

@@ -21,10 +21,10 @@ pub data Said : Type 0 where
 -- The settings TIMEOUT, at least 1, RETRIES and TICKET.
 abbrev pub settings_of : List (List ℕ) → Option Said
 settings_of words = do
-  timeout ← next_as (number_up_to (2 ^ 32 - 1)) words
-  retries ← next_as (number_up_to 255) timeout.1
-  ticket ← next_as (number_up_to (2 ^ 64 - 1)) retries.1
-  if nat_lt 0 timeout.0 then at_end ticket.1 (Settings timeout.0 retries.0 ticket.0) else None
+  (timeout, words) ← next_as (number_up_to (2 ^ 32 - 1)) words
+  (retries, words) ← next_as (number_up_to 255) words
+  (ticket, words) ← next_as (number_up_to (2 ^ 64 - 1)) words
+  if nat_lt 0 timeout then at_end words (Settings timeout retries ticket) else None
 
 -- The number that the next word is, where there is one.
 abbrev pub index_in : List (List ℕ) → Option (Option ℕ × List (List ℕ))
@@ -34,19 +34,18 @@ index_in (word ∷ others) = option_map (λ n. (Some n, others)) (number_up_to (
 -- The property of an object: KIND, INSTANCE and PROPERTY.
 abbrev pub property_in : List (List ℕ) → Option ((Identifier × ℕ) × List (List ℕ))
 property_in words = do
-  kind ← next_as (number_up_to 1023) words
-  instance ← next_as (number_up_to 4194303) kind.1
-  property ← next_as (number_up_to 4194303) instance.1
-  Some ((record { kind = kind.0; instance = instance.0 }, property.0), property.1)
+  (kind, words) ← next_as (number_up_to 1023) words
+  (instance, words) ← next_as (number_up_to 4194303) words
+  (property, words) ← next_as (number_up_to 4194303) words
+  Some ((record { kind = kind; instance = instance }, property), words)
 
 -- A ReadProperty request (service 12): PEER, a property of an object and, where there is one, INDEX.
 abbrev pub reading_of : List (List ℕ) → Option Event
 reading_of words = do
-  peer ← next_as peer_of words
-  named ← property_in peer.1
-  index ← index_in named.1
-  at_end index.1
-      (Ask peer.0 12 (read_octets (record { object = named.0.0; property = named.0.1; index = index.0 })))
+  (peer, words) ← next_as peer_of words
+  ((object, property), words) ← property_in words
+  (index, words) ← index_in words
+  at_end words (Ask peer 12 (read_octets (record { object = object; property = property; index = index })))
 
 -- The PRIORITY that a word says, 0 to 16.
 abbrev pub priority_of : List ℕ → Option (Option ℕ)
@@ -56,24 +55,24 @@ priority_of word = option_map priority_from (number_up_to 16 word)
 -- tags and values.
 abbrev pub writing_of : List (List ℕ) → Option Event
 writing_of words = do
-  peer ← next_as peer_of words
-  named ← property_in peer.1
-  priority ← next_as priority_of named.1
-  index ← next_as write_index_of priority.1
-  option_map (Ask peer.0 15) (result_ok (whole_body_of named.0.0 named.0.1 index.0 priority.0 index.1))
+  (peer, words) ← next_as peer_of words
+  ((object, property), words) ← property_in words
+  (priority, words) ← next_as priority_of words
+  (index, words) ← next_as write_index_of words
+  option_map (Ask peer 15) (result_ok (whole_body_of object property index priority words))
 
 -- A datagram that comes from a peer: PEER and HEX.
 abbrev pub arrival_of : List (List ℕ) → Option Arrival
 arrival_of words = do
-  peer ← next_as plain_peer_of words
-  octets ← next_as octets_of peer.1
-  at_end octets.1 (record { from = peer.0; datagram = octets.0 })
+  (peer, words) ← next_as plain_peer_of words
+  (datagram, words) ← next_as octets_of words
+  at_end words (record { from = peer; datagram = datagram })
 
 -- The time of a tick: N.
 abbrev pub tick_of : List (List ℕ) → Option Event
 tick_of words = do
-  now ← next_as (number_up_to (2 ^ 64 - 1)) words
-  at_end now.1 (Tick now.0)
+  (now, words) ← next_as (number_up_to (2 ^ 64 - 1)) words
+  at_end words (Tick now)
 
 -- What the words of a line say, if they are in the language. The settings stand only on the first line that says
 -- something; a first word that begins with # (35) makes a remark.

@@ -26,4 +26,4 @@ notes_text = flat_map note_text
 -- The line that is printed of the device's reply to a datagram.
 abbrev pub reply_text : Option (Station × List ℕ) → List ℕ
 reply_text None = codes "silent" ++ 10 ∷ []
-reply_text (Some reply) = codes "reply " ++ (peer_text reply.0 ++ 32 ∷ (encode_lower reply.1 ++ 10 ∷ []))
+reply_text (Some (to, octets)) = codes "reply " ++ (peer_text to ++ 32 ∷ (encode_lower octets ++ 10 ∷ []))

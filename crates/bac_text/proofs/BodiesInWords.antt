@@ -49,7 +49,7 @@ bodies_written object property index priority words body id low h urgent e = go 
     go (Ok values) said e =
         let region = flat_map plain values in
         let order = order_of object property index priority region in
-        let is = at_most_found TooLong 476 (write_octets order) body e in
+        let (is, short) = at_most_found TooLong 476 (write_octets order) body e in
         let within = region_within order in
         let written = values_written words values said (omega arith) in
         let ordered = order_is_written order (named object property index priority region id low h)
@@ -60,5 +60,5 @@ bodies_written object property index priority words body id low h urgent e = go 
           said = written.said;
           spelled = written.spelled;
           read = written.read;
-          ordered = subst (λ (w : List ℕ). IsShortest IsWriteBody w order) (sym is.0) ordered;
+          ordered = subst (λ (w : List ℕ). IsShortest IsWriteBody w order) (sym is) ordered;
         }

@@ -90,12 +90,12 @@ unfolding decode_pairs octets_by_lanes
 digits_read i [] _ _ = refl
 digits_read i (a ∷ []) even all = absurd (omega arith)
 digits_read i (a ∷ b ∷ rest) even all =
-    let high = number_of a (all 0 (omega arith)) in
-    let low = number_of b (all 1 (omega arith)) in
+    let (high, high_fits) = number_of a (all 0 (omega arith)) in
+    let (low, low_fits) = number_of b (all 1 (omega arith)) in
     let later = digits_read (i + 2) rest (omega arith) (λ k h. all (suc (suc k)) (omega arith)) in
     let octet : number_by_lane a * 16 + number_by_lane b ≡ (number_by_lane a * 16 + number_by_lane b) % 256 =
     omega arith in
-    rw (high.0, low.0, later) (ap (λ (x : ℕ). Ok (x ∷ octets_by_lanes rest)) octet)
+    rw (high, low, later) (ap (λ (x : ℕ). Ok (x ∷ octets_by_lanes rest)) octet)
 
 pub digits_refused : (digits : List ℕ) (k : ℕ) → k < length digits → not (is_hex_digit (get_or digits k 0)) ≡ true
     → result_ok (decode_of digits) ≡ None

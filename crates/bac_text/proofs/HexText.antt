@@ -34,8 +34,9 @@ others_refused word others = go (decode_of word) refl
     go : (r : Result (List ℕ) FromHexError) → decode_of word ≡ r → result_ok r ≡ None
     go (Err why) is = refl
     go (Ok octets) is =
-        absurd (let all = list_all-from_AllPass is_hex_digit word (decode_of-ok word octets is).1 in
-        grind (arith, same_digits))
+        let (_, all, _, _) = decode_of-ok word octets is in
+        let digits = list_all-from_AllPass is_hex_digit word all in
+        grind (arith, same_digits)
 
 pub octets_of_others : (word : List ℕ) → list_all is_ascii_hexdigit word ≡ false → None ≡ octets_of word
 octets_of_others = grind (arith, others_refused)

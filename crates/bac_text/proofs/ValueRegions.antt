@@ -22,11 +22,12 @@ contents_counted _ (values.object id) _ = refl
 
 pub values_are_region : (values : List Datum) (region : List ℕ) → SpellsAll Spells region values → IsRegion 32 region
 values_are_region [] _ s = subst (IsSequence _) (sym s) none
-values_are_region (value ∷ others) _ s =
-    subst (IsSequence _) (sym s.1.whole)
+values_are_region (value ∷ others) _ (_, first, later) =
+    let spelled = first.spelled in
+    subst (IsSequence _) (sym first.whole)
     (more (inl (record {
-      tag = tag_before value (length s.1.spelled.contents);
-      contents = s.1.spelled.contents;
-      tagged = s.1.spelled.tagged;
-      counted = contents_counted _ _ s.1.spelled.held;
-    })) (values_are_region others _ s.2))
+      tag = tag_before value (length spelled.contents);
+      contents = spelled.contents;
+      tagged = spelled.tagged;
+      counted = contents_counted _ _ spelled.held;
+    })) (values_are_region others _ later))

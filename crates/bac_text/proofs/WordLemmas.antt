@@ -71,8 +71,7 @@ words-first x xs e =
 pub words_none : (text : List ℕ) → None ≡ position (λ octet. not (is_blank octet)) text → words_of text ≡ []
 words_none = grind (arith, words-skip, drop_all)
 
-end_is : (rest : List ℕ) (end : ℕ) → end ≡ unwrap_or (position is_blank rest) (length rest) → (end ≡ others rest)
-    × (end ≤ length rest)
+end_is : (rest : List ℕ) (end : ℕ) → end ≡ unwrap_or (position is_blank rest) (length rest) → end ≡ others rest
 end_is = grind (arith, prefix_len-le-length)
 
 pub words_some : (text rest : List ℕ) (start end : ℕ) → Some start ≡ position (λ octet. not (is_blank octet)) text
@@ -80,17 +79,17 @@ pub words_some : (text rest : List ℕ) (start end : ℕ) → Some start ≡ pos
     end ≡ unwrap_or (position is_blank rest) (length rest) → words_of text ≡ take end rest ∷ words_of (drop end rest)
 words_some text rest start end h cut last =
     let found : start ≡ blanks text = grind arith in
-    let at = position-Some _ text _ 0 (sym h) in
-    let other : is_blank (get_or text start 0) ≡ false = not-true _ at.1 in
-    let shown : rest ≡ get_or text start 0 ∷ drop (suc start) text = cut ∙ drop-cons text _ 0 at.0 in
+    let (within, passes, _) = position-Some _ text _ 0 (sym h) in
+    let other : is_blank (get_or text start 0) ≡ false = not-true _ passes in
+    let shown : rest ≡ get_or text start 0 ∷ drop (suc start) text = cut ∙ drop-cons text _ 0 within in
     let skipped : words_of text ≡ words_of rest = words-skip text ∙ ap (λ n. words_of (drop n text)) (sym found)
     ∙ ap words_of (sym cut) in
     skipped ∙ (subst (λ r. words_of r ≡ take (others r) r ∷ words_of (drop (others r) r)) (sym shown)
     (words-first (get_or text start 0) (drop (suc start) text) other)
-    ∙ ap (λ n. take n rest ∷ words_of (drop n rest)) (sym (end_is rest end last).0))
+    ∙ ap (λ n. take n rest ∷ words_of (drop n rest)) (sym (end_is rest end last)))
 
 pub end_within : (rest : List ℕ) (end : ℕ) → end ≡ unwrap_or (position is_blank rest) (length rest) → end ≤ length rest
-end_within _ _ last = (end_is _ _ last).1
+end_within = grind (arith, prefix_len-le-length)
 
 -- there are no more words than octets and one
 pub words_fewer : (text : List ℕ) → length (words_of text) ≤ length text + 1

@@ -56,6 +56,6 @@ values_range (tag ∷ others) = pairs_range 1 (tag ∷ others)
 pub values_spelled : (values : List Datum) → AllByRecursion InRange values → length (flat_map plain values) ≤ 1497
     → AllByRecursion IsDatum values
 values_spelled [] h _ = tt
-values_spelled (value ∷ others) h fits =
+values_spelled (value ∷ others) (in_range, later) fits =
     let size = length-append (plain value) (flat_map plain others) in
-    (written_datum _ 0 h.0 (omega arith), values_spelled others h.1 (omega arith))
+    (written_datum _ 0 in_range (omega arith), values_spelled others later (omega arith))

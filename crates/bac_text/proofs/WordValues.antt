@@ -44,10 +44,10 @@ pub octets-long : (region word : List ℕ) → length word % 2 ≡ 0 → list_al
     → 1497 < length word / 2 →
     appended region (option_map octet_string (result_ok (decode_of word))) ≡ Err TooLong
 octets-long _ _ even digits long =
-    let found = digits_decoded _ even digits in
-    let size = plain_length (octet_string found.0) in
-    let twice = (decode_of-ok _ _ found.1).2 in
-    rw found.1 (appended-full _ _ (omega arith))
+    let (octets, is) = digits_decoded _ even digits in
+    let size = plain_length (octet_string octets) in
+    let (_, _, twice, _) = decode_of-ok _ _ is in
+    rw is (appended-full _ _ (omega arith))
 
 -- ---- bits
 

@@ -15,22 +15,24 @@ short_number digits limit text = if nat_le (length text) digits then number_up_t
 
 -- A number up to 255 before a dot (46), and what stands behind that.
 abbrev pub number_before_dot : List ℕ → Option (ℕ × List ℕ)
-number_before_dot text = cut_at 46 text >>= (λ parts. option_map (λ n. (n, parts.1)) (short_number 3 255 parts.0))
+number_before_dot text = do
+  (digits, rest) ← cut_at 46 text
+  option_map (λ n. (n, rest)) (short_number 3 255 digits)
 
 -- Four numbers joined by dots, the highest first.
 abbrev pub address_of : List ℕ → Option ℕ
 address_of text = do
-  first ← number_before_dot text
-  second ← number_before_dot first.1
-  third ← number_before_dot second.1
-  fourth ← short_number 3 255 third.1
-  Some (((first.0 * 256 + second.0) * 256 + third.0) * 256 + fourth)
+  (first, rest) ← number_before_dot text
+  (second, rest) ← number_before_dot rest
+  (third, rest) ← number_before_dot rest
+  fourth ← short_number 3 255 rest
+  Some (((first * 256 + second) * 256 + third) * 256 + fourth)
 
 -- An address and a port.
 abbrev pub station_at : List ℕ × List ℕ → Option Station
-station_at parts = do
-  port ← short_number 5 65535 parts.1
-  ip ← address_of parts.0
+station_at (address, number) = do
+  port ← short_number 5 65535 number
+  ip ← address_of address
   Some (record { ip = ip; port = port; route = None })
 
 -- A peer without a route: an address, and a colon (58) and a port, or the usual port 47808.
@@ -44,16 +46,16 @@ routable to = if is_routable to then Some to else None
 -- The number of the network, a slash (47) and the address in hexadecimal digits.
 abbrev pub route_of : List ℕ → Option NetworkAddress
 route_of text = do
-  parts ← cut_at 47 text
-  network ← number_up_to 65535 parts.0
-  address ← octets_of parts.1
+  (number, digits) ← cut_at 47 text
+  network ← number_up_to 65535 number
+  address ← octets_of digits
   routable (record { network = network; address = address })
 
 -- A router, and a route behind it.
 abbrev pub routed_peer_of : List ℕ × List ℕ → Option Station
-routed_peer_of parts = do
-  router ← plain_peer_of parts.0
-  route ← route_of parts.1
+routed_peer_of (plain, behind) = do
+  router ← plain_peer_of plain
+  route ← route_of behind
   Some (record router { route = Some route })
 
 -- A peer: before a slash (47) a router, and behind it a route; without a slash a peer without a route.

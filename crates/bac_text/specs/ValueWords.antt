@@ -37,9 +37,9 @@ bits_in digits = then_some (list_all (λ digit. digit == 48 || digit == 49) digi
 -- An object type, a colon (58) and an instance (clause 20.2.14).
 abbrev pub object_in : List ℕ → Option Identifier
 object_in word = do
-  parts ← cut_at 58 word
-  kind ← number_up_to 1023 parts.0
-  instance ← number_up_to 4194303 parts.1
+  (kind, instance) ← cut_at 58 word
+  kind ← number_up_to 1023 kind
+  instance ← number_up_to 4194303 instance
   Some (record { kind = kind; instance = instance })
 
 -- The value that a word writes under the application tag of a number (clause 20.2.1.4). An even number of hexadecimal

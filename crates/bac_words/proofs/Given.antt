@@ -49,7 +49,7 @@ abbrev IsPlain : Station → Type 0
 IsPlain to = to.route ≡ None
 
 plain_at : (parts : List ℕ × List ℕ) → IfSome (station_at parts) IsPlain
-plain_at parts = at_port (short_number 5 65535 parts.1) (address_of parts.0)
+plain_at (address, number) = at_port (short_number 5 65535 number) (address_of address)
   where
     at_port : (port ip : Option ℕ)
         → IfSome (port >>= λ n. ip >>= λ m. Some (record { ip = m; port = n; route = None })) IsPlain

@@ -18,8 +18,8 @@ AllOf P (s ∷ rest) = P s × AllOf P rest
 one_found : (P : Shape → Type 0) (p : Shape → Bool) (xs : List Shape) (t : Shape) → AllOf P xs → find p xs ≡ Some t
     → P t × (p t ≡ true)
 one_found P p xs t all is =
-    when_found p (λ xs. AllOf P xs → P t × (p t ≡ true)) t (λ xs passes all. (all.0, passes))
-    (λ x xs fails is rest all. rest all.1) xs is all
+    when_found p (λ xs. AllOf P xs → P t × (p t ≡ true)) t
+    (λ xs passes (here, _). (here, passes)) (λ x xs fails is rest (_, later). rest later) xs is all
 
 -- A tool that the name answers to takes the words, where the name asks for no help.
 abbrev Passed : Shape → Type 0
@@ -58,10 +58,11 @@ each_tool = (
 pub tool_met : (words : List Text) → fault_of bactool words ≡ [] → IsSomeAnd (subcommand_of bactool words) IsTool
 tool_met words none =
     let in_tool = enters bactool words refl none in
-    let found = one_found Passed (λ s. answers_to in_tool.name (label_of s)) (built bactool).subs in_tool.tool each_tool
+    let (passed, answers) =
+    one_found Passed (λ s. answers_to in_tool.name (label_of s)) (built bactool).subs in_tool.tool each_tool
     in_tool.found in
     subst (λ o. IsSomeAnd o IsTool) (sym in_tool.rows)
-    (found.0 in_tool.name in_tool.rest found.1 in_tool.other in_tool.passes)
+    (passed in_tool.name in_tool.rest answers in_tool.other in_tool.passes)
 
 pub bactool_is_free : is_simple_and_free bactool ≡ true
 bactool_is_free = refl

@@ -104,11 +104,12 @@ serve_order rows =
 
 -- What the matches of a tool ask for.
 abbrev pub order_of : Text × List Row → Result Job UsageFault
-order_of matches = if bytes_eq matches.0 (codes "bacrp") then read_order matches.1
-    else (if bytes_eq matches.0 (codes "bacwp") then write_order matches.1
-    else (if bytes_eq matches.0 (codes "bacwi") then search_order matches.1
-    else (if bytes_eq matches.0 (codes "bacdev") then serve_order matches.1
-    else Ok job.Trace)))
+order_of (tool, rows) =
+    if bytes_eq tool (codes "bacrp") then read_order rows
+    else if bytes_eq tool (codes "bacwp") then write_order rows
+    else if bytes_eq tool (codes "bacwi") then search_order rows
+    else if bytes_eq tool (codes "bacdev") then serve_order rows
+    else Ok job.Trace
 
 -- A tool can be run: a request and a search wait for some time, and a device takes some datagram.
 abbrev pub IsReady : Tool → Type 0

@@ -28,8 +28,8 @@ IsClient rows = IsRequest rows ⊎ IsTaken (rules_of bacwi) rows
 
 -- The words name a tool, and these matches passed its rules.
 abbrev pub IsTool : Text × List Row → Type 0
-IsTool matches = ((matches.0 ≡ codes "bacrp") × IsTaken (rules_of bacrp) matches.1)
-    ⊎ (((matches.0 ≡ codes "bacwp") × IsTaken (rules_of bacwp) matches.1)
-    ⊎ (((matches.0 ≡ codes "bacwi") × IsTaken (rules_of bacwi) matches.1)
-    ⊎ (((matches.0 ≡ codes "bacdev") × IsTaken (rules_of bacdev) matches.1)
-    ⊎ (matches.0 ≡ codes "bactrace"))))
+IsTool (tool, rows) = ((tool ≡ codes "bacrp") × IsTaken (rules_of bacrp) rows)
+    ⊎ (((tool ≡ codes "bacwp") × IsTaken (rules_of bacwp) rows)
+    ⊎ (((tool ≡ codes "bacwi") × IsTaken (rules_of bacwi) rows)
+    ⊎ (((tool ≡ codes "bacdev") × IsTaken (rules_of bacdev) rows)
+    ⊎ (tool ≡ codes "bactrace"))))

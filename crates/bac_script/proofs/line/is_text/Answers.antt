@@ -19,8 +19,9 @@ returns-in-None c =
 
 told : {T E : Type 0} (octets : List ℕ) (N : T → Type 0) (Q : E → Type 0) (r : Result T E) →
     MatchResult r (λ s. N s × IsUtf8 octets) (λ e. ¬ (IsUtf8 octets) × Q e) → is_ok r ≡ is_utf8 octets
-told octets N Q (Ok s) h = sym (is_utf8-from_IsUtf8 octets h.1)
-told octets N Q (Err e) h = sym (false_from_ne_true (is_utf8 octets) (λ is. h.0 (IsUtf8-from_is_utf8 octets is)))
+told octets N Q (Ok s) (_, is) = sym (is_utf8-from_IsUtf8 octets is)
+told octets N Q (Err e) (invalid, _) =
+    sym (false_from_ne_true (is_utf8 octets) (λ is. invalid (IsUtf8-from_is_utf8 octets is)))
 
 pub returns-in-Some : goal.returns-in-Some
 returns-in-Some c = c.is_ok.ensures.value ∙ told c.args.octets.now _ _ c.from_utf8.result c.from_utf8.ensures.cases

@@ -5,10 +5,10 @@ use Rattle.bac_script.proofs.tracing.trace.Goals as goal
 
 pub returns-in_err-finish-clause-script : goal.returns-in_err-finish-clause-script
 returns-in_err-finish-clause-script g c =
-    traces_front {after = c.finish.new.self.0} _ (search rules) (search rules) c.run_script-answer.ensures.script
+    traces_front _ (search rules) (search rules) c.run_script-answer.ensures.script
     c.new-page.ensures.writer c.new-page.ensures.empty c.finish.ensures.printed
 
 pub returns-clause-script : goal.returns-clause-script
 returns-clause-script g c =
-    traces_all {after = c.finish.new.self.0} (search rules) c.run_script-answer.ensures.script c.new-page.ensures.writer
+    traces_all (search rules) c.run_script-answer.ensures.script c.new-page.ensures.writer
     c.new-page.ensures.empty c.finish.ensures.printed (search rules)

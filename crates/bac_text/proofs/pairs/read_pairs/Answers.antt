@@ -5,15 +5,15 @@ use Rattle.bac_text.proofs.pairs.read_pairs.Goals as goal
 
 pub returns-then-is_empty : goal.returns-then-is_empty
 returns-then-is_empty g c =
-    let ended = rw c.in_default.is at c.in_ok-tag.ensures in
+    let (none_behind, left) = rw c.in_default.is at c.in_ok-tag.ensures in
     let before = subst
     (λ (b : Bool).
     Progress (g.S.WordSource.left c.args.words.now) (g.S.WordSource.left c.loop-tag.words) c.loop-tag.number
     c.loop-tag.region b) c.if-is_too_long.false c.loop-tag.invariant.progress in
     let none = c.is_empty.ensures.0 c.if-is_empty.true in
     record {
-      value = progress-empty _ _ _ _ before ended.0 none;
-      left = ended.1 ∙ ap (λ (words : List (List ℕ)). drop 2 words) (sym (progress-none _ _ _ _ before ended.0 none));
+      value = progress-empty _ _ _ _ before none_behind none;
+      left = left ∙ ap (λ (words : List (List ℕ)). drop 2 words) (sym (progress-none _ _ _ _ before none_behind none));
     }
 
 pub returns-in-Err-Bad-clause-left : goal.returns-in-Err-Bad-clause-left

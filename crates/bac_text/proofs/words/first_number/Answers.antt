@@ -10,12 +10,12 @@ returns c =
     let text = c.args.text.now in
     let start = c.in_ok-start.start in
     let rest = take (length text - start) (drop start text) in
-    let count = c.leading_number-number.result.1 in
+    let (number, count) = c.leading_number-number.result in
     let blank : count < length rest → is_blank (get_or rest count 0) ≡ true =
     λ more. elim c.if-count-text.branch [
       | then-count-text w ↦ sym w.is_blank.ensures ∙ not-false _ (sym w.value-is ∙ c.if-not-is_blank.false)
       | else-count-text w ↦ absurd (omega (arith, more))
     ] in
-    subst (λ (later : List ℕ). IsFirstNumber text c.leading_number-number.result.0 later) (sym (take_rest rest count))
+    subst (λ (later : List ℕ). IsFirstNumber text number later) (sym (take_rest rest count))
     (first_number_is rest _ count c.leading_number-number.ensures text start c.in_ok-start.ensures
     (take_rest text start) (omega arith) blank)

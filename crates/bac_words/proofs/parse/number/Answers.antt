@@ -6,9 +6,9 @@ use Rattle.bac_words.proofs.parse.number.Goals as goal
 pub returns : goal.returns
 returns c =
     let fits = subst FitsWord (sym c.requires.bounded) c.requires.fits in
-    let read = getter c.requires.rules c.args.id.now (found_of c.args.matches.now) c.get_one.result c.requires.taken
-    fits c.get_one.ensures.none c.get_one.ensures.value in
+    let (value, within) = getter c.requires.rules c.args.id.now (found_of c.args.matches.now) c.get_one.result
+    c.requires.taken fits c.get_one.ensures.none c.get_one.ensures.value in
     record {
-      value = read.0;
-      within = subst (λ (b : Option (ℕ × ℕ)). IfSome c.get_one.result (IsWithin b)) c.requires.bounded read.1;
+      value = value;
+      within = subst (λ (b : Option (ℕ × ℕ)). IfSome c.get_one.result (IsWithin b)) c.requires.bounded within;
     }

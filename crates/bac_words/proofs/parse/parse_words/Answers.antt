@@ -20,8 +20,8 @@ pub job-requires : goal.job-requires
 job-requires c =
     let shape = c.in_ok-command.ensures.shape in
     let words = map cow_str_bytes c.as_slice.result.now in
-    let found = (c.in_ok-matches.ensures.matches (ap is_simple shape ∙ bactool_is_simple)).1
-    ∙ ap (λ (a : App). subcommand_of a words) shape in
+    let (_, matched) = c.in_ok-matches.ensures.matches (ap is_simple shape ∙ bactool_is_simple) in
+    let found = matched ∙ ap (λ (a : App). subcommand_of a words) shape in
     let none : fault_of bactool words ≡ [] = ap (λ (a : App). fault_of a words) (sym shape)
     ∙ c.in_ok-matches.ensures.kinds (ap is_simple_and_free shape ∙ bactool_is_free) in
     subst (λ (o : Option (Text × List Row)). IsSomeAnd o IsTool) (sym found) (tool_met words none)
@@ -32,8 +32,8 @@ returns-clause-answer c =
     let words = map cow_str_bytes c.as_slice.result.now in
     let same : words ≡ marked_words (texts c.args.words.now) = ap (map cow_str_bytes) c.as_slice.ensures.value
     ∙ c.in_ok-marked.ensures in
-    let found = (c.in_ok-matches.ensures.matches (ap is_simple shape ∙ bactool_is_simple)).1
-    ∙ ap (λ (a : App). subcommand_of a words) shape in
+    let (_, matched) = c.in_ok-matches.ensures.matches (ap is_simple shape ∙ bactool_is_simple) in
+    let found = matched ∙ ap (λ (a : App). subcommand_of a words) shape in
     let none : fault_of bactool words ≡ [] = ap (λ (a : App). fault_of a words) (sym shape)
     ∙ c.in_ok-matches.ensures.kinds (ap is_simple_and_free shape ∙ bactool_is_free) in
     inr (record {

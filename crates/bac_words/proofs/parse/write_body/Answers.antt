@@ -10,10 +10,10 @@ returns-in_err-body c =
     (c.get_strs.ensures ∙ raw_values-rows (found_of c.args.matches.now) (codes "tag value")) in
     let typed = ap (λ (b : Bor (List (Bor Text))). map unmarked (texts b.now)) c.unwrap_or-pairs.ensures
     ∙ pairs_typed c.get_strs.result _ refl ∙ given in
-    let failed = err_from_is_err_and c.from_residual.result c.from_residual.ensures.1 in
+    let (_, failed, same) = err_from_is_err_and c.from_residual.result c.from_residual.ensures.1 in
     rw (
-      failed.1,
-      failed.2,
+      failed,
+      same,
       ← c.object.ensures,
       ← c.needed.ensures.value,
       ← c.priority.ensures.value,

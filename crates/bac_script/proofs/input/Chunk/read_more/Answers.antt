@@ -11,17 +11,17 @@ ready : (g : Over) (c : After-read g) →
     Placed c.if-self.self-inside.octets c.if-self.self-inside.start c.if-self.self-inside.end c.args.self.now
 ready g c =
     let i = c.self.inside in
-    let s = c.self.invariant in
+    let (order, fits) = c.self.invariant in
     elim c.if-self.branch [
       | then-self w ↦
           rw w.self-inside-is
           (placed_moved i.octets w.copy_within.new.self c.args.self.now i.start i.end c.self.view_is
           w.copy_within.ensures.after (omega (arith, w.copy_within.ensures.len))
-          (omega arith) s.0 s.1 c.requires.short)
+          (omega arith) order fits c.requires.short)
       | else-self w ↦
           rw w.self-inside-is (record {
             is = c.self.view_is;
-            within = s.0;
+            within = order;
             room = omega (arith, w.if-self.false);
             size = omega arith;
           })
@@ -52,7 +52,7 @@ returns-then-count-eq0-clause-same g c = let r = ready g c.before.before in λ _
 pub invariant_of-self-2 : goal.invariant_of-self-2
 invariant_of-self-2 g c =
     let r = ready g c.before.before.before in
-    (omega (arith, r.within), omega (arith, r.room, c.in-Ok.ensures.bound.0))
+    (omega (arith, r.within), omega (arith, r.room, c.in-Ok.ensures.bound))
 
 pub returns-clause-given : goal.returns-clause-given
 returns-clause-given g c =

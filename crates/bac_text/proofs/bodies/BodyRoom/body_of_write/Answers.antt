@@ -6,11 +6,11 @@ use Rattle.bac_text.proofs.bodies.BodyRoom.body_of_write.Goals as goal
 
 pub returns-in_err-read_pairs : goal.returns-in_err-read_pairs
 returns-in_err-read_pairs g c =
-    let p = err_from_is_err_and c.from_residual.result c.from_residual.ensures.1 in
+    let (_, failed, same) = err_from_is_err_and c.from_residual.result c.from_residual.ensures.1 in
     record {
-      body = rw (p.1, p.2) (sym (body-fault _ _ _ _ (g.S.WordSource.left _) _ c.in_err-read_pairs.ensures.value));
-      short = rw p.1 tt;
-      left = rw (p.1, p.2) c.in_err-read_pairs.ensures.left;
+      body = rw (failed, same) (sym (body-fault _ _ _ _ (g.S.WordSource.left _) _ c.in_err-read_pairs.ensures.value));
+      short = rw failed tt;
+      left = rw (failed, same) c.in_err-read_pairs.ensures.left;
     }
 
 pub write_write-requires-clause-region : goal.write_write-requires-clause-region
