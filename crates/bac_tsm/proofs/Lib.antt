@@ -2,7 +2,6 @@ mod AnswersInWords
 mod CallNotes
 mod Calls
 pub mod Laws
-mod LookaheadSteps
 mod NumberReuse
 mod OpenRequests
 mod Placed
@@ -11,5 +10,4 @@ mod RequestLife
 mod TableEdits
 mod TableReads
 mod TableTick
-mod Turns
 mod WholeRun

@@ -1,15 +1,16 @@
 -- A request that waits is due, and ends, as timeouts pass; and how far the clock comes meanwhile.
 use Rattle.std.proofs.{
   Common.{◌≡◌, ℕ, zero, suc, ◌+◌, ◌-◌, ◌*◌, ◌<◌, ◌≤◌, Bool, true, false, List, [], ◌∷◌, length, Option, Some, None},
-  Common.{IsSomeAnd, arith, refl, ◌∙◌, sym, inl, inr},
+  Common.{IsSomeAnd, arith, ◌∙◌, sym, inl, inr},
   Math.Nat.mul-le-mul_right,
   lemmas.{Bool.{cases_Bool, cases_lt}, Option.{none-some, slice_get_past}},
 }
-use Rattle.bac_tsm.{
-  specs.{Events.{Event, Rules}, Progress.{last_of, TimeoutsPass}},
-  specs.Lookahead.{first_within, clock, has_waited, due, Accepted, end},
-  proofs.{RequestLife.{step_back, due_next, first_after_from, first_least, none_within}, Turns.clock_quiet},
+use Rattle.bac_tsm.specs.{
+  Events.{Event, Rules},
+  Progress.{last_of, TimeoutsPass},
+  Lookahead.{first_within, clock, has_waited, due, Accepted, end},
 }
+use Rattle.bac_tsm.proofs.RequestLife.{step_back, due_next, first_after_from, first_least, none_within, clock_quiet}
 
 pub clock_rises : (events : List Event) (i j : ℕ) → i ≤ j → clock events i ≤ clock events j
 clock_rises [] zero j le = omega arith
@@ -78,10 +79,7 @@ module _ (rules : Rules) (events : List Event) where
 
   last_due : (a k : ℕ) → due rules events a k ≡ None → LastDue a k
   last_due a zero none = absurd (none-some a (sym none))
-  last_due a (suc k) none = from _ refl (last_due a k) where
-    from : (o : Option ℕ) → due rules events a k ≡ o → (due rules events a k ≡ None → LastDue a k) → LastDue a (suc k)
-    from None is earlier = let l = earlier is in (l.0, l.1, omega arith, l.3, l.4)
-    from (Some j) is _ = (k, j, omega arith, is, none)
+  last_due a (suc k) none = grind (arith, last_due a k)
 
   -- A request that is not due once more than r times has waited no longer than this.
   pub open_soon : (a d r n : ℕ) → ((j : ℕ) → a < j → clock events (suc j) ≤ clock events j + d)

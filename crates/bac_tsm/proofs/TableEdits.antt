@@ -61,13 +61,7 @@ module _ {slots : List Waiting} {opened sends : List ℕ} (q : AreBySend slots o
 
   module _ (slot : ℕ) (rest : List ℕ) (out : IsTakenOut slot sends rest) where
     times_out : (p : ℕ) → times_of_slot p rest + times_of_slot p (slot ∷ []) ≡ times_of_slot p sends
-    times_out p =
-        omega (
-          arith,
-          times-remove itself p _ _ 0 out.1,
-          ap (λ (k : ℕ). times_of_slot p (k ∷ [])) out.2,
-          ap (times_of_slot p) out.3,
-        )
+    times_out p = grind (arith, times-remove itself p sends out.0 0)
 
     length_out : length rest + 1 ≡ length sends
     length_out = grind (arith, length-remove)
@@ -127,11 +121,7 @@ same_times number f g (q ∷ qs) same = grind (arith, same_times number f g qs s
 take_removed : (xs ys : List ℕ) (i n : ℕ) → i ≤ n → suc n ≤ length xs
     → take n (remove xs i ++ ys) ≡ remove (take (suc n) xs) i
 take_removed xs ys i n le lt =
-    let front = take (suc n) xs in
-    let long : length front ≡ suc n = rw length-take (omega arith) in
-    let count = length-remove front i (omega arith) in
-    ap (λ all. take n (remove all i ++ ys)) (sym (take-append-drop (suc n) xs))
-    ∙ rw (remove-append_left front _ i (omega arith), append_assoc _ _ ys) (take_at _ _ n (omega arith))
+    grind (arith, take-append-drop (suc n) xs, remove-append_left, append_assoc, take_at, length-take, length-remove)
 
 module _ {slots : List Waiting} {numbers : List (Option ℕ)} {order tickets : List ℕ}
     (t : IsTable slots numbers order tickets)
@@ -150,12 +140,7 @@ module _ {slots : List Waiting} {numbers : List (Option ℕ)} {order tickets : L
       all_ranks = t.all_ranks;
       within = t.within;
       once = t.once;
-      numbered = record {
-        all_numbers = t.numbered.all_numbers;
-        apart = λ number. let e = still number in omega arith;
-        named = λ number below. names_as _ _ _ _ _ _ (still _)
-            (λ other some has. (some, same_number _ ∙ has)) (t.numbered.named _ below);
-      };
+      numbered = grind (arith, still, names_as, same_number);
       ticketed = map-map _ _ _ ∙ ap (λ f. map f opens) (λ j other. (same_request other j).ticket)
           ∙ sym (map-map _ _ _) ∙ t.ticketed;
       rise = t.rise;
@@ -201,11 +186,7 @@ module _ {slots : List Waiting} {numbers : List (Option ℕ)} {order tickets : L
     grown = grind (arith, length-append, take_at_read order (length tickets) 0 room)
 
     closed : times_of_slot slot opens ≡ 0
-    closed =
-        let e = times_split t slot (length tickets + 1) in
-        let f = ap (times_of_slot slot) ((take_at_read _ _ 0 room).1 ∙ ap (λ q. opens ++ q ∷ []) (sym stands)) in
-        let g = times-append itself slot opens (slot ∷ []) in
-        let one = times_one itself _ slot refl in omega arith
+    closed = grind (arith, times_split t slot (n + 1), take_at_read order n 0, room, times-append, times_one, stands)
 
     there : slot < length slots
     there = read_listed t _ _ room (sym stands)
@@ -304,16 +285,19 @@ module _ {slots : List Waiting} {numbers : List (Option ℕ)} {order tickets : L
         )
 
     gone : (q : ℕ) → times_of_slot q (remove opens i) + times_of_slot q (slot ∷ []) ≡ times_of_slot q opens
-    gone q = omega (arith, times-remove itself q _ i 0 rank, ap (λ (k : ℕ). times_of_slot q (k ∷ [])) at_rank)
+    gone q = grind (arith, times-remove itself q opens i 0, rank, at_rank)
 
     left : (n : ℕ) → times number_in n (held_at slots (remove opens i))
         + times number_in n (get_or slots slot nothing ∷ []) ≡ times number_in n (held_at slots opens)
     left n =
-        omega (
+        grind (
           arith,
-          times-remove number_in n (held_at slots opens) i nothing (rw length-map rank),
-          ap (times number_in n) (map-remove (λ q. get_or slots q nothing) opens i),
-          ap (λ (v : Waiting). times number_in n (v ∷ [])) (held_got slots _ i slot rank at_rank),
+          length-map,
+          rank,
+          at_rank,
+          map-remove,
+          held_got,
+          times-remove number_in n (held_at slots opens) i nothing,
         )
 
     ended : (number : ℕ) → number ≡ number_at slots slot
@@ -339,7 +323,7 @@ module _ {slots : List Waiting} {numbers : List (Option ℕ)} {order tickets : L
     unqueued _ _ q out = rw shrunk (queue-remove q _ _ out _ (omega (arith, length-remove _ i rank)) gone)
 
     pub sent_slot : (sends : List ℕ) → AreBySend slots opens sends → 0 < times_of_slot slot sends
-    sent_slot _ q = let some = subst (λ p. 0 < times_of_slot p opens) at_rank (times_got _ _ i 0 rank) in omega arith
+    sent_slot = grind (arith, at_rank, rank, times_got itself opens i 0)
 
     -- As the code makes it.
     pub ended_by : {index number : ℕ} {removed after rest sends left : List ℕ} {w : Waiting} →

@@ -81,9 +81,7 @@ pub held-set : (slots : List Waiting) (slot : ℕ) (w : Waiting) (order : List �
 held-set _ _ w [] i _ lt is _ = absurd (omega arith)
 held-set _ _ w (q ∷ qs) zero there lt is once = grind (arith, get_or-set_same, held_elsewhere)
 held-set _ slot w (q ∷ qs) (suc i) there lt is once =
-    let later : 0 < times_of_slot slot qs =
-    subst (λ (k : ℕ). 0 < times_of_slot k qs) is (times_got _ qs i 0 (omega arith)) in
-    grind (arith, get_or-set_other, held-set _ _ w qs i there (omega arith) is)
+    grind (arith, times_got itself qs i 0, get_or-set_other, held-set _ _ w qs i there (omega arith) is)
 
 -- A slot that is not among these is filled, and put behind them.
 pub held-push : (slots : List Waiting) (slot : ℕ) (w : Waiting) (order : List ℕ) → slot < length slots
@@ -245,8 +243,8 @@ module _ {slots : List Waiting} {numbers : List (Option ℕ)} {order tickets : L
         by (Some slot) is =
             let at = found_at slot opened (named slot is).0 in
             let has = ap number_in (held_got slots opened _ slot at.0 at.1) ∙ (named slot is).1 in
-            sym (any_number number _ ∙ lt-ltb 0 _
-            (rw (← has) (times_got _ (held_at slots opened) _ nothing (rw length-map at.0))))
+            let some = times_got number_in (held_at slots opened) (rank_of_slot slot opened) nothing in
+            grind (arith, any_number, lt-ltb, length-map)
 
   -- What an answer ends.
   module _ (answer : Answer) (number : ℕ) (its : number ≡ answer.invoke_id) (fits : number < 256) (ws : List Waiting)

@@ -1,13 +1,11 @@
 -- That the slot was there says that the search finds a rank, and that at this rank the slot stands.
-use Rattle.std.proofs.{Common.{arith, sym, ap, ◌∙◌, nat_eq, position, eqb-true}, lemmas.List.Quantifiers.position-Some}
+use Rattle.std.proofs.{Common.{arith, nat_eq, eqb-true}, lemmas.List.Quantifiers.position-Some}
 use Rattle.bac_tsm.proofs.TableReads.{found_at}
 use Rattle.bac_tsm.proofs.table.take_out.Goals as goal
 
 pub returns-in-Some : goal.returns-in-Some
 returns-in-Some c =
-    let found = position-Some (λ other. nat_eq other c.args.slot) c.args.slots.now.items c.in-Some.rank 0
-    (ap (position (λ other. nat_eq other c.args.slot)) (sym c.deref-else-eq.ensures.0) ∙ sym c.rank_of_slot.ensures
-    ∙ c.in-Some.is) in
+    let found = position-Some (λ other. nat_eq other c.args.slot) c.args.slots.now.items c.in-Some.rank 0 (cc) in
     (c.in-Some.rank, found.0, eqb-true _ _ found.1, c.remove-in-Some.ensures.items)
 
 pub returns-in_default : goal.returns-in_default

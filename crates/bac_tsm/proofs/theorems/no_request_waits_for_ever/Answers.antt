@@ -4,8 +4,7 @@ use Rattle.bac_tsm.{specs.Progress.last_of, proofs.Progress.{due_in_turn, ends_i
 use Rattle.bac_tsm.proofs.theorems.no_request_waits_for_ever.Goals as goal
 
 pub returns-clause-due : goal.returns-clause-due
-returns-clause-due c rules events i ticks = due_in_turn rules events i zero (length ticks) i i ticks (omega arith) refl
-    (omega arith)
+returns-clause-due c rules events i ticks = grind (arith, due_in_turn rules events i zero (length ticks) i i ticks)
 
 pub returns-clause-ended : goal.returns-clause-ended
 returns-clause-ended c rules events a ticks pass enough =

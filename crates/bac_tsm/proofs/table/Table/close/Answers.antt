@@ -8,8 +8,7 @@ pub returns-in_err-slot : goal.returns-in_err-slot
 returns-in_err-slot c =
     let both =
     closed_none c.self.invariant.table (answer_seen c.args.answer.now) c.from.result c.from.ensures (omega arith) _
-    c.self.view_is c.in_err-slot.was in
-    rw c.from_residual.ensures (record { told = both.told; others = both.others })
+    c.self.view_is c.in_err-slot.was in grind arith
 
 pub held-request-requires : goal.held-request-requires
 held-request-requires c =
@@ -22,7 +21,7 @@ returns-then-not-is_answered_by c =
     closed_not c.self.invariant.table (answer_seen c.args.answer.now) c.from.result c.from.ensures (omega arith) _
     c.self.view_is c.in_ok-slot.slot c.in_ok-slot.was
     _ c.held-request.ensures (sym c.is_answered_by.ensures ∙ c.if-not-is_answered_by.true) in
-    record { told = both.told; others = both.others }
+    grind arith
 
 pub returns-in_err-rank : goal.returns-in_err-rank
 returns-in_err-rank c =
@@ -37,4 +36,4 @@ returns c =
     c.self.view_is c.in_ok-slot.slot c.in_ok-slot.was
     _ c.held-request.ensures _ c.ticket-ticket.ensures (sym c.is_answered_by.ensures ∙ c.if-not-is_answered_by.false)
     c.in_ok-rank.rank (rw c.in_ok-rank.was at c.rank_of.ensures) _ c.end.ensures in
-    record { told = both.told; others = both.others }
+    grind arith

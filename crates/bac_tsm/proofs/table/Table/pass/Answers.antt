@@ -1,13 +1,11 @@
 -- The request that was sent longest ago is due where any is; it goes behind the others, or ends.
-use Rattle.std.proofs.Common.{sym, subst, ◌∙◌}
+use Rattle.std.proofs.Common.{arith, sym, subst, ◌∙◌}
 use Rattle.bac_tsm.specs.{Client.client_rules, Inner.Table.IsRankOf}
 use Rattle.bac_tsm.proofs.TableTick.{some_sent, front_below, sent_again, not_found, ended}
 use Rattle.bac_tsm.proofs.table.Table.pass.Goals as goal
 
 pub first_sent-slot-requires : goal.first_sent-slot-requires
-first_sent-slot-requires c =
-    some_sent c.self.invariant _ c.self.view_is
-    (client_rules c.args.config.timeout c.args.config.retries) c.args.clock c.requires.due
+first_sent-slot-requires = grind (arith, some_sent)
 
 pub held-requires : goal.held-requires
 held-requires c = front_below c.self.invariant _ c.self.view_is _ c.first_sent-slot.ensures

@@ -7,22 +7,20 @@ use Rattle.bac_tsm.proofs.table.Table.pass_all.Goals as goal
 
 pub put_last-requires : goal.put_last-requires
 put_last-requires c =
-    let less = (fewer (client_rules c.args.config.timeout c.args.config.retries) c.args.clock c.args.config.positive
-    c.loop-is_due.invariant.ticked c.pass-entry.result _ c.pass-entry.ensures).room in
-    let most = few_due (client_rules c.args.config.timeout c.args.config.retries) c.args.clock c.args.self.now in
+    let rules = client_rules c.args.config.timeout c.args.config.retries in
+    let less =
+    (fewer rules c.args.clock c.args.config.positive c.loop-is_due.invariant.ticked _ _ c.pass-entry.ensures).room in
+    let most = few_due rules c.args.clock c.args.self.now in
     omega arith
 
 pub loop-is_due-smaller : goal.loop-is_due-smaller
 loop-is_due-smaller c =
-    (fewer (client_rules c.args.config.timeout c.args.config.retries) c.args.clock c.args.config.positive
-    c.loop-is_due.invariant.ticked c.pass-entry.result _ c.pass-entry.ensures).fewer
+    (fewer _ c.args.clock c.args.config.positive c.loop-is_due.invariant.ticked _ _ c.pass-entry.ensures).fewer
 
 pub loop-is_due-preserved : goal.loop-is_due-preserved
 loop-is_due-preserved c = record {
-  ticked =
-      rw c.put_last.ensures
-      (passed (client_rules c.args.config.timeout c.args.config.retries) c.args.clock c.args.config.positive
-      c.loop-is_due.invariant.ticked c.pass-entry.result _ c.pass-entry.ensures);
+  ticked = rw c.put_last.ensures
+      (passed _ c.args.clock c.args.config.positive c.loop-is_due.invariant.ticked _ _ c.pass-entry.ensures);
   due = c.is_due-is_due.ensures.due;
 }
 
@@ -36,5 +34,5 @@ returns-clause-told c =
 
 pub returns-clause-kept : goal.returns-clause-kept
 returns-clause-kept c =
-    (all_passed (client_rules c.args.config.timeout c.args.config.retries) c.args.clock c.args.config.positive
-    c.loop-is_due.invariant.ticked (sym c.loop-is_due.invariant.due ∙ c.loop-is_due-test.false)).kept
+    (all_passed _ c.args.clock c.args.config.positive c.loop-is_due.invariant.ticked
+    (sym c.loop-is_due.invariant.due ∙ c.loop-is_due-test.false)).kept
