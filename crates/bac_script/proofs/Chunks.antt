@@ -1,7 +1,7 @@
 -- The octets of a chunk: a range of its room, of which a front was searched for a line feed.
 use Rattle.std.proofs.{
-  Common.{◌≡◌, ℕ, ◌+◌, ◌-◌, ◌<◌, ◌≤◌, List, [], ◌∷◌, ◌++◌, length, take, drop, Option, Some, None, refl, sym, ◌∙◌, ap},
-  Common.{subst, inl, append-nil, arith, length-drop, ◌==◌, min, position, drop-drop, length-take-le, take-append-drop},
+  Common.{◌≡◌, ℕ, ◌+◌, ◌-◌, ◌<◌, ◌≤◌, List, [], ◌++◌, length, take, drop, Option, Some, None, refl, sym, ◌∙◌, ap},
+  Common.{inl, append-nil, arith, length-drop, ◌==◌, min, position, drop-drop, length-take-le, take-append-drop},
   Common.{◌⊎◌, inr, length-append, take-take, take_all},
   lemmas.{Grind.common_steps, List.{drop-append-le, take-append-le}, List.Edits.take-paste},
   lemmas.Slice.{between_is, take-put_mid},
@@ -39,27 +39,24 @@ pub searched_on : {R : Type 0} {b c : Checked R} {held later : List ℕ} (last :
 searched_on _ none short (inl same) = grind (arith, take_all)
 searched_on _ none short (inr more) = grind (arith, length-append, take-append-le, take_all)
 
-module _ (xs : List ℕ) (start count limit end : ℕ) (is : limit ≡ min end (start + line_room))
-    (within : start + count ≤ end) (room : end ≤ length xs)
-    (few : count ≤ line_room) (before : HasNoFeed (take count (slice_range xs start end))) where
-  abbrev held : List ℕ
-  held = slice_range xs start end
-
+module _ (xs held : List ℕ) (start count limit end : ℕ) (is : slice_range xs start end ≡ held)
+    (limit_is : limit ≡ min end (start + line_room)) (inside : start ≤ end) (room : end ≤ length xs)
+    (within : count ≤ length held) (few : count < line_room) (before : HasNoFeed (take count held)) where
   -- What has been searched then.
   abbrev front : List ℕ
   front = take (limit - start) held
 
   size : length held ≡ end - start
-  size = range_size xs held start end refl room
+  size = range_size xs held start end is room
 
   long : length front ≡ limit - start
   long = grind (arith, length-take-le, size)
 
   here : slice_range xs (start + count) limit ≡ drop count front
-  here = grind (arith, range_skipped, take-take)
+  here = grind (arith, range_skipped, take-take, size)
 
   searched : HasNoFeed (take count front)
-  searched = grind (arith, take-take)
+  searched = grind (arith, take-take, size)
 
   -- The line that ends with the first line feed.
   pub cut_behind : (place : ℕ) → position (λ octet. octet == 10) (slice_range xs (start + count) limit) ≡ Some place →
@@ -68,23 +65,20 @@ module _ (xs : List ℕ) (start count limit end : ℕ) (is : limit ≡ min end (
       let rest = drop count front in
       let f = feed_at rest place (ap (position (λ octet. octet == 10)) (sym here) ∙ found) in
       let there : count + place + 1 ≤ limit - start = omega (arith, f.within, length-drop count front, long) in
-      let all : count + place + 1 ≡ count + (place + 1) = omega arith in
-      let whole : take (count + place + 1) held ≡ (take count front ++ take place rest) ++ 10 ∷ [] =
-      sym (take-take (count + place + 1) (limit - start) held there) ∙ ap (λ (n : ℕ). take n front) all
-      ∙ grind (arith, common_steps, take-add count (place + 1) front, f.ended) in (
-        omega (arith, size, there, is),
+      let cut = take-take (count + place + 1) (limit - start) held there in (
+        omega (arith, size, there, limit_is),
         inl (record {
           text = take count front ++ take place rest;
           no_feed = no_feed_on (take count front) (take place rest) searched f.before;
-          ended = whole;
+          ended = grind (arith, common_steps, cut, take-add count (place + 1) front, f.ended);
         }),
       )
 
   -- There is no line feed up to where was searched.
   none_up_to : position (λ octet. octet == 10) (slice_range xs (start + count) limit) ≡ None → HasNoFeed front
   none_up_to none =
-      let rest = no_feed (drop count front) (ap (position (λ octet. octet == 10)) (sym here) ∙ none) in
-      subst HasNoFeed (take-append-drop count front) (no_feed_on (take count front) (drop count front) searched rest)
+      let whole = no_feed_on (take count front) (drop count front) searched (grind (arith, no_feed, here)) in
+      grind (arith, whole, take-append-drop)
 
   -- Nor among all that is held, where no more is.
   pub none_held : position (λ octet. octet == 10) (slice_range xs (start + count) limit) ≡ None →
@@ -140,7 +134,7 @@ module _ {xs : List ℕ} {start end : ℕ} {held : List ℕ} (p : Placed xs star
       ∙ ap (λ (zs : List ℕ). zs ++ take count ys) (sym (between_is xs start end) ∙ p.is)
 
   pub still_held : slice_range room start end ≡ held
-  still_held = let e : end + 0 ≡ end = omega arith in rw (e, append-nil) at (more 0 (omega arith))
+  still_held = grind (arith, more 0, append-nil)
 
   pub read_on : {R : Type 0} {remaining : R → Option (List ℕ)} {reader reader' : Checked R} (count : ℕ)
       → count ≤ length ys → octets_of reader' ≡ octets_of reader ++ take count ys

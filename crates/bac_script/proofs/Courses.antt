@@ -1,6 +1,6 @@
 -- The course of a script, line after line.
 use Rattle.std.proofs.Common.{◌≡◌, ℕ, ◌+◌, Bool, true, List, [], ◌∷◌, ◌++◌, length, Option, Some}
-use Rattle.std.proofs.Common.{None, Result, Ok, Err, refl, sym, ◌∙◌, ap, subst, append_assoc, arith, ◌&&◌, MatchOption}
+use Rattle.std.proofs.Common.{None, Result, Ok, Err, refl, ap, append_assoc, arith, ◌&&◌, MatchOption}
 use Rattle.std.specs.{Option.option_map_or, Result.result_ok}
 use Rattle.bac_script.{
   specs.declared.{input.Reading.Reading, line.LineFault.LineFault},
@@ -88,23 +88,6 @@ pub runs_as : (octets : List ℕ) (reading : Reading) (one : Course) (answer : R
     MatchOption one.fault (EndsAs reading one.count answer) (λ fault. answer ≡ Err fault)
     → RunsWhole octets reading one.text answer
 runs_as octets reading one answer is ends =
-    let all = lines octets reading in
-    let faults : one.fault ≡ first_fault all =
-    ap (λ (c : Course). c.fault) (sym is) ∙ fault_is all in (
-      ap (λ (c : Course). c.text) (sym is) ∙ runs_text all,
-      subst (λ (o : Option TraceFault).
-          MatchOption o (EndsAs reading (length all) answer) (λ fault. answer ≡ Err fault)) faults
-          (counted one.fault refl ends),
-    )
-  where
-    counted : (o : Option TraceFault) → one.fault ≡ o
-        → MatchOption o (EndsAs reading one.count answer) (λ fault. answer ≡ Err fault) →
-        MatchOption o (EndsAs reading (length (lines octets reading)) answer) (λ fault. answer ≡ Err fault)
-    counted None none h =
-        let size : (whole (lines octets reading)).count ≡ length (lines octets reading) =
-        omega (
-          arith,
-          (is_course (lines octets reading) first_stage true 0).counted (ap (λ (c : Course). c.fault) is ∙ none),
-        ) in
-        subst (λ (n : ℕ). EndsAs reading n answer) (ap (λ (c : Course). c.count) (sym is) ∙ size) h
-    counted (Some fault) is h = h
+    let c = is_course (lines octets reading) first_stage true 0 in
+    let said = runs_text (lines octets reading) in
+    grind (arith, c, said)

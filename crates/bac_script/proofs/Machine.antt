@@ -1,7 +1,6 @@
 -- What the machine prints for all that a script says is what the look-ahead gives.
 use Rattle.std.proofs.Common.{◌≡◌, ℕ, zero, suc, List, [], ◌∷◌, ◌++◌}
-use Rattle.std.proofs.Common.{drop, length, Option, Some, slice_get, refl, sym, ◌∙◌, ap, arith}
-use Rattle.std.specs.List.{AllByRecursion}
+use Rattle.std.{proofs.Common.{drop, Option, Some, slice_get, refl, sym, ◌∙◌, ap, arith}, specs.List.AllByRecursion}
 use Rattle.bac_pdu.specs.Peer.{Station}
 use Rattle.bac_tsm.specs.{Events.{Event, Note}, Lookahead.output, Machine.{State, Stepped}}
 use Rattle.bac_tsm.specs.{Limits.table_size, Laws.{state_at, NumbersComeBackLate}, Client.{client_rules, keeping}}
@@ -9,7 +8,7 @@ use Rattle.bac_tsm.proofs.Laws.{by_number, few_open, begins, one_step, back_late
 use Rattle.bac_device.specs.{Places.Write, Demo.demo_points, Turns.replies_to}
 use Rattle.bac_script.specs.{Line.{Said, Nothing, Settings, Happens, Asks}, Text.notes_text}
 use Rattle.bac_script.specs.{Running.small_device, Inner.Running.{Stage, new_client, ran, writes_with}}
-use Rattle.bac_script.specs.Script.{settings_in, events_in, arrivals_in, requests_in, printed, text_of}
+use Rattle.bac_script.specs.Script.{events_in, arrivals_in, requests_in, printed, text_of}
 
 -- What a script runs on before its first line.
 abbrev pub first_stage : Stage
@@ -41,8 +40,7 @@ drop_next : (events : List Event) (n : ℕ) (event : Event) (later : List Event)
     (slice_get events n ≡ Some event) × (drop (suc n) events ≡ later)
 drop_next [] zero event later e = absurd (cc)
 drop_next [] (suc n) event later e = absurd (cc)
-drop_next (x ∷ events) zero event later e =
-    (ap (λ (xs : List Event). slice_get xs 0) e, ap (λ (xs : List Event). drop 1 xs) e)
+drop_next (x ∷ events) zero event later e = grind arith
 drop_next (x ∷ events) (suc n) event later e = drop_next events n event later e
 
 -- The replies of a script's device after these writes.
@@ -105,7 +103,4 @@ text_is (Asks arrival ∷ later) h = sym (prints_all 3000 3 0 (events_in later) 
 
 -- Between two requests of a script with the same number many others are accepted.
 pub requests_late : (all : List Said) → NumbersComeBackLate table_size (requests_in all)
-requests_late all =
-    let settings = settings_in all in
-    back_late (client_rules settings.timeout settings.retries) settings.first_ticket (events_in all) few_open
-    (length (events_in all))
+requests_late all = grind (arith, back_late, few_open)

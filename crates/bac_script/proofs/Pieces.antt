@@ -8,12 +8,12 @@ use Rattle.bac_script.specs.declared.input.Reading.{Reading, TheVariants.{AtEnd,
 use Rattle.bac_script.specs.{declared.line.LineFault.TheVariants.TooLong, Line.{ends_with_feed, without_feed, said}}
 
 pub pieces-line : (text more : List ℕ) → HasNoFeed text → pieces (text ++ 10 ∷ more) ≡ (text ++ 10 ∷ []) ∷ pieces more
-pieces-line [] _ h = refl
-pieces-line (x ∷ xs) more (differs, later) = rw (ne_eqb x 10 differs, pieces-line xs more later) refl
+pieces-line [] = grind arith
+pieces-line (x ∷ xs) = grind (arith, ne_eqb, pieces-line xs)
 
 pub pieces-open : (x : ℕ) (xs : List ℕ) → HasNoFeed (x ∷ xs) → pieces (x ∷ xs) ≡ (x ∷ xs) ∷ []
-pieces-open x [] (differs, _) = rw (ne_eqb x 10 differs) refl
-pieces-open x (y ∷ ys) (differs, later) = rw (ne_eqb x 10 differs, pieces-open y ys later) refl
+pieces-open x [] = grind (arith, ne_eqb)
+pieces-open x (y ∷ ys) = grind (arith, ne_eqb, pieces-open y ys)
 
 -- The first piece begins with this
 pub record Begun (line more : List ℕ) : Type 0 where
@@ -60,8 +60,8 @@ lines-rest (x ∷ xs) h short =
     rw (pieces-open x xs h, ends_with_feed-none (x ∷ xs) h, e) refl
 
 pub lines-last : (line : List ℕ) → HasNoFeed line → 0 < length line → lines line AtEnd ≡ line ∷ []
-lines-last [] h some = absurd (omega arith)
-lines-last (x ∷ xs) h some = rw (pieces-open x xs h) refl
+lines-last [] = grind arith
+lines-last (x ∷ xs) = grind (arith, pieces-open)
 
 -- A line is as long without its line feed as it is, or one shorter
 without_feed_long : (line front : List ℕ) → HasNoFeed line → length line ≡ line_room
@@ -84,14 +84,12 @@ pub next_long : (line held : List ℕ) (reading : Reading) → HasNoFeed line �
 next_long [] _ _ h long = absurd (omega arith)
 next_long (x ∷ xs) held reading h long =
     let b = pieces-begun x xs held h in
-    let long' : longest_line < length ((x ∷ xs) ++ b.front) = omega (arith, length-append (x ∷ xs) b.front) in
-    let sure : (ends_with_feed ((x ∷ xs) ++ b.front) || nat_lt longest_line (length ((x ∷ xs) ++ b.front))) ≡ true =
-    grind (arith, nat_tests, long') in
+    let longer : longest_line < length ((x ∷ xs) ++ b.front) = omega (arith, length-append (x ∷ xs) b.front) in
     let too_long : longest_line < length (without_feed (x ∷ xs)) = rw (ends_with_feed-none (x ∷ xs) h) (omega arith) in
     record {
       whole = (x ∷ xs) ++ b.front;
       others = filter (is_line reading) b.others;
-      split = rw (b.is, is_line-sure reading ((x ∷ xs) ++ b.front) sure) refl;
+      split = rw (b.is, is_line-sure reading ((x ∷ xs) ++ b.front) (grind (arith, nat_tests, longer))) refl;
       same = λ is_first. said-long is_first ((x ∷ xs) ++ b.front) (without_feed_long (x ∷ xs) b.front h long)
           ∙ sym (said-long is_first (x ∷ xs) too_long);
     }

@@ -2,7 +2,8 @@
 use Rattle.std.{
   proofs.Common.{◌≡◌, ◌≢◌, ℕ, ◌+◌, ◌<◌, ◌≤◌, Bool, true, false, List, [], ◌∷◌, ◌++◌, length},
   proofs.Common.{take, drop, Option, Some, None, Result, Ok, Err, refl, sym, ◌∙◌, ap, subst, inl, inr, append_assoc},
-  proofs.{Common.{arith, ◌&&◌, append-nil, length-append, take-append-drop, ◌⊎◌}, lemmas.List.append_cancel_right},
+  proofs.Common.{arith, ◌&&◌, append-nil, length-append, take-append-drop, ◌⊎◌, MatchOption},
+  proofs.lemmas.List.append_cancel_right,
 }
 use Rattle.bac_tsm.specs.Client.{Client}
 use Rattle.bac_device.specs.Device.{DeviceState}
@@ -15,7 +16,8 @@ use Rattle.bac_script.{
   specs.{Input.{ReadsNoMore, ReaderStands}, Line.{Said, said}},
   specs.Inner.{Input.{HasNotEnded, TakesAndKeeps, ReadForLine, empty_reads, IsLineCut}, Feeds.HasNoFeed},
   specs.Inner.{Limits.line_room, Tracing.RunsOn, Running.{Stage, Stands, new_client, device_with, ran}},
-  specs.{Script.{lines, is_nothing, fault_at, first_fault, text, Runs}, Tracing.{LastIsNeeded, Traces, IsToldFirst}},
+  specs.Script.{lines, is_nothing, fault_at, first_fault, text, EndsAs, Runs},
+  specs.Tracing.{LastIsNeeded, Traces, IsToldFirst},
   proofs.Pieces.{NextLine, next_ended, next_long, next_last, lines-rest, lines-last, lines-ended, said-whole_long},
   proofs.{Taken.{Takes-more, Takes-front, further}, Machine.first_stage, Courses.Course},
   proofs.Courses.{behind, behind_both, and_on, course, course_on, whole, runs_text, fault_is, RunsWhole, runs_as},
@@ -92,10 +94,9 @@ stands_more : {R : Type 0} (remaining : R → Option (List ℕ)) (reading : Read
     ReaderStands remaining reading second third held → ReaderStands remaining reading first third []
 stands_more = grind arith
 
-fault_runs : (octets : List ℕ) (reading : Reading) (text : List ℕ) (number : ℕ) (fault : LineFault)
-    → RunsWhole octets reading text (Err (fault_at number fault)) →
-    Runs octets reading text (Err (fault_at number fault))
-fault_runs = grind arith
+runs_so : (octets : List ℕ) (reading : Reading) (text : List ℕ) (answer : Result TraceEnd TraceFault)
+    → answer ≢ Err WriteFailed → RunsWhole octets reading text answer → Runs octets reading text answer
+runs_so = grind arith
 
 -- An empty line is cut only at the end.
 at_end : (reading : Reading) (line : List ℕ) → IsLineCut reading line → reading ≢ Failed → length line ≡ 0
@@ -128,17 +129,12 @@ module _ {R W : Type 0} {remaining : R → Option (List ℕ)} {contents : W → 
   taken : TakesAndKeeps remaining reader reader' [] rest (s.octets ++ line)
   taken = Takes-more s.taken (Takes-front n q)
 
-  reads : reads_of reader' ≤ reads_of reader + length taken.given + empty_reads reading
-  reads =
-      let before : length s.taken.given ≡ length (s.octets ++ held) = ap length s.taken.order in
-      let after : length taken.given ≡ length ((s.octets ++ line) ++ rest) = ap length taken.order in
-      let cut : length (line ++ rest) ≡ length now = ap length (take-append-drop n now) in
-      omega (arith, s.asked, asked, length-append {A = ℕ})
-
   -- What the reader gave: the lines so far, and what is held now.
   given_is : taken.given ≡ s.octets ++ now
-  given_is = taken.order ∙ append_assoc s.octets line rest
-      ∙ ap (λ (zs : List ℕ). s.octets ++ zs) (take-append-drop n now)
+  given_is = grind (arith, taken, append_assoc, take-append-drop)
+
+  reads : reads_of reader' ≤ reads_of reader + length taken.given + empty_reads reading
+  reads = grind (arith, given_is, length-append)
 
   -- Where no line is held, the lines so far are all, and none has a fault.
   no_fault : (more : List ℕ) → HasNoFeed more → length more < line_room
@@ -148,23 +144,11 @@ module _ {R W : Type 0} {remaining : R → Option (List ℕ)} {contents : W → 
   -- The last read was needed.
   needed : IsNeeded reader reader' taken.given
   needed = elim need [
-    | inl same ↦
-        subst (λ (r : Checked R). IsNeeded reader r taken.given) (sym same.same) (subst (IsNeeded reader middle)
-        (s.taken.order ∙ ap (λ (zs : List ℕ). s.octets ++ zs) (sym same.kept) ∙ sym given_is) s.needed)
+    | inl same ↦ grind (arith, given_is, same)
     | inr both ↦ let r = both.last in inr (record {
       before = s.octets ++ (held ++ r.before);
-      order = given_is ∙ ap (λ (zs : List ℕ). s.octets ++ zs) r.order
-          ∙ sym (append_assoc s.octets (held ++ r.before) (last_of reader'));
-      asked =
-          let size : length s.taken.given ≡ length (s.octets ++ held) = ap length s.taken.order in
-          omega (
-            arith,
-            r.asked,
-            s.asked,
-            simp length-append at size,
-            length-append s.octets (held ++ r.before),
-            length-append held r.before,
-          );
+      order = grind (arith, given_is, append_assoc);
+      asked = grind (arith, s.taken.order, s.asked, r.asked, length-append);
       going = no_fault (held ++ r.before) r.no_feed r.short;
     })
   ]
@@ -176,21 +160,11 @@ module _ {R W : Type 0} {remaining : R → Option (List ℕ)} {contents : W → 
   -- Before the last read it was written.
   told : IsToldFirst reader' (writer_of page) (writer_of kept) taken.given
   told = elim need [
-    | inl same ↦ λ before split. further _ handed (s.told before
-        (s.taken.order ∙ ap (λ (zs : List ℕ). s.octets ++ zs) (sym same.kept) ∙ sym given_is ∙ split
-        ∙ ap (λ (r : Checked R). before ++ last_of r) same.same))
-    | inr both ↦ λ before split. let r = both.last in
-        let turned = both.turned_in in
-        let here : before ≡ s.octets ++ (held ++ r.before) =
-        append_cancel_right before (s.octets ++ (held ++ r.before)) (last_of reader')
-        (sym split ∙ given_is ∙ ap (λ (zs : List ℕ). s.octets ++ zs) r.order
-        ∙ sym (append_assoc s.octets (held ++ r.before) (last_of reader'))) in
-        let said : text before Open ≡ s.text =
-        ap (λ (zs : List ℕ). text zs Open) here ∙ text_so_far (held ++ r.before) r.no_feed r.short in (
-          turned.later,
-          turned.out ∙ ap (λ (zs : List ℕ). zs ++ turned.later) (out_so_far s.printed s.empty turned.sound
-              ∙ ap (λ (zs : List ℕ). octets_of (writer_of page) ++ zs) (sym said)),
-        )
+    | inl same ↦ λ before split. further _ handed (s.told before (grind (arith, same, given_is)))
+    | inr both ↦ λ before split.
+        let here : before ≡ s.octets ++ (held ++ both.last.before) =
+        grind (arith, append_cancel_right, given_is, append_assoc) in
+        (both.turned_in.later, grind (arith, out_so_far, text_so_far, here))
   ]
 
   -- The course where these lines are left.
@@ -217,13 +191,20 @@ module _ {R W : Type 0} {remaining : R → Option (List ℕ)} {contents : W → 
       → RunsOn remaining contents reader reader' page kept answer
   unwritten answer is =
       let later = (course s.stage is_first count (lines (line ++ rest) reading)).text in
-      stops answer (prints_nothing kept) (s.printed ⨾ handed)
-      (rw is (
-        later,
-        sym (runs_text (lines ((s.octets ++ line) ++ rest) reading))
-            ∙ ap (λ (c : Course). c.text) (left (lines (line ++ rest) reading) refl)
-            ∙ sym (append_assoc s.text [] later),
-      ))
+      let is_left = left (lines (line ++ rest) reading) refl in
+      let said = runs_text (lines octets_now reading) in
+      stops answer (prints_nothing kept) (s.printed ⨾ handed) (rw is (later, grind (arith, is_left, said, append-nil)))
+
+  -- It stops where the course of the lines that are left is this.
+  settles : {last : Page W} (all : List (List ℕ)) (later : Course) (answer : Result TraceEnd TraceFault)
+      → lines (line ++ rest) reading ≡ all → course s.stage is_first count all ≡ later →
+      Prints contents kept last later.text → answer ≢ Err WriteFailed
+      → MatchOption later.fault (EndsAs reading later.count answer) (λ fault. answer ≡ Err fault) →
+      RunsOn remaining contents reader reader' page last answer
+  settles _ later answer are is printed sound ends =
+      stops answer printed (s.printed ⨾ handed ⨾ printed)
+      (runs_so octets_now reading (s.text ++ later.text) answer sound
+      (runs_as octets_now reading (behind s.text later) answer (left _ are ∙ ap (behind s.text) is) ends))
 
   -- The reader fails, or its reads are spent.
   pub unread : reading ≡ Failed → IsLineCut reading line
@@ -231,9 +212,8 @@ module _ {R W : Type 0} {remaining : R → Option (List ℕ)} {contents : W → 
   unread is cut =
       let c = rw is at cut in
       let h = rw is at stands in
-      stops (Err ReadFailed) (prints_nothing kept) (s.printed ⨾ handed)
-      (runs_as octets_now reading (behind s.text (course s.stage is_first count [])) (Err ReadFailed)
-      (left [] (rw (is, h.empty, append-nil line) (lines-rest line c.no_feed c.short))) (rw is refl))
+      settles [] _ (Err ReadFailed) (rw (is, h.empty, append-nil line) (lines-rest line c.no_feed c.short)) refl
+      (prints_nothing kept) (grind arith) (rw is refl)
 
   -- The input ends after a line feed.
   pub to_end : reading ≢ Failed → IsLineCut reading line → n ≡ 0
@@ -242,10 +222,9 @@ module _ {R W : Type 0} {remaining : R → Option (List ℕ)} {contents : W → 
       let empty : line ≡ [] = rw none refl in
       let is = at_end reading line cut going (ap length empty) in
       let h = rw is at stands in
-      let empty_reads : rest ≡ [] = h.empty in
-      stops (Ok (record { lines = count })) (prints_nothing kept) (s.printed ⨾ handed)
-      (runs_as octets_now reading (behind s.text (course s.stage is_first count [])) (Ok (record { lines = count }))
-      (left [] (rw (empty, empty_reads) refl)) (rw is refl))
+      let none_left : rest ≡ [] = h.empty in
+      settles [] _ (Ok (record { lines = count })) (rw (empty, none_left) refl) refl (prints_nothing kept) (grind arith)
+      (rw is refl)
 
   -- A line stops it.
   pub faulty : (fault : LineFault) → reading ≢ Failed → IsLineCut reading line → 0 < length line
@@ -253,13 +232,11 @@ module _ {R W : Type 0} {remaining : R → Option (List ℕ)} {contents : W → 
       RunsOn remaining contents reader reader' page kept (Err (fault_at (count + 1) fault))
   faulty fault going cut some bad =
       let next = NextLine-from remaining reading middle reader' line rest cut stands going some in
-      let at = next.same is_first ∙ bad in
-      stops (Err (fault_at (count + 1) fault)) (prints_nothing kept) (s.printed ⨾ handed)
-      (fault_runs octets_now reading (s.text ++ []) (count + 1) fault (runs_as octets_now reading
-      (record { text = s.text ++ []; fault = Some (fault_at (count + 1) fault); count = count })
-      (Err (fault_at (count + 1) fault)) (left (next.whole ∷ next.others) next.split
-      ∙ ap (λ (r : Result Said LineFault).
-      behind s.text (and_on s.stage count r (course_on s.stage is_first count next.others))) at) refl))
+      settles (next.whole ∷ next.others)
+      (record { text = []; fault = Some (fault_at (count + 1) fault); count = count })
+      (Err (fault_at (count + 1) fault)) next.split
+      (ap (λ (r : Result Said LineFault). and_on s.stage count r (course_on s.stage is_first count next.others))
+      (next.same is_first ∙ bad)) (prints_nothing kept) (grind arith) refl
 
   -- The input ends in a line without its line feed.
   pub to_last : {last : Page W} (one : Said) → reading ≡ AtEnd → IsLineCut reading line → 0 < length line
@@ -268,13 +245,10 @@ module _ {R W : Type 0} {remaining : R → Option (List ℕ)} {contents : W → 
   to_last {last} one is cut some ok printed =
       let c = rw is at cut in
       let h = rw is at stands in
-      stops (Ok (record { lines = count + 1 })) printed (s.printed ⨾ handed ⨾ printed ⨾ prints_nothing last)
-      (runs_as octets_now reading
-      (behind s.text (behind (ran s.stage one).text (course_on s.stage is_first count [] one)))
-      (Ok (record { lines = count + 1 }))
-      (left (line ∷ []) (rw (is, h.empty, append-nil line) (lines-last line c.no_feed some))
-      ∙ ap (λ (r : Result Said LineFault). behind s.text (and_on s.stage count r (course_on s.stage is_first count [])))
-      ok) (rw is refl))
+      settles (line ∷ []) (behind (ran s.stage one).text (course_on s.stage is_first count [] one))
+      (Ok (record { lines = count + 1 })) (rw (is, h.empty, append-nil line) (lines-last line c.no_feed some))
+      (ap (λ (r : Result Said LineFault). and_on s.stage count r (course_on s.stage is_first count [])) ok)
+      (printed ⨾ prints_nothing last) (grind arith) (rw is refl)
 
   -- One more line was run.
   pub goes_on : {page' : Page W} {is_first' : Bool} {client' : Client} {device' : DeviceState} (one : Said)
@@ -318,8 +292,8 @@ SoFar-none _ _ reader held page _ _ empty sound none fresh unwritten = record {
   text = [];
   stage = first_stage;
   taken = record { given = []; gave = Gave-none reader; order = sym none };
-  asked = omega arith;
-  needed = inl (refl, refl);
+  asked = grind arith;
+  needed = grind arith;
   empty = empty;
   told = λ before split. untold before (last_of reader) split;
   sound = sound;

@@ -2,7 +2,7 @@
 use Rattle.std.{
   proofs.lemmas.{List.{take_more, drop_all, Sums.fails_before_first, Quantifiers.position-Some}, Bool.eqb-false},
   proofs.{lemmas.Bool.Decides.nat_tests, Common.{◌≡◌, ◌⊎◌, ℕ, ◌+◌, ◌<◌, ◌≤◌, zero, suc, Bool, false, List}},
-  proofs.Common.{[], ◌∷◌, ◌++◌, length, take, drop, get_or, Option, Some, None, sym, ◌∙◌, ap, subst, inl, inr, true},
+  proofs.Common.{[], ◌∷◌, ◌++◌, length, take, drop, get_or, Option, Some, None, inl, inr, true},
   proofs.Common.{append_assoc, length-append, arith, ◌==◌, position, eqb-true, take-append-drop, take_all, append-nil},
 }
 use Rattle.bac_print.{proofs.Printed.◌⨾◌, specs.{declared.{page.Page.Page, checked.Checked.Checked}, Checked.reads_of}}
@@ -52,17 +52,15 @@ pub read_for_line : {R W : Type 0} {remaining : R → Option (List ℕ)} {conten
     ReadForLine a b page page' held now → reads_of b + length held ≤ reads_of a + length now → HasNoFeed now
     → length now < line_room → IsUnread b c now later ⊎ (later ≡ now ++ last_of c) → reads_of c ≤ reads_of b + 1
     → ReadForLine a c page page'' held later
-read_for_line {a = a} {page = page} {page'' = page''} {held = held} {later = later} p _ then _ _ before _
-    none _ (inl same) _ =
-    subst (λ r. ReadForLine a r page page'' held later) (sym same.same)
-    (subst (ReadForLine a _ page page'' held) (sym same.kept) (still_for_line before then))
-read_for_line {c = c} {held = held} p first then empty good before asked none short (inr more) once = inr (record {
+read_for_line p _ then _ _ before _ none _ (inl same) _ =
+    let still = still_for_line before then in grind (arith, same, still)
+read_for_line p first then empty good before asked none short (inr more) once = inr (record {
   last = record {
     before = p.given;
-    order = more ∙ ap (λ zs. zs ++ last_of c) (sym p.order);
-    asked = let size = ap length p.order in omega (arith, asked, once, size, length-append held p.given);
-    no_feed = subst HasNoFeed (sym p.order) none;
-    short = subst (λ (zs : List ℕ). length zs < line_room) (sym p.order) short;
+    order = grind (arith, more, p.order);
+    asked = grind (arith, p.order, asked, once, length-append);
+    no_feed = grind (arith, p.order, none);
+    short = grind (arith, p.order, short);
   };
   turned_in = turned (first ⨾ then) empty good;
 })
@@ -73,6 +71,8 @@ pub next_at_end : {R : Type 0} {remaining : R → Option (List ℕ)} {a : Checke
     → length held < line_room → HasNotEnded a b → ReaderStands remaining reading b c []
     → IsNext remaining a c held reading count
 next_at_end = grind (arith, take_all, drop_all, true)
+
+pub ruleset next_lines = (Takes-more, read_for_line, still_for_line, next_at_end)
 
 -- ---- line feeds
 
@@ -93,9 +93,7 @@ pub none_passes : (p : ℕ → Bool) (xs : List ℕ) → position p xs ≡ None 
 none_passes p xs none k within = fails_before_first p xs k 0 (grind (arith, nat_tests))
 
 pub no_feed : (xs : List ℕ) → position (λ octet. octet == 10) xs ≡ None → HasNoFeed xs
-no_feed xs none =
-    subst HasNoFeed (take_all (length xs) xs (omega arith))
-    (no_feed_below xs (length xs) (none_passes (λ octet. octet == 10) xs none))
+no_feed xs none = grind (arith, no_feed_below xs (length xs), none_passes, take_all)
 
 -- The line that ends with the first line feed.
 pub record FeedAt (held : List ℕ) (i : ℕ) : Type 0 where
@@ -106,9 +104,6 @@ pub record FeedAt (held : List ℕ) (i : ℕ) : Type 0 where
 pub feed_at : (held : List ℕ) (i : ℕ) → position (λ octet. octet == 10) held ≡ Some i → FeedAt held i
 feed_at held i found =
     let (within, is_feed, none_before) = position-Some (λ octet. octet == 10) held i 0 found in
-    record {
-      within = omega (arith, within);
-      before = no_feed_below held i none_before;
-      ended = take_more held i 0 within
-          ∙ ap (λ octet. take i held ++ octet ∷ []) (eqb-true (get_or held i 0) 10 is_feed);
-    }
+    let before = no_feed_below held i none_before in
+    let cut = take_more held i 0 within in
+    grind (arith, before, cut, eqb-true, is_feed)

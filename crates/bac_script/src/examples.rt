@@ -8,7 +8,7 @@ ghost use Rattle.bac_script.{
 };
 
 // What is printed of a client's events.
-#[tactic(none)]
+#[tactic(auto, unfolding(crate::proofs::Computed::computed))]
 fn examples_of_a_client()
     ensures answered { IsTraced (read ∷ answer ∷ []) (sent ∷ "done 0 value 4290999a" ∷ []) (ended 2) }
 
@@ -26,7 +26,7 @@ fn examples_of_a_client()
 {}
 
 // What is printed of the device's replies.
-#[tactic(none)]
+#[tactic(auto, unfolding(crate::proofs::Computed::computed))]
 fn examples_of_a_device()
     // Who-Is of 1000 to 1234, and of 1235 to 2000.
     ensures asked_who { IsTraced
@@ -46,7 +46,7 @@ fn examples_of_a_device()
 {}
 
 // Where a script stops.
-#[tactic(none)]
+#[tactic(auto, unfolding(crate::proofs::Computed::computed))]
 fn examples_of_ends()
     ensures empty { IsTraced [] [] (ended 0) }
 

@@ -75,7 +75,7 @@ impl Chunk {
     /// # Errors
     ///
     /// `WriteFailed` where the page has failed before a read that would be needed.
-    #[tactic(auto, using(crate::proofs::Taken::read_for_line, crate::proofs::Taken::still_for_line), unfolding(bac_print::specs::Page::Wrote))]
+    #[tactic(auto, using(crate::proofs::Taken::next_lines, bac_print::proofs::Printed::printing), unfolding(bac_print::specs::Page::Wrote))]
     pub(crate) fn next_line<R: Read, W: Write>(
         &mut self,
         reader: &mut Checked<R>,
@@ -133,6 +133,7 @@ impl Chunk {
 
     // How many octets the next line has, where it is whole among those that are held. So many of the first were
     // searched before, and aren't searched again. Where none is whole, all have been searched.
+    #[tactic(auto, using(crate::proofs::Chunks::range_size, crate::proofs::Chunks::none_held))]
     fn line_length(&self, searched: &mut usize) -> Option<usize>
         requires within { searched.old ≤ length self.now }
         requires few { searched.old < LINE_ROOM }

@@ -1,16 +1,13 @@
 -- Where all octets are ASCII, no reading of UTF-8 is needed.
 use Rattle.std.proofs.lemmas.Str.{IsUtf8-from_ascii, IsUtf8-from_is_utf8, is_utf8-from_IsUtf8}
-use Rattle.std.proofs.lemmas.{List.get_or_past, Bool.{cases_lt, false_from_ne_true, Decides.nat_tests}}
-use Rattle.std.proofs.Common.{◌≡◌, ℕ, List, length, None, Result, Ok, Err, sym, ◌∙◌, arith}
-use Rattle.std.{proofs.Common.{inl, inr, nat_lt, position, is_ok, MatchResult, IsUtf8}, specs.Str.{is_utf8, IsAscii}}
+use Rattle.std.proofs.lemmas.{List.get_or_past, Bool.{false_from_ne_true}}
+use Rattle.std.proofs.Common.{◌≡◌, ℕ, List, None, Result, Ok, Err, sym, ◌∙◌, arith}
+use Rattle.std.{proofs.Common.{nat_lt, position, is_ok, MatchResult, IsUtf8}, specs.Str.{is_utf8, IsAscii}}
 use Rattle.bac_script.proofs.Taken.{none_passes}
 use Rattle.bac_script.proofs.line.is_text.Goals as goal
 
 all_ascii : (octets : List ℕ) → position (λ octet. nat_lt 127 octet) octets ≡ None → IsAscii octets
-all_ascii octets none i = elim (cases_lt i (length octets)) [
-  | inl within ↦ let e = none_passes (λ octet. nat_lt 127 octet) octets none i within in grind (arith, nat_tests, e)
-  | inr past ↦ omega (arith, get_or_past octets i 0 past)
-]
+all_ascii octets none i = grind (arith, none_passes, get_or_past)
 
 pub returns-in-None : goal.returns-in-None
 returns-in-None c =

@@ -1,22 +1,12 @@
 -- Several reads may be made for one line, and each is needed: none of them found a whole line held.
-use Rattle.std.proofs.Common.{◌≡◌, ◌<◌, length, List, ℕ, arith, refl, sym, subst, rules}
+use Rattle.std.proofs.Common.{◌≡◌, ◌<◌, length, List, ℕ, arith, sym, subst, rules}
 use Rattle.bac_print.proofs.Printed.{◌⨾◌, prints_nothing}
 use Rattle.bac_script.specs.{Inner.{Feeds.HasNoFeed, Limits.line_room}, declared.input.Reading.TheVariants.Open}
 use Rattle.bac_script.proofs.{Chunks.searched_on, Taken.{Takes-more, read_for_line, next_at_end}}
 use Rattle.bac_script.proofs.input.Chunk.next_line.Goals as goal
 
 pub loop-length-init : goal.loop-length-init
-loop-length-init g c = record {
-  given = search rules;
-  printed = prints_nothing _;
-  sound = search rules;
-  unended = refl;
-  asked = search rules;
-  needed = search rules;
-  spared = search rules;
-  room = search rules;
-  searched = record { within = omega arith; few = omega arith; before = tt };
-}
+loop-length-init g c = grind (arith, rules, prints_nothing)
 
 pub loop-length-preserved : goal.loop-length-preserved
 loop-length-preserved g c =
@@ -36,12 +26,6 @@ loop-length-preserved g c =
           (searched_on _ c.in_default.ensures.line.no_feed c.in_default.ensures.line.short
           c.read_more-reading.ensures.last);
     }
-
-pub returns-then-failed-clause-printed : goal.returns-then-failed-clause-printed
-returns-then-failed-clause-printed g c = c.loop-length.invariant.printed ⨾ c.turn_in.ensures.printed
-
-pub returns-then-ne-clause-printed : goal.returns-then-ne-clause-printed
-returns-then-ne-clause-printed g c = c.loop-length.invariant.printed ⨾ c.turn_in.ensures.printed
 
 pub returns-then-ne-clause-given : goal.returns-then-ne-clause-given
 returns-then-ne-clause-given g c = Takes-more c.loop-length.invariant.given c.read_more-reading.ensures.given

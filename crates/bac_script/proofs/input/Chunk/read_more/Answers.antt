@@ -52,7 +52,7 @@ returns-then-count-eq0-clause-same g c = let r = ready g c.before.before in λ _
 pub invariant_of-self-2 : goal.invariant_of-self-2
 invariant_of-self-2 g c =
     let r = ready g c.before.before.before in
-    (omega (arith, r.within), omega (arith, r.room, c.in-Ok.ensures.bound))
+    (omega (arith, r.within), omega (arith, r.room, c.in-Ok.ensures.bound.0))
 
 pub returns-clause-given : goal.returns-clause-given
 returns-clause-given g c =
