@@ -1,13 +1,13 @@
 -- What several reads or writes in a row do to known octets.
 use Rattle.std.{
   proofs.Common.{arith, ◌≡◌, ◌≢◌, ℕ, Bool, false, ◌||◌, List, [], ◌∷◌, ◌++◌, length, drop},
-  proofs.Common.{Option, Result, refl, append_assoc, take, ◌+◌, zero, suc, Ok, Err, ap, ◌∙◌, fold, count_by, cond},
+  proofs.Common.{Option, Result, refl, append_assoc, take, ◌+◌, zero, suc, Ok, Err},
   proofs.lemmas.{List.{append-nil, take-append-drop, Sums.fold-append}, Grind.flat_map-append},
   specs.Prelude.{is_err, if◌then◌else◌},
   specs.{Result.result_unwrap_or, declared.io.Error.Error, Io.KnownBytes.{Keeps, Appends, Consumes, WriteAppends}},
 }
 use Rattle.bac_wire.specs.Steps.{result_seen}
-use Rattle.bac_print.specs.Checked.{inner_of, calls_of, has_failed, has_ended, ended_then, ends_of, meets_end}
+use Rattle.bac_print.specs.Checked.{inner_of, calls_of, has_failed, has_ended, ends_of, meets_end}
 use Rattle.bac_print.specs.{Checked.{octets_of, passes_none, gone, OnlyWrites, Took, Gave}, Inner.Checked.HasNotRead}
 use Rattle.bac_print.specs.{StreamCall.{StreamCall, ReadCall, WriteCall, FlushCall}, declared.checked.Checked.Checked}
 
@@ -23,18 +23,13 @@ read_meets (Ok (suc n)) [] = grind arith
 read_meets (Ok (suc n)) (x ∷ xs) = grind arith
 read_meets (Err e) octets = refl
 
-counted : (b : Bool) (n : ℕ) → n + cond b 1 0 ≡ (if b then n + 1 else n)
-counted = grind arith
-
 module _ {T : Type 0} (old new : Checked T) (result : Result ℕ Error) (octets : List ℕ)
     (asked : calls_of new ≡ calls_of old ++ read_of result octets ∷ []) where
   pub read_ends : has_ended new ≡ passes_none result octets
-  read_ends = ap (fold ended_then false) asked ∙ fold-append ended_then false (calls_of old) _
-      ∙ read_meets result octets
+  read_ends = grind (arith, fold-append, read_meets)
 
   pub read_counted : ends_of new ≡ (if passes_none result octets then ends_of old + 1 else ends_of old)
-  read_counted = ap (count_by meets_end) asked ∙ fold-append _ 0 (calls_of old) _
-      ∙ ap (λ b. ends_of old + cond b 1 0) (read_meets result octets) ∙ counted _ _
+  read_counted = grind (arith, fold-append, read_meets)
 
 -- By these it is found what one call more changes.
 pub ruleset one_call = (fold-append, flat_map-append, append-nil)

@@ -1,5 +1,5 @@
 -- What is shown on a page of its own.
-use Rattle.std.proofs.Common.{◌≡◌, ℕ, false, List, [], ◌++◌, Option, Result, Ok, Err, sym, ◌∙◌, ap, subst}
+use Rattle.std.proofs.Common.{◌≡◌, ℕ, false, List, [], Option, Result, Ok, Err, subst, arith}
 use Rattle.std.{proofs.lemmas.List.append-nil, specs.Prelude.is_err}
 use Rattle.bac_print.{proofs.Printed.writes_more, specs.declared.{checked.Checked.Checked, page.Page.Page}}
 use Rattle.bac_print.specs.{Page.{held, writer_of, Writes, Wrote, Prints}, Checked.{has_failed, Took, TookOrFailed}}
@@ -21,9 +21,7 @@ module _ {W : Type 0} {contents : W → Option (List ℕ)} where
   pub all_written : {before after : Checked W} {text : List ℕ} → Writes contents before after [] [] text
       → has_failed after ≡ false →
       Took contents before after text
-  all_written {before} {after} {text} p good =
-      let all : text ≡ p.taken = p.whole ∙ ap (λ (xs : List ℕ). p.taken ++ xs) (p.sound good).1 ∙ append-nil _ in
-      subst (λ (xs : List ℕ). Took contents _ _ xs) (sym all) p.took
+  all_written {before} {after} {text} p good = grind (arith, append-nil)
 
   -- The text was written, or, where the writer failed, a front of it.
   pub put : {A E : Type 0} {before after : Checked W} {text : List ℕ} (answer : Result A E)
@@ -38,6 +36,4 @@ module _ {W : Type 0} {contents : W → Option (List ℕ)} where
       writer_of first ≡ writer → held first ≡ [] → Prints contents first last text
       → Writes contents (writer_of last) after (held last) [] [] →
       has_failed after ≡ is_err answer → TookOrFailed contents writer back text answer
-  shown {writer} {text} answer given same empty printed gone failed =
-      subst (λ (w : Checked W). TookOrFailed contents writer w text answer) given
-      (put _ (finished same empty printed gone) failed)
+  shown {writer} {text} answer given same empty printed gone failed = grind (arith, put, finished)

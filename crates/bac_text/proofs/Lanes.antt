@@ -1,8 +1,8 @@
 -- From the mask of one load to the octets that pass a test.
 use Rattle.std.proofs.{
   Common.{◌≡◌, ℕ, ◌+◌, ◌-◌, ◌%◌, ◌^◌, ◌<◌, ◌≤◌, cond, Bool, true, false, not, List, map, length, get_or, Some, None},
-  Common.{refl, sym, ap, ◌∙◌, subst, arith},
-  lemmas.Bool.{not-true, not-false},
+  Common.{refl, ap, ◌∙◌, subst, arith},
+  lemmas.Bool.{not-true},
   lemmas.Simd.{map-map, mask_l-mod, length-chunk, get_or-chunk, leading_from_mask_l, trailing_mask_l},
   lemmas.{List.length-map, List.Sums.{prefix_len-le-length, prefix_len_passes, prefix_len_stops, position_or_len_is}},
 }
@@ -48,15 +48,7 @@ module _ (q : ℕ → Bool) (d : List ℕ) (i n r : ℕ) (z : List ℕ) (room : 
 
   -- A lane stops just where the test passes.
   pub run_in : IsRunIn q d i n r
-  run_in = record {
-    within = omega (arith, counted, long, prefix_len-le-length (λ x. not (stops x)) (chunk i n d));
-    fail = λ k from to. sym (all k) ∙ goes_on k from to;
-    stops = λ short.
-        let at = ap (λ j. get_or (chunk i n d) j 0) (sym counted) ∙ get_or-chunk i n d r 0 short in
-        let set = subst (λ x. stops x ≡ true) at
-        (not-false _ (prefix_len_stops (λ x. not (stops x)) _ 0 (omega (arith, counted, long)))) in
-        sym (all _) ∙ set;
-  }
+  run_in = grind (arith, counted, long, prefix_len-le-length, goes_on, get_or-chunk, prefix_len_stops)
 
 pub position_is : (p : ℕ → Bool) (xs : List ℕ) (i : ℕ) → i < length xs → ((k : ℕ) → k < i → p (get_or xs k 0) ≡ false)
     → p (get_or xs i 0) ≡ true →

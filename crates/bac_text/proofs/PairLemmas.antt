@@ -12,8 +12,7 @@ use Rattle.bac_text.specs.declared.value_words.ValueFault.TheVariants as faults
 flat_map-more : (values : List Datum) (value : Datum)
     → flat_map plain (values ++ value ∷ []) ≡ flat_map plain values ++ plain value
 flat_map-more [] _ = append-nil _
-flat_map-more (first ∷ others) value =
-    ap (λ (rest : List ℕ). plain first ++ rest) (flat_map-more others value) ∙ sym (append_assoc _ _ (plain value))
+flat_map-more (first ∷ others) value = grind (arith, append_assoc, flat_map-more others value)
 
 -- ---- pairs from their front
 

@@ -1,12 +1,12 @@
 -- The body of a WriteProperty request, by the region in it.
 use Rattle.std.proofs.Common.{◌≡◌, ℕ, ◌≤◌, List, [], ◌∷◌, ◌++◌, length, Option, Result, Ok, Err, arith, length-append}
-use Rattle.std.{proofs.lemmas.Bool.Decides.nat_tests, specs.List.flat_map}
-use Rattle.bac_wire.specs.{Datum.{Datum, plain}, Identifier.Identifier, Region.{opening_tag, closing_tag}}
-use Rattle.bac_wire.specs.{Steps.result_seen, Parameter.enclosed_octets, Tag.plain_tag}
+use Rattle.std.{specs.List.flat_map}
+use Rattle.bac_wire.specs.{Datum.{Datum, plain}, Identifier.Identifier}
+use Rattle.bac_wire.specs.{Steps.result_seen}
 use Rattle.bac_pdu.specs.{Parameter.{Parameter, plain_parameter}, Property.{Order, write_octets}}
 use Rattle.bac_text.specs.declared.pairs.PairFault.{PairFault, TheVariants.TooLong}
 use Rattle.bac_text.specs.Inner.{ValueWords.at_most, Pairs.{region_with, region_of}}
-use Rattle.bac_text.{specs.Pairs.{sendable, order_of, body_of, values_in}, proofs.WordValues.at_most_fault}
+use Rattle.bac_text.{specs.Pairs.{sendable, order_of, body_of, values_in}}
 use Rattle.bac_pdu.specs.Parameter as parameters
 
 -- The body that orders the values that were found, if it can be sent.
@@ -18,19 +18,9 @@ body_with object property index priority found =
 parameters_within : (front behind : List Parameter) (region : List ℕ)
     → length region ≤ length (flat_map plain_parameter (front ++ parameters.value region ∷ behind))
 unfolding plain_parameter
-parameters_within [] behind region =
-    omega (
-      arith,
-      length-append (enclosed_octets 3 region) (flat_map plain_parameter behind),
-      length-append (plain_tag (opening_tag 3)) (region ++ plain_tag (closing_tag 3)),
-      length-append region (plain_tag (closing_tag 3)),
-    )
+parameters_within [] behind region = grind (arith, length-append)
 parameters_within (first ∷ others) behind region =
-    let rest = parameters_within others behind region in
-    omega (
-      arith,
-      length-append (plain_parameter first) (flat_map plain_parameter (others ++ parameters.value region ∷ behind)),
-    )
+    grind (arith, length-append, parameters_within others behind region)
 
 -- A body has its region in it.
 pub region_within : (o : Order) → length o.value ≤ length (write_octets o)
@@ -48,10 +38,7 @@ body-fault object property index priority words fault e = go (values_in words) e
 
     long : (values : List Datum) → at_most TooLong 1497 (flat_map plain values) ≡ Err fault →
         body_with object property index priority (Ok values) ≡ Err fault
-    long values e =
-        let past = at_most_fault TooLong fault 1497 (flat_map plain values) e in
-        let size = within values in
-        grind (arith, nat_tests)
+    long values e = grind (arith, within)
 
     go : (found : Result (List Datum) ℕ) → region_with found ≡ Err fault
         → body_with object property index priority found ≡ Err fault

@@ -1,5 +1,6 @@
 -- The texts are computed, so what is not open elsewhere is opened here.
-use Rattle.std.{proofs.Common.refl, specs.Fmt.digits}
+use Rattle.std.proofs.Common.{arith}
+use Rattle.std.{specs.Fmt.digits}
 use Rattle.hex.specs.Hex.{encode_with}
 use Rattle.bac_wire.specs.DatumReading.{contents_of, value_at, values_within}
 use Rattle.bac_wire.specs.TagReading.{tag_number_at, long_length_at, length_at, shape_at, tag_at}
@@ -7,12 +8,4 @@ use Rattle.bac_print.proofs.examples.examples_of_regions.Goals as goal
 
 pub returns : goal.returns
 unfolding digits encode_with values_within value_at contents_of tag_at shape_at length_at long_length_at tag_number_at
-returns c =
-    record {
-      empty = refl;
-      several = refl;
-      longer_than_needed = refl;
-      no_value = refl;
-      escaped = refl;
-      other_set = refl;
-    }
+returns c = grind arith

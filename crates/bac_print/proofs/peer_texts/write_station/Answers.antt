@@ -1,5 +1,5 @@
 -- The parts are written from the last to the first, and their texts are joined otherwise than the definition says.
-use Rattle.std.proofs.Common.{◌≡◌, ℕ, List, ◌∷◌, ◌++◌, get_or, decimal, sym, ◌∙◌, ap, append_assoc, append-nil, arith}
+use Rattle.std.proofs.Common.{◌≡◌, ℕ, List, ◌∷◌, ◌++◌, get_or, decimal, ◌∙◌, ap, append_assoc, append-nil, arith}
 use Rattle.std.proofs.Math.ListN.{drop_of_length-le}
 use Rattle.bac_print.proofs.peer_texts.write_station.Goals as goal
 
@@ -12,9 +12,7 @@ stated octets port =
 
 joined : (a b c d p : List ℕ)
     → a ++ 46 ∷ (b ++ 46 ∷ (c ++ 46 ∷ (d ++ 58 ∷ p))) ≡ (a ++ 46 ∷ (b ++ 46 ∷ (c ++ 46 ∷ d))) ++ 58 ∷ p
-joined a b c d p =
-    sym (append_assoc a _ _ ∙ ap (λ (xs : List ℕ). a ++ 46 ∷ xs) (append_assoc b _ _
-    ∙ ap (λ (xs : List ℕ). b ++ 46 ∷ xs) (append_assoc c _ _)))
+joined a b c d p = grind (arith, append_assoc)
 
 pub returns-clause-text : goal.returns-clause-text
 returns-clause-text c =

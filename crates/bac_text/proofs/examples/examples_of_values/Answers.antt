@@ -1,5 +1,6 @@
 -- Each row computes once the definitions that read and write it are opened.
-use Rattle.std.{proofs.Common.refl, specs.Fmt.digits}
+use Rattle.std.proofs.Common.{arith}
+use Rattle.std.{specs.Fmt.digits}
 use Rattle.hex.specs.Hex.{decode_pairs}
 use Rattle.bac_text.specs.ValueWords.{value_under}
 use Rattle.bac_wire.specs.{Datum.plain, Inner.Datum.tagged, Tag.plain_tag}
@@ -7,21 +8,4 @@ use Rattle.bac_text.proofs.examples.examples_of_values.Goals as goal
 
 pub returns : goal.returns
 unfolding digits decode_pairs value_under plain tagged plain_tag
-returns c =
-    record {
-      null = refl;
-      boolean = refl;
-      unsigned = refl;
-      two_octets = refl;
-      signed = refl;
-      below_one_octet = refl;
-      real = refl;
-      double = refl;
-      octet_string = refl;
-      character_string = refl;
-      bit_string = refl;
-      enumerated = refl;
-      date = refl;
-      time = refl;
-      object = refl;
-    }
+returns c = grind arith

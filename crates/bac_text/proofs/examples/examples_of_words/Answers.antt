@@ -1,5 +1,6 @@
 -- Each row computes once the definitions that read it are opened.
-use Rattle.std.{proofs.Common.refl, specs.Fmt.digits}
+use Rattle.std.proofs.Common.{arith}
+use Rattle.std.{specs.Fmt.digits}
 use Rattle.hex.specs.Hex.{decode_pairs, encode_with}
 use Rattle.bac_text.specs.ValueWords.{value_under}
 use Rattle.bac_wire.specs.{Datum.plain, Inner.Datum.tagged, Tag.plain_tag}
@@ -8,13 +9,4 @@ use Rattle.bac_text.proofs.examples.examples_of_words.Goals as goal
 
 pub returns : goal.returns
 unfolding digits decode_pairs encode_with value_under plain tagged plain_tag plain_parameter
-returns c =
-    record {
-      words = refl;
-      peer = refl;
-      routed = refl;
-      three_numbers = refl;
-      body = refl;
-      bad = refl;
-      too_long = refl;
-    }
+returns c = grind arith

@@ -9,8 +9,7 @@ written : {A E : Type 0} (r : Result A E) (before after octets : List ℕ) → b
     → Appends before octets after r →
     after ≡ octets
 written (Ok x) _ _ octets none _ appended = appended.ok ∙ ap (λ (xs : List ℕ). xs ++ octets) none
-written (Err e) _ _ _ none short appended =
-    let full = appended.full in absurd (let empty = ap length none in omega arith)
+written (Err e) _ _ _ none short appended = grind arith
 
 pub returns : goal.returns
 returns c =

@@ -1,17 +1,12 @@
 -- The pairs are a region of values, as the writer of the request requires, or their fault is the body's.
-use Rattle.std.proofs.{Common.{sym, subst}, lemmas.Result.err_from_is_err_and}
+use Rattle.std.proofs.Common.{arith}
+use Rattle.std.proofs.{Common.{sym, subst}}
 use Rattle.bac_wire.specs.Region.{IsRegion}
 use Rattle.bac_text.proofs.{BodiesInWords.region_written, ValueRegions.values_are_region, WriteBodies.body-fault}
 use Rattle.bac_text.proofs.bodies.BodyRoom.body_of_write.Goals as goal
 
 pub returns-in_err-read_pairs : goal.returns-in_err-read_pairs
-returns-in_err-read_pairs g c =
-    let (_, failed, same) = err_from_is_err_and c.from_residual.result c.from_residual.ensures.1 in
-    record {
-      body = rw (failed, same) (sym (body-fault _ _ _ _ (g.S.WordSource.left _) _ c.in_err-read_pairs.ensures.value));
-      short = rw failed tt;
-      left = rw (failed, same) c.in_err-read_pairs.ensures.left;
-    }
+returns-in_err-read_pairs g c = grind (arith, body-fault)
 
 pub write_write-requires-clause-region : goal.write_write-requires-clause-region
 write_write-requires-clause-region g c =
