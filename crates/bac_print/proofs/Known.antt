@@ -4,7 +4,7 @@ use Rattle.std.{
   proofs.Common.{Option, Result, refl, append_assoc, take, ◌+◌, zero, suc, Ok, Err},
   proofs.lemmas.{List.{append-nil, take-append-drop, Sums.fold-append}, Grind.flat_map-append},
   specs.Prelude.{is_err, if◌then◌else◌},
-  specs.{Result.result_unwrap_or, declared.io.Error.Error, Io.KnownBytes.{Keeps, Appends, Consumes, WriteAppends}},
+  specs.{Result.result_unwrap_or, declared.io.Error.Error, Io.KnownBytes.{Appends, WriteAppends}},
 }
 use Rattle.bac_wire.specs.Steps.{result_seen}
 use Rattle.bac_print.specs.Checked.{inner_of, calls_of, has_failed, has_ended, ends_of, meets_end}
@@ -37,9 +37,6 @@ pub ruleset one_call = (fold-append, flat_map-append, append-nil)
 pub ruleset one_read = (read_ends, read_counted, one_call)
 
 -- ---- several in a row
-
-pub Consumes-kept : (a b : Option (List ℕ)) → Keeps a b → Consumes a b []
-Consumes-kept = grind arith
 
 pub Took-none : {W : Type 0} {contents : W → Option (List ℕ)} (a : Checked W) → Took contents a a []
 Took-none = grind (arith, append-nil)

@@ -31,10 +31,6 @@ front_of : (octets : List ℕ) (reading : Reading) (written : List ℕ) (answer 
     → Runs octets reading written answer → IsFrontOf written (text octets reading)
 front_of = grind (arith, append-nil)
 
-is_written : (octets : List ℕ) (reading : Reading) (written : List ℕ) (answer : Result TraceEnd TraceFault)
-    → Runs octets reading written answer → IsWrittenOf written (text octets reading) answer
-is_written = grind arith
-
 whole_of : (octets : List ℕ) (reading : Reading) (written : List ℕ) (answer : Result TraceEnd TraceFault)
     → answer ≢ Err WriteFailed → Runs octets reading written answer → RunsWhole octets reading written answer
 whole_of = grind arith
@@ -75,9 +71,6 @@ same_answer = grind arith
 module _ (octets : List ℕ) (reading other : Reading) (alike : ends reading ≡ ends other) (written written' : List ℕ)
     (answer answer' : Result TraceEnd TraceFault)
     (runs : Runs octets reading written answer) (runs' : Runs octets other written' answer') where
-  same_text : text octets reading ≡ text octets other
-  same_text = grind (arith, same_lines)
-
   pub runs_alike : AreAlike written answer written' answer'
   runs_alike = record {
     text = text octets other;

@@ -17,11 +17,6 @@ pub at_most_found : {E : Type 0} (fault : E) (most : ℕ) (octets found : List �
     (found ≡ octets) × (length octets ≤ most)
 at_most_found = grind arith
 
-pub at_most_fault : {E : Type 0} (fault other : E) (most : ℕ) (octets : List ℕ) → at_most fault most octets ≡ Err other
-    →
-    (fault ≡ other) × (most < length octets)
-at_most_fault = grind arith
-
 pub appended-full : (old : List ℕ) (value : Datum) → 1497 < length old + length (plain value)
     → appended old (Some value) ≡ Err TooLong
 appended-full = grind (arith, length-append)
