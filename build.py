@@ -5,9 +5,10 @@ With --tests it runs the tests of the trials, over what is kept of the crates be
 of bac_trials are proved first. To prove those of tool_trials takes 12 to 19 minutes of processor time: so they are
 run as the sources stand, by `rt try`, until `rt test` was run there.
 
-Crates that don't rest on one another are proved side by side, as many as there are processors and memory for; RT_JOBS
-is another number of processors to use. There is a line for each crate, and one each minute. What the prover says of a
-crate goes to out/build/CRATE.log; where it refuses a crate, the end of that file is shown.
+Crates that don't rest on one another are proved side by side, as many as there are processors and memory for, each by
+its share of the processors, rounded up. RT_JOBS is another number of processors to use. There is a line for each crate,
+and one each minute. What the prover says of a crate goes to out/build/CRATE.log; where it refuses a crate, the end of
+that file is shown.
 
 `rt` lets nobody else into a crate that it works in, nor into the crates below. So each crate is proved in a room of its
 own, out/build/CRATE: a copy of the sources, with links to what is built of the crates below. What is kept of the crate
@@ -98,10 +99,9 @@ def build(crates, below, done):
     try:
         while left or working:
             ready = [it for it in left if below[it] <= done][: places - len(working)]
-            for at, crate in enumerate(ready):
-                free = processors() - sum(work.jobs for work in working)
-                share = min(-(-free // (len(ready) - at)), size(crate) // PROCESS_CODE)
-                working.append(Work(crate, below[crate], max(share, 1)))
+            share = -(-processors() // max(len(working) + len(ready), 1))
+            for crate in ready:
+                working.append(Work(crate, below[crate], max(min(share, size(crate) // PROCESS_CODE), 1)))
                 left.remove(crate)
             time.sleep(0.5)
             passed = time.monotonic() - began

@@ -1,29 +1,6 @@
-//! What the words of a command line ask for.
+//! What a tool asks of devices.
 use arrayvec::ArrayVec;
-use bac_device::DeviceInfo;
 use bac_pdu::{LONGEST_BODY, Peer, WhoIs};
-
-/// What the program is to do.
-#[derive(Drop)]
-pub enum Job {
-    /// Runs a script: `bactrace`. It has no socket.
-    Trace,
-    /// Runs a tool over a socket.
-    Over(Tool),
-}
-
-/// A tool that has a socket.
-#[derive(Drop)]
-pub enum Tool {
-    /// Reads a property: `bacrp`.
-    Read(Call),
-    /// Writes a property: `bacwp`.
-    Write(Call),
-    /// Looks for devices: `bacwi`.
-    WhoIs(Search),
-    /// Is a device: `bacdev`.
-    Device(Serve),
-}
 
 /// One request to a device.
 #[derive(Drop)]
@@ -51,15 +28,4 @@ pub struct Search {
     pub port: u16,
     /// Which devices are asked.
     pub who: WhoIs,
-}
-
-/// A device to be run.
-#[derive(Drop)]
-pub struct Serve {
-    /// Its instance and its name.
-    pub info: DeviceInfo,
-    /// The port that it listens at; 0 is any.
-    pub port: u16,
-    /// The datagrams after which it ends, at least 1.
-    pub count: u32,
 }

@@ -33,7 +33,7 @@ mod words;
 pub use bac_pdu::LONGEST_BODY;
 pub use bodies::BodyRoom;
 pub use hex_digits::{LONGEST_DATAGRAM, LONGEST_LINE, read_datagram};
-pub use jobs::{Call, Job, Search, Serve, Tool};
+pub use jobs::{Call, Search};
 pub use numbers::read_number;
 pub use pairs::PairFault;
 pub use parameters::{priority_from, read_write_index};

@@ -3,9 +3,7 @@ use Rattle.std.proofs.Common.{◌≡◌, ◌≢◌, ◌∷◌, ◌++◌, ℕ, in
 use Rattle.std.proofs.Common.{Err, refl, sym, ap, ◌∙◌, subst, arith, ◌⊎◌, IsErrAnd, IsTrue, is_some, option_and_then}
 use Rattle.std.specs.Result.{result_ok}
 use Rattle.clap.specs.Words.{Text, fault_of}
-use Rattle.bac_text.specs.declared.{
-  jobs.{Call.Call, Job.{Job, TheVariants.{Over, Trace}}, Tool.{Tool, TheVariants.{Read, Write, WhoIs, Device}}},
-}
+use Rattle.bac_text.specs.declared.jobs.Call.{Call}
 use Rattle.bac_print.specs.{Checked.{fresh, octets_of}, declared.checked.Checked.Checked}
 use Rattle.bac_script.proofs.Functions.{traces_alike, traces_front}
 use Rattle.bac_links.{
@@ -15,7 +13,11 @@ use Rattle.bac_links.{
   specs.declared.{fault.ToolFault.{ToolFault, TheVariants.WriteFailed}, socket.NoSocket.NoSocket},
 }
 use Rattle.bac_words.specs.{Command.bactool, declared.faults.UsageFault.{UsageFault, TheVariants.{Help, Memory, Words}}}
-use Rattle.bac_words.{specs.{Line.{Answers, IsRefusal}, Marks.marked_words}, proofs.OneAnswer.one_answer}
+use Rattle.bac_words.{
+  specs.declared.job.{Job.{Job, TheVariants.{Over, Trace}}, Tool.{Tool, TheVariants.{Read, Write, WhoIs, Device}}},
+  specs.{Line.{Answers, IsRefusal}, Marks.marked_words},
+  proofs.OneAnswer.one_answer,
+}
 use Rattle.bac_tools.{
   specs.{Program.{RunsAsRead, IsGiven}, Binding.asked_by, declared.{binding.Binding.Binding, report.Report.Report}},
   specs.{Outside.Outside, Report.{report_of, tool_report}, Runs.{Runs, RunsOpened, RunsOver, RunsScript, ToolRuns}},

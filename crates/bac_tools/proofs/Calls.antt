@@ -2,11 +2,11 @@
 use Rattle.std.proofs.Common.{◌≡◌, ◌⊎◌, ℕ, Bool, inl, inr, List, [], Option, Some}
 use Rattle.std.{proofs.Common.{Result, Ok, Err, arith, subst, IsErrAnd, option_and_then}, specs.Result.result_ok}
 use Rattle.clap.specs.Words.{Text}
-use Rattle.bac_text.specs.declared.jobs.{Job.{Job, TheVariants.Over}, Tool.Tool}
 use Rattle.bac_print.specs.declared.checked.Checked.{Checked}
 use Rattle.bac_links.specs.{History.Account, SystemCall.SystemCall}
 use Rattle.bac_links.specs.declared.{exit.Exit.Exit, fault.ToolFault.ToolFault, socket.NoSocket.NoSocket}
 use Rattle.bac_words.specs.{Called.words_called, Line.{Answers, IsRefusal}, declared.faults.UsageFault.UsageFault}
+use Rattle.bac_words.specs.declared.job.{Job.{Job, TheVariants.Over}, Tool.Tool}
 use Rattle.bac_tools.{
   specs.Calls.{AsksAtMostOnce, GivesSockets, RunsAsCalls, RunsWithout},
   specs.Program.{RunsAsRead, IsGiven, IsRun},

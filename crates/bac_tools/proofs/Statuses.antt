@@ -1,11 +1,10 @@
 -- The status of a report is that of its fault.
 use Rattle.std.{proofs.Common.{ℕ, List, Option, Result, Ok, Bool, inl, arith}, specs.declared.io.ErrorKind.ErrorKind}
 use Rattle.clap.specs.Words.{Text}
-use Rattle.bac_text.specs.declared.jobs.Job.{Job}
 use Rattle.bac_print.specs.{Checked.has_failed, declared.checked.Checked.Checked}
 use Rattle.bac_script.specs.declared.tracing.{TraceEnd.TraceEnd, TraceFault.TraceFault}
 use Rattle.bac_links.specs.declared.{exit.Exit.Exit, fault.ToolFault.ToolFault, socket.NoSocket.NoSocket}
-use Rattle.bac_words.specs.declared.faults.UsageFault.{UsageFault}
+use Rattle.bac_words.specs.declared.{faults.UsageFault.UsageFault, job.Job.Job}
 use Rattle.bac_tools.{
   specs.{Outside.Outside, Program.{RunsAsRead, Program, IsCalled, IsRun}},
   specs.{Report.{IsStatusOf, tool_report, trace_report}, Telling.once_given},

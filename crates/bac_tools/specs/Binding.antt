@@ -1,9 +1,9 @@
 -- The socket that a job asks for.
 use Rattle.std.specs.Prelude.{ℕ, Option, Some, None}
-use Rattle.bac_text.{
-  specs.declared.jobs.{Job.{Job, TheVariants.{Over, Trace}}, Tool.{Tool, TheVariants.{Read, Write, WhoIs, Device}}},
-}
 use Rattle.bac_links.specs.declared.udp.OnRefusal.TheVariants.{Fails, IsLost}
+use Rattle.bac_words.specs.declared.{
+  job.{Job.{Job, TheVariants.{Over, Trace}}, Tool.{Tool, TheVariants.{Read, Write, WhoIs, Device}}},
+}
 use Rattle.bac_tools.specs.declared.binding.Binding.{Binding}
 
 -- A client's socket: it has every address of the machine, and a send that the system refuses fails.

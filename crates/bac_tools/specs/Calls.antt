@@ -3,13 +3,12 @@ use Rattle.std.specs.Prelude.{◌≡◌, ℕ, List, [], ◌∷◌, Option, Resul
 use Rattle.std.specs.declared.net.socket_addr.SocketAddr.{SocketAddr}
 use Rattle.clap.specs.Words.{Text}
 use Rattle.bac_pdu.specs.Peer.{station}
-use Rattle.bac_text.specs.declared.jobs.{Job.TheVariants.Over, Tool.Tool}
 use Rattle.bac_print.specs.declared.checked.Checked.{Checked}
 use Rattle.bac_links.{
   specs.{History.{Account, Entry}, Socket.{AreCallsFor, Binds, BindsAtMost, IsAddressOf, Logs}},
   specs.{SystemCall.{SystemCall, Bind}, declared.{exit.Exit.Exit, fault.ToolFault.ToolFault, socket.NoSocket.NoSocket}},
 }
-use Rattle.bac_words.specs.Line.{Answers}
+use Rattle.bac_words.specs.{Line.Answers, declared.job.{Job.TheVariants.Over, Tool.Tool}}
 use Rattle.bac_tools.specs.{Binding.binding_of, Report.{report_of, tool_report}, Runs.ToolRuns}
 use Rattle.bac_tools.specs.{Telling.{IsTold, on_error}, declared.{binding.Binding.Binding, report.Report.Report}}
 use Rattle.bac_tools.specs.declared.report.Fault.TheVariants as faults

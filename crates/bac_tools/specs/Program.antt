@@ -5,12 +5,10 @@ use Rattle.std.{
   specs.{IoError.error_kind, Result.{result_map_both, result_ok}, Vec.Iter.into_iter_items, String.string_bytes},
 }
 use Rattle.clap.specs.Words.{Text}
-use Rattle.bac_text.specs.declared.jobs.Job.{Job}
 use Rattle.bac_print.specs.{Checked.has_failed, declared.checked.Checked.Checked}
 use Rattle.bac_links.specs.declared.socket.NoSocket.{NoSocket}
-use Rattle.bac_words.{
-  specs.{Called.words_called, Line.{Answers, IsRefusal}, declared.faults.UsageFault.{UsageFault, TheVariants.Memory}},
-}
+use Rattle.bac_words.specs.{Called.words_called, Line.{Answers, IsRefusal}, declared.job.Job.Job}
+use Rattle.bac_words.specs.declared.faults.UsageFault.{UsageFault, TheVariants.Memory}
 use Rattle.bac_tools.{
   specs.{declared.{program.Ran.Ran, report.Report.Report, binding.Binding.Binding}, Report.{report_of, unread_report}},
   specs.{Telling.{IsTold, on_error, on_output, once_given}, Binding.asked_by, Runs.Runs, Outside.Outside},

@@ -1,15 +1,15 @@
 -- What a job prints, sends and leaves, and how the program ends: for each job by the definition of its tool.
 use Rattle.std.specs.{Prelude.{◌≡◌, ◌↔◌, ℕ, true, [], List, Option, Some, Result, Ok, Err}, Result.result_map_both}
 use Rattle.bac_device.specs.{Demo.demo_points, Device.{DeviceState, device_after}}
-use Rattle.bac_text.specs.declared.{
-  jobs.{Job.{Job, TheVariants.{Over, Trace}}, Serve.Serve, Tool.{Tool, TheVariants.{Read, Write, WhoIs, Device}}},
-}
 use Rattle.bac_print.specs.{Checked.has_failed, declared.checked.Checked.Checked}
 use Rattle.bac_script.specs.{Tracing.Traces, declared.tracing.{TraceEnd.TraceEnd, TraceFault.TraceFault}}
 use Rattle.bac_script.specs.declared.tracing.TraceFault.TheVariants as stops
 use Rattle.bac_links.specs.{Call.Tells, Fault.{is_link_fault, is_write_fault}, History.Account, Search.Searched}
 use Rattle.bac_links.specs.{Serve.Serves, declared.{ending.Purpose.TheVariants.{Reading, Writing}, exit.Exit.Exit}}
 use Rattle.bac_links.specs.declared.{exit.Exit.TheVariants.Good, fault.ToolFault.ToolFault, socket.NoSocket.NoSocket}
+use Rattle.bac_words.specs.declared.{
+  job.{Job.{Job, TheVariants.{Over, Trace}}, Serve.Serve, Tool.{Tool, TheVariants.{Read, Write, WhoIs, Device}}},
+}
 use Rattle.bac_tools.{
   specs.{Outside.Outside, Report.{report_of, tool_report, trace_report}, declared.report.Report.Report},
 }

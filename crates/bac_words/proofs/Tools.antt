@@ -7,8 +7,7 @@ use Rattle.clap.specs.{Kinds.{HasKind, IsAmong}, Values.kind_of, declared.error.
 use Rattle.clap.specs.Simple.{Shape, built, label_of, is_simple, rows_at, subcommand_of}
 use Rattle.clap.specs.declared.error.kind.ErrorKind.TheVariants as kind
 use Rattle.clap_laws.{specs.Entering.asks_for_help, proofs.{Enters.enters, Rows.{level_taken, when_found}}}
-use Rattle.bac_text.specs.declared.jobs.Job.{Job}
-use Rattle.bac_words.specs.{declared.faults.UsageFault.UsageFault, Command.bactool}
+use Rattle.bac_words.specs.{declared.{faults.UsageFault.UsageFault, job.Job.Job}, Command.bactool}
 use Rattle.bac_words.specs.{Inner.{Fault.{fault_by, fault_from}, Job.IsTool}, Line.IsRefusal, Marks.marked_words}
 
 abbrev AllOf : (Shape → Type 0) → List Shape → Type 0

@@ -8,12 +8,13 @@ use Rattle.bac_wire.specs.Identifier.{Identifier}
 use Rattle.bac_pdu.specs.declared.{peer.Peer.Peer, discovery.WhoIs.{WhoIs, TheVariants.{All, Range}}}
 use Rattle.bac_pdu.specs.{Property.{Reference, read_octets}, Steps.◌>>=◌}
 use Rattle.bac_text.specs.{Address.plain_peer_of, Parameters.{priority_from, write_index_of}}
-use Rattle.bac_text.specs.{Pairs.body_of, declared.{jobs.{Call.Call, Job.Job, Tool.Tool}, pairs.PairFault.PairFault}}
-use Rattle.bac_text.specs.declared.jobs.Job.TheVariants as job
-use Rattle.bac_text.specs.declared.jobs.Tool.TheVariants as tool
+use Rattle.bac_text.specs.{Pairs.body_of, declared.{jobs.Call.Call, pairs.PairFault.PairFault}}
 use Rattle.bac_words.{
   specs.{declared.faults.UsageFault.{UsageFault, TheVariants.{BadIndex, BadMac}}, Fault.usage_of, Marks.unmarked},
+  specs.declared.job.{Job.Job, Tool.Tool},
 }
+use Rattle.bac_words.specs.declared.job.Job.TheVariants as job
+use Rattle.bac_words.specs.declared.job.Tool.TheVariants as tool
 
 -- The number of a word that has to be there.
 abbrev pub needed_number : Text → List Row → ℕ

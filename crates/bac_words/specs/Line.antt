@@ -2,8 +2,7 @@
 use Rattle.std.specs.Prelude.{◌≡◌, ◌≢◌, List, [], Some, Result, option_map, ⊤}
 use Rattle.clap.specs.{Words.{Text, fault_of, subcommand_of}, Kinds.IsAmong, Values.kind_of}
 use Rattle.clap.specs.declared.error.kind.ErrorKind.TheVariants as kind
-use Rattle.bac_text.specs.declared.jobs.Job.{Job}
-use Rattle.bac_words.specs.declared.faults.UsageFault.{UsageFault, TheVariants.{Help, Memory, Words}}
+use Rattle.bac_words.specs.declared.{faults.UsageFault.{UsageFault, TheVariants.{Help, Memory, Words}}, job.Job.Job}
 use Rattle.bac_words.specs.{Command.bactool, Job.order_of, Marks.marked_words}
 
 -- `clap` takes the words, and the answer is what the matches of the tool that they name ask for.

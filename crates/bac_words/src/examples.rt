@@ -2,8 +2,8 @@
 
 ghost use Rattle.std.specs.Prelude.{[], ◌∷◌, codes, Ok, Err};
 ghost use Rattle.bac_pdu.specs.declared.discovery.WhoIs.TheVariants.{All, Range};
-ghost use Rattle.bac_text.{
-  specs.declared.jobs.{Job.TheVariants.{Over, Trace}, Tool.TheVariants.{Read, Write, WhoIs, Device}},
+ghost use Rattle.bac_words.{
+  specs.declared.job.{Job.TheVariants.{Over, Trace}, Tool.TheVariants.{Read, Write, WhoIs, Device}},
 };
 ghost use Rattle.bac_words.specs.declared.faults.UsageFault.TheVariants.{BadIndex, BadMac, BadValue};
 ghost use Rattle.bac_words.specs.Inner.Examples.{IsOrdered, at_port, usual};

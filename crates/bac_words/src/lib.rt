@@ -22,14 +22,15 @@ mod command;
 mod examples;
 mod faults;
 mod help;
+mod job;
 mod marks;
 mod parse;
 mod telling;
 mod typed;
 
-pub use bac_text::{Job, Serve, Tool};
 pub use called::words_of;
 pub use command::bactool;
 pub use faults::{UsageFault, usage_status};
+pub use job::{Job, Serve, Tool};
 pub use parse::parse_words;
 pub use telling::Telling;

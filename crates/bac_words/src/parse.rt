@@ -17,14 +17,14 @@ ghost use Rattle.bac_words.{
 
 use crate::command::bactool;
 use crate::faults::UsageFault;
+use crate::job::{Job, Serve, Tool};
 use crate::marks::marked_words;
 use crate::typed::{TypedWords, unmarked};
 use arrayvec::ArrayVec;
 use bac_device::DeviceInfo;
 use bac_pdu::{Peer, ReadRequest, WhoIs};
 use bac_text::{
-    BodyRoom, Call, Job, LONGEST_BODY, PairFault, Search, Serve, Tool, plain_peer_in,
-    priority_from, read_write_index,
+    BodyRoom, Call, LONGEST_BODY, PairFault, Search, plain_peer_in, priority_from, read_write_index,
 };
 use bac_wire::ObjectId;
 use clap::ArgMatches;

@@ -1,8 +1,8 @@
 -- Command lines, for examples of what their words order.
 use Rattle.std.specs.Prelude.{ℕ, List, None, Result}
 use Rattle.bac_pdu.specs.declared.peer.Peer.{Peer}
-use Rattle.bac_text.specs.{Words.words_of, declared.jobs.{Call.Call, Job.Job}}
-use Rattle.bac_words.specs.{declared.faults.UsageFault.UsageFault, Line.Answers}
+use Rattle.bac_text.specs.{Words.words_of, declared.jobs.Call.Call}
+use Rattle.bac_words.specs.{declared.{faults.UsageFault.UsageFault, job.Job.Job}, Line.Answers}
 
 -- `clap` takes the words of this line, and they order this job; or this is wrong with them.
 abbrev pub IsOrdered : List ℕ → Result Job UsageFault → Type 0

@@ -1,6 +1,6 @@
 -- A tool was run over the socket that it asked for, or was told that there is none.
 use Rattle.std.proofs.Common.{Some, Ok, Err, refl}
-use Rattle.bac_text.specs.declared.jobs.Job.TheVariants.{Over}
+use Rattle.bac_words.specs.declared.job.Job.TheVariants.{Over}
 use Rattle.bac_tools.proofs.program.run_words.Goals as goal
 
 pub returns-in-Ok : goal.returns-in-Ok
