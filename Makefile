@@ -31,7 +31,7 @@ try:
 	@cd crates/bactool && rt try -- bactrace <../../examples/first.trace
 
 demo: program
-	@examples/with-port.sh examples/demo.sh $(PROGRAM)
+	@python3 tests/tree.py examples/demo.sh $(PROGRAM)
 
 check:
 	rt all check
@@ -43,7 +43,7 @@ gate:
 	@tests/parts.py gate
 
 examples: program
-	@examples/with-port.sh examples/demo.sh $(PROGRAM) | sed -E 's/(--port |127\.0\.0\.1:)[0-9]+/\147808/' | \
+	@python3 tests/tree.py examples/demo.sh $(PROGRAM) | sed -E 's/(--port |127\.0\.0\.1:)[0-9]+/\147808/' | \
 	    diff - examples/demo.out
 	@echo "examples/demo.sh: as it is to be"
 	@tests/program/sockets.py $(PROGRAM)

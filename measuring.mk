@@ -5,7 +5,7 @@
 #     and the client's calls in memory, proved first. Some minutes. ROUNDS=15
 # make soak: random datagrams against bacdev, a random script through bactrace. DATAGRAMS=1000000 LINES=10000000, which
 #     take some two minutes
-# make interop: nmap and tshark against the device and the tools; it installs both. Under a minute
+# make interop: nmap and tshark against the device and the tools, as root. Under a minute
 # make holes: wrong bodies that no contract can refuse, each with the test that has to fail. A minute or two of
 #     processor time each, and some thirty of them. JOBS=1
 

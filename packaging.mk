@@ -28,7 +28,6 @@ uninstall:
 
 lint: program
 	@tests/package/pages.py $(PROGRAM)
-	@tests/package/facts.py $(PROGRAM)
 	@tests/package/completions.py $(PROGRAM)
 	@tests/site/lint.sh
 	@tests/package/put.py $(PROGRAM)

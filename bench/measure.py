@@ -20,7 +20,7 @@ import tempfile
 import time
 
 sys.path.insert(0, os.path.dirname(__file__) + "/../tests")
-from tree import PROGRAM, TOP, all_crates, device, processors, resident, text_of
+from tree import PROGRAM, TOP, all_crates, device, left_out, processors, resident, text_of, write
 
 ROUNDS = int(os.environ.get("ROUNDS", 15))
 REPLIES, MANY_REPLIES, RUNS, LINES = 20000, 60000, 200, 10000000
@@ -92,7 +92,7 @@ def servers():
 
 def shares():
     """Where the time of bacdev goes under load, where perf is installed."""
-    if not shutil.which("perf"):
+    if left_out("perf"):
         return
     kept = f"{TOP}/out/perf"
     record = ["perf", "record", "-q", "-e", "cpu-clock", "-o", kept, PROGRAM]
@@ -120,24 +120,20 @@ def clients():
 
 
 def memory():
-    yield row("\nresident memory, kilobytes", "early", "late", "most")
+    """The most that lay in memory so far. A child's `ru_maxrss` would count what Python had before it was begun."""
+    yield row("\nresident memory, kilobytes", "early", "late")
     with device() as (process, port):
         load(port, 32, 1000)
-        early = resident(process.pid)
+        early = resident(process)
         load(port, 32, MANY_REPLIES)
-        kept = early, resident(process.pid), resident(process.pid, "VmHWM")
-        yield row(f"bacdev, 1000 and {MANY_REPLIES} replies", *kept)
-    how = {"stdin": subprocess.PIPE, "stdout": subprocess.PIPE, "text": True}
-    with subprocess.Popen([PROGRAM, "bactrace"], **how) as tool, subprocess.Popen(
-        ["wc", "-l"], stdin=tool.stdout, stdout=subprocess.PIPE
-    ) as counting:
+        yield row(f"bacdev, 1000 and {MANY_REPLIES} replies", early, resident(process))
+    how = {"stdin": subprocess.PIPE, "stdout": subprocess.DEVNULL, "text": True}
+    with subprocess.Popen([PROGRAM, "bactrace"], **how) as process:
         for number, line in enumerate(mixed(LINES)):
-            tool.stdin.write(line)
+            process.stdin.write(line)
             if number == LINES // 10:
-                early = resident(tool.pid)
-        yield row(f"bactrace, {LINES} lines", early, resident(tool.pid), resident(tool.pid, "VmHWM"))
-        tool.stdin.close()
-        yield row("  lines that it printed", int(counting.stdout.read()))
+                early = resident(process)
+        yield row(f"bactrace, {LINES} lines", early, resident(process))
 
 
 def network():
@@ -168,8 +164,7 @@ def of_replies(count):
 
 def instructions():
     """Each of the first two is the difference of two runs, so that the program's start is not in it."""
-    if not shutil.which("valgrind"):
-        yield "valgrind is not installed, left out"
+    if left_out("valgrind"):
         return
     few, many = (of_a_run("bactrace", given="".join(mixed(count))) for count in (6000, 66000))
     yield f"{(many - few) / 60000:9.0f} instructions for a line of a script of mixed lines"
@@ -226,11 +221,6 @@ def calls():
 # ---- the boxes of SPEED ----
 
 PARTS = {"network": network, "instructions": instructions, "script": script, "calls": calls}
-
-
-def write(path, text):
-    with open(path, "w", encoding="utf-8") as file:
-        file.write(text)
 
 
 def load_now():

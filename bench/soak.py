@@ -251,7 +251,7 @@ def soak_script(dice, lines):
                     sys.exit(f"does not fit: {line!r}; it was printed over:\n" + "\n".join(part))
             if seen.asked() != asked:
                 sys.exit(f"{seen.asked()} lines printed for {asked}, the last of them:\n" + "\n".join(part))
-        seen.counts["KB of memory at most"] = resident(process.pid, "VmHWM")
+        seen.counts["KB of memory at most"] = resident(process)
         process.stdin.close()
         if process.wait(10) != 0:
             sys.exit(f"status {process.returncode}")

@@ -36,8 +36,7 @@ class Tool:
 
 def programs():
     """The names of each program, and its tools, the first of which is the program itself."""
-    for part in re.split(r"(?m)^= ", tables.text_of("completions/table.txt"))[1:]:
-        head, *lines = filter(None, part.splitlines())
+    for head, lines in tables.sections_of("completions/table.txt"):
         tools = {head.split()[0]: Tool(head.split()[0], "", "COMMAND")}
         for line in lines:
             option = re.fullmatch(r"  ([\w ]+): (-[^\s,]+(?:, -[^\s,]+)*) ?(\S*) \| (.*)", line)
@@ -85,13 +84,12 @@ def filled(template, places):
 
 
 def main(folder):
-    os.makedirs(folder, exist_ok=True)
     walk = tables.text_of("completions/walk.sh").splitlines()
     for names, tools in programs():
         for shell, (file_name, *_) in SHELLS.items():
             places = {"walk": walk, **arms(shell, tools, words_of_kinds(tools)), "names": names, "program": names[:1]}
-            with open(f"{folder}/{file_name.format(names[0])}", "w", encoding="utf-8") as file:
-                file.write(filled(tables.text_of(f"completions/template.{shell}"), places))
+            text = filled(tables.text_of(f"completions/template.{shell}"), places)
+            tables.write(f"{folder}/{file_name.format(names[0])}", text)
 
 
 if __name__ == "__main__":

@@ -1,7 +1,6 @@
 #!/usr/bin/env python3
 """Makes man/bactool-numbers.7 and docs/NUMBERS.md from site/bacsite/numbers.txt, which bacsite reads itself. What
-stands round the tables is in numbers.page and numbers.text. Usage: man/tables.py [--check], which writes none of them,
-and ends with 1 where one is not as it is made.
+stands round the tables is in numbers.page and numbers.text. Usage: man/tables.py
 """
 import os
 import re
@@ -9,13 +8,12 @@ import sys
 import textwrap
 
 sys.path.insert(0, os.path.dirname(__file__) + "/../tests")
-from tree import TOP, text_of
+from tree import TOP, sections_of, text_of, write
 
 
 def sections():
     """Each section: its title, how many columns a heading of its list joins (0: a table), its text, and its rows."""
-    for section in re.split(r"(?m)^= ", text_of("site/bacsite/numbers.txt"))[1:]:
-        head, *lines = [line for line in section.splitlines() if line and line[0] != "#"]
+    for head, lines in sections_of("site/bacsite/numbers.txt"):
         text = " ".join(line[2:] for line in lines if line.startswith(": "))
         joins = int((re.findall(r"list (\d)", head) or [0])[0])
         yield head.split(" | ")[0], joins, text, [line.split(" | ") for line in lines if not line.startswith(": ")]
@@ -52,22 +50,14 @@ def in_document(title, _, text, rows):
     return f"## {title}\n\n" + (folded(text, 120) + "\n" if text else "") + "".join(lines)
 
 
-def main(checks):
-    parts = list(sections())
-    wrong = 0
-    for path, template, made in [
-        ("man/bactool-numbers.7", "man/numbers.page", "".join(on_page(*part) for part in parts)),
-        ("docs/NUMBERS.md", "man/numbers.text", "\n".join(in_document(*part) for part in parts)),
-    ]:
-        text = text_of(template).replace("@sections@\n", made)
-        if not checks:
-            with open(f"{TOP}/{path}", "w", encoding="utf-8") as file:
-                file.write(text)
-        elif text != text_of(path):
-            print(f"{path} is not as man/tables.py makes it")
-            wrong = 1
-    return wrong
+def made():
+    """The path of each, and its text."""
+    page = "".join(on_page(*part) for part in sections())
+    yield "man/bactool-numbers.7", text_of("man/numbers.page").replace("@sections@\n", page)
+    document = "\n".join(in_document(*part) for part in sections())
+    yield "docs/NUMBERS.md", text_of("man/numbers.text").replace("@sections@\n", document)
 
 
 if __name__ == "__main__":
-    sys.exit(main(sys.argv[1:] == ["--check"]))
+    for file_name, made_text in made():
+        write(f"{TOP}/{file_name}", made_text)

@@ -1,20 +1,19 @@
 #!/usr/bin/env python3
 """Tries build.py, parts.py and .ci/run in trees of two crates, where rt, make's scripts and the script of the wrong
 bodies are false and fail as they are told: what comes of it has to be said, and to be the status. And tries what make
-says where there is no rt, and whether a port that IPv6 has is seen to be taken. Usage: tests/false_rt.py
+says where there is no rt. Usage: tests/false_rt.py
 """
 import os
 import re
 import shutil
 import signal
-import socket
 import subprocess
 import sys
 import tempfile
 import time
 from concurrent.futures import ThreadPoolExecutor
 
-from tree import TOP, is_taken, text_of, write
+from tree import TOP, text_of, write
 
 # A false command does what FALSE says of its words: `lib low: exit 1; bad: echo ..` are rules, of which the first whose
 # front the words have is run. Else it does well.
@@ -158,24 +157,10 @@ def without_kit():
                 yield f"{' '.join(words)}, without rt: status {ended.returncode}: {ended.stdout}"
 
 
-def ports_of_ipv6():
-    """A port that a socket for IPv6 alone has is taken, for tests/tree.py and for examples/with-port.sh."""
-    told = lambda: int(subprocess.check_output([f"{TOP}/examples/with-port.sh", "echo"]))
-    if not os.path.exists("/proc/net/udp6"):
-        print("tests/false_rt.py: a port of IPv6 is left out, since the system has none")
-        return ""
-    port = told()
-    with socket.socket(socket.AF_INET6, socket.SOCK_DGRAM) as other:
-        other.setsockopt(socket.IPPROTO_IPV6, socket.IPV6_V6ONLY, 1)
-        other.bind(("::1", port))
-        seen = is_taken(port), told() != port
-    return "" if all(seen) else f"a port that IPv6 has is taken, by tests/tree.py and by examples/with-port.sh: {seen}"
-
-
 def main():
     with ThreadPoolExecutor(4) as pool:
         wrong = [it for it in (*pool.map(tried, ROWS), *pool.map(stopped, (["./build.py"], TEST))) if it]
-    wrong += [*without_kit(), *filter(None, [ports_of_ipv6()])]
+    wrong += without_kit()
     print("".join(f"{it}\n" for it in wrong), end="")
     print(f"tests/false_rt.py: {len(ROWS) + 2} runs of build.py and parts.py, {len(wrong)} not as they are to be")
     return 1 if wrong else 0

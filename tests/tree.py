@@ -1,5 +1,5 @@
 """What scripts share: where tree and program are, the texts of files, what is compared with them, the crates, and the
-machine with its ports.
+machine with its ports. Usage: python3 tests/tree.py COMMAND.., which runs a command with a free port behind its words.
 """
 import contextlib
 import fcntl
@@ -19,6 +19,7 @@ TOP = os.path.dirname(os.path.dirname(os.path.abspath(__file__)))
 PROGRAM = os.environ.get("BACTOOL", TOP + "/crates/bactool/out/bactool")
 TOOLS = ["bacrp", "bacwp", "bacwi", "bacdev", "bactrace"]
 HELD = []  # locks of the ports that this process was given
+SCRIPT = os.path.relpath(sys.argv[0], TOP)
 COMPARED, WRONG = [], []  # what a script has compared, and what is not as it is to be
 
 
@@ -26,6 +27,13 @@ def text_of(path):
     """The text of a file of the repository."""
     with open(os.path.join(TOP, path), encoding="utf-8") as file:
         return file.read()
+
+
+def sections_of(path):
+    """The head of each section of a table, behind `= `, and its lines without those that are empty or remarks."""
+    for section in re.split(r"(?m)^= ", text_of(path))[1:]:
+        head, *lines = section.splitlines()
+        yield head, [line for line in lines if line and line[0] != "#"]
 
 
 def write(path, text):
@@ -80,7 +88,7 @@ def says(document, *sentences):
 def verdict(well):
     """The status of a script that has compared so much: it tells what is wrong, or that all is well."""
     wrong = "\n".join(f"not as it is to be: {it}" for it in WRONG)
-    print(wrong or f"{os.path.relpath(sys.argv[0], TOP)}: {len(COMPARED)} {well}")
+    print(wrong or f"{SCRIPT}: {len(COMPARED)} {well}")
     return 1 if WRONG else 0
 
 
@@ -107,10 +115,17 @@ def put_tools(program, room):
     subprocess.run([f"{TOP}/packaging/onefile.py", f"{room}/bacsite"], check=True)
 
 
+def left_out(*tools):
+    """Whether one of these tools is not installed, which is said."""
+    missing = [tool for tool in tools if not shutil.which(tool)]
+    if missing:
+        print(f"{SCRIPT}: {', '.join(missing)}: not installed, left out")
+    return bool(missing)
+
+
 def failing_library(room):
     """fail.c as a library in a folder; None where there is no cc, which is said."""
-    if not shutil.which("cc"):
-        print(f"{os.path.relpath(sys.argv[0], TOP)}: calls of the system that fail are left out, since they need cc")
+    if left_out("cc"):
         return None
     command = ["cc", "-O1", "-shared", "-fPIC", "-o", f"{room}/fail.so", f"{TOP}/tests/program/fail.c"]
     subprocess.run(command, check=True)
@@ -154,7 +169,7 @@ def local_socket():
 
 def free_port(first=47808):
     """The first UDP port from this one on that no socket of this machine has. Until this process ends, no other call
-    gives it, nor does examples/with-port.sh."""
+    gives it."""
     for port in range(first, 65536):
         lock = open(f"{tempfile.gettempdir()}/bactool-port-{port}-{os.getuid()}", "a", encoding="utf-8")
         with contextlib.suppress(BlockingIOError):
@@ -192,11 +207,17 @@ def device(*words, program=(PROGRAM,), **how):
         yield process, port
 
 
-def resident(process, what="VmRSS"):
-    """The kilobytes of a process that lie in memory now (VmRSS), or lay in it at most (VmHWM)."""
-    return int(re.search(rf"{what}:\s+(\d+)", text_of(f"/proc/{process}/status"))[1])
+def resident(process):
+    """The kilobytes of a process that lay in memory at most so far."""
+    return int(re.search(r"VmHWM:\s+(\d+)", text_of(f"/proc/{process.pid}/status"))[1])
 
 
 def free_memory():
     """The octets that programs can have without other memory being moved out."""
     return 1024 * int(re.search(r"MemAvailable:\s+(\d+)", text_of("/proc/meminfo"))[1])
+
+
+if __name__ == "__main__":
+    PORT = str(free_port())
+    os.set_inheritable(HELD[0].fileno(), True)  # it is held until the command has ended
+    os.execvp(sys.argv[1], [*sys.argv[1:], PORT])

@@ -71,11 +71,6 @@ def names(text):
     return re.findall(r"`([^`]+)`", text)
 
 
-def first_names(section, *heads):
-    """Of each row the first name below each of these heads."""
-    return {tuple(names(row[head])[0] for head in heads) for row in tables(section)}
-
-
 def names_below(section, head):
     return {name for row in tables(section) for name in names(row[head])}
 
@@ -100,7 +95,7 @@ def compare(what, said, there):
 
 def map_of_crates(section):
     below = all_crates()
-    yield from compare("the table of crates", {name for (name,) in first_names(section, "Crate")}, {*below})
+    yield from compare("the table of crates", names_below(section, "Crate"), {*below})
     drawn = re.search(r"```\n(.*?)```", section, re.S)[1].splitlines()
     line_of = {name: number for number, line in enumerate(drawn) for name in line.split()}
     yield from compare("the drawing", {*line_of}, {*below})
@@ -204,7 +199,8 @@ def functions_without_a_contract(section):
                     bare += 1
                     of_type = "".join(f"{name}::" for name in re.findall(r"^impl(?:<.*?>)? (\w+)", owner, re.S))
                     alone.update([(crate, of_type + part.split("(")[0][3:])] if " for " not in owner else [])
-    for crate, name in sorted(first_names(section, "Crate", "Function") ^ alone):
+    told = {(*names(row["Crate"]), *names(row["Function"])) for row in tables(section)}
+    for crate, name in sorted(told ^ alone):
         yield f"docs/PROOFS.md: {crate}: {name} has a contract, or is missing there"
     if f"{bare} of the {every} functions" not in section:
         yield f"docs/PROOFS.md: {bare} of the {every} functions have no clause of their own"

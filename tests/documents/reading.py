@@ -19,7 +19,7 @@ import textwrap
 sys.path.insert(0, os.path.dirname(__file__) + "/..")
 from sources import CLAUSE, CRATES, SPECS, TOKEN, USE, Item
 from sources import closed, code_of, defined, parts_of, public_calls, read_tree, uses_in
-from tree import TOP, text_of
+from tree import TOP, text_of, write
 
 FOLDER = "docs/reading"
 TRIALS = {"bac_trials", "tool_trials", "bac_uses"}  # no crate rests on their clauses
@@ -114,13 +114,11 @@ def compare(texts, sizes):
             yield f"README.md: {page} has {sizes[page]:,} lines, not {told[page]}"
 
 
-def write(texts, sizes):
+def make(texts, sizes):
     shutil.rmtree(FOLDER, ignore_errors=True)
-    os.makedirs(FOLDER)
     told = lambda found: f"[{sizes[found[2]]:,} lines](docs/reading/{found[2]}.md)"
     for path, text in [*texts.items(), ("README.md", re.sub(SIZE, told, text_of("README.md")))]:
-        with open(path, "w", encoding="utf-8") as file:
-            file.write(text)
+        write(f"{TOP}/{path}", text)
 
 
 def rooms():
@@ -171,7 +169,7 @@ def main(arguments):
     read_tree()
     texts, sizes = pages()
     if arguments == ["--write"]:
-        write(texts, sizes)
+        make(texts, sizes)
     elif arguments:
         every = {name: call for crate in CRATES for name, call in called(crate).items()}
         PROBLEMS.extend(f"{one} is no public call with a clause" for one in arguments if one not in every)

@@ -4,13 +4,12 @@ and compares. It says which of them is not installed. Usage: tests/package/compl
 """
 import os
 import re
-import shutil
 import subprocess
 import sys
 import tempfile
 
 sys.path.insert(0, os.path.dirname(__file__) + "/..")
-from tree import TOOLS, TOP, shown, text_of
+from tree import TOOLS, TOP, left_out, same, shown, text_of, verdict
 
 PROGRAM = os.path.realpath(sys.argv[1])
 BASH = """for line in "${@:2}"; do
@@ -57,21 +56,15 @@ def completed(shell, folder, lines):
 
 
 def main():
-    wanted, wrong = dict(rows()), 0
+    wanted = dict(rows())
     with tempfile.TemporaryDirectory() as folder:
         subprocess.run([TOP + "/completions/make.py", folder], check=True)
         for shell in SHELLS:
-            if not shutil.which(shell):
-                print(f"tests/package/completions.py: {shell} is not installed, left out")
-                continue
-            found = completed(shell, folder, wanted)
-            different = [line for line, words in wanted.items() if found.get(line) != sorted(words)]
-            for line in different:
-                print(f"{shell}: [{line}] gives {str(found.get(line))[:200]}, not {sorted(wanted[line])}")
-            wrong += len(different)
-            tried = f"{len(wanted)} lines in {shell}, {len(different)} not as they are to be"
-            print(f"tests/package/completions.py: {tried}")
-    return 1 if wrong else 0
+            if not left_out(shell):
+                found = completed(shell, folder, wanted)
+                for line, words in wanted.items():
+                    same(f"{line} in {shell}", found.get(line), sorted(words))
+    return verdict("lines are completed as they are to be")
 
 
 sys.exit(main())

@@ -18,7 +18,7 @@ import sys
 import tempfile
 
 sys.path.insert(0, os.path.dirname(__file__) + "/..")
-from tree import TOOLS, TOP, WRONG, same, shown, text_of, verdict
+from tree import TOOLS, TOP, WRONG, left_out, same, shown, text_of, verdict
 
 PROGRAM = os.path.realpath(sys.argv[1])
 VERSION = re.match(r"bactool ([\d.]+\d)", shown(PROGRAM, "--help"))[1]
@@ -215,11 +215,9 @@ def what_a_package_says(room, package):
 
 
 def lintian(package):
-    if not shutil.which("lintian"):
-        print("tests/package/put.py: lintian is not installed, left out")
-        return
-    found = told("lintian", "--fail-on", "none", "--allow-root", package).splitlines()
-    same("errors that lintian finds", [line for line in found if line.startswith("E: ")], [])
+    if not left_out("lintian"):
+        found = told("lintian", "--fail-on", "none", "--allow-root", package).splitlines()
+        same("errors that lintian finds", [line for line in found if line.startswith("E: ")], [])
 
 
 def over_an_older_one(room, package):
@@ -249,9 +247,7 @@ def over_an_older_one(room, package):
 
 
 def the_package(room):
-    lacks = [name for name in ("dpkg-deb", "dpkg", "strip", "objdump", "gzip") if not shutil.which(name)]
-    if lacks:
-        print(f"tests/package/put.py: {', '.join(lacks)}: not installed, left out")
+    if left_out("dpkg-deb", "dpkg", "strip", "objdump", "gzip"):
         return
     for name in ("one", "two"):
         (room.top / name).mkdir()

@@ -14,7 +14,6 @@ import errno
 import glob
 import itertools
 import os
-import shutil
 import subprocess
 import sys
 import tempfile
@@ -53,7 +52,7 @@ RUNS = [
     (1, f"{OPENED} sendto recvfrom write", [*WRITE, *SILENT, "--apdu-retries", "1"], ""),
     (1, OPENED, ["bacwi", *SILENT], ""),
 ]
-PROGRAM, ROOM = os.path.realpath(sys.argv[1]), tempfile.mkdtemp()
+PROGRAM, ROOM = os.path.realpath(sys.argv[1]), tempfile.TemporaryDirectory()
 Ended = namedtuple("Ended", "status output error said")
 
 
@@ -61,10 +60,10 @@ def run(words, given="", error="EIO", **settings):
     """How the words end, and what fail.c says, by these settings; a call that fails does so by this error."""
     settings["ERRNO"] = getattr(errno, error)
     environment = {**os.environ, **{name: str(number) for name, number in settings.items()}}
-    command = ["sh", "-c", f'exec env LD_PRELOAD={ROOM}/fail.so "$0" "$@" 3>{ROOM}/said', PROGRAM, *words]
+    command = ["sh", "-c", f'exec env LD_PRELOAD={ROOM.name}/fail.so "$0" "$@" 3>{ROOM.name}/said', PROGRAM, *words]
     how = {"input": given, "capture_output": True, "text": True, "timeout": 200}
     it = subprocess.run(command, check=False, env=environment, **how)
-    return Ended(it.returncode, it.stdout, it.stderr, text_of(f"{ROOM}/said").split())
+    return Ended(it.returncode, it.stdout, it.stderr, text_of(f"{ROOM.name}/said").split())
 
 
 def expect(is_so, what, ended):
@@ -159,9 +158,6 @@ def searching():
     expect(took[1] <= 3 * took[0], "the seconds of short lines and of long ones", took)
 
 
-try:
-    if failing_library(ROOM):
-        searching() if sys.argv[2:] == ["tried"] else memory()
-        calls_of_the_system()
-finally:
-    shutil.rmtree(ROOM)
+if failing_library(ROOM.name):
+    searching() if sys.argv[2:] == ["tried"] else memory()
+    calls_of_the_system()

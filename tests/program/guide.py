@@ -19,7 +19,7 @@ import sys
 import tempfile
 
 sys.path.insert(0, os.path.dirname(__file__) + "/..")
-from tree import TOP, free_port, put_tools, text_of
+from tree import TOP, free_port, left_out, put_tools, text_of
 
 # Waits, for ten seconds at most, until a socket has the port.
 UNTIL_TAKEN = "for _ in {1..1000}; do grep -q ' [0-9A-F]*:%04X ' /proc/net/udp && break; sleep 0.01; done\n"
@@ -59,9 +59,7 @@ def commands(first, second):
         if kind != "console":
             lines = [line for line in body.splitlines() if "/usr/local/bin/" in line]
             later += [(scheduled(line, f"127.0.0.1:{first}"), "well\n") for line in lines]
-        elif needed and not shutil.which(needed):
-            print(f"tests/program/guide.py: a block is left out, since it needs {needed}")
-        else:
+        elif not needed or not left_out(needed):
             for command, printed in re.findall(r"(?m)^\$ (.*\n(?:> ?.*\n)*)((?:(?!\$ ).*\n)*)", body):
                 yield re.sub(r"(?m)^> ?", "", command.rstrip("\n")), printed
     yield from later

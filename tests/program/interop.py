@@ -2,14 +2,12 @@
 """Runs the tools and nmap against bacdev, and has tshark read every datagram that goes over the loopback interface.
 
 Usage: tests/program/interop.py, once the program is built; interop.txt has what is asked and what has to be found. It
-needs root, and installs nmap and tshark by apt-get where they are missing. It ends with 1 where something is not as it
-is to be, and says what: a tool or nmap that prints something else, a datagram that tshark finds malformed or reads as
-something else than it is.
+needs root, nmap and tshark. It ends with 1 where something is not as it is to be, and says what: a tool or nmap that
+prints something else, a datagram that tshark finds malformed or reads as something else than it is.
 """
 import contextlib
 import os
 import re
-import shutil
 import socket
 import subprocess
 import sys
@@ -18,20 +16,13 @@ import time
 
 sys.path[:0] = [os.path.dirname(__file__) + "/..", os.path.dirname(__file__) + "/../site"]
 from building import pcap, udp
-from tree import PROGRAM, device, local_socket, same, text_of, verdict
+from tree import PROGRAM, device, left_out, local_socket, same, sections_of, text_of, verdict
 
 from bacsite.frames import Passed, datagram_of
 from bacsite.pcap import Packet
 
 RAW = 101  # the link type of packets that begin with IP
 ETH_P_IP = 0x0800
-
-def sections():
-    """The head and the rows of each section of interop.txt."""
-    for part in re.split(r"(?m)^= ", text_of("tests/program/interop.txt"))[1:]:
-        head, *lines = part.splitlines()
-        yield head, [line.split(" | ") for line in lines if line and line[0] != "#"]
-
 
 def output_of(words, status=(0,)):
     ended = subprocess.run(words, capture_output=True, stdin=subprocess.DEVNULL, text=True, check=False)
@@ -110,24 +101,18 @@ def compare_with_example(recorded):
     same("datagrams of examples/tools.hex that nothing has written here", missing, [])
 
 
-def install_what_is_missing():
-    if not shutil.which("nmap") or not shutil.which("tshark"):
-        how = {"check": True, "stdin": subprocess.DEVNULL, "env": {**os.environ, "DEBIAN_FRONTEND": "noninteractive"}}
-        subprocess.run(["apt-get", "update", "-q"], **how)
-        subprocess.run(["apt-get", "install", "-qy", "--no-install-recommends", "nmap", "tshark"], **how)
-
-
 def main():
-    install_what_is_missing()
+    if left_out("nmap", "tshark"):
+        return 1
     with device(stderr=subprocess.DEVNULL) as (_, port):
         recorded = Recorded(port)
-        *asked, (_, by_hand), (_, of_nmap) = sections()
-        for words in (head.format(*row).split(" | ") for head, rows in asked for row in rows):
-            recorded.run(*words)
+        *asked, (_, by_hand), (_, of_nmap) = sections_of("tests/program/interop.txt")
+        for words in (head.format(*row.split(" | ")) for head, rows in asked for row in rows):
+            recorded.run(*words.split(" | "))
         for row in by_hand:
-            recorded.send(*row)
+            recorded.send(*row.split(" | "))
         compare_with_example(recorded)
-        by_nmap = recorded.nmap(dict(of_nmap))
+        by_nmap = recorded.nmap(dict(row.split(" | ") for row in of_nmap))
     texts, bad = read_by_tshark(recorded)
     same("datagrams that tshark lists", len(texts), len(recorded.datagrams))
     sent = {at for at, it in enumerate(recorded.datagrams) if it.sender != recorded.mac}
