@@ -287,11 +287,11 @@ fn held(slots: &[OpenRequest; PLACES], slot: u8) -> &OpenRequest
 }
 
 // The answer is to the request.
-#[tactic(auto, using(crate::proofs::AnswersInWords::same_station_is, crate::proofs::AnswersInWords::same_station_refl), unfolding(crate::specs::Answers::is_answer_to))]
+#[tactic(auto, using(bac_pdu::proofs::PeerLaws::peer_decides, crate::proofs::AnswersInWords::same_station_is, crate::proofs::AnswersInWords::same_station_refl), unfolding(crate::specs::Answers::is_answer_to))]
 fn is_answered_by(request: &OpenRequest, answer: &Answer<'_>) -> bool
     ensures { result ≡ is_answer_to request.now.request (answer_seen answer.now) }
 {
-    request.peer.is_same(&answer.peer)
+    request.peer == answer.peer
         && request.invoke_id == answer.invoke_id
         && answer
             .service
