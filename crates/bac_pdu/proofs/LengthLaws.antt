@@ -1,6 +1,7 @@
 -- How long the body of a ReadProperty is at most.
-use Rattle.std.{proofs.{Common.{ℕ, ◌≤◌, List, length, Option, arith}, lemmas.List.length-append}, specs.List.flat_map}
-use Rattle.bac_wire.specs.{Tag.plain_tag, Parameter.{context_tag, context_octets, number_octets}}
+use Rattle.std.proofs.Common.{◌≡◌, ℕ, ◌≤◌, List, [], ◌++◌, length, Option, Result, Ok, Err, ap, ◌∙◌, arith}
+use Rattle.std.{proofs.lemmas.List.length-append, specs.List.flat_map}
+use Rattle.bac_wire.specs.{Tag.plain_tag, Parameter.{context_tag, context_octets, number_octets}, Writing.Appends}
 use Rattle.bac_pdu.{
   specs.{Parameter.{numbered, plain_parameter}, Inner.Parameter.optional, Property.{Reference, read_octets}},
 }
@@ -22,3 +23,9 @@ index_short = grind (arith, length-append, number_short)
 pub read_octets_short : (r : Reference) → length (read_octets r) ≤ 45
 unfolding plain_parameter
 read_octets_short = grind (arith, length-append, context_short, index_short)
+
+-- What is appended to no octets is the body, since there is room for it.
+pub read_alone : {A E : Type 0} (result : Result A E) (before after : List ℕ) (r : Reference) → before ≡ []
+    → Appends before (read_octets r) after result → after ≡ read_octets r
+read_alone (Ok x) _ _ r none appended = appended.ok ∙ ap (λ (octets : List ℕ). octets ++ read_octets r) none
+read_alone (Err e) _ _ r none appended = grind (arith, read_octets_short)

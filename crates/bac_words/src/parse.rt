@@ -6,7 +6,7 @@ ghost use Rattle.std.{
 ghost use Rattle.clap.specs.{Words.{found_of, rows_of, subcommand_rows_of}, Walk.texts};
 ghost use Rattle.clap_laws.specs.{Inner.{Commands.rules_of, Numbers.IsWithin}, Numbers.number_of, Passes.IsTaken};
 ghost use Rattle.bac_wire.specs.{Identifier.identifier, Steps.result_seen};
-ghost use Rattle.bac_pdu.specs.Property.{IsPriority};
+ghost use Rattle.bac_pdu.specs.Property.{IsPriority, read_octets, reference};
 ghost use Rattle.bac_text.specs.Parameters.{priority_from};
 ghost use Rattle.bac_words.{
   specs.Command.{bacdev, bacrp, bacwi, bacwp},
@@ -22,11 +22,11 @@ use crate::marks::marked_words;
 use crate::typed::{TypedWords, unmarked};
 use arrayvec::ArrayVec;
 use bac_device::DeviceInfo;
-use bac_pdu::{Peer, ReadRequest, WhoIs};
+use bac_pdu::{Peer, ReadRequest, WhoIs, write_read};
 use bac_text::{
     BodyRoom, Call, LONGEST_BODY, PairFault, Search, plain_peer_in, priority_from, read_write_index,
 };
-use bac_wire::ObjectId;
+use bac_wire::{Frame, ObjectId};
 use clap::ArgMatches;
 use std::alloc::Global;
 
@@ -78,9 +78,7 @@ fn read_job(matches: &ArgMatches<'_>) -> Result<Job, UsageFault>
     let Some(to) = peer(matches) else {
         return Err(UsageFault::BadMac);
     };
-    let mut room = BodyRoom::new();
-    let body = copy_of(room.body_of_read(&request));
-    Ok(Job::Over(Tool::Read(call(matches, to, body))))
+    Ok(Job::Over(Tool::Read(call(matches, to, read_body(&request)))))
 }
 
 fn write_job(matches: &ArgMatches<'_>) -> Result<Job, UsageFault>
@@ -143,6 +141,15 @@ fn call(matches: &ArgMatches<'_>, to: Peer, body: ArrayVec<u8, LONGEST_BODY>) ->
         port: port(matches),
         body,
     }
+}
+
+// The body of a read. There is always room for it.
+fn read_body(request: &ReadRequest) -> ArrayVec<u8, LONGEST_BODY>
+    ensures { result.items ≡ read_octets (reference request.now) }
+{
+    let mut body = Frame::new();
+    let _ = write_read(&mut body, request);
+    copy_of(body.as_slice())
 }
 
 // The body of a write, whose values are the pairs as they were typed.
