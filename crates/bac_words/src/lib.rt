@@ -17,20 +17,19 @@
 //! it answers; it is proved there that words without a job are told in the report, and that nothing else is done then.
 #![tactic(auto)]
 
-mod called;
 mod command;
 mod examples;
 mod faults;
 mod help;
 mod job;
-mod marks;
 mod parse;
 mod telling;
 mod typed;
+mod words;
 
-pub use called::words_of;
 pub use command::bactool;
 pub use faults::{UsageFault, usage_status};
 pub use job::{Job, Serve, Tool};
 pub use parse::parse_words;
 pub use telling::Telling;
+pub use words::words_of;

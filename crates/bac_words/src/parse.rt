@@ -18,8 +18,8 @@ ghost use Rattle.bac_words.{
 use crate::command::bactool;
 use crate::faults::UsageFault;
 use crate::job::{Job, Serve, Tool};
-use crate::marks::marked_words;
-use crate::typed::{TypedWords, unmarked};
+use crate::typed::TypedWords;
+use crate::words::{marked_words, unmarked};
 use arrayvec::ArrayVec;
 use bac_device::DeviceInfo;
 use bac_pdu::{Peer, ReadRequest, WhoIs, write_read};

@@ -4,6 +4,7 @@ ghost use Rattle.std.specs.Prelude.{◌≡◌, drop, map};
 ghost use Rattle.clap.specs.Walk.{texts};
 ghost use Rattle.bac_words.specs.Marks.{unmarked};
 
+use crate::words::unmarked;
 use bac_text::WordSource;
 
 /// Marked words, taken as they were typed.
@@ -37,11 +38,4 @@ impl<'w, 'a> WordSource<'a> for TypedWords<'w, 'a> {
 
     #[tactic(auto, using(crate::proofs::WordsLeft::typed_fewer))]
     fn are_countable(&self) {}
-}
-
-/// A word as it was typed, without the mark.
-pub(crate) fn unmarked(word: &str) -> &str
-    ensures { result.now ≡ unmarked word.now }
-{
-    word.strip_prefix("~").unwrap_or(word)
 }
