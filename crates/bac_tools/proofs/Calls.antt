@@ -10,7 +10,7 @@ use Rattle.bac_words.specs.declared.job.{Job.{Job, TheVariants.Over}, Tool.Tool}
 use Rattle.bac_tools.{
   specs.Calls.{AsksAtMostOnce, GivesSockets, RunsAsCalls, RunsWithout},
   specs.Program.{RunsAsRead, IsGiven, IsRun},
-  specs.{declared.{binding.Binding.Binding, report.Report.Report, program.Ran.Ran}, Binding.{binding_of, asked_by}},
+  specs.{declared.{running.Binding.Binding, report.Report.Report, program.Ran.Ran}, Binding.{binding_of, asked_by}},
   specs.{Outside.Outside, Report.tool_report, Runs.{RunsOpened, ToolRuns}},
   specs.Telling.{IsTold, on_output, once_given},
 }

@@ -11,7 +11,7 @@ use Rattle.bac_links.specs.{History.{Account, Entry}, declared.socket.NoSocket.N
 use Rattle.bac_links.specs.declared.fault.ToolFault.TheVariants as tools
 use Rattle.bac_words.specs.{Line.IsRefusal, declared.faults.UsageFault.TheVariants.Memory}
 use Rattle.bac_tools.specs.{Outside.Outside, Program.{IsRun, Program}}
-use Rattle.bac_tools.specs.declared.{binding.Binding.Binding, program.Ran.Ran, report.{Fault.Fault, Report.Report}}
+use Rattle.bac_tools.specs.declared.{running.Binding.Binding, program.Ran.Ran, report.{Fault.Fault, Report.Report}}
 use Rattle.bac_tools.specs.declared.report.Fault.TheVariants as faults
 
 -- The network gave a socket.

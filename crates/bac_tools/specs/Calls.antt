@@ -10,7 +10,7 @@ use Rattle.bac_links.{
 }
 use Rattle.bac_words.specs.{Line.Answers, declared.job.{Job.TheVariants.Over, Tool.Tool}}
 use Rattle.bac_tools.specs.{Binding.binding_of, Report.{report_of, tool_report}, Runs.ToolRuns}
-use Rattle.bac_tools.specs.{Telling.{IsTold, on_error}, declared.{binding.Binding.Binding, report.Report.Report}}
+use Rattle.bac_tools.specs.{Telling.{IsTold, on_error}, declared.{running.Binding.Binding, report.Report.Report}}
 use Rattle.bac_tools.specs.declared.report.Fault.TheVariants as faults
 
 -- A network gives sockets. Where it gives a link, the system was asked for a socket at the address, and for nothing

@@ -10,8 +10,8 @@ ghost use Rattle.bac_tools.specs.Alike.{ProgramRun, CalledRun, AreGivenAlike, Ar
 ghost use Rattle.bac_tools.specs.Calls.{AsksAtMostOnce, GivesSockets, RunsAsCalls, RunsWithout};
 ghost use Rattle.bac_tools.specs.{Program.{IsRun, Program}, Report.IsStatusOf, declared.program.Ran.Ran};
 
-use crate::binding::Binding;
 use crate::program::Network;
+use crate::running::Binding;
 use std::io::{Read, Write};
 
 /// The program is a function of its words, of what its socket answers and of what it reads. Take two runs with the same

@@ -11,7 +11,6 @@
 //! Whole runs, from the words to the status, are tests of `tool_trials` (`src/tests/tools.rt`).
 #![tactic(auto)]
 
-mod binding;
 pub mod laws;
 mod program;
 mod report;
@@ -26,8 +25,7 @@ pub use bac_print::{Checked, Message};
 pub use bac_script::{TraceEnd, TraceFault, show_outcome, show_value, trace, trace_status};
 pub use bac_text::{Call, Search, read_peer};
 pub use bac_words::{Job, Serve, Telling, Tool, UsageFault, parse_words, usage_status, words_of};
-pub use binding::{Binding, binding_for};
 pub use program::{Finished, Network, Ran, run_program, run_words};
 pub use report::{Fault, Report};
-pub use running::run_tool;
+pub use running::{Binding, binding_for, run_tool};
 pub use telling::tell;

@@ -4,11 +4,10 @@ ghost use Rattle.std.specs.{IoError.error_kind, String.string_bytes, declared.io
 ghost use Rattle.clap.specs.Walk.{texts};
 ghost use Rattle.bac_print.specs.Checked.{fresh, has_failed};
 ghost use Rattle.bac_links.specs.declared.socket.NoSocket.{NoSocket};
-ghost use Rattle.bac_tools.specs.{Program.{IsCalled, IsRun, Program, texts_of}, declared.binding.Binding.Binding};
+ghost use Rattle.bac_tools.specs.{Program.{IsCalled, IsRun, Program, texts_of}, declared.running.Binding.Binding};
 
-use crate::binding::{Binding, binding_for};
 use crate::report::Report;
-use crate::running::run_tool;
+use crate::running::{Binding, binding_for, run_tool};
 use crate::telling::tell;
 use bac_links::{Link, LinkFault, NoSocket};
 use bac_print::Checked;

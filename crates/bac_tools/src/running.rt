@@ -1,15 +1,39 @@
-//! A tool, run over its link and its writer.
+//! A tool: the socket that it asks for, and its run over that and its writer.
 ghost use Rattle.std.specs.Prelude.{◌≡◌, false};
 ghost use Rattle.bac_print.specs.Checked.{has_failed};
 ghost use Rattle.bac_links.specs.Fault.{is_link_fault, is_write_fault};
 ghost use Rattle.bac_words.specs.Job.{IsReady};
-ghost use Rattle.bac_tools.specs.Runs.{DevicePlays, ToolRuns};
+ghost use Rattle.bac_tools.specs.{Binding.{binding_of, client_at}, Runs.{DevicePlays, ToolRuns}};
 
 use bac_device::demo;
-use bac_links::{Exit, Link, ToolFault, run_read, run_whois, run_write, serve};
+use bac_links::{Exit, Link, OnRefusal, ToolFault, run_read, run_whois, run_write, serve};
+use bac_pdu::Peer;
 use bac_print::Checked;
 use bac_words::{Serve, Tool};
 use std::io::Write;
+
+/// Where a socket is to be, and what becomes of a datagram that the system refuses to send from it.
+#[derive(Clone, Copy, Debug)]
+pub struct Binding {
+    /// The address and the port; the port 0 is any.
+    pub at: Peer,
+    /// What becomes of such a datagram.
+    pub refused: OnRefusal,
+}
+
+/// The socket that a tool asks for.
+pub fn binding_for(tool: &Tool) -> Binding
+    ensures { result ≡ binding_of tool.now }
+{
+    match tool {
+        Tool::Read(call) | Tool::Write(call) => client_at(call.port),
+        Tool::WhoIs(search) => client_at(search.port),
+        Tool::Device(device) => Binding {
+            refused: OnRefusal::IsLost,
+            ..client_at(device.port)
+        },
+    }
+}
 
 /// Runs a tool over its link: what is printed, what is sent, and the answer are those that the definition of the tool
 /// gives for what the link gave.
@@ -30,6 +54,20 @@ pub fn run_tool<L: Link, W: Write>(
         Tool::Write(call) => run_write(&call, link, writer),
         Tool::WhoIs(search) => run_whois(&search, link, writer),
         Tool::Device(device) => play(device, link),
+    }
+}
+
+// A client's socket: every address of this machine; the port 0 is any free one.
+fn client_at(port: u16) -> Binding
+    ensures { result ≡ client_at port }
+{
+    Binding {
+        at: Peer {
+            ip: 0,
+            port,
+            route: None,
+        },
+        refused: OnRefusal::Fails,
     }
 }
 
