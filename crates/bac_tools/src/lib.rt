@@ -26,6 +26,5 @@ pub use bac_script::{TraceEnd, TraceFault, show_outcome, show_value, trace, trac
 pub use bac_text::{Call, Search, read_peer};
 pub use bac_words::{Job, Serve, Telling, Tool, UsageFault, parse_words, usage_status, words_of};
 pub use program::{Finished, Network, Ran, run_program, run_words};
-pub use report::{Fault, Report};
+pub use report::{Fault, Report, tell};
 pub use running::{Binding, binding_for, run_tool};
-pub use telling::tell;

@@ -6,9 +6,8 @@ ghost use Rattle.bac_print.specs.Checked.{fresh, has_failed};
 ghost use Rattle.bac_links.specs.declared.socket.NoSocket.{NoSocket};
 ghost use Rattle.bac_tools.specs.{Program.{IsCalled, IsRun, Program, texts_of}, declared.running.Binding.Binding};
 
-use crate::report::Report;
+use crate::report::{Report, tell};
 use crate::running::{Binding, binding_for, run_tool};
-use crate::telling::tell;
 use bac_links::{Link, LinkFault, NoSocket};
 use bac_print::Checked;
 use bac_script::trace;

@@ -1,16 +1,18 @@
-//! How the program ends.
+//! How the program ends, and what it tells then.
 ghost use Rattle.std.specs.Prelude.{◌≡◌, option_map};
 ghost use Rattle.bac_words.specs.Telling.{told_by};
 ghost use Rattle.bac_tools.{
   specs.Report.{report_of, tool_report, trace_report, unread_report},
-  specs.{Telling.{fault_told, on_error, on_output, once_given}, declared.report.Fault.TheVariants.{Link, Usage}},
+  specs.Telling.{fault_told, on_error, on_output, once_given, IsTold},
+  specs.declared.report.Fault.TheVariants.{Link, Usage},
 };
 
+use crate::telling::print_telling;
 use bac_links::{Exit, LinkFault, ToolFault, status};
-use bac_print::Message;
+use bac_print::{Checked, Message, Page};
 use bac_script::{TraceEnd, TraceFault, trace_status};
 use bac_words::{Telling, UsageFault, usage_status};
-use std::io::{self, ErrorKind};
+use std::io::{self, ErrorKind, Write};
 use thiserror::Error;
 
 /// What the program tells of where it could not go on.
@@ -85,6 +87,17 @@ impl Report {
             }
             _ => self,
         }
+    }
+}
+
+/// Gives the writer what there is to tell, as far as it takes it.
+pub fn tell<W: Write>(telling: Option<Telling<'_>>, writer: &mut Checked<W>)
+    ensures { IsTold W.contents writer.old writer.new (option_map told_by telling.entry) }
+{
+    if let Some(telling) = telling {
+        let mut page = Page::new(writer);
+        print_telling(telling, &mut page);
+        let _ = page.finish();
     }
 }
 

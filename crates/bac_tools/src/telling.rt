@@ -1,11 +1,11 @@
-//! What the program tells at its end.
-ghost use Rattle.std.specs.Prelude.{◌++◌, ℕ, List, codes, option_map};
+//! What is told, printed on a page.
+ghost use Rattle.std.specs.Prelude.{◌++◌, ℕ, List, codes};
 ghost use Rattle.bac_print.specs.{Message.message_text, Page.Prints};
 ghost use Rattle.bac_words.specs.Telling.{told_by};
-ghost use Rattle.bac_tools.specs.Telling.{AreOctetsOf, IsTold};
+ghost use Rattle.bac_tools.specs.Telling.{AreOctetsOf};
 
 use arrayvec::ArrayVec;
-use bac_print::{Checked, Message, Page};
+use bac_print::{Message, Page};
 use bac_words::Telling;
 use std::fmt::{self, Write as _};
 use std::io::Write;
@@ -13,18 +13,8 @@ use std::io::Write;
 // The octets of a text of `clap` that are told at a time.
 const PART_ROOM: usize = 4_096;
 
-/// Gives the writer what there is to tell, as far as it takes it.
-pub fn tell<W: Write>(telling: Option<Telling<'_>>, writer: &mut Checked<W>)
-    ensures { IsTold W.contents writer.old writer.new (option_map told_by telling.entry) }
-{
-    if let Some(telling) = telling {
-        let mut page = Page::new(writer);
-        print_telling(telling, &mut page);
-        let _ = page.finish();
-    }
-}
-
-fn print_telling<W: Write>(telling: Telling<'_>, page: &mut Page<'_, W>)
+/// Prints what is told.
+pub(crate) fn print_telling<W: Write>(telling: Telling<'_>, page: &mut Page<'_, W>)
     ensures { (octets : List ℕ) × AreOctetsOf (told_by telling.entry) octets
         × Prints W.contents page.old page.new octets }
 {

@@ -1,7 +1,7 @@
 -- What was printed on the page is what the writer was given.
 use Rattle.std.proofs.Common.{[], rules, subst}
 use Rattle.bac_print.{specs.{Page.Writes, declared.checked.Checked.Checked}, proofs.Shown.finished}
-use Rattle.bac_tools.proofs.telling.tell.Goals as goal
+use Rattle.bac_tools.proofs.report.tell.Goals as goal
 
 pub returns-in-Some : goal.returns-in-Some
 returns-in-Some g c =
