@@ -43,7 +43,7 @@ TYPES = [
     ("bac_tools", "program", "pub struct Finished<N: Drop, L: Drop, R: Drop, W: Drop, E: Drop> {",
      "<N: Drop, L: Drop, R: Drop, W: Write + Drop, E: Drop>", "Finished<N, L, R, W, E>",
      'let Finished { ran: _, reader: _, mut writer, errors: _ } = self; tell(None, &mut writer);', BOUND),
-    ("bactool", "sockets", "pub(crate) struct Sockets<'r, H> {", "<'r, H: Net>", "Sockets<'r, H>",
+    ("bactool", "main", "pub(crate) struct Sockets<'r, H> {", "<'r, H: Net>", "Sockets<'r, H>",
      "let Sockets { rt, alloc: _ } = self; let _ = std::net::UdpSocket::bind(rt, (std::net::Ipv4Addr::LOCALHOST, 9));",
      BOUND),
 ]

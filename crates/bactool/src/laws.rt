@@ -5,7 +5,7 @@ ghost use Rattle.bac_links.specs.{Socket.OverSocket, declared.socket.NoSocket.No
 ghost use Rattle.bac_words.specs.Called.{words_called};
 ghost use Rattle.bac_tools.specs.{Calls.{RunsAsCalls, RunsWithout}, Program.IsRun};
 
-use crate::sockets::Sockets;
+use crate::Sockets;
 use bac_tools::{Link, Network, Ran, SystemSocket, UdpLink};
 use std::io::{Read, Write};
 use std::net::Net;

@@ -1,15 +1,14 @@
 //! The program: its words, UDP sockets, standard input, output and error.
 #![tactic(auto)]
 
-ghost use Rattle.std.specs.{Prelude.◌≡◌, Process.exit_status};
+ghost use Rattle.std.specs.{Prelude.{◌≡◌, [], false, IfOk, IfErr}, Process.exit_status};
 ghost use Rattle.bac_print.specs.Checked.{fresh};
+ghost use Rattle.bac_links.specs.Socket.{Binds, BindsAtMost, account_over};
 ghost use Rattle.bac_tools.specs.Program.{IsRun, texts_of};
 
 mod laws;
-mod sockets;
 
-use crate::sockets::Sockets;
-use bac_tools::{Finished, Link, Network, SystemSocket, UdpLink, run_program};
+use bac_tools::{Binding, Finished, Link, Network, NoSocket, SystemSocket, UdpLink, run_program};
 use std::alloc::Global;
 use std::env;
 use std::io::{self, Read, Write};
@@ -26,6 +25,39 @@ fn main(rt: HostRuntime) -> ExitCode {
         rt.stdout(),
         rt.stderr(),
     ))
+}
+
+/// UDP sockets. Of the program nothing but these has the runtime.
+#[derive(Drop)]
+pub(crate) struct Sockets<'r, H> {
+    rt: &'r H,
+    alloc: Global,
+}
+
+impl<'r, H> Sockets<'r, H> {
+    /// The sockets of this runtime.
+    pub(crate) fn new(rt: &'r H, alloc: Global) -> Self
+        ensures { result ≡ record { rt = rt.entry; alloc = alloc } }
+    {
+        Sockets { rt, alloc }
+    }
+}
+
+impl<H: Net + Clock + Clone + Drop> Network for Sockets<'_, H> {
+    type Socket = UdpLink<SystemSocket<H>>;
+
+    ghost gives = { λ _ binding socket.
+        IfOk socket (λ link. Binds binding.at link.socket.log.items
+        × (⟦<UdpLink<SystemSocket<H>> as Link>⟧.seen link
+        ≡ account_over binding.refused link.socket.log.items []))
+        × IfErr socket (λ none. BindsAtMost binding.at none.log.items) };
+
+    fn bind(self, binding: Binding) -> Result<UdpLink<SystemSocket<H>>, NoSocket>
+        ensures gives { ⟦<Sockets<'static, H> as Network>⟧.gives self.entry binding result }
+        ensures sound { IfOk result (λ link. ⟦<UdpLink<SystemSocket<H>> as Link>⟧.has_failed link ≡ false) }
+    {
+        UdpLink::bind_with(self.rt, self.alloc, binding.at, binding.refused)
+    }
 }
 
 // The program over any sockets, reader and writers. By its type it has nothing else of the world.
