@@ -72,10 +72,8 @@ def sums(root, paths):
 
 def listed(root):
     """The sums of the list by their paths, and the paths that are not below PREFIX or lead out of it, which nothing
-    touches. An earlier version wrote whole paths, of which the first part is what stands in front of bin/bactool."""
+    touches."""
     text = (root / LIST).read_text(encoding="utf-8") if (root / LIST).is_file() else ""
-    before = re.search(r"(?m)^\S+ (/.*/)bin/bactool$", text)
-    text = text.replace(f" {before[1]}", " ") if before else text
     rows = {path: found for found, _, path in (line.partition(" ") for line in text.splitlines())}
     outside = [path for path in rows if path.startswith("/") or ".." in path.split("/")]
     return {path: found for path, found in rows.items() if path not in outside}, outside

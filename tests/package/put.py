@@ -141,21 +141,17 @@ def what_is_taken_away(room, count):
     room.has(0)
 
 
-def whole_paths(room, count):
-    """The list of version 0.2.0 has whole paths; one that is not below PREFIX, or leads out of it, is left."""
+def outside(room, _):
+    """What the list has and is not below PREFIX, or leads out of it, is left."""
     room.tries("files and links")
-    list_of = (room.put / LIST).read_text()
-    (room.put / LIST).write_text(list_of.replace(" ", " /opt/tools/"))
     other = room.top / "opt/other"
     other.write_text("other\n")
-    room.lists(other, "/opt/other")
-    room.lists(other, "/opt/tools/../other")
-    shutil.copytree(room.put, room.top / "opt/second", symlinks=True)
-    room.tries("left there, since it is not below /opt/second: /opt/other", "--remove", PREFIX="/opt/second")
-    room.has(count + 1)
-    room.tries("files and links")
-    same("whole paths of the list", " /" in (room.put / LIST).read_text(), False)
-    room.tries("taken away", "--remove")
+    paths = ["/opt/other", "../other"]
+    left = "".join(f"left there, since it is not below /opt/tools: {path}\n" for path in paths)
+    for word in (PROGRAM, "--remove"):
+        for path in paths:
+            room.lists(other, path)
+        room.tries(left, word)
     room.has(1)
 
 
@@ -268,7 +264,7 @@ def main():
         room.tries("files and links")
         what_is_put(room)
         count = len(tree_of(room.top))
-        for part in (what_is_replaced, what_is_taken_away, whole_paths):
+        for part in (what_is_replaced, what_is_taken_away, outside):
             part(room, count)
         places(room)
         os.chmod(other, 0o755)
