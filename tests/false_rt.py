@@ -114,7 +114,7 @@ def tried(row):
     """What is not so of a row."""
     command, rules, status, wanted = row
     with tempfile.TemporaryDirectory() as room:
-        done = subprocess.run(command, check=False, **made(room, rules, command != ["./build.py"]))
+        done = subprocess.run(command, check=False, timeout=300, **made(room, rules, command != ["./build.py"]))
     if done.returncode == status and re.search(wanted, done.stdout.rstrip("\n") + "\n" * wanted.endswith("\\n$")):
         return ""
     return f"{' '.join(command)} by [{rules}]: status {done.returncode}, not {status} with /{wanted}/:\n{done.stdout}"

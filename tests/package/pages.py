@@ -69,8 +69,9 @@ def told_in_help(tool):
 def told_on_page(text):
     """The same of a part of a page."""
     parts = re.split(r"(?m)^\.(?:It|El)\b *(.*)\n", re.split(r"(?m)^\.Ss ", text)[0])
-    heads = [(re.match(r"(?:Ar|(Fl Fl)) (\S+)", head), told) for head, told in zip(parts[1::2], parts[2::2])]
-    return {"--" * bool(head[1]) + head[2]: " ".join(told.split()).replace("\\", "") for head, told in heads if head}
+    heads = [(re.match(r"(?:Ar|(Fl Fl)) (\S+)(.*)", head), told) for head, told in zip(parts[1::2], parts[2::2])]
+    told_of = lambda head, told: " ".join(f"{head[3]} {told}".split()).replace("\\", "")
+    return {"--" * bool(head[1]) + head[2]: told_of(head, told) for head, told in heads if head}
 
 
 def numbers(entries):
@@ -87,8 +88,10 @@ def numbers(entries):
 
 def words_and_options():
     for tool in TOOLS[:-1]:
-        on_page = told_on_page(section(tool, "DESCRIPTION"))
-        alike(tool, numbers(told_in_help(tool).items()), numbers(on_page.items()))
+        in_help, on_page = told_in_help(tool), told_on_page(section(tool, "DESCRIPTION"))
+        alike(tool, numbers(in_help.items()), numbers(on_page.items()))
+        unit = lambda told: re.findall(r"\b(?:milli)?seconds\b", told.get("--apdu-timeout", "").lower())[:1]
+        same(f"the unit of the timeout of {tool}", unit(on_page), unit(in_help))
     for word, title in [("object-type", "Object types"), ("property", "Properties")]:
         known = [f"{row[0]} {row[1].replace('-', ' ')}" for row in SECTIONS[title]]
         for told in (told_in_help("bacrp"), told_on_page(section("bacrp", "DESCRIPTION"))):
