@@ -18,7 +18,6 @@ import fcntl
 import os
 import re
 import shutil
-import signal
 import sys
 import time
 
@@ -146,10 +145,4 @@ def main(words):
 
 
 if __name__ == "__main__":
-    for number in (signal.SIGINT, signal.SIGTERM):
-        signal.signal(number, signal.default_int_handler)
-    try:
-        sys.exit(main(sys.argv[1:]))
-    except KeyboardInterrupt:
-        print("stopped; the crates that are proved are kept")
-        sys.exit(130)
+    tree.end_by_signals(main)

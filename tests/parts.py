@@ -16,18 +16,16 @@ import glob
 import os
 import re
 import shutil
-import signal
 import subprocess
 import sys
 import tempfile
 import time
 import typing
 
-from tree import TOP, Job, free_memory, processors
+from tree import TOP, Job, end_by_signals, free_memory, processors
 
 LOGS = "out/parts"
 PROGRAM = "crates/bactool/out/bactool"
-SIGNALS = (signal.SIGINT, signal.SIGTERM, signal.SIGHUP)
 BEGAN = time.monotonic()
 LEFT_OUT, SHOWN = [], []  # what the parts say of what was left out, and of what shows the wrong bodies wrong
 # What a script says of how much it tried, wrong bodies with their twins, and of how much of it failed.
@@ -193,18 +191,5 @@ def main(words):
     return 1 if lost else 0
 
 
-def end(*_):
-    """Ends the run at its first signal; a second would cut the end short."""
-    for number in SIGNALS:
-        signal.signal(number, signal.SIG_IGN)
-    raise KeyboardInterrupt
-
-
 if __name__ == "__main__":
-    for number in SIGNALS:
-        signal.signal(number, end)
-    try:
-        sys.exit(main(sys.argv[1:]))
-    except KeyboardInterrupt:
-        print("stopped", flush=True)
-        sys.exit(130)
+    end_by_signals(main)

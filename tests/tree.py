@@ -156,6 +156,26 @@ class Job:
                 self.process.wait(30)
 
 
+def end_by_signals(main):
+    """Ends with the status of a call with the words of the script. The first signal stops it; a second would cut that
+    short. One that nohup has ignored stays so."""
+
+    def stop(*_):
+        for number in stopping:
+            signal.signal(number, signal.SIG_IGN)
+        raise KeyboardInterrupt
+
+    every = (signal.SIGINT, signal.SIGTERM, signal.SIGHUP)
+    stopping = [number for number in every if signal.getsignal(number) != signal.SIG_IGN]
+    for number in stopping:
+        signal.signal(number, stop)
+    try:
+        sys.exit(main(sys.argv[1:]))
+    except KeyboardInterrupt:
+        print("stopped", flush=True)
+        sys.exit(130)
+
+
 def processors():
     return len(os.sched_getaffinity(0))
 
