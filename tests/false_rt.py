@@ -80,7 +80,7 @@ ROWS = [
     (GATE, "four.sh: exit 1", 1, r"^((?!rt ci)(.|\n))*failed: documents\n\d+ passed, 1 " + GOOD),
     (GATE, says(WRONG, "9 bodies, of which 2 don't fit the code", 1, " --list"), 1, r"failed: fit\n"),
     (GATE, "wrong_bodies.py --list: true", 1, r"failed: fit\n"),
-    (GATE, "rt ci: echo 'rt: low NOT PROVED'; sleep 60", 1, r"failed: rt ci\n\d+ passed, 1 " + GOOD),
+    (GATE, "rt ci: echo 'rt: low NOT PROVED'; sleep 600", 1, r"failed: rt ci\n\d+ passed, 1 " + GOOD),
     (GATE, "rt ci: echo '19 passed, 1 failed'; exit 1", 1, r"failed: rt ci\n"),
     (GATE, "rt ci: echo '0 passed, 0 failed'", 1, r"failed: rt ci\n"),
     (GATE, "rt ci: echo '20 passed, 0 failed'", 1, r"failed: program\n"),
@@ -111,7 +111,7 @@ def made(room, rules, is_built=True):
 
 
 def tried(row):
-    """What is not so of a row."""
+    """What is not so of a row. One that goes on for five minutes ends it all."""
     command, rules, status, wanted = row
     with tempfile.TemporaryDirectory() as room:
         done = subprocess.run(command, check=False, timeout=300, **made(room, rules, command != ["./build.py"]))
