@@ -28,7 +28,6 @@ INVARIANT = "invariant"  # in a line `clause:`, what refuses a body where no cla
 class Function(typing.NamedTuple):
     """A function of a file, whose lines are counted from 0."""
 
-    start: int  # where its remarks and attributes begin
     first: int  # its head
     body: int  # where its body begins
     last: int
@@ -38,7 +37,7 @@ class Function(typing.NamedTuple):
     in_cycle: bool  # it is called by what it calls
     behind: int  # the line behind which a copy of it may stand; 0: none may
     impl: str  # the head of an `impl` that the copy needs, or ""
-    head: list  # the lines in front of its body
+    head: list  # the lines in front of its body, its remarks and attributes among them
     text: str  # what stands between the brackets of its body
 
 
@@ -63,7 +62,7 @@ def functions_of(crate, path, source):
             behind, impl = lines.index("}", last), block.replace(f"{trait}{given or ''} for ", "", 1)
         symbols = re.compile(f"{crate}::{symbol_of(path, owner, name)}(::.+)?$")
         text = "\n".join(lines[body + 1 : last]) if last > body else line.partition("{")[2]
-        of = (start, first, body, last, name, f"{kind}::{name}" if kind else name, symbols, in_cycle, behind, impl)
+        of = (first, body, last, name, f"{kind}::{name}" if kind else name, symbols, in_cycle, behind, impl)
         found.append(Function(*of, lines[start:body], text))
         in_cycle = False
     return found
@@ -81,6 +80,14 @@ def symbol_of(path, owner, name):
 def module_of(path):
     """The parts of the module's name that a file of src/ holds."""
     return [it for it in path[len("src/") : -len(".rt")].split("/") if it not in ("lib", "main")]
+
+
+def home_of(crate, path, kind):
+    """Where a check has what this file holds, in parts: in its module, or with a method of this type, where the type is
+    declared."""
+    declares = re.compile(rf"(?m)^(?:pub(?:\([^)]*\))? )?(?:struct|enum) {kind}\b")
+    files = (it for it, text in sources_of(crate).items() if declares.search(text))
+    return [*module_of(next(files)), kind] if kind else module_of(path)
 
 
 @functools.cache
@@ -299,6 +306,13 @@ class Edit:
         needs none is."""
         of = self.functions[0][1]
         return bool(of.behind) and (self.is_apart or not any(map(of.symbols.match, answered(self.crate))))
+
+    def place(self):
+        """Where a check has the law, or else the copy, by which this edit is judged, in parts."""
+        if self.is_wide:
+            return self.by.split("::")
+        path, of = self.functions[0]
+        return [*home_of(self.crate, path, of.shown.rpartition("::")[0]), self.copy.name]
 
     def promises(self, promised):
         """The head of its function with no clauses of what that ensures but those with these names."""

@@ -15,8 +15,7 @@ from tree import write
 PLACE = f"nowhere_{secrets.token_hex(8)}"
 STUB = f"crate::{PLACE}::never()"
 # No function meets the first contract, so nothing behind a call of it is ever reached. It passes for one of the C
-# library, for which a check does not look. The last function has a fault in its answers: else `rattle` would look for
-# the beginning of an answer to all that is left open, up to a third of a check.
+# library, for which a check does not look.
 NOWHERE = """ghost use Rattle.std.specs.Prelude.{◌≡◌, false, true};
 
 unsafe extern "C" {
@@ -28,10 +27,10 @@ pub(crate) fn never() -> ! {
     nowhere();
     unreachable!()
 }
-
-pub(crate) fn answered() {}
 """
-FAULT = "use Rattle.{}.proofs.{}.answered.Goals as goal\n\npub no_goal : goal.no_goal\nno_goal c = ?\n"
+# An answer to a goal that there is none of. Beside it `rattle` does not look for the beginning of an answer to what is
+# left open of a function, which takes up to a third of a check and more.
+FAULT = f"use Rattle.{{}}.proofs.{{}}.Goals as goal\n\npub {PLACE} : goal.{PLACE}\n{PLACE} c = ?\n"
 LINKED = "//bazel/native:glibc"
 
 
@@ -47,8 +46,7 @@ def may_be_stub(lines, it):
 
 def put_stubs(crate, home, texts, is_tried):
     """Writes a crate into this folder, with these texts of its files, and stubs but for functions of which `is_tried`
-    says, by file and function, that they are tried. What answers goals of the bodies goes with them. Returns what a
-    check has to be asked for besides."""
+    says, by file and function, that they are tried. What answers goals of the bodies goes with them."""
     gone = []
     for path, text in {**sources_of(crate), **texts}.items():
         lines = text.split("\n")
@@ -64,5 +62,10 @@ def put_stubs(crate, home, texts, is_tried):
         for answers in set(files) & set(ANSWERS) if any(it.match(name) for it in gone) else ():
             os.remove(f"{place}/{answers}")
     write(f"{home}/src/{PLACE}.rt", NOWHERE)
-    write(f"{home}/proofs/{PLACE}/answered/Answers.antt", FAULT.format(crate, PLACE))
-    return f"{PLACE}::answered"
+
+
+def put_fault(crate, home, place):
+    """Gives what a check has at this place of the crate in this folder a fault for an answer, where it has none."""
+    file = f"{home}/proofs/{'/'.join(place)}/Answers.antt"
+    if not os.path.exists(file):
+        write(file, FAULT.format(crate, ".".join(place)))

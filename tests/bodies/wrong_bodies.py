@@ -4,10 +4,11 @@
 CONTRIBUTING.md (A wrong body) says how one is written, and what shows it to be wrong: values, a proof or a twin. Many
 bodies of a crate stand together in one copy of it, where other functions have stubs for bodies (stubs.py), over the
 libraries of the crates below. A body stands beside its function, as one more function with the same contract, under a
-name of its own. What can't stand so is tried in its function's place, in a round without copies: a body of a function
-with answers, or of a method with a trait's contract. So are edits of constants and types, which a law refuses. What is
-refused for nothing but a callee is tried again alone. A check is asked for copies and laws alone, and for the modules
-of what stands in its function's place: what no edit touches there must be proved. A body is refused by a
+name of its own. What can't stand so is tried in its function's place, where a round has one of each function: a body of
+a function with answers, or of a method with a trait's contract. Edits of constants and types, which a law refuses, have
+rounds of their own. What is refused for nothing but a callee is tried again alone. A check is asked for copies and laws
+alone, and for the modules of what stands in its function's place: what no edit touches there must be proved. A body is
+refused by a
 
     clause  of the function, or its type's invariant; false: there are values at which it does not hold; open: no proof
             is found; limit: none in time
@@ -36,8 +37,9 @@ import time
 
 sys.path.insert(0, os.path.dirname(__file__) + "/..")
 import twins
-from edits import CONTROL, EMPTIED, REFUTED, ROOT, TWIN, WRONG, Edit, entries_of, functions_of, module_of, sources_of
-from stubs import LINKED, PLACE, put_stubs
+from edits import CONTROL, EMPTIED, INVARIANT, REFUTED, ROOT, TWIN, WRONG
+from edits import Edit, entries_of, functions_of, module_of, sources_of
+from stubs import LINKED, PLACE, put_fault, put_stubs
 from tree import all_crates, copy_crate, crates_below, free_memory, processors
 
 KINDS = ["clause", "safety", "step", "PROVED", "bad"]
@@ -68,6 +70,11 @@ class Body(Edit):
         own = rf"::{self.copy.name}(::|$)" if self.copy else self.functions[0][1].symbols
         return bool(re.search(own, symbol))
 
+    def stands_in(self, path, of):
+        """Whether this function of a file is what it is tried in."""
+        own = [(file, it.symbols) for file, it in self.functions]
+        return of.name == self.copy.name if self.copy else (path, of.symbols) in own
+
     def asked(self):
         """What a check that tries this edit is asked for: a copy; a law, with the modules that get an `impl`; else the
         function in whose place it stands, or for a trait's method the module."""
@@ -79,6 +86,12 @@ class Body(Edit):
         if not of.behind or of.impl:
             return ["::".join(module_of(path)) or of.shown]
         return [of.shown if "::" in of.shown else "::".join([*module_of(path), of.name])]
+
+    def may_be_spoilt(self):
+        """Whether a fault may be its answer: once, where it is to be refused, and not by a type's invariant, which the
+        fault hides. What the fault alone refuses is tried again without it. In a function's place others answer."""
+        is_right = self.part in (TWIN, REFUTED) or self.hole or INVARIANT in self.promised
+        return not (self.tries or is_right) and bool(self.copy or self.is_wide)
 
     def opens(self, goal):
         """Whether this edit may leave open such a goal of what it touches: of a law, of the clauses that it names."""
@@ -191,23 +204,18 @@ class Round:
         self.takes(edit)
 
     def takes(self, edit):
-        """Takes this edit too, if it may: copies stand beside copies, and other edits beside those that touch another
-        function, or another text and another clause of a law."""
+        """Takes this edit too, if it may: any copy, and what stands in the place of another function; among edits of
+        constants and types, what changes another text and leaves open another clause."""
         keys = {of.symbols for _, of in edit.functions} if not edit.copy else set()
         if edit.is_wide:
             keys = {(edit.by, it) for it in edit.promised or edit.clauses()} | {(it.path, it.old) for it in edit.pairs}
         texts = self.texts if edit.copy else edit.applied(self.texts)
-        is_like = all((bool(it.copy), it.is_wide) == (bool(edit.copy), edit.is_wide) for it in self.edits[:1])
+        is_like = all(it.is_wide == edit.is_wide for it in self.edits)
         most = 1 if edit.tries or any(it.tries for it in self.edits) else LARGEST
         if texts is None or not is_like or keys & self.keys or len(self.edits) >= most:
             return False
         self.texts, self.keys, self.edits = texts, keys | self.keys, [*self.edits, edit]
         return True
-
-    def is_tried(self, path, of):
-        """Whether this function is what an edit of this round is tried in."""
-        own = [(file, it.shown) for edit in self.edits if not edit.copy for file, it in edit.functions]
-        return (path, of.shown) in own or of.name in {it.copy.name for it in self.edits if it.copy}
 
     def check(self, over):
         """What a check over the libraries of this tree says, and the text of each file that has copies."""
@@ -217,9 +225,11 @@ class Round:
             texts[it.path] = "\n".join([*lines[: it.behind + 1], it.text, *lines[it.behind + 1 :]])
         with tempfile.TemporaryDirectory(prefix="wrong-bodies-") as here:
             copy_crate(self.crate, here)
-            besides = put_stubs(self.crate, here, texts, self.is_tried)
-            names = {besides}.union(*(it.asked() for it in self.edits))
-            words = [*command(self.crate, over), *(f"--only={name}" for name in sorted(names))]
+            put_stubs(self.crate, here, texts, lambda *function: any(it.stands_in(*function) for it in self.edits))
+            for place in (it.place() for it in self.edits if it.may_be_spoilt()):
+                put_fault(self.crate, here, place)
+            names = sorted({name for it in self.edits for name in it.asked()})
+            words = [*command(self.crate, over), *(f"--only={name}" for name in names)]
             how = {"stdin": subprocess.DEVNULL, "stdout": subprocess.PIPE, "stderr": subprocess.STDOUT}
             ran = subprocess.run(words, cwd=here, text=True, errors="replace", check=False, **how)
         return ran.stdout, texts
@@ -240,13 +250,13 @@ class Round:
         return [f"{symbol}: no edit touches it, and it is refused: {goal}" for symbol, goal in strange]
 
     def misfits(self, said, texts):
-        """The edits that make no program, each with what the check says: copies in which an error is, or the only edit
+        """The edits that make no program, each with what the check says: those in which an error is, or the only edit
         of a round. The others are tried again."""
         found = {}
         for error in REFUSED.finditer(said):
-            above = "\n".join(texts.get(error[1], "").split("\n")[: int(error[2])])
-            names = re.findall(r"\bfn (\w+_again_\d+)", above)[-1:]
-            found.update((it, error[0]) for it in self.edits if it.copy and it.copy.name in names)
+            path, line = error[1], int(error[2]) - 1
+            within = [of for of in functions_of(self.crate, path, texts.get(path, "")) if of.first <= line <= of.last]
+            found.update((it, error[0]) for it in self.edits for of in within if it.stands_in(path, of))
         return found or {it: said[-300:] for it in self.edits if len(self.edits) == 1}
 
 
