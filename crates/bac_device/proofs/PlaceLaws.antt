@@ -18,8 +18,8 @@ Each P (suc count) = P 0 × Each (λ n. P (suc n)) count
 
 at_each : (P : ℕ → Type 0) (count n : ℕ) → Each P count → n < count → P n
 at_each P zero n all below = absurd (omega arith)
-at_each P (suc count) zero all _ = all.0
-at_each P (suc count) (suc n) all below = at_each (λ n. P (suc n)) count n all.1 (omega arith)
+at_each P (suc count) zero (first, _) _ = first
+at_each P (suc count) (suc n) (_, others) below = at_each (λ n. P (suc n)) count n others (omega arith)
 
 -- ---- one more write
 
@@ -61,7 +61,7 @@ put_after _ _ _ most least = grind (arith, set_place, map_same, place_more)
 none_chosen : (writes : List Write) (object : Identifier) (priority : ℕ) → NoneTo object writes
     → filter (is_to object priority) writes ≡ []
 none_chosen [] _ _ _ = refl
-none_chosen (_ ∷ writes) object priority none = grind (arith, none_chosen writes object priority none.1)
+none_chosen (_ ∷ writes) object priority (other, none) = grind (arith, none_chosen writes object priority none)
 
 -- where no write is to the object its places are NULL
 pub place_none : (writes : List Write) (object : Identifier) (priority : ℕ) → NoneTo object writes

@@ -39,13 +39,13 @@ reply_takes device from to datagram reply d m P carries laid short all e =
     go None all e = absurd (none-some (to, reply) e)
     go (Some x) all e =
         let routable = carried_routable from datagram d carries in
-        let same = some_pair_parts d.peer to (wrapped d.peer.route false (laid_out x)) reply e in
+        let (to_is, octets_are) = some_pair_parts d.peer to (wrapped d.peer.route false (laid_out x)) reply e in
         let takes = wrapped_takes d.peer.route false (laid_out x) routable
         (omega (arith, short x all, wrapped_short d.peer.route false (laid_out x) routable)) in (
           x,
           all,
-          subst (λ (s : Station). Takes s.route false (laid_out x) reply) same.0
-              (subst (Takes d.peer.route false (laid_out x)) same.1 takes),
+          subst (λ (s : Station). Takes s.route false (laid_out x) reply) to_is
+              (subst (Takes d.peer.route false (laid_out x)) octets_are takes),
         )
 
 -- ---- a confirmed request
@@ -94,8 +94,8 @@ pub reply_fits : (device : DeviceState) (from : Station) (datagram : List ℕ)
     → ForSome (reply_of device from datagram) (ReplyFits from datagram)
 reply_fits device from datagram = λ reply e delivery request carries laid.
     let all = message_fits device delivery.broadcast request in
-    let t = reply_takes _ _ _ _ _ _ _ (Fits request) carries laid (short request) all e in
-    (laid_out t.0, t.2, t.1)
+    let (m, fits, takes) = reply_takes _ _ _ _ _ _ _ (Fits request) carries laid (short request) all e in
+    (laid_out m, takes, fits)
 
 -- ---- the code's reply
 

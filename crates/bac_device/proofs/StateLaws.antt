@@ -53,12 +53,12 @@ pub write_held : (device : DeviceState) (writes : List Write) (write : Option Wr
     → IfSome write IsUrgent
     → with_write device write ≡ device_after device.info (points_of device) (writes ++ option_to_list write)
 write_held _ _ None holds _ = grind (arith, append-nil)
-write_held device writes (Some write) holds urgent =
+write_held device writes (Some write) holds (least, most) =
     let before : device.standings ≡ map (standing_after writes) (points_of device) =
     ap (λ (d : DeviceState). d.standings) holds in
     ap (λ (s : List Standing). record { info = device.info; standings = s })
     (ap (map (put write)) before ∙ map-map (put write) (standing_after writes) (points_of device)
-    ∙ map_same _ _ (λ point. put_after writes write point urgent.0 urgent.1) (points_of device))
+    ∙ map_same _ _ (λ point. put_after writes write point least most) (points_of device))
 
 -- the write that a request orders, as the code finds it
 pub request_write : (device : DeviceState) (part : Option Part) (code id service : ℕ) (body : List ℕ)

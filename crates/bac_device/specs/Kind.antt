@@ -55,7 +55,7 @@ place_in family value = option_map Some (number_in family value)
 
 -- The value that these octets are. None where they are no value, or more than one.
 unfoldable pub one_value : List ℕ → Option Datum
-one_value octets = value_at octets >>= (λ x. whole_of x.0 x.1)
+one_value octets = value_at octets >>= (λ (value, rest). whole_of value rest)
 
 -- Whether a present value can have this number: any of four octets, one of the two binary values, or a state from 1 to
 -- `extra`.

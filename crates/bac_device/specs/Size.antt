@@ -16,9 +16,9 @@ FitsRequest _ apdu = ⊥
 -- Whatever request the datagram from there carries, the reply takes to its station an APDU that fits the request. A
 -- datagram takes only one APDU to a station (law `wrapped_round` of bac_pdu, `one`).
 abbrev pub ReplyFits : Station → List ℕ → Station × List ℕ → Type 0
-ReplyFits from datagram reply = (delivery : Delivery) (request : Message) → Carries from datagram delivery
+ReplyFits from datagram (to, reply) = (delivery : Delivery) (request : Message) → Carries from datagram delivery
     → IsLaidOut delivery.apdu request
-    → (apdu : List ℕ) × Takes reply.0.route false apdu reply.1 × FitsRequest request apdu
+    → (apdu : List ℕ) × Takes to.route false apdu reply × FitsRequest request apdu
 
 -- Each reply does, of as many as there are datagrams.
 abbrev pub RepliesFit : List Arrival → List (Option (Station × List ℕ)) → Type 0

@@ -26,7 +26,8 @@ part_again : (first : ℕ) (front : List ℕ) (part : Option Part) (rest : List 
 part_again = grind arith
 
 parts_takes : (first : ℕ) (octets : List ℕ) (x : Option Part × ℕ × List ℕ) → parts_at first octets ≡ Some x
-    → (front : List ℕ) × SpellsPart first front x.0 × (octets ≡ front ++ x.1 ∷ x.2)
+    → (let (part, service, body) = x in
+    (front : List ℕ) × SpellsPart first front part × (octets ≡ front ++ service ∷ body))
 unfolding parts_at
 parts_takes = grind (arith, bind_some, part_takes)
 
@@ -46,7 +47,8 @@ complex_takes : (first : ℕ) (octets : List ℕ) (m : Message) → first / 16 �
 complex_takes = grind (arith, bind_some, parts_takes, same_Some)
 
 unconfirmed_takes : (first : ℕ) (octets : List ℕ) (m : Message) → first / 16 ≡ 1
-    → (service_at octets >>= (λ x. Some (unconfirmed x.0 x.1))) ≡ Some m → IsLaidOut (first ∷ octets) m
+    → (service_at octets >>= (λ (service, body). Some (unconfirmed service body))) ≡ Some m
+    → IsLaidOut (first ∷ octets) m
 unconfirmed_takes = grind arith
 
 -- an invoke id and one octet more

@@ -34,12 +34,11 @@ address_takes : (octets : List ℕ) (station : NetworkAddress) (rest : List ℕ)
     → Took SpellsAddress octets station rest
 unfolding address_at
 address_takes (high ∷ low ∷ count ∷ octets) station rest e =
-    let a = bind_some _ _ (station, rest) e in
-    let counted = count_takes count octets _ _ a.1 in
-    let front : List ℕ = high ∷ low ∷ length a.0.0 ∷ a.0.0 in
-    let line : high ∷ low ∷ count ∷ octets ≡ front ++ a.0.1 = grind arith in
-    let made : NetworkAddress = record { network = big_number 2 (high ∷ low ∷ []); address = a.0.0 } in
-    rw line (took SpellsAddress _ _ _ _ _ a.2 (record { high = high; low = low; whole = refl; number = refl }))
+    let ((address, after), counted, made) = bind_some _ _ (station, rest) e in
+    let (behind, length_is) = count_takes count octets _ _ counted in
+    let front : List ℕ = high ∷ low ∷ length address ∷ address in
+    let line : high ∷ low ∷ count ∷ octets ≡ front ++ after = grind arith in
+    rw line (took SpellsAddress _ _ _ _ _ made (record { high = high; low = low; whole = refl; number = refl }))
 address_takes _ station rest e = absurd (none-some (station, rest) e)
 
 address_again : (front : List ℕ) (station : NetworkAddress) (rest : List ℕ) → SpellsAddress front station
@@ -53,8 +52,8 @@ announced_takes : (b : Bool) (octets : List ℕ) (station : Option NetworkAddres
     → announced_at b octets ≡ found_at station rest → Took (SpellsAnnounced b) octets station rest
 announced_takes false _ _ _ e = grind (arith, took, false)
 announced_takes true _ _ _ e =
-    let a = bind_some _ _ _ e in
-    took_as SpellsAddress (SpellsAnnounced true) _ _ _ _ _ _ (address_takes _ _ _ a.1) a.2 (λ front s. s)
+    let (_, read, made) = bind_some _ _ _ e in
+    took_as SpellsAddress (SpellsAnnounced true) _ _ _ _ _ _ (address_takes _ _ _ read) made (λ front s. s)
 
 announced_again : (b : Bool) (front : List ℕ) (station : Option NetworkAddress) (rest : List ℕ)
     → SpellsAnnounced b front station → announced_at b (front ++ rest) ≡ found_at station rest
@@ -83,25 +82,24 @@ behind_all a b c _ = simp append_assoc
 control_takes : (control : ℕ) (octets : List ℕ) (header : NetworkHeader) (rest : List ℕ) → bit 7 control ≡ false
     → behind_control control octets ≡ found_at header rest → Took SpellsHeader (1 ∷ control ∷ octets) header rest
 control_takes control octets header rest carries e =
-    let a = bind_some _ _ _ e in
-    let b = bind_some _ _ _ a.2 in
-    let c = bind_some _ _ _ b.2 in
-    let destination = announced_takes _ _ _ _ a.1 in
-    let source = announced_takes _ _ _ _ b.1 in
-    let hops = hops_take _ _ _ c.1 in
-    let front : List ℕ = 1 ∷ control ∷ (destination.0 ++ (source.0 ++ hops.0)) in
-    let line : 1 ∷ control ∷ octets ≡ front ++ c.0 = grind (arith, behind_all) in
-    let made : NetworkHeader = record { destination = a.0.0; source = b.0.0 } in
-    rw line (took SpellsHeader front made header c.0 rest c.2 (record {
+    let ((to, _), to_read, behind_to) = bind_some _ _ _ e in
+    let ((from, _), from_read, behind_from) = bind_some _ _ _ behind_to in
+    let (apdu, hops_read, made) = bind_some _ _ _ behind_from in
+    let (destination, destined, _) = announced_takes _ _ _ _ to_read in
+    let (source, sent, _) = announced_takes _ _ _ _ from_read in
+    let (hops, hopped, _) = hops_take _ _ _ hops_read in
+    let front : List ℕ = 1 ∷ control ∷ (destination ++ (source ++ hops)) in
+    let line : 1 ∷ control ∷ octets ≡ front ++ apdu = grind (arith, behind_all) in
+    rw line (took SpellsHeader front (record { destination = to; source = from }) header apdu rest made (record {
       control = control;
-      destination = destination.0;
-      source = source.0;
-      hops = hops.0;
+      destination = destination;
+      source = source;
+      hops = hops;
       whole = refl;
       carries = carries;
-      destined = destination.1;
-      sent = source.1;
-      hopped = hops.1;
+      destined = destined;
+      sent = sent;
+      hopped = hopped;
     }))
 
 header_takes : (octets : List ℕ) (header : NetworkHeader) (rest : List ℕ) → header_at octets ≡ found_at header rest
@@ -172,7 +170,7 @@ abbrev Origin : Type 0
 Origin = Station × Bool
 
 abbrev Sent : Station → ℕ → List ℕ → Origin → Type 0
-Sent from function front x = SpellsOrigin from function front x.0 x.1
+Sent from function front (sender, to_all) = SpellsOrigin from function front sender to_all
 
 forwarded_takes : (from : Station) (octets : List ℕ) (x : Origin) (rest : List ℕ)
     → forwarded_at octets ≡ found_at x rest → Took (Sent from 4) octets x rest
@@ -186,11 +184,11 @@ origin_takes : (function : ℕ) (from : Station) (octets : List ℕ) (x : Origin
     → origin_at function from octets ≡ found_at x rest → Took (Sent from function) octets x rest
 origin_takes function from octets x rest e =
     elim (chosen (eqb function 10) _ _ _ e) [
-      | inl one ↦ rw (eqb-true _ 10 one.0) (took (Sent from 10) [] (from, false) x octets rest one.1 unicast)
-      | inr more ↦ elim (chosen (eqb function 11) _ _ _ more.1) [
-        | inl all ↦ rw (eqb-true function 11 all.0) (took (Sent from 11) [] (from, true) x octets rest all.1 broadcast)
-        | inr most ↦ let four = only_if _ most.1 in
-            rw (eqb-true function 4 four.0) (forwarded_takes from octets x rest four.1)
+      | inl (is, one) ↦ rw (eqb-true _ 10 is) (took (Sent from 10) [] (from, false) x octets rest one unicast)
+      | inr (_, more) ↦ elim (chosen (eqb function 11) _ _ _ more) [
+        | inl (is, all) ↦ rw (eqb-true function 11 is) (took (Sent from 11) [] (from, true) x octets rest all broadcast)
+        | inr (_, most) ↦ let (is, four) = only_if _ most in
+            rw (eqb-true function 4 is) (forwarded_takes from octets x rest four)
       ]
     ]
 
@@ -228,31 +226,30 @@ carried_takes : (from : Station) (datagram : List ℕ) (d : Delivery) → carrie
     → Carries from datagram d
 unfolding carried link_at
 carried_takes _ (kind ∷ function ∷ high ∷ low ∷ octets) d e =
-    let a = bind_some _ _ _ e in
-    let b = bind_some _ _ _ a.2 in
-    let here = only_if _ a.1 in
-    let counted = only_if _ here.1 in
-    let origin = origin_takes function _ _ _ _ counted.1 in
-    let header = header_reader.takes _ _ _ b.1 in
-    let heard = heeded_takes a.0.0.0 _ b.0.0 _ d b.2 in
-    let line : octets ≡ origin.0 ++ (header.front ++ b.0.1) = origin.2
-    ∙ ap (λ (w : List ℕ). origin.0 ++ w) header.whole in
-    rw (← heard.1) (record {
+    let (((sender, to_all), _), link_read, more) = bind_some _ _ _ e in
+    let ((network, apdu), header_read, heeded) = bind_some _ _ _ more in
+    let (bacnet_ip, counted_read) = only_if _ link_read in
+    let (counted, origin_read) = only_if _ counted_read in
+    let (origin, sent, behind) = origin_takes function _ _ _ _ origin_read in
+    let header = header_reader.takes _ _ _ header_read in
+    let (heard, same) = heeded_takes sender _ network _ d heeded in
+    let line : octets ≡ origin ++ (header.front ++ apdu) = behind ∙ ap (λ (w : List ℕ). origin ++ w) header.whole in
+    rw (← same) (record {
       function = function;
       high = high;
       low = low;
-      origin = origin.0;
+      origin = origin;
       header = header.front;
-      sender = a.0.0.0;
-      to_all = a.0.0.1;
-      network = b.0.0;
-      whole = ap (λ (k : ℕ). k ∷ function ∷ high ∷ low ∷ octets) (eqb-true _ 129 here.0)
+      sender = sender;
+      to_all = to_all;
+      network = network;
+      whole = ap (λ (k : ℕ). k ∷ function ∷ high ∷ low ∷ octets) (eqb-true _ 129 bacnet_ip)
           ∙ ap (λ (w : List ℕ). 129 ∷ function ∷ high ∷ low ∷ w) line;
-      counted = eqb-true _ _ counted.0 ∙ omega arith;
-      sent = origin.1;
+      counted = eqb-true _ _ counted ∙ omega arith;
+      sent = sent;
       headed = header.spelled;
-      destined = heard.0.destined;
-      answerable = heard.0.answerable;
+      destined = heard.destined;
+      answerable = heard.answerable;
       peer = refl;
       broadcast = refl;
     })
@@ -356,5 +353,6 @@ pub one_taken : (to : Option NetworkAddress) (expect : Bool) (datagram a b : Lis
 one_taken to _ _ a b s t =
     let network : NetworkHeader = record { destination = to; source = None } in
     let same : s.header ++ a ≡ t.header ++ b = ap (λ (w : List ℕ). drop 4 w) (sym s.whole ∙ t.whole) in
-    (some_pair_parts _ _ a b (sym (header_reader.again _ _ a s.headed) ∙ ap header_at same
-    ∙ header_reader.again _ _ b t.headed)).1
+    let (_, apdus) = some_pair_parts _ _ a b (sym (header_reader.again _ _ a s.headed) ∙ ap header_at same
+    ∙ header_reader.again _ _ b t.headed) in
+    apdus

@@ -14,18 +14,18 @@ who_is_takes : (body : List ℕ) (w : WhoIs) → who_is_of body ≡ Some w → I
 unfolding who_is_of
 who_is_takes [] w e = let same : limits.All ≡ w = cc in subst (IsWhoIsBody []) same refl
 who_is_takes (x ∷ xs) w e =
-    let a = bind_some _ _ _ e in
-    let b = bind_some _ _ _ a.2 in
-    let end = whole_ended (limits.Range _ _) w _ b.2 in
-    subst (IsWhoIsBody _) end.1
-    (a.0.1, (numbered_step 0).takes _ _ _ a.1, (b.0.1, (numbered_step 1).takes _ _ _ b.1, end.0))
+    let ((_, behind), low, more) = bind_some _ _ _ e in
+    let ((_, rest), high, whole) = bind_some _ _ _ more in
+    let (all, same) = whole_ended (limits.Range _ _) w _ whole in
+    subst (IsWhoIsBody _) same
+    (behind, (numbered_step 0).takes _ _ _ low, (rest, (numbered_step 1).takes _ _ _ high, all))
 
 who_is_again : (body : List ℕ) (w : WhoIs) → IsWhoIsBody body w → who_is_of body ≡ Some w
 unfolding who_is_of
 who_is_again _ limits.All s = cc
 who_is_again [] (limits.Range low high) s = cc
-who_is_again (x ∷ xs) (limits.Range low high) s =
-    rw ((numbered_step 0).again _ _ _ s.1, (numbered_step 1).again _ _ _ s.2.1, s.2.2) refl
+who_is_again (x ∷ xs) (limits.Range low high) (_, first, (_, second, all)) =
+    rw ((numbered_step 0).again _ _ _ first, (numbered_step 1).again _ _ _ second, all) refl
 
 pub who_is_is : (body : List ℕ) (w : WhoIs) → (who_is_of body ≡ Some w) ↔ IsWhoIsBody body w
 who_is_is _ w = (who_is_takes _ w, who_is_again _ w)
@@ -35,47 +35,49 @@ who_is_is _ w = (who_is_takes _ w, who_is_again _ w)
 then_takes : {A B : Type 0} {made : A → Datum} {at : List ℕ → Option (A × List ℕ)} → IsStep Spells made at
     → (octets : List ℕ) (f : A × List ℕ → Option B) (y : B) → (at octets >>= f) ≡ Some y
     → (x : A) × (rest : List ℕ) × Begins Spells octets (made x) rest × (f (x, rest) ≡ Some y)
-then_takes step _ f y e = let a = bind_some _ _ _ e in (a.0.0, a.0.1, step.takes _ _ _ a.1, a.2)
+then_takes step _ f y e =
+    let ((x, rest), read, more) = bind_some _ _ _ e in (x, rest, step.takes _ _ _ read, more)
 
 introduction_takes : (body : List ℕ) (i : Introduction) → introduction_of body ≡ Some i → IsIAmBody body i
 unfolding introduction_of
 introduction_takes _ i e =
-    let a = then_takes object_step _ _ _ e in
-    let b = then_takes unsigned_step _ _ _ a.3 in
-    let c = then_takes enumerated_step _ _ _ b.3 in
-    let d = then_takes unsigned_step _ _ _ c.3 in
-    let eight = only_if _ d.3 in
-    let end = whole_ended _ i _ eight.1 in
-    subst (IsIAmBody _) end.1 (record {
-      device = eqb-true _ 8 eight.0;
-      spelled = (a.1, a.2, (b.1, b.2, (c.1, c.2, (d.1, d.2, end.0))));
+    let (_, a, device, behind_device) = then_takes object_step _ _ _ e in
+    let (_, b, size, behind_size) = then_takes unsigned_step _ _ _ behind_device in
+    let (_, c, segments, behind_segments) = then_takes enumerated_step _ _ _ behind_size in
+    let (_, d, vendor, behind_vendor) = then_takes unsigned_step _ _ _ behind_segments in
+    let (eight, whole) = only_if _ behind_vendor in
+    let (all, same) = whole_ended _ i _ whole in
+    subst (IsIAmBody _) same (record {
+      device = eqb-true _ 8 eight;
+      spelled = (a, device, (b, size, (c, segments, (d, vendor, all))));
     })
 
 pub introduction_is : (body : List ℕ) (i : Introduction) → (introduction_of body ≡ Some i) ↔ IsIAmBody body i
 unfolding introduction_of
 introduction_is _ i = (
   introduction_takes _ i,
-  λ s. let t = s.spelled in rw (
-    object_step.again _ _ _ t.1,
-    unsigned_step.again _ _ _ t.2.1,
-    enumerated_step.again _ _ _ t.2.2.1,
-    unsigned_step.again _ _ _ t.2.2.2.1,
+  λ s. let (_, device, (_, size, (_, segments, (_, vendor, all)))) = s.spelled in rw (
+    object_step.again _ _ _ device,
+    unsigned_step.again _ _ _ size,
+    enumerated_step.again _ _ _ segments,
+    unsigned_step.again _ _ _ vendor,
     eq-eqb _ 8 s.device,
-    t.2.2.2.2,
+    all,
   ) refl,
 )
 
 error_again : (body : List ℕ) (x : ℕ × ℕ) → IsErrorBody body x → error_of body ≡ Some x
 unfolding error_of
-error_again _ x s = rw (enumerated_step.again _ _ _ s.1.1, enumerated_step.again _ _ _ s.1.2.1) refl
+error_again _ x (_, (_, class, (_, code, _))) =
+    rw (enumerated_step.again _ _ _ class, enumerated_step.again _ _ _ code) refl
 
 pub error_is : (body : List ℕ) (x : ℕ × ℕ) → (error_of body ≡ Some x) ↔ IsErrorBody body x
 unfolding error_of
 error_is _ x = (
   λ e.
-      let a = then_takes enumerated_step _ _ _ e in
-      let b = then_takes enumerated_step _ _ _ a.3 in
-      let same : ◌≡◌ {A = ℕ × ℕ} (a.0, b.0) x = cc (b.3) in
-      subst (IsErrorBody _) same (b.1, (a.1, a.2, (b.1, b.2, refl))),
+      let (class, behind, class_read, more) = then_takes enumerated_step _ _ _ e in
+      let (code, rest, code_read, made) = then_takes enumerated_step _ _ _ more in
+      let same : ◌≡◌ {A = ℕ × ℕ} (class, code) x = cc made in
+      subst (IsErrorBody _) same (rest, (behind, class_read, (rest, code_read, refl))),
   error_again _ x,
 )

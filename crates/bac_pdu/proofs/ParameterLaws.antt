@@ -29,16 +29,16 @@ value_step = reader_step _ (enclosed_reader 3) (λ front x s. s) (λ front x s. 
 
 module _ (number : ℕ) (made : ℕ → Parameter) (step : IsStep SpellsParameter made (number_at number)) where
   optional_begins_at : (octets : List ℕ) (read : Option (ℕ × List ℕ)) → number_at number octets ≡ read
-      → SpellsTo SpellsParameter octets (optional made (or_none octets read).0) (or_none octets read).1
+      → (let (i, rest) = or_none octets read in SpellsTo SpellsParameter octets (optional made i) rest)
   optional_begins_at = grind arith
 
   -- what was read of a number that may be there is spelled
   pub optional_begins : (octets : List ℕ)
-      → SpellsTo SpellsParameter octets (optional made (optional_at number octets).0) (optional_at number octets).1
+      → (let (i, rest) = optional_at number octets in SpellsTo SpellsParameter octets (optional made i) rest)
   optional_begins _ = optional_begins_at _ _ refl
 
   pub optional_read : (octets : List ℕ) (i : Option ℕ) (rest : List ℕ)
       → SpellsTo SpellsParameter octets (optional made i) rest
       → (i ≡ None → number_at number rest ≡ None) → optional_at number octets ≡ (i, rest)
   optional_read _ None _ s none = rw (ap (number_at _) s ∙ none refl) (cc)
-  optional_read _ (Some n) _ s none = rw (step.again _ n _ s.1) (cc)
+  optional_read _ (Some n) _ (_, first, last) none = rw (step.again _ n _ first) (cc)

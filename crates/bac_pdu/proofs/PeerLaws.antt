@@ -37,14 +37,14 @@ same_octets a b e =
 pub route_decides : (a b : Route) → (route_eq.it a b ≡ true) ↔ (network_address a ≡ network_address b)
 route_decides a b = (
   (λ e.
-      let first = and_parts _ _ e in
-      let second = and_parts _ _ first.1 in
-      let octets = (bytes_decides a.octets b.octets).0 second.1 in
-      rw (eqb-true _ _ first.0, eqb-true a.count b.count second.0, octets) refl),
+      let (network, others) = and_parts _ _ e in
+      let (count, octets) = and_parts _ _ others in
+      let same = (bytes_decides a.octets b.octets).0 octets in
+      rw (eqb-true a.network b.network network, eqb-true a.count b.count count, same) refl),
   (λ e.
-      let same = same_octets a b e in
-      rw (eq-eqb _ b.network (ap (λ (n : NetworkAddress). n.network) e), eq-eqb a.count b.count same.0)
-      ((bytes_decides a.octets b.octets).1 same.1)),
+      let (count, octets) = same_octets a b e in
+      rw (eq-eqb _ b.network (ap (λ (n : NetworkAddress). n.network) e), eq-eqb a.count b.count count)
+      ((bytes_decides a.octets b.octets).1 octets)),
 )
 
 routes_decide : (a b : Option Route)

@@ -11,30 +11,32 @@ module _ {A : Type 0} (Spells : List ℕ → A → Type 0) where
       → SpellsTo Spells octets xs mid
       → SpellsTo Spells mid ys rest → SpellsTo Spells octets (xs ++ ys) rest
   then_to _ _ rest [] ys s t = subst (λ (w : List ℕ). SpellsTo Spells w ys rest) (sym s) t
-  then_to _ _ _ (x ∷ xs) ys s t = (s.0, s.1, then_to s.0 _ _ xs _ s.2 t)
+  then_to _ _ _ (x ∷ xs) ys (next, first, later) t = (next, first, then_to next _ _ xs _ later t)
 
   pub split_to : (octets rest : List ℕ) (xs ys : List A)
       → SpellsTo Spells octets (xs ++ ys) rest
       → (mid : List ℕ) × SpellsTo Spells octets xs mid × SpellsTo Spells mid ys rest
   split_to octets _ [] ys s = (octets, refl, s)
-  split_to _ _ (x ∷ xs) ys s = let t = split_to s.0 _ xs _ s.2 in (t.0, (s.0, s.1, t.1), t.2)
+  split_to _ _ (x ∷ xs) ys (next, first, later) =
+      let (mid, others, behind) = split_to next _ xs _ later in (mid, (next, first, others), behind)
 
   -- what is spelled in front of a rest
   pub to_front : (octets rest : List ℕ) (xs : List A)
       → SpellsTo Spells octets xs rest
       → (front : List ℕ) × SpellsAll Spells front xs × (octets ≡ front ++ rest)
   to_front _ _ [] s = ([], refl, s)
-  to_front _ _ (x ∷ xs) s =
-      let t = to_front s.0 _ xs s.2 in (
-        s.1.front ++ t.0,
-        (t.0, record { front = s.1.front; spelled = s.1.spelled; whole = refl }, t.1),
-        s.1.whole ∙ ap (λ (w : List ℕ). s.1.front ++ w) t.2 ∙ sym (append_assoc _ t.0 _),
+  to_front _ _ (x ∷ xs) (next, first, later) =
+      let (front, others, whole) = to_front next _ xs later in (
+        first.front ++ front,
+        (front, record { front = first.front; spelled = first.spelled; whole = refl }, others),
+        first.whole ∙ ap (λ (w : List ℕ). first.front ++ w) whole ∙ sym (append_assoc _ front _),
       )
 
   pub from_front : (octets front rest : List ℕ) (xs : List A)
       → octets ≡ front ++ rest → SpellsAll Spells front xs → SpellsTo Spells octets xs rest
   from_front _ _ rest [] e s = e ∙ ap (λ (w : List ℕ). w ++ rest) s
-  from_front _ front rest (x ∷ xs) e s = grind (arith, append_assoc, from_front (s.0 ++ rest) s.0 _ xs refl s.2)
+  from_front _ front rest (x ∷ xs) e (next, first, later) =
+      grind (arith, append_assoc, from_front (next ++ rest) next _ xs refl later)
 
 -- ---- a whole body
 
@@ -50,7 +52,7 @@ module _ {A : Type 0} (Spells : List ℕ → A → Type 0) (plain : A → List �
   pub all_spell : (xs : List A) (rest : List ℕ) → AllByRecursion Is xs
       → SpellsTo Spells (flat_map plain xs ++ rest) xs rest
   all_spell [] _ h = refl
-  all_spell (x ∷ xs) rest h = grind (arith, append_assoc, all_spell xs rest h.1)
+  all_spell (x ∷ xs) rest (is, are) = grind (arith, append_assoc, all_spell xs rest are)
 
   -- what is written of these things spells them
   pub whole_spell : (xs : List A) → AllByRecursion Is xs → SpellsAll Spells (flat_map plain xs) xs

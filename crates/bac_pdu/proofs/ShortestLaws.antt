@@ -76,7 +76,8 @@ number_shortest : (number n : ℕ) (octets : List ℕ) → AreOctets octets → 
     → length (number_octets number n) ≤ length octets
 number_shortest _ n _ fit s =
     let inner = behind s.context.front _ (search arith) in
-    let le = octet_count_least _ n s.stands.0 (rw s.stands.2 (big_from-lt 0 _ _ inner)) in
+    let (low, _, is) = s.stands in
+    let le = octet_count_least _ n low (rw is (big_from-lt 0 _ _ inner)) in
     context_least _ _ _ _ fit s.context (omega arith) (search arith)
 
 object_shortest : (number : ℕ) (id : Identifier) (octets : List ℕ) → AreOctets octets
@@ -107,10 +108,10 @@ module _ {A : Type 0} (Spells : List ℕ → A → Type 0) (plain : A → List �
       → SpellsTo Spells octets xs rest
       → length (flat_map plain xs) + length rest ≤ length octets
   all_least [] _ _ h fit s = omega (arith, ap length s)
-  all_least (x ∷ xs) _ _ h fit s =
-      let fits = subst AreOctets s.1.whole fit in
-      let first = (each x h.0).shortest _ (ahead _ _ fits) s.1.spelled in
-      let others = all_least xs _ _ h.1 (behind _ _ fits) s.2 in
+  all_least (x ∷ xs) _ _ (is, are) fit (_, front, more) =
+      let fits = subst AreOctets front.whole fit in
+      let first = (each x is).shortest _ (ahead _ _ fits) front.spelled in
+      let others = all_least xs _ _ are (behind _ _ fits) more in
       grind (arith, length-append)
 
   all_shortest : (xs : List A) → AllByRecursion Is xs
@@ -161,8 +162,8 @@ write_back o h urgent = grind (arith, write_again, write_shortest)
 pub who_is_shortest : (w : WhoIs) → HasLimits w → IsShortest IsWhoIsBody (who_is_octets w) w
 unfolding plain_parameter
 who_is_shortest limits.All h = record { spelled = refl; shortest = λ other fit s. omega arith }
-who_is_shortest (limits.Range low high) h =
-    let all = parameters_shortest (numbered 0 _ ∷ numbered 1 _ ∷ []) ((omega arith, h.0), ((omega arith, h.1), tt)) in
+who_is_shortest (limits.Range low high) (l, h) =
+    let all = parameters_shortest (numbered 0 _ ∷ numbered 1 _ ∷ []) ((omega arith, l), ((omega arith, h), tt)) in
     rw (← append-nil (number_octets 1 _)) (record { spelled = all.spelled; shortest = all.shortest })
 
 pub limits_back : (w : WhoIs) → HasLimits w → who_is_of (who_is_octets w) ≡ Some w
@@ -197,9 +198,9 @@ error_shortest class code a b = record {
     [],
     grind (arith, whole_spell),
   );
-  shortest = λ other fit s. let all =
-      all_least _ plain _ (λ x is. is) (enumerated class ∷ enumerated code ∷ []) other s.0 (a, (b, tt)) fit
-      s.1 in omega arith;
+  shortest = λ other fit (rest, s). let all =
+      all_least _ plain _ (λ x is. is) (enumerated class ∷ enumerated code ∷ []) other rest (a, (b, tt)) fit s in
+      omega arith;
 }
 
 -- what is written of an error is read back, whatever follows
@@ -218,7 +219,7 @@ error_back = grind (arith, error_is_back, plain_spells)
 all_append : {A : Type 0} (Is : A → Type 0) (xs ys : List A) → AllByRecursion Is xs → AllByRecursion Is ys
     → AllByRecursion Is (xs ++ ys)
 all_append Is [] ys h k = k
-all_append Is (x ∷ xs) ys h k = (h.0, all_append _ xs _ h.1 k)
+all_append Is (x ∷ xs) ys (is, are) k = (is, all_append _ xs _ are k)
 
 pub ack_known : (a : ReadAck) → AllByRecursion IsParameter (reference_parameters a.reference) → IsRegion 32 a.value
     → AllByRecursion IsParameter (ack_parameters a)

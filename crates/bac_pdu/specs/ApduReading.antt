@@ -19,19 +19,20 @@ service_at (service ∷ body) = Some (service, body)
 -- The part, the service and the body.
 unfoldable pub parts_at : ℕ → List ℕ → Option (Option Part × ℕ × List ℕ)
 parts_at first octets = do
-  part ← part_at first octets (bit 3 first)
-  service ← service_at part.1
-  Some (part.0, service.0, service.1)
+  (part, behind) ← part_at first octets (bit 3 first)
+  (service, body) ← service_at behind
+  Some (part, service, body)
 
 -- The Confirmed-Request behind a first octet.
 abbrev pub confirmed_of : ℕ → List ℕ → Option Message
 confirmed_of first (second ∷ id ∷ octets) =
-    parts_at first octets >>= (λ x. Some (confirmed x.0 (second % 16) id x.1 x.2))
+    parts_at first octets >>= (λ (part, service, body). Some (confirmed part (second % 16) id service body))
 confirmed_of first _ = None
 
 -- The ComplexACK behind a first octet.
 abbrev pub complex_ack_of : ℕ → List ℕ → Option Message
-complex_ack_of first (id ∷ octets) = parts_at first octets >>= (λ x. Some (complex_ack x.0 id x.1 x.2))
+complex_ack_of first (id ∷ octets) =
+    parts_at first octets >>= (λ (part, service, body). Some (complex_ack part id service body))
 complex_ack_of first _ = None
 
 -- The APDU behind a first octet, where its type has the invoke id, one octet more, and perhaps a rest.
@@ -44,7 +45,7 @@ unfoldable pub apdu_of : List ℕ → Option Message
 apdu_of [] = None
 apdu_of (first ∷ octets) =
     if first / 16 == 0 then confirmed_of first octets
-    else if first / 16 == 1 then service_at octets >>= (λ x. Some (unconfirmed x.0 x.1))
+    else if first / 16 == 1 then service_at octets >>= (λ (service, body). Some (unconfirmed service body))
     else if first / 16 == 2 then numbered_of (λ id service _. simple_ack id service) octets
     else if first / 16 == 3 then complex_ack_of first octets
     else if first / 16 == 4 then Some segment_ack

@@ -14,14 +14,14 @@ counted_at (count ∷ octets) = if nat_lt (length octets) count then None else S
 -- The network and the address of a station, and the octets behind them.
 unfoldable pub address_at : List ℕ → Option (NetworkAddress × List ℕ)
 address_at octets = do
-  network ← two_at octets
-  address ← counted_at network.1
-  Some (record { network = network.0; address = address.0 }, address.1)
+  (network, behind) ← two_at octets
+  (address, rest) ← counted_at behind
+  Some (record { network = network; address = address }, rest)
 
 -- The address that a bit announces, where it does, and the octets behind it.
 abbrev pub announced_at : Bool → List ℕ → Option (Option NetworkAddress × List ℕ)
 announced_at false octets = Some (None, octets)
-announced_at true octets = address_at octets >>= (λ x. Some (Some x.0, x.1))
+announced_at true octets = address_at octets >>= (λ (address, rest). Some (Some address, rest))
 
 -- The octets behind the hop count, which stands there where a destination does.
 abbrev pub behind_hops : Bool → List ℕ → Option (List ℕ)
@@ -32,10 +32,10 @@ behind_hops true (_ ∷ octets) = Some octets
 -- The network header behind this control octet, and the APDU behind it.
 abbrev pub behind_control : ℕ → List ℕ → Option (NetworkHeader × List ℕ)
 behind_control control octets = do
-  destination ← announced_at (bit 5 control) octets
-  source ← announced_at (bit 3 control) destination.1
-  apdu ← behind_hops (bit 5 control) source.1
-  Some (record { destination = destination.0; source = source.0 }, apdu)
+  (destination, behind) ← announced_at (bit 5 control) octets
+  (source, after) ← announced_at (bit 3 control) behind
+  apdu ← behind_hops (bit 5 control) after
+  Some (record { destination = destination; source = source }, apdu)
 
 -- The network header at the front, of version 1 and with bit 7 clear, and the APDU behind it.
 unfoldable pub header_at : List ℕ → Option (NetworkHeader × List ℕ)
@@ -82,12 +82,12 @@ is_answerable source = option_map_or is_routable source true
 -- What the datagram carries, or nothing where it is ignored.
 unfoldable pub carried : Station → List ℕ → Option Delivery
 carried from datagram = do
-  link ← link_at from datagram
-  header ← header_at link.1
-  if is_for_all header.0.destination && is_answerable header.0.source
+  ((sender, to_all), behind) ← link_at from datagram
+  (header, apdu) ← header_at behind
+  if is_for_all header.destination && is_answerable header.source
       then Some (record {
-        peer = record link.0.0 { route = header.0.source };
-        broadcast = link.0.1 || is_some header.0.destination;
-        apdu = header.1;
+        peer = record sender { route = header.source };
+        broadcast = to_all || is_some header.destination;
+        apdu = apdu;
       })
       else None

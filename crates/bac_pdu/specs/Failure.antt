@@ -4,7 +4,8 @@ use Rattle.bac_wire.specs.{Datum.{enumerated, Spells, plain}, Front.SpellsTo}
 
 -- The body of an Error: the class and the code stand at the front, and what follows is not looked at.
 abbrev pub IsErrorBody : List ℕ → ℕ × ℕ → Type 0
-IsErrorBody body x = (rest : List ℕ) × SpellsTo Spells body (enumerated x.0 ∷ enumerated x.1 ∷ []) rest
+IsErrorBody body (class, code) =
+    (rest : List ℕ) × SpellsTo Spells body (enumerated class ∷ enumerated code ∷ []) rest
 
 -- The body that is written of an Error.
 abbrev pub error_octets : ℕ → ℕ → List ℕ

@@ -9,7 +9,7 @@ use Rattle.bac_pdu.specs.{Property.{Reference, ReadAck, Order}, Steps.◌>>=◌}
 -- What was read, and the octets behind it; where nothing was read, all octets are left.
 abbrev pub or_none : {A : Type 0} → List ℕ → Option (A × List ℕ) → Option A × List ℕ
 or_none octets None = (None, octets)
-or_none octets (Some x) = (Some x.0, x.1)
+or_none octets (Some (x, rest)) = (Some x, rest)
 
 -- A number under this tag where there is one.
 abbrev pub optional_at : ℕ → List ℕ → Option ℕ × List ℕ
@@ -24,10 +24,9 @@ unless_missing (x ∷ xs) found = ok_or found InvalidTag
 -- The property that the front of a body names, and the octets behind it.
 unfoldable pub reference_at : List ℕ → Result (Reference × List ℕ) RejectReason
 reference_at body = do
-  object ← unless_missing body (object_at 0 body)
-  property ← unless_missing object.1 (number_at 1 object.1)
-  let index = optional_at 2 property.1 in
-      Ok (record { object = object.0; property = property.0; index = index.0 }, index.1)
+  (object, behind) ← unless_missing body (object_at 0 body)
+  (property, after) ← unless_missing behind (number_at 1 behind)
+  let (index, rest) = optional_at 2 after in Ok (record { object = object; property = property; index = index }, rest)
 
 -- The result, where no octet is left.
 abbrev pub whole_of : {A : Type 0} → A → List ℕ → Option A
@@ -37,8 +36,8 @@ whole_of x (_ ∷ _) = None
 -- What the body of a ReadProperty asks for, or why it is rejected.
 unfoldable pub read_of : List ℕ → Result Reference RejectReason
 read_of body = do
-  r ← reference_at body
-  ok_or (whole_of r.0 r.1) TooMany
+  (reference, rest) ← reference_at body
+  ok_or (whole_of reference rest) TooMany
 
 -- Whether the priority is 1 to 16, or none is named.
 abbrev pub is_priority : Option ℕ → Bool
@@ -47,17 +46,17 @@ is_priority priority = option_map_or (λ n. nat_lt 0 n && nat_lt n 17) priority 
 -- What the body of a WriteProperty orders, or why it is rejected.
 unfoldable pub write_of : List ℕ → Result Order RejectReason
 write_of body = do
-  r ← reference_at body
-  value ← unless_missing r.1 (enclosed_at 3 r.1)
-  let last = optional_at 4 value.1 in do
-    priority ← ok_or (whole_of last.0 last.1) TooMany
+  (reference, behind) ← reference_at body
+  (value, after) ← unless_missing behind (enclosed_at 3 behind)
+  let (named, rest) = optional_at 4 after in do
+    priority ← ok_or (whole_of named rest) TooMany
     if is_priority priority
-        then Ok (record { reference = r.0; value = value.0; priority = priority })
+        then Ok (record { reference = reference; value = value; priority = priority })
         else Err OutOfRange
 
 -- What the body of a ReadProperty-ACK says. Where a request would be rejected for its body, it says nothing.
 unfoldable pub ack_of : List ℕ → Option ReadAck
 ack_of body = result_ok (do
-  r ← reference_at body
-  value ← unless_missing r.1 (enclosed_at 3 r.1)
-  ok_or (whole_of (record { reference = r.0; value = value.0 }) value.1) TooMany)
+  (reference, behind) ← reference_at body
+  (value, rest) ← unless_missing behind (enclosed_at 3 behind)
+  ok_or (whole_of (record { reference = reference; value = value }) rest) TooMany)

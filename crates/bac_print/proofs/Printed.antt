@@ -25,25 +25,25 @@ module _ {W : Type 0} {contents : W → Option (List ℕ)} where
   writes_more {before} {middle} {after} {held} {between} {kept} {text} {more} first second =
       elim (cases_Bool (has_failed middle)) [
         | inl bad ↦
-            let lost = second.stopped bad in
+            let (same, untaken) = second.stopped bad in
             record {
               taken = first.taken;
               rest = first.rest ++ more;
-              took = let both = Took-more first.took second.took in rw (lost.1, append-nil _) at both;
+              took = let both = Took-more first.took second.took in rw (untaken, append-nil _) at both;
               whole = grind (arith, append_assoc);
-              sound = λ h. absurd (false≢true (sym h ∙ ap (λ (w : Checked W). has_failed w) lost.0 ∙ bad));
-              stopped = λ h. (lost.0 ∙ (first.stopped h).0, (first.stopped h).1);
+              sound = λ h. absurd (false≢true (sym h ∙ ap (λ (w : Checked W). has_failed w) same ∙ bad));
+              stopped = λ h. let (before, none) = first.stopped h in (same ∙ before, none);
             }
         | inr good ↦
-            let gone = first.sound good in
+            let (sound, out) = first.sound good in
             record {
               taken = first.taken ++ second.taken;
               rest = second.rest;
               took = Took-more first.took second.took;
               whole = grind (arith, append_assoc);
-              sound = λ h. (gone.0, (second.sound h).1);
-              stopped = λ h. absurd
-                  (false≢true (sym good ∙ ap (λ (w : Checked W). has_failed w) (first.stopped h).0 ∙ h));
+              sound = λ h. let (_, left) = second.sound h in (sound, left);
+              stopped = λ h. let (same, _) = first.stopped h in
+                  absurd (false≢true (sym good ∙ ap (λ (w : Checked W). has_failed w) same ∙ h));
             }
       ]
 

@@ -43,10 +43,10 @@ one_line line some all fronts stage is_first count = go (said is_first line)
     go : (s : Result Said LineFault) → IsFrontOf (and_on stage count s (course_on stage is_first count some)).text
         (and_on stage count s (course_on stage is_first count all)).text
     go (Ok one) =
-        let f = fronts (ran stage one).after (is_first && is_nothing one) (count + 1) in (
-          f.0,
-          ap (λ (ys : List ℕ). (ran stage one).text ++ ys) f.1
-              ∙ sym (append_assoc (ran stage one).text (course_on stage is_first count some one).text f.0),
+        let (rest, whole) = fronts (ran stage one).after (is_first && is_nothing one) (count + 1) in (
+          rest,
+          ap (λ (ys : List ℕ). (ran stage one).text ++ ys) whole
+              ∙ sym (append_assoc (ran stage one).text (course_on stage is_first count some one).text rest),
         )
     go (Err _) = ([], refl)
 
@@ -92,7 +92,5 @@ lines_front (suc n) octets more reading within =
 pub text_front : (octets more : List ℕ) (reading : Reading)
     → IsFrontOf (text octets Open) (text (octets ++ more) reading)
 text_front octets more reading =
-    let f = lines_front (length octets) octets more reading (omega arith) first_stage true 0 in (
-      f.0,
-      grind (arith, runs_text),
-    )
+    let (rest, whole) = lines_front (length octets) octets more reading (omega arith) first_stage true 0 in
+    (rest, grind (arith, runs_text))

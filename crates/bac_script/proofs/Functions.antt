@@ -96,17 +96,18 @@ module _ {R S V W : Type 0} {remaining : R → Option (List ℕ)} {remaining' : 
   pub traces_front : GaveFront reader' other_reader' → (text : List ℕ) × IsFrontOf (octets_of writer') text
       × IsWrittenOf (octets_of other_writer') text other_answer
   traces_front less =
-      let front = front_of run.given run.reading run.written answer run.runs in
+      let (unwritten, written) = front_of run.given run.reading run.written answer run.runs in
       let lines_are = same_lines run.given run.reading Open (grind arith) in
-      let open_text : text run.given Open ≡ run.written ++ front.0 = grind arith in
-      let given : other.given ≡ run.given ++ less.front.0 = grind arith in
-      let more = text_front run.given less.front.0 other.reading in (
+      let open_text : text run.given Open ≡ run.written ++ unwritten = grind arith in
+      let (ungiven, gave) = less.front in
+      let given : other.given ≡ run.given ++ ungiven = grind arith in
+      let (more, whole) = text_front run.given ungiven other.reading in (
         text other.given other.reading,
         (
-          front.0 ++ more.0,
-          ap (λ (xs : List ℕ). text xs other.reading) given ∙ more.1 ∙ ap (λ (xs : List ℕ). xs ++ more.0) open_text
-              ∙ append_assoc run.written front.0 more.0
-              ∙ ap (λ (xs : List ℕ). xs ++ (front.0 ++ more.0)) (sym run.took.passed),
+          unwritten ++ more,
+          ap (λ (xs : List ℕ). text xs other.reading) given ∙ whole ∙ ap (λ (xs : List ℕ). xs ++ more) open_text
+              ∙ append_assoc run.written unwritten more
+              ∙ ap (λ (xs : List ℕ). xs ++ (unwritten ++ more)) (sym run.took.passed),
         ),
         grind arith,
       )

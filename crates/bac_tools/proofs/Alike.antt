@@ -31,9 +31,9 @@ module _ {A B : Type 0} (IsCut : A → Type 0) (Ended Printed' : A → A → Typ
     (Ended' Printed'' : B → B → Type 0) (r s : A) (t u : B) (cut : IsCut r → IsCut' t) (other_cut : IsCut s → IsCut' u)
     (ends : Ended r s → Ended' t u) (prints : Printed' r s → Printed'' t u) where
   going : (xs ys : List Entry) → GoOnAlike IsCut Ended Printed' r s xs ys → GoOnAlike IsCut' Ended' Printed'' t u xs ys
-  going [] [] both = (ends both.0, prints both.1)
+  going [] [] (end, print) = (ends end, prints print)
   going (x ∷ xs) (y ∷ ys) asks = asks
-  going [] (y ∷ ys) both = (cut both.0, prints both.1)
+  going [] (y ∷ ys) (here, print) = (cut here, prints print)
   going (x ∷ xs) [] both = search
 
 -- ---- two tools over their links
@@ -71,13 +71,13 @@ module _ {Origin Other V W : Type 0} (contents : V → Option (List ℕ)) (conte
   calls : (purpose : Purpose) (call : Call) → Tells purpose call contents (fresh writer) wrote seen left answer
       → Tells purpose call contents' (fresh writer') wrote' seen' left' answer' → Same
   calls purpose call a b =
-      let both = calls_so_far purpose call contents contents' (fresh writer) wrote (fresh writer') wrote' seen left
-      seen' left' answer answer' first rest first' rest' a b gains gains' same in (
-        both.0,
+      let (asked, on) = calls_so_far purpose call contents contents' (fresh writer) wrote (fresh writer') wrote' seen
+      left seen' left' answer answer' first rest first' rest' a b gains gains' same in (
+        asked,
         going (λ r. ⊥) (λ r s. r ≢ Err WriteFailed → s ≢ Err WriteFailed → r ≡ s)
             (OneText contents (fresh writer) wrote contents' (fresh writer') wrote') IsCutOff EndSame PrintSame answer
             answer' (tool_report answer) (tool_report answer') (λ none. absurd none) (λ none. absurd none)
-            (grind arith) one_text rest rest' both.1,
+            (grind arith) one_text rest rest' on,
       )
 
   tools : (tool : Tool) → ToolRuns contents (fresh writer) wrote seen left answer tool
@@ -85,18 +85,18 @@ module _ {Origin Other V W : Type 0} (contents : V → Option (List ℕ)) (conte
   tools (Read call) a b = calls Reading call a b
   tools (Write call) a b = calls Writing call a b
   tools (WhoIs search) a b =
-      let both = searches_so_far contents contents' search (fresh writer) wrote (fresh writer') wrote' seen left seen'
-      left' answer answer' first rest first' rest' a b gains gains' same in (
-        both.0,
+      let (asked, on) = searches_so_far contents contents' search (fresh writer) wrote (fresh writer') wrote' seen left
+      seen' left' answer answer' first rest first' rest' a b gains gains' same in (
+        asked,
         going (λ r. r ≡ Err WriteFailed) (λ r s. r ≡ s)
             (OneText contents (fresh writer) wrote contents' (fresh writer') wrote') IsCutOff EndSame PrintSame answer
             answer' (tool_report answer) (tool_report answer') (failed_cut answer) (failed_cut answer')
-            (grind arith) one_text rest rest' both.1,
+            (grind arith) one_text rest rest' on,
       )
-  tools (Device serve) a b =
-      let both = servings_so_far serve.count _ a.0.device b.0.device seen left seen' left' a.0.served b.0.served first
-      rest first' rest' a.0.serves b.0.serves gains gains' same in
-      (both.0, grind arith)
+  tools (Device serve) (a, unprinted) (b, unprinted') =
+      let (asked, on) = servings_so_far serve.count _ a.device b.device seen left seen' left' a.served b.served first
+      rest first' rest' a.serves b.serves gains gains' same in
+      (asked, grind arith)
 
 -- ---- one run
 
@@ -104,8 +104,8 @@ module _ {Origin Other V W : Type 0} (contents : V → Option (List ℕ)) (conte
 not_refused : (words : List Text) (fault : UsageFault) → IsRefusal words fault
     → fault_of bactool (marked_words words) ≡ [] → fault ≡ Memory
 not_refused _ Memory _ _ = refl
-not_refused _ (Help e) refusal taken = absurd (rw taken at refusal.1)
-not_refused _ (Words e) refusal taken = absurd (rw taken at refusal.1)
+not_refused _ (Help e) (_, among) taken = absurd (rw taken at among)
+not_refused _ (Words e) (_, among) taken = absurd (rw taken at among)
 not_refused _ _ refusal _ = absurd refusal
 
 none_both : (xs ys : List Entry) → xs ++ ys ≡ [] → (xs ≡ []) × (ys ≡ [])
@@ -162,9 +162,9 @@ module _ {N Origin L R W M Other K S V : Type 0} {gives : N → Binding → Resu
   -- One was cut off before it asked or printed anything.
   cut_here : one.gained ≡ [] → IsCutOff one.ran.report → octets_of one.writer' ≡ [] → Alike
   cut_here e cut unprinted =
-      let a = none_both first rest (sym h.gained ∙ e) in (
+      let (none, none_later) = none_both first rest (sym h.gained ∙ e) in (
         grind (arith, none_answered),
-        subst (λ (xs : List Entry). GoesOn one.ran.report other.ran.report xs rest') (sym a.1) (go rest'),
+        subst (λ (xs : List Entry). GoesOn one.ran.report other.ran.report xs rest') (sym none_later) (go rest'),
       )
     where
       prints : PrintAlike one other one.ran.report other.ran.report
@@ -178,9 +178,9 @@ module _ {N Origin L R W M Other K S V : Type 0} {gives : N → Binding → Resu
 
   cut_there : other.gained ≡ [] → IsCutOff other.ran.report → octets_of other.writer' ≡ [] → Alike
   cut_there e cut unprinted =
-      let b = none_both first' rest' (sym h.other_gained ∙ e) in (
+      let (none, none_later) = none_both first' rest' (sym h.other_gained ∙ e) in (
         grind (arith, none_answered),
-        subst (GoesOn one.ran.report other.ran.report rest) (sym b.1) (go rest),
+        subst (GoesOn one.ran.report other.ran.report rest) (sym none_later) (go rest),
       )
     where
       prints : PrintAlike one other one.ran.report other.ran.report
@@ -204,12 +204,12 @@ module _ {N Origin L R W M Other K S V : Type 0} {gives : N → Binding → Resu
       left' → (out.seen left).history ≡ (out.seen link).history ++ one.gained
       → (out'.seen left').history ≡ (out'.seen link').history ++ other.gained → Alike
   over tool link left link' left' r s gains gains' =
-      let both = tools out.contents out'.contents one.writer other.writer one.writer' other.writer' (out.seen link)
-      (out.seen left) (out'.seen link') (out'.seen left') r.answer s.answer first rest first' rest' (cc) (cc) h.answers
-      Refused tool r.runs s.runs in (
-        both.0,
+      let (asked, on) = tools out.contents out'.contents one.writer other.writer one.writer' other.writer'
+      (out.seen link) (out.seen left) (out'.seen link') (out'.seen left') r.answer s.answer first rest first' rest'
+      (cc) (cc) h.answers Refused tool r.runs s.runs in (
+        asked,
         subst (λ (x : Report). GoesOn x other.ran.report rest rest') (sym r.reported)
-            (subst (λ (y : Report). GoesOn (tool_report r.answer) y rest rest') (sym s.reported) both.1),
+            (subst (λ (y : Report). GoesOn (tool_report r.answer) y rest rest') (sym s.reported) on),
       )
 
   opened : (tool : Tool) (o p : Option (Result L NoSocket)) (o' p' : Option (Result K NoSocket)) →
@@ -234,12 +234,12 @@ module _ {N Origin L R W M Other K S V : Type 0} {gives : N → Binding → Resu
       | inl same ↦ let both = traces_alike one.reader other.reader one.reader' other.reader' one.writer other.writer
           one.writer' other.writer' r.answer s.answer r.script s.script same in (grind arith, grind arith)
       | inr less ↦ elim less [
-        | inl ours ↦ let front = traces_front one.reader other.reader one.reader' other.reader' one.writer other.writer
-            one.writer' other.writer' r.answer s.answer r.script s.script ours.1 in
-            (λ whole _. absurd (whole ours.0), grind arith)
-        | inr theirs ↦ let front = traces_front other.reader one.reader other.reader' one.reader' other.writer
-            one.writer other.writer' one.writer' s.answer r.answer s.script r.script theirs.1 in
-            (λ _ whole. absurd (whole theirs.0), grind arith)
+        | inl (cut, ours) ↦ let front = traces_front one.reader other.reader one.reader' other.reader' one.writer
+            other.writer one.writer' other.writer' r.answer s.answer r.script s.script ours in
+            (λ whole _. absurd (whole cut), grind arith)
+        | inr (cut, theirs) ↦ let front = traces_front other.reader one.reader other.reader' one.reader' other.writer
+            one.writer other.writer' one.writer' s.answer r.answer s.script r.script theirs in
+            (λ _ whole. absurd (whole cut), grind arith)
       ]
     ]
 
@@ -247,8 +247,8 @@ module _ {N Origin L R W M Other K S V : Type 0} {gives : N → Binding → Resu
       → IsGiven gives out one.network (asked_by job) o → IsGiven gives' out' other.network (asked_by job) o' →
       Mine one job o p → Mine other job o' p' → Gained out.seen o p one.gained → Gained out'.seen o' p' other.gained
       → BothHad o o' → Alike
-  jobs Trace None p None p' given given' r s gains gains' e =
-      let both = scripts r.0 s.0 in none_asked gains gains' both.0 both.1
+  jobs Trace None p None p' given given' (r, _) (s, _) gains gains' e =
+      let (ends, prints) = scripts r s in none_asked gains gains' ends prints
   jobs Trace o p o' p' given given' r s gains gains' e = cc
   jobs (Over tool) o p o' p' _ _ r s gains gains' e = opened tool o p o' p' r s gains gains' e
 
@@ -286,5 +286,5 @@ module _ {N Origin L R W M Other K S V : Type 0} {gives : N → Binding → Resu
   runs_alike =
       let p = one.program in
       let q = other.program in
-      let alike = compared p.answer q.answer refl refl p.answered q.answered p.given q.given p.ends q.ends in
-      record { asked = alike.0; goes_on = alike.1 }
+      let (asked, on) = compared p.answer q.answer refl refl p.answered q.answered p.given q.given p.ends q.ends in
+      record { asked = asked; goes_on = on }

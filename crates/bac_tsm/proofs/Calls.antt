@@ -43,15 +43,15 @@ ticked = grind arith
 
 pub timely-filter : (p : Waiting → Bool) (clock next : ℕ) (ws : List Waiting) → IsTimely clock next ws
     → IsTimely clock next (filter p ws)
-timely-filter p clock next ws t =
-    (All-filter p (λ w. w.request.ticket < next) ws t.0, All-filter p (λ w. w.base ≤ clock) ws t.1)
+timely-filter p clock next ws (tickets, sent) =
+    (All-filter p (λ w. w.request.ticket < next) ws tickets, All-filter p (λ w. w.base ≤ clock) ws sent)
 
 module _ (clock next : ℕ) (ws : List Waiting) (t : IsTimely clock next ws) (now later : ℕ) (is : later ≡ max now clock)
   where
     pub timely-tick : (rules : Rules) (after : List Waiting) → after ≡ flat_map (kept rules later) ws
         → IsTimely later next after
-    timely-tick rules _ to = rw to (
-      kept_of_all rules (λ w. w.request.ticket < next) _ (λ w lt. lt) ws t.0,
+    timely-tick rules _ to = let (tickets, _) = t in rw to (
+      kept_of_all rules (λ w. w.request.ticket < next) _ (λ w lt. lt) ws tickets,
       kept_of_all rules (λ w. w.base ≤ later) _ (λ w le. omega arith) ws (grind arith),
     )
 
@@ -117,9 +117,9 @@ module _ (timeout retries clock last next : ℕ) (ws : List Waiting) (peer : Sta
       Delivers client peer bytes (option_map (λ t. (t, answer.outcome)) ended)
       (seen_as timeout retries clock last next after)
   closed _ same _ _ told left =
-      let few = few_of_one _ _ told _ in
-      rw (← same) (delivers_by _ _ _ _ _ (delivers_one _ _ _ (λ r. rw carried refl) ws few.0
-      ∙ (λ i. record { answer = few.1 i; waiting = sym left i })))
+      let (few, one) = few_of_one _ _ told _ in
+      rw (← same) (delivers_by _ _ _ _ _ (delivers_one _ _ _ (λ r. rw carried refl) ws few
+      ∙ (λ i. record { answer = one i; waiting = sym left i })))
 
 -- The machine opens a request under the next ticket and the next invoke id.
 opened_next : (rules : Rules) (state : State) (peer : Station) (service : ℕ) (body : List ℕ)

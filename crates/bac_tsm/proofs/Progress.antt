@@ -41,9 +41,9 @@ module _ (rules : Rules) (events : List Event) where
   pub due_in_turn : (a k n d i : ℕ) (ticks : List ℕ) → n ≡ k + length ticks → due rules events a k ≡ Some d → d ≤ i →
       TimeoutsPass rules events i ticks → IsSomeAnd (due rules events a n) (λ e. e ≤ last_of i ticks)
   due_in_turn a k n d i [] same is le _ = let e : n ≡ k = omega arith in rw e (rw is le)
-  due_in_turn a k n d i (j ∷ later) same is le pass =
-      let next = some_with _ _ (due_again a k d i j is le pass.0 pass.1) in
-      due_in_turn a (suc k) n _ j later (omega arith) next.1 next.2 pass.2
+  due_in_turn a k n d i (j ∷ later) same is le (behind, waited, pass) =
+      let (_, next, by) = some_with _ _ (due_again a k d i j is le behind waited) in
+      due_in_turn a (suc k) n _ j later (omega arith) next by pass
 
   pub ends_in_turn : (a : Accepted) (m : ℕ) → IsSomeAnd (due rules events a.position (suc rules.retries)) (λ j. j ≤ m) →
       IsSomeAnd (end rules events a) (λ e. e.position ≤ m)
@@ -66,11 +66,11 @@ module _ (rules : Rules) (events : List Event) where
       (a ≤ j) × (clock events (suc j) ≤ clock events (suc a) + k * (rules.timeout + d))
   due_soon a d steady zero j is = grind arith
   due_soon a d steady (suc k) j is =
-      let back = step_back _ (due rules events a k) j is in
-      let before = due_soon a d steady k back.0 back.1 in
-      let behind : back.0 < j = (first_after_from events _ back.0 j back.2).0 in
-      let until = quiet_until back.0 j behind
-      (λ m low high. first_least _ (suc back.0) (length events - suc back.0) j m back.2 (omega arith) high) in
+      let (i, due_then, next) = step_back _ (due rules events a k) j is in
+      let (least, soon) = due_soon a d steady k i due_then in
+      let (behind, _) = first_after_from events _ i j next in
+      let until = quiet_until i j behind
+      (λ m low high. first_least _ (suc i) (length events - suc i) j m next (omega arith) high) in
       (omega arith, omega arith)
 
   -- The last time due, where a later one is missing.
@@ -86,25 +86,25 @@ module _ (rules : Rules) (events : List Event) where
       → due rules events a (suc r) ≡ None →
       clock events n ≤ clock events (suc a) + r * (rules.timeout + d) + rules.timeout
   open_soon a d r n steady none =
-      let last = last_due a (suc r) none in
-      let soon = due_soon a d steady last.0 _ last.3 in
-      let over = sym (due_next rules _ a last.0 _ last.3) ∙ last.4 in
-      let few : last.0 * (rules.timeout + d) ≤ r * (rules.timeout + d) = mul-le-mul_right (rules.timeout + d)
+      let (c, last, below, due_then, over) = last_due a (suc r) none in
+      let (least, soon) = due_soon a d steady c _ due_then in
+      let none_later = sym (due_next rules _ a c _ due_then) ∙ over in
+      let few : c * (rules.timeout + d) ≤ r * (rules.timeout + d) = mul-le-mul_right (rules.timeout + d)
       (omega arith) in
       elim (cases_lt _ n) [
         | inl behind ↦
             omega (
               arith,
               few,
-              quiet_until last.1 n behind
-                  (λ m low high. elim (cases_Bool (has_waited rules events last.1 m)) [
+              quiet_until last n behind
+                  (λ m low high. elim (cases_Bool (has_waited rules events last m)) [
                     | inr not_yet ↦ not_yet
-                    | inl enough ↦ let within = waited_within last.1 m enough in none_within
-                        (has_waited rules events last.1) (suc last.1) (length events - suc last.1) m over (omega arith)
+                    | inl enough ↦ let within = waited_within last m enough in none_within
+                        (has_waited rules events last) (suc last) (length events - suc last) m none_later (omega arith)
                         (omega arith)
                   ]),
             )
-        | inr before ↦ omega (arith, few, clock_rises events n (suc last.1) (omega arith))
+        | inr before ↦ omega (arith, few, clock_rises events n (suc last) (omega arith))
       ]
 
   -- A request without an end is not due once more than the retries.

@@ -33,9 +33,9 @@ all_among : (P : Waiting → Type 0) (slots : List Waiting) (xs ys : List ℕ)
     All P (held_at slots ys) → All P (held_at slots xs)
 all_among P slots xs ys among all = λ k d lt. let read = λ (slot : ℕ). get_or slots slot _ in
     let within = rw length-map at lt in
-    let there = found_at _ ys (among _ (times_got _ xs k 0 within)) in
-    subst P (get_or-map _ ys _ 0 d there.0 ∙ ap read there.1 ∙ sym (get_or-map read xs k 0 d within))
-    (all _ d (rw length-map there.0))
+    let (there, stands) = found_at _ ys (among _ (times_got _ xs k 0 within)) in
+    subst P (get_or-map _ ys _ 0 d there ∙ ap read stands ∙ sym (get_or-map read xs k 0 d within))
+    (all _ d (rw length-map there))
 
 -- A slot is put behind others, with a request that was sent last.
 pub queue-push : (slots : List Waiting) (rest after : List ℕ) (slot : ℕ) (w : Waiting) → slot < length slots →
@@ -61,7 +61,7 @@ module _ {slots : List Waiting} {opened sends : List ℕ} (q : AreBySend slots o
 
   module _ (slot : ℕ) (rest : List ℕ) (out : IsTakenOut slot sends rest) where
     times_out : (p : ℕ) → times_of_slot p rest + times_of_slot p (slot ∷ []) ≡ times_of_slot p sends
-    times_out p = grind (arith, times-remove itself p sends out.0 0)
+    times_out p = grind (arith, times-remove itself p sends out.rank 0)
 
     length_out : length rest + 1 ≡ length sends
     length_out = grind (arith, length-remove)
@@ -69,7 +69,7 @@ module _ {slots : List Waiting} {opened sends : List ℕ} (q : AreBySend slots o
     by_send_out : AllPairs IsEarlier (held_at slots rest)
     by_send_out =
         subst (AllPairs IsEarlier) (cc (map-remove _ _ _))
-        (all_pairs_remove IsEarlier _ out.0 (rw length-map out.1) q.by_send)
+        (all_pairs_remove IsEarlier _ out.rank (rw length-map out.within) q.by_send)
 
     -- A request ends.
     pub queue-remove : (after : List ℕ) → length after + 1 ≡ length opened

@@ -207,7 +207,7 @@ module _ {slots : List Waiting} {numbers : List (Option ℕ)} {order tickets : L
             (λ i. (i ≤ length tickets) × ((k : ℕ) → k < i → get_or tickets k 0 < ticket)
             × ((k : ℕ) → i ≤ k → k < length tickets → ticket < get_or tickets k 0)) → IsRankOf ticket ws (result_ok r)
         by (Ok i) h = grind (arith, count, ticket_got, find_rank, rising)
-        by (Err i) h = λ k d lt same. grind (arith, h.1 k, h.2 k, count, ticket_got k lt d 0)
+        by (Err i) (_, below, above) = λ k d lt same. grind (arith, below k, above k, count, ticket_got k lt d 0)
 
   -- An open slot, and the rank of the request there.
   module _ (ws : List Waiting) (view : waiting_in slots order tickets ≡ ws) (slot : ℕ)
@@ -241,8 +241,9 @@ module _ {slots : List Waiting} {numbers : List (Option ℕ)} {order tickets : L
             → is_some entry ≡ list_any (λ w. nat_eq number w.request.invoke_id) (waiting_in slots order tickets)
         by None is = sym (any_number number _ ∙ ap (nat_lt 0) (rw is at (t.numbered.named number fits)))
         by (Some slot) is =
-            let at = found_at slot opened (named slot is).0 in
-            let has = ap number_in (held_got slots opened _ slot at.0 at.1) ∙ (named slot is).1 in
+            let (among, its) = named slot is in
+            let (within, stands) = found_at slot opened among in
+            let has = ap number_in (held_got slots opened _ slot within stands) ∙ its in
             let some = times_got number_in (held_at slots opened) (rank_of_slot slot opened) nothing in
             grind (arith, any_number, lt-ltb, length-map)
 
@@ -263,12 +264,13 @@ module _ {slots : List Waiting} {numbers : List (Option ℕ)} {order tickets : L
 
     pub closed_none : get_or numbers number None ≡ None → Closes [] ws
     closed_none is =
-        let none = none_passes _ _ _ says ws (rw view at (subst (Names slots _ _) is (t.numbered.named _ fits))) in
-        record { told = cc none.0; others = sym none.1 }
+        let (none, all) =
+        none_passes _ _ _ says ws (rw view at (subst (Names slots _ _) is (t.numbered.named _ fits))) in
+        record { told = cc none; others = sym all }
 
     module _ (slot : ℕ) (is : get_or numbers number None ≡ Some slot) where
       some : 0 < times_of_slot slot opened
-      some = (named _ fits _ is).0
+      some = let (among, _) = named _ fits _ is in among
 
       abbrev i : ℕ
       i = rank_of_slot slot opened
@@ -283,8 +285,8 @@ module _ {slots : List Waiting} {numbers : List (Option ℕ)} {order tickets : L
         found : (filter ends ws ≡ (if ends w then w ∷ [] else []))
             × (filter (λ v. not (ends v)) ws ≡ (if ends w then remove ws i else ws))
         found =
-            rw read (one_passes _ _ _ says ws i _ (turn_lt ws view slot some)
-            (cc (open_read ws view slot some, (named _ fits _ is).1))
+            let (_, its) = named _ fits _ is in
+            rw read (one_passes _ _ _ says ws i _ (turn_lt ws view slot some) (cc (open_read ws view slot some, its))
             (rw (← view) (t.numbered.apart _)))
 
         pub closed_not : ends w ≡ false → Closes [] ws
@@ -338,13 +340,14 @@ module _ (last : ℕ) (ws : List Waiting) where
       go : (o : Option ℕ) → first ≡ o → last ≡ (last + unwrap_or o 0) % 256
       go None e = omega arith
       go (Some j) e =
-          omega (arith, not_before 256 before j e, (first_from (is_free last (map number_in ws)) 1 256 j e).2)
+          let (_, _, below) = first_from (is_free last (map number_in ws)) 1 256 j e in
+          omega (arith, not_before 256 before j e, below)
 
 -- No open request has the next number.
 pub number_unused : (last number : ℕ) (ws : List Waiting) → number ≡ next_invoke_id last (map number_in ws)
     → length ws < 256 → times number_in number ws ≡ 0
 number_unused last _ ws is few =
-    let step = a_step last _ (rw length-map few) in
+    let (_, step) = a_step last _ (rw length-map few) in
     let n = _ % 256 in
-    let none = ltb-false 0 _ (sym (any_number n ws) ∙ sym (list_any-map _ _ ws) ∙ step.1.free) in
-    rw (is, step.1.next) (omega arith)
+    let none = ltb-false 0 _ (sym (any_number n ws) ∙ sym (list_any-map _ _ ws) ∙ step.free) in
+    rw (is, step.next) (omega arith)

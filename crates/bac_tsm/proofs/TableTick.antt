@@ -130,11 +130,11 @@ module _ (rules : Rules) (clock : ℕ) where
         → get_or ws rank nothing ≡ w → is_due rules clock w ≡ true → entry ≡ due_entry rules w →
         after ≡ take rank ws ++ (kept rules clock w ++ drop (suc rank) ws)
         → HasTicked all kept_in_all (entries ++ entry ∷ []) after
-    one_more _ after rank w lt here due is to = record {
+    one_more _ after rank w lt here due is to = let (_, stays) = again some w due in record {
       told =
           IsPermutation-trans _ _ _ (rw told_before at h.told) (rw (told_after, append_assoc)
           (IsPermutation-append_right entries _ _ (rw is (IsPermutation-middle _ _ _))));
-      stay = simp (to, flat_map-append, (again some w due).1)
+      stay = simp (to, flat_map-append, stays)
           (simp flat_map-append at (ap kept_of (sym split) ∙ h.stay));
       past =
           rw to (All-append (λ v. v.base ≤ clock) _ _ (All-take (λ v. v.base ≤ clock) _ ws h.past)
@@ -151,7 +151,7 @@ module _ (rules : Rules) (clock : ℕ) where
         told_before = ap due_of split ∙ flat_map-append _ (take rank ws) _ ∙ rw due refl
 
         told_after : due_of after ≡ due_of (take rank ws) ++ due_of (drop (suc rank) ws)
-        told_after = simp (to, flat_map-append, (again some w due).0)
+        told_after = let (none, _) = again some w due in simp (to, flat_map-append, none)
 
     pub passed : (entry : DueEntry) (after : List Waiting) → IsPassed rules clock ws entry after
         → HasTicked all kept_in_all (entries ++ entry ∷ []) after
@@ -206,11 +206,14 @@ module _ {slots : List Waiting} {numbers : List (Option ℕ)} {order tickets sen
   abbrev q : AreBySend slots (open_slots order tickets) sends
   q = whole.queue
 
-  first : (0 < length sends) × (get_or sends 0 0 ≡ slot)
-  first = grind (arith, slice_get_within, get_or_from_slice_get)
+  sent : 0 < length sends
+  sent = grind (arith, slice_get_within)
+
+  first : get_or sends 0 0 ≡ slot
+  first = grind (arith, get_or_from_slice_get)
 
   some : 0 < times_of_slot slot (open_slots order tickets)
-  some = omega (arith, rw first.1 at (times_got itself sends 0 0 first.0), q.same slot)
+  some = omega (arith, rw first at (times_got itself sends 0 0 sent), q.same slot)
 
   pub front_below : slot < table_size
   front_below = open_below t ws view _ some
@@ -232,8 +235,7 @@ module _ {slots : List Waiting} {numbers : List (Option ℕ)} {order tickets sen
         (later k e lt)))
       where
         here : (e : Waiting) → get_or (held_at slots sends) 0 e ≡ w
-        here e = get_or_default (held_at _ sends) 0 e _ (rw length-map first.0)
-            ∙ held_got _ _ 0 _ first.0 first.1 ∙ sym reads
+        here e = get_or_default (held_at _ sends) 0 e _ (rw length-map sent) ∙ held_got _ _ 0 _ sent first ∙ sym reads
 
         later : (k : ℕ) (e : Waiting) → k < length (held_at slots sends)
             → (get_or (held_at slots sends) 0 e).base ≤ (get_or (held_at slots sends) k e).base
@@ -257,7 +259,7 @@ module _ {slots : List Waiting} {numbers : List (Option ℕ)} {order tickets sen
           changed numbers order tickets after
       sent_again past _ again _ rest _ is out back =
           let v = sent_at clock (get_or slots slot _) in
-          let moved = changed_by t ws view i lt slot (stands t ws view slot some) v refl in
+          let (changed, table) = changed_by t ws view i lt slot (stands t ws view slot some) v refl in
           let kept_now : v ∷ [] ≡ kept rules clock (get_or ws i nothing) =
           grind (arith, due_there, nat_lt, read, is_again, some) in
           rw (is, back) (record {
@@ -266,12 +268,12 @@ module _ {slots : List Waiting} {numbers : List (Option ℕ)} {order tickets sen
               lt,
               due_there,
               ap (due_entry rules) read,
-              moved.0 ∙ set_split ws i v lt ∙ ap (λ vs. take i ws ++ (vs ++ drop (suc i) ws)) kept_now,
+              changed ∙ set_split ws i v lt ∙ ap (λ vs. take i ws ++ (vs ++ drop (suc i) ws)) kept_now,
             );
             whole = record {
-              table = moved.1;
-              queue = queue-again q slot rest (0, first.0, first.1, out) v (omega (arith, front_below))
-                  (omega (arith, times_split t slot (length tickets))) (rw view past);
+              table = table;
+              queue = queue-again q slot rest (record { rank = 0; within = sent; stood = first; left = out }) v
+                  (omega (arith, front_below)) (omega (arith, times_split t slot (length tickets))) (rw view past);
             };
           })
 

@@ -122,20 +122,20 @@ behind_takes : (number n : ℕ) (after : List ℕ) (value : Datum) (rest : List 
     → behind_at number n after ≡ found_at value rest → Behind number n after value rest
 behind_takes number n after value rest e =
     elim (chosen (eqb number 1) _ _ _ e) [
-      | inl here ↦
-          let bound = bind_some _ _ (value, rest) here.1 in
-          let same = some_pair_parts _ _ _ _ bound.2 in
-          let taken = boolean_takes n _ bound.1 in
-          rw (sym same.0 ∙ taken.1) ([], sym (eqb-true _ 1 here.0), sym taken.2, refl, same.1)
-      | inr other ↦
-          let here = unless _ other.1 in
-          let bound = bind_some _ _ (value, rest) here.1 in
-          let same = some_pair_parts _ _ _ _ bound.2 in
-          let taken = contents_take _ _ _ bound.1 in
-          let long : length (take n after) ≡ n = length-take-le n _ (ltb-false _ n here.0) in
-          let count = shape_number_is _ _ (λ one. eqb-false _ 1 other.0 (sym taken.0 ∙ one)) ∙ long in
+      | inl (one, found) ↦
+          let (_, read, made) = bind_some _ _ (value, rest) found in
+          let (same, all) = some_pair_parts _ _ _ _ made in
+          let (_, boolean_is, in_tag) = boolean_takes n _ read in
+          rw (sym same ∙ boolean_is) ([], sym (eqb-true _ 1 one), sym in_tag, refl, all)
+      | inr (other, found) ↦
+          let (room, counted) = unless _ found in
+          let (_, read, made) = bind_some _ _ (value, rest) counted in
+          let (same, behind) = some_pair_parts _ _ _ _ made in
+          let (kind, stands) = contents_take _ _ _ read in
+          let long : length (take n after) ≡ n = length-take-le n _ (ltb-false _ n room) in
+          let count = shape_number_is _ _ (λ one. eqb-false _ 1 other (sym kind ∙ one)) ∙ long in
           let whole : after ≡ take n after ++ rest = grind (arith, take-append-drop) in
-          rw (← same.0) (take n _, taken.0, count, taken.1, whole)
+          rw (← same) (take n _, kind, count, stands, whole)
     ]
 
 shape_takes : (number : ℕ) (shape : Shape) (tag after : List ℕ) (value : Datum) (rest : List ℕ)
@@ -143,10 +143,10 @@ shape_takes : (number : ℕ) (shape : Shape) (tag after : List ℕ) (value : Dat
     → with_shape (record { number = number; shape = shape }) shape after ≡ found_at value rest
     → Took Spells (tag ++ after) value rest
 shape_takes _ (App n) tag _ value _ s e =
-    let taken = behind_takes _ n _ _ _ e in
-    let tagged : SpellsTag tag (tag_before value (length taken.0)) = rw (taken.1, taken.2) s in (
-      tag ++ taken.0,
-      record { contents = taken.0; tagged = record { front = tag; spelled = tagged; whole = refl }; held = taken.3 },
+    let (contents, kind, count, held, behind) = behind_takes _ n _ _ _ e in
+    let tagged : SpellsTag tag (tag_before value (length contents)) = rw (kind, count) s in (
+      tag ++ contents,
+      record { contents = contents; tagged = record { front = tag; spelled = tagged; whole = refl }; held = held },
       grind (arith, append_assoc),
     )
 shape_takes _ _ _ _ _ _ s e = absurd cc
@@ -155,9 +155,9 @@ value_takes : (spelling : List ℕ) (value : Datum) (rest : List ℕ) → value_
     → Took Spells spelling value rest
 unfolding value_at
 value_takes _ value rest e =
-    let bound = bind_some _ _ (value, rest) e in
-    let first = tag_reader.takes _ _ _ bound.1 in
-    let taken = shape_takes _ _ _ _ _ _ first.spelled bound.2 in
+    let (_, tag_read, shaped) = bind_some _ _ (value, rest) e in
+    let first = tag_reader.takes _ _ _ tag_read in
+    let taken = shape_takes _ _ _ _ _ _ first.spelled shaped in
     subst (λ (w : List ℕ). Took Spells w value rest) (sym first.whole) taken
 
 pub value_reader : IsReader Spells value_at
@@ -169,5 +169,5 @@ one_value = one_front _ _ value_reader
 
 -- what contents stand for is sound
 pub held_sound : (contents : List ℕ) (value : Datum) → StandsFor contents value → IsSound value
-held_sound _ (bit_string unused x) h = h.1
+held_sound _ (bit_string unused x) (_, bits) = bits
 held_sound _ _ h = tt

@@ -70,9 +70,9 @@ pub one_region : (depth other number another : ℕ) (octets a b : List ℕ) → 
     → IsClosedRegion other another octets b → (a ≡ b) × (number ≡ another)
 one_region _ _ number _ _ a b r s =
     let same = one_left _ _ _ _ _ (region_leaves _ _ _ a r) (region_leaves _ _ _ b s) in
-    let tags = some_pair_parts _ _ _ _
+    let (tags, _) = some_pair_parts _ _ _ _
     (sym (closing_read _ _ _ r.closed) ∙ ap tag_at same ∙ closing_read _ _ _ s.closed) in
-    (grind (arith, append_cancel_right), ap (λ t. t.number) tags.0)
+    (grind (arith, append_cancel_right), ap (λ t. t.number) tags)
 
 -- the items inside of an item
 inside_of : (count depth number : ℕ) (after next : List ℕ)
@@ -97,8 +97,8 @@ opens_within depth _ _ region tail rest (into {count = fewer} {opening} {rest = 
     let line : octets ≡ first ++ (after ++ tail) =
     sym (sym (append_assoc first after tail) ∙ e ∙ append_assoc _ others rest) in
     let read = item_read (length octets) depth depth octets first _ (omega arith) (omega arith) j line in
-    let inside = inside_of _ depth number _ _ (rw (tag_reader.again _ _ _ t) at read) in
-    let within = opens_within inside.0 fewer others _ _ rest o inside.3.region inside.3.ended cc in
+    let (below, deeper, _, inside) = inside_of _ depth number _ _ (rw (tag_reader.again _ _ _ t) at read) in
+    let within = opens_within below fewer others _ _ rest o inside.region inside.ended cc in
     omega arith
 
 pub nesting : (depth count : ℕ) (octets front rest : List ℕ) → IsRegion depth octets → Opens count front
@@ -214,19 +214,19 @@ region_again _ octets region r =
     rw (
       left_again (suc (length octets)) 32 32 _ _ (omega arith) (omega arith) l,
       closed_again _ _ _ r.closed,
-      (take_front _ region _ r.whole).2,
+      (take_front _ region _ r.whole).taken,
     ) refl
 
 region_takes : (number : ℕ) (octets region rest : List ℕ) → region_at number octets ≡ found_at region rest
     → Begins (SpellsClosed number) octets region rest
 unfolding region_at
 region_takes _ _ region rest e =
-    let a = bind_some _ _ (region, rest) e in
-    let b = bind_some _ _ (region, rest) a.2 in
-    let parts = some_pair_parts _ _ _ _ b.2 in
-    let l = items_take _ 32 _ _ a.1 in
-    let c = closed_takes _ _ _ b.1 in
-    let same : l.front ≡ region = sym (take_front _ _ _ l.whole).2 ∙ parts.0 in
+    let (_, items_read, closing) = bind_some _ _ (region, rest) e in
+    let (_, closed_read, found) = bind_some _ _ (region, rest) closing in
+    let (region_is, _) = some_pair_parts _ _ _ _ found in
+    let l = items_take _ 32 _ _ items_read in
+    let c = closed_takes _ _ _ closed_read in
+    let same : l.front ≡ region = sym (take_front _ _ _ l.whole).taken ∙ region_is in
     let items = subst (IsRegion 32) same l.region in
     record {
       front = region ++ c.front;
@@ -284,7 +284,7 @@ region_finds _ _ _ rest None l h = record {
 }
 region_finds _ _ _ rest (Some after) l h = record {
   within = omega arith;
-  found = rw (take_front _ _ rest l.whole).2
+  found = rw (take_front _ _ rest l.whole).taken
       (record { behind = rest; rest = after; region = l.region; whole = l.whole; closed = h });
   all = λ front r.
       let same = one_left _ _ _ rest _ l (region_leaves _ _ _ _ r) in

@@ -38,11 +38,11 @@ counted_takes : (number : ℕ) (octets : List ℕ) (tag : Tag) (shape : Shape) (
     → counted_of number tag shape after ≡ found_at contents rest
     → Took (SpellsContext number) octets contents rest
 counted_takes number _ tag (Context n) after contents rest e is f =
-    let same = only_if _ f in
-    let room = unless _ same.1 in
-    let parts = some_pair_parts _ _ _ _ room.1 in
+    let (same, counted) = only_if _ f in
+    let (room, found) = unless _ counted in
+    let (contents_are, behind) = some_pair_parts _ _ _ _ found in
     let long : n ≡ length contents = grind (arith, length-take-le, ltb-false) in
-    let tag_here = tag_parts tag _ _ (is ∙ ap Context long) (eqb-true _ _ same.0) in
+    let tag_here = tag_parts tag _ _ (is ∙ ap Context long) (eqb-true _ _ same) in
     let taken = tag_reader.takes _ tag _ e in
     let after_is : after ≡ contents ++ rest = grind (arith, take-append-drop) in
     let here : SpellsContext number (taken.front ++ contents) contents =
@@ -74,7 +74,7 @@ in_reader : {A : Type 0} (kind : A → Datum) (of : List ℕ → Option A)
     → ((contents : List ℕ) (x : A) → of contents ≡ Some x → StandsFor contents (kind x))
     → ((contents : List ℕ) (x : A) → StandsFor contents (kind x) → of contents ≡ Some x)
     → (number : ℕ) → IsReader (SpellsIn kind number)
-    (λ octets. context_at number octets >>= (λ c. of c.0 >>= (λ a. found_at a c.1)))
+    (λ octets. context_at number octets >>= (λ (contents, rest). of contents >>= (λ a. found_at a rest)))
 in_reader _ of taken_as again_as _ = record {
   takes = grind (arith, bind_some, some_pair_parts, context_takes);
   again = λ front x rest s. rw (context_again _ _ _ _ s.context, again_as _ x s.stands) refl;
@@ -110,12 +110,12 @@ enclosed_takes : (number : ℕ) (octets region rest : List ℕ) → enclosed_at 
     → Took (SpellsEnclosed number) octets region rest
 unfolding enclosed_at behind_opening
 enclosed_takes _ _ region rest e =
-    let a = bind_some _ _ (region, rest) e in
-    let o = bind_some _ _ a.0 a.1 in
-    let same = opening_takes _ o.0.0 _ _ a.0 o.2 in
-    let t = tag_reader.takes _ _ _ o.1 in
-    let b = (region_reader _).takes a.0 _ _ a.2 in
-    let opened = subst (SpellsTag _) (tag_parts _ _ _ same.0 same.1) t.spelled in (
+    let (inside, opening_read, region_read) = bind_some _ _ (region, rest) e in
+    let ((tag, _), tag_read, behind) = bind_some _ _ inside opening_read in
+    let (opening, same, inside_is) = opening_takes _ tag _ _ inside behind in
+    let t = tag_reader.takes _ _ _ tag_read in
+    let b = (region_reader _).takes inside _ _ region_read in
+    let opened = subst (SpellsTag _) (tag_parts _ _ _ opening same) t.spelled in (
       t.front ++ b.front,
       record {
         closing = b.spelled.closing;
@@ -156,14 +156,14 @@ kind_step : {A : Type 0} (made : A → Datum) (in_kind : Datum → Option A)
 unfolding kind_at
 kind_step made _ takes again = record {
   takes = λ octets x rest e.
-      let a = bind_some _ _ (x, rest) e in
-      let b = bind_some _ _ (x, rest) a.2 in
-      let parts = some_pair_parts _ x _ _ b.2 in
-      let taken = value_reader.takes _ _ _ a.1 in
+      let (_, value_read, kind) = bind_some _ _ (x, rest) e in
+      let (_, in_it, found) = bind_some _ _ (x, rest) kind in
+      let (same, behind) = some_pair_parts _ x _ _ found in
+      let taken = value_reader.takes _ _ _ value_read in
       record {
         front = taken.front;
-        spelled = subst (Spells _) (takes _ _ b.1 ∙ ap made parts.0) taken.spelled;
-        whole = taken.whole ∙ ap (λ (w : List ℕ). taken.front ++ w) parts.1;
+        spelled = subst (Spells _) (takes _ _ in_it ∙ ap made same) taken.spelled;
+        whole = taken.whole ∙ ap (λ (w : List ℕ). taken.front ++ w) behind;
       };
   again = λ octets x rest b. rw (ap value_at b.whole ∙ value_reader.again _ _ _ b.spelled, again x) refl;
 }

@@ -89,8 +89,8 @@ signed_holds (pos n) h =
     (grind (arith, signed_back, count_low, count_high, count_fits))
 signed_holds (negsuc n) h =
     let k : ℕ = octet_count (2 * n) in
-    signed_parts k _ (count_low (2 * n)) (count_high (2 * n))
-    (sym (signed_back k n (count_low (2 * n)) (count_high (2 * n)) (count_fits _ (omega arith))).1)
+    let (_, back) = signed_back k n (count_low (2 * n)) (count_high (2 * n)) (count_fits _ (omega arith)) in
+    signed_parts k _ (count_low (2 * n)) (count_high (2 * n)) (sym back)
 
 -- ---- the contents
 

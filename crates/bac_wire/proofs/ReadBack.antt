@@ -7,11 +7,11 @@ use Rattle.bac_wire.specs.{declared.value.Value.Value, Front.{FindsFront, IsRead
 
 -- what was found, without where its octets lie
 abbrev pub found_seen : Option (Value × ℕ) → Option (Datum × ℕ)
-found_seen found = option_map (λ y. (datum y.0, y.1)) found
+found_seen found = option_map (λ (value, count). (datum value, count)) found
 
 -- this value was found, in so many octets
 abbrev pub IsFound : Option (Value × ℕ) → Datum → ℕ → Type 0
-IsFound found x count = (y : Value × ℕ) × (found ≡ Some y) × (datum y.0 ≡ x) × (y.1 ≡ count)
+IsFound found x count = (value : Value) × (found ≡ Some (value, count)) × (datum value ≡ x)
 
 found_as : (found : Option (Value × ℕ)) (x : Datum) (count : ℕ) → found_seen found ≡ Some (x, count)
     → IsFound found x count

@@ -32,9 +32,12 @@ pub reader_of : {A : Type 0} (Spells : List ℕ → A → Type 0) (at : List ℕ
 reader_of = grind arith
 
 -- a front, by the length of what stands behind it
-pub take_front : (octets front rest : List ℕ) → octets ≡ front ++ rest
-    → (length rest ≤ length octets) × (length octets - length rest ≡ length front)
-    × (take (length octets - length rest) octets ≡ front)
+pub record IsFrontBefore (octets front rest : List ℕ) : Type 0 where
+  pub within : length rest ≤ length octets
+  pub count : length octets - length rest ≡ length front
+  pub taken : take (length octets - length rest) octets ≡ front
+
+pub take_front : (octets front rest : List ℕ) → octets ≡ front ++ rest → IsFrontBefore octets front rest
 take_front = grind (arith, length-append, take_at)
 
 -- the branch that a test took
@@ -61,20 +64,20 @@ module _ {A : Type 0} (Spells : List ℕ → A → Type 0) (at : List ℕ → Op
     -- no spelling begins another
     pub one_front : (a b u v : List ℕ) (x y : A) → Spells a x → Spells b y → a ++ u ≡ b ++ v → (a ≡ b) × (x ≡ y)
     one_front a b u v x y s t e =
-        let both = some_pair_parts x y u v (sym (reader.again a x u s) ∙ ap at e ∙ reader.again b y v t) in
-        let same : a ++ v ≡ b ++ v = ap (λ (w : List ℕ). a ++ w) (sym both.1) ∙ e in
-        (append_cancel_right a b v same, both.0)
+        let (same, rests) = some_pair_parts x y u v (sym (reader.again a x u s) ∙ ap at e ∙ reader.again b y v t) in
+        let line : a ++ v ≡ b ++ v = ap (λ (w : List ℕ). a ++ w) (sym rests) ∙ e in
+        (append_cancel_right a b v line, same)
 
     -- what was read is what stands at the front
     pub found_front : (octets : List ℕ) (x : A) (rest : List ℕ) → found_at x rest ≡ at octets
         → (length rest ≤ length octets) × FindsFront Spells octets (Some (x, length octets - length rest))
     found_front octets x rest e =
         let taken = reader.takes _ x _ (sym e) in
-        let here = take_front _ _ _ taken.whole in
-        let spelled : Spells (take (length octets - length rest) octets) x = rw here.2 taken.spelled in
+        let front = take_front _ _ _ taken.whole in
+        let spelled : Spells (take (length octets - length rest) octets) x = rw front.taken taken.spelled in
         let all : (other after : List ℕ) (y : A) → Spells other y → octets ≡ other ++ after → ◌≡◌ {A = Option (A × ℕ)}
         (Some (x, length octets - length rest)) (Some (y, length other)) = grind (arith, some_pair_parts, take_front) in
-        (here.0, record { spelled = (omega arith, spelled); all = all })
+        (front.within, record { spelled = (omega arith, spelled); all = all })
 
     -- where nothing was read nothing stands at the front
     pub none_front : (octets : List ℕ) → None ≡ at octets → FindsFront Spells octets None

@@ -64,9 +64,9 @@ pub closed_takes : (number : ℕ) (octets rest : List ℕ) → behind_closing nu
     → IsClosedBy number octets rest
 unfolding behind_closing
 closed_takes _ _ _ e =
-    let a = bind_some _ _ _ e in
-    let same = closing_takes _ a.0.0 _ _ _ a.2 in
-    closed_since _ _ _ _ (a.1 ∙ ap (found_at _) same.2) same.0 same.1
+    let ((tag, _), tag_read, behind) = bind_some _ _ _ e in
+    let (closing, same, rest_is) = closing_takes _ tag _ _ _ behind in
+    closed_since _ _ _ _ (tag_read ∙ ap (found_at _) rest_is) closing same
 
 pub closed_again : (number : ℕ) (octets rest : List ℕ) → IsClosedBy number octets rest
     → behind_closing number octets ≡ Some rest
@@ -77,19 +77,19 @@ closed_again _ _ _ c = rw (closing_read _ _ _ c, eq-eqb _ _ refl) refl
 
 -- the octets behind the item at the front, where items reads those inside of it
 abbrev pub item_at : (ℕ → List ℕ → Option (List ℕ)) → ℕ → List ℕ → Option (List ℕ)
-item_at items depth octets = tag_at octets >>= λ t. behind_item items depth t.0 t.0.shape t.1
+item_at items depth octets = tag_at octets >>= λ (tag, after). behind_item items depth tag tag.shape after
 
-tag_found : (items : ℕ → List ℕ → Option (List ℕ)) (depth : ℕ) (octets : List ℕ) (t : Tag × List ℕ)
-    → behind_tag_found items depth octets (Some t) ≡ behind_tag items depth octets t.0 t.0.shape t.1
-tag_found _ _ [] t = refl
-tag_found _ _ _ t = refl
+tag_found : (items : ℕ → List ℕ → Option (List ℕ)) (depth : ℕ) (octets : List ℕ) (tag : Tag) (after : List ℕ)
+    → behind_tag_found items depth octets (found_at tag after) ≡ behind_tag items depth octets tag tag.shape after
+tag_found _ _ [] tag after = refl
+tag_found _ _ _ tag after = refl
 
 pub ended_again : (count depth : ℕ) (octets : List ℕ) → HasEnded octets
     → behind_items (suc count) depth octets ≡ Some octets
 unfolding behind_items
 ended_again _ _ _ ended = elim ended [
   | inl empty ↦ rw (empty, no_octets) refl
-  | inr closed ↦ rw (closing_read _ _ _ closed.2) (grind (arith, tag_found))
+  | inr (_, _, closed) ↦ rw (closing_read _ _ _ closed) (grind (arith, tag_found))
 ]
 
 going_on : (items : ℕ → List ℕ → Option (List ℕ)) (depth : ℕ) (octets : List ℕ) (tag : Tag) (shape : Shape)
@@ -140,22 +140,22 @@ module _ (octets : List ℕ) (tag : Tag) (after : List ℕ) (e : tag_at octets �
   count_behind : (depth count : ℕ) (rest : List ℕ) → ((n : ℕ) → n ≡ count → Counts tag.number tag.shape n)
       → behind_count count after ≡ Some rest → LeavesBehind depth octets rest
   count_behind _ count rest counts f =
-      let room = unless _ f in
+      let (room, behind) = unless _ f in
       let line : after ≡ take count after ++ rest = grind (arith, take-append-drop, same_Some) in
-      counted_behind _ _ _ line (counts _ (length-take-le _ _ (ltb-false _ _ room.0)))
+      counted_behind _ _ _ line (counts _ (length-take-le _ _ (ltb-false _ _ room)))
 
   module _ (items : ℕ → List ℕ → Option (List ℕ)) (takes : Takes items) where
     item_takes : (depth : ℕ) (shape : Shape) (rest : List ℕ) → tag.shape ≡ shape
         → behind_item items depth tag shape after ≡ Some rest → LeavesBehind depth octets rest
     item_takes _ (App n) _ is f = elim (chosen (eqb tag.number 1) _ _ _ f) [
-      | inl one ↦ counted_behind _ [] _ (same_Some _ _ one.1) (rw (is, one.0) refl)
-      | inr other ↦ count_behind _ n _ (λ m same. rw (is, other.0) same) other.1
+      | inl (boolean, found) ↦ counted_behind _ [] _ (same_Some _ _ found) (rw (is, boolean) refl)
+      | inr (other, found) ↦ count_behind _ n _ (λ m same. rw (is, other) same) found
     ]
     item_takes _ (Context n) _ is f = grind (arith, count_behind)
     item_takes (suc depth) Opening _ is f =
-        let inside = bind_some _ _ _ f in
-        let l = takes _ _ _ inside.1 in
-        let c = closed_takes _ _ _ inside.2 in
+        let (_, inside, behind) = bind_some _ _ _ f in
+        let l = takes _ _ _ inside in
+        let c = closed_takes _ _ _ behind in
         let taken = tag_reader.takes _ _ _ e in
         let opened = subst (SpellsTag _) (tag_parts _ _ _ is refl) taken.spelled in
         record {
@@ -179,9 +179,9 @@ module _ (octets : List ℕ) (tag : Tag) (after : List ℕ) (e : tag_at octets �
         → behind_tag items depth octets tag shape after ≡ Some rest → LeavesRest depth octets rest
     more_takes _ Closing _ is f = grind (arith, ended_leaves, ended_since)
     more_takes _ shape _ is f =
-        let a = bind_some _ _ _ f in
-        let i = item_takes _ shape a.0 is a.1 in
-        let l = takes _ a.0 _ a.2 in
+        let (others, first, later) = bind_some _ _ _ f in
+        let i = item_takes _ shape others is first in
+        let l = takes _ others _ later in
         record {
           front = i.front ++ l.front;
           region = more i.item l.region;
@@ -244,7 +244,7 @@ module _ (items : ℕ → List ℕ → Option (List ℕ)) (rest : List ℕ) wher
     item_again (suc depth) zero _ le _ i = absurd (omega arith)
     item_again (suc depth) (suc top) _ le short i = elim i [
       | inl p ↦ primitive_again (suc _) _ p
-      | inr b ↦ bracket_again _ top b.0 _ b.1 (omega arith) short b.2
+      | inr (number, inside, bracketed) ↦ bracket_again _ top number _ inside (omega arith) short bracketed
     ]
 
 pub item_shorter : (depth : ℕ) (item rest : List ℕ) → IsItem depth item → length rest < length (item ++ rest)
@@ -254,8 +254,8 @@ item_shorter = grind (arith, common_steps)
 pub more_again : (count top : ℕ) (octets next : List ℕ) → item_at (behind_items count) top octets ≡ Some next
     → behind_items (suc count) top octets ≡ behind_items count top next
 more_again count top _ _ e =
-    let a = bind_some _ _ _ e in
-    one_step _ _ _ _ _ a.1 (λ closing. none-some _ (rw closing at a.2))
+    let (_, tag_read, behind) = bind_some _ _ _ e in
+    one_step _ _ _ _ _ tag_read (λ closing. none-some _ (rw closing at behind))
     ∙ ap (λ (r : Option (List ℕ)). r >>= behind_items count top) e
 
 pub items_again : (count : ℕ) → Again (behind_items count) count

@@ -48,8 +48,8 @@ next_takes : (high : ℕ) (octets : List ℕ) (n : ℕ) (rest : List ℕ) → hi
     → Took (SpellsNumber high) octets n rest
 next_takes _ [] n _ is e = cc
 next_takes _ (octet ∷ octets) n _ is e =
-    let here = only_if _ e in
-    took (SpellsNumber _) (octet ∷ []) _ n _ _ here.1 (is, ltb-true _ 255 here.0, refl)
+    let (below, found) = only_if _ e in
+    took (SpellsNumber _) (octet ∷ []) _ n _ _ found (is, ltb-true _ 255 below, refl)
 
 number_takes : (high : ℕ) (octets : List ℕ) (n : ℕ) (rest : List ℕ) → tag_number_at high octets ≡ found_at n rest
     → Took (SpellsNumber high) octets n rest
@@ -73,10 +73,10 @@ unfolding long_length_at
 long_length_takes [] n _ e = cc
 long_length_takes (a ∷ octets) n _ e =
     elim (chosen (ltb a 254) _ _ _ e) [
-      | inl here ↦ took (SpellsLength 5) (a ∷ []) a n _ _ here.1 (refl, ltb-true a 254 here.0, refl)
-      | inr more ↦ elim (chosen (eqb a 254) _ _ _ more.1) [
-        | inl here ↦ two_takes a _ n _ (eqb-true a 254 here.0) here.1
-        | inr most ↦ let here = only_if _ most.1 in four_takes a _ n _ (eqb-true a 255 here.0) here.1
+      | inl (low, one) ↦ took (SpellsLength 5) (a ∷ []) a n _ _ one (refl, ltb-true a 254 low, refl)
+      | inr (_, more) ↦ elim (chosen (eqb a 254) _ _ _ more) [
+        | inl (is, two) ↦ two_takes a _ n _ (eqb-true a 254 is) two
+        | inr (_, most) ↦ let (is, four) = only_if _ most in four_takes a _ n _ (eqb-true a 255 is) four
       ]
     ]
 
@@ -90,17 +90,17 @@ shape_takes : (low : ℕ) (octets : List ℕ) (shape : Shape) (rest : List ℕ) 
 unfolding shape_at
 shape_takes low _ shape rest e =
     elim (chosen (ltb low 8) _ _ _ e) [
-      | inl here ↦
-          let parts = bind_some _ _ (shape, rest) here.1 in
-          took_as (SpellsLength _) (SpellsShape _) _ _ _ _ _ _ (length_takes _ _ _ _ parts.1) parts.2 (search)
-      | inr high ↦ elim (chosen (eqb low 14) _ _ _ high.1) [
-        | inl here ↦ took (SpellsShape _) [] _ _ _ _ here.1 (eqb-true _ 14 here.0, refl)
-        | inr more ↦ elim (chosen (eqb low 15) _ _ _ more.1) [
-          | inl here ↦ took (SpellsShape _) [] _ _ _ _ here.1 (eqb-true _ 15 here.0, refl)
-          | inr most ↦
-              let parts = bind_some _ _ (shape, rest) most.1 in
-              let taken = length_takes _ _ _ _ parts.1 in
-              took_as (SpellsLength _) (SpellsShape _) _ _ _ _ _ _ taken parts.2 (λ front s. (ltb-false _ 8 high.0, s))
+      | inl (_, app) ↦
+          let (_, read, made) = bind_some _ _ (shape, rest) app in
+          took_as (SpellsLength _) (SpellsShape _) _ _ _ _ _ _ (length_takes _ _ _ _ read) made (search)
+      | inr (high, more) ↦ elim (chosen (eqb low 14) _ _ _ more) [
+        | inl (is, opening) ↦ took (SpellsShape _) [] _ _ _ _ opening (eqb-true _ 14 is, refl)
+        | inr (_, most) ↦ elim (chosen (eqb low 15) _ _ _ most) [
+          | inl (is, closing) ↦ took (SpellsShape _) [] _ _ _ _ closing (eqb-true _ 15 is, refl)
+          | inr (_, context) ↦
+              let (_, read, made) = bind_some _ _ (shape, rest) context in
+              let taken = length_takes _ _ _ _ read in
+              took_as (SpellsLength _) (SpellsShape _) _ _ _ _ _ _ taken made (λ front s. (ltb-false _ 8 high, s))
         ]
       ]
     ]
@@ -113,22 +113,22 @@ tag_takes : (octets : List ℕ) (tag : Tag) (rest : List ℕ) → tag_at octets 
 unfolding tag_at
 tag_takes [] _ _ e = cc
 tag_takes (initial ∷ octets) tag rest e =
-    let first = bind_some _ _ (tag, rest) e in
-    let second = bind_some _ _ (tag, rest) first.2 in
-    let number = number_takes _ octets _ _ first.1 in
-    let shape = shape_takes _ _ _ _ second.1 in
-    let front : List ℕ = initial ∷ (number.0 ++ shape.0) in
-    let line : initial ∷ octets ≡ front ++ second.0.1 = grind (arith, append_assoc) in
-    let spelled : SpellsTag front (tag_of first.0.0 second.0.0) =
+    let ((number, behind), number_read, more) = bind_some _ _ (tag, rest) e in
+    let ((shape, after), shape_read, made) = bind_some _ _ (tag, rest) more in
+    let (number_octets, number_is, behind_number) = number_takes _ octets number behind number_read in
+    let (length_octets, shape_is, behind_length) = shape_takes _ behind shape after shape_read in
+    let front : List ℕ = initial ∷ (number_octets ++ length_octets) in
+    let line : initial ∷ octets ≡ front ++ after = grind (arith, append_assoc) in
+    let spelled : SpellsTag front (tag_of number shape) =
     record {
       initial = initial;
-      number_octets = number.0;
-      length_octets = shape.0;
+      number_octets = number_octets;
+      length_octets = length_octets;
       whole = refl;
-      number = number.1;
-      shape = shape.1;
+      number = number_is;
+      shape = shape_is;
     } in
-    rw line (took SpellsTag front _ tag _ rest second.2 spelled)
+    rw line (took SpellsTag front _ tag _ rest made spelled)
 
 pub tag_reader : IsReader SpellsTag tag_at
 tag_reader = reader_of _ _ tag_takes tag_again

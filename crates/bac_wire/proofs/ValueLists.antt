@@ -14,7 +14,7 @@ value-shorter _ value _ e = let taken = value_reader.takes _ value _ e in grind 
 
 -- The values of the octets behind the first, after it.
 abbrev then_others : ℕ → Option (Datum × List ℕ) → Option (List Datum)
-then_others count found = found >>= (λ first. values_within count first.1 >>= (λ others. Some (first.0 ∷ others)))
+then_others count found = found >>= (λ (first, rest). values_within count rest >>= (λ others. Some (first ∷ others)))
 
 -- Any count that is large enough gives the same.
 enough : (count other : ℕ) (octets : List ℕ) → length octets ≤ count → length octets ≤ other
@@ -28,10 +28,10 @@ enough (suc m) (suc n) (x ∷ xs) h k = go (λ rest. enough m n rest) (value_at 
     go : ((rest : List ℕ) → length rest ≤ m → length rest ≤ n → values_within m rest ≡ values_within n rest) →
         (found : Option (Datum × List ℕ)) → value_at (x ∷ xs) ≡ found → then_others m found ≡ then_others n found
     go same None e = refl
-    go same (Some first) e =
-        let short = value-shorter (x ∷ xs) first.0 first.1 e in
-        ap (λ (found : Option (List Datum)). found >>= (λ others. Some (first.0 ∷ others)))
-        (same first.1 (omega arith) (omega arith))
+    go same (Some (first, rest)) e =
+        let short = value-shorter (x ∷ xs) first rest e in
+        ap (λ (found : Option (List Datum)). found >>= (λ others. Some (first ∷ others)))
+        (same rest (omega arith) (omega arith))
 
 -- Where no value stands at the front of octets, they are no values.
 pub values-none : (octets : List ℕ) → value_at octets ≡ None → 0 < length octets → values_of octets ≡ None
@@ -90,9 +90,9 @@ unfolding values_within
 spelled [] octets e = values-empty octets e
 spelled (value ∷ others) [] e = absurd (let bad : [] ≡ value ∷ others = cc in cc)
 spelled (value ∷ others) (x ∷ xs) e =
-    let a = bind_some _ _ (value ∷ others) e in
-    let both = parts a.0.0 (values_of a.0.1) (sym (values-first _ _ _ a.1) ∙ e) in
-    (a.0.1, value_reader.takes _ value _ (a.1 ∙ ap (λ (v : Datum). Some (v, a.0.1)) both.0), spelled others _ both.1)
+    let ((first, rest), read, _) = bind_some _ _ (value ∷ others) e in
+    let (same, later) = parts first (values_of rest) (sym (values-first _ _ _ read) ∙ e) in
+    (rest, value_reader.takes _ value _ (read ∙ ap (λ (v : Datum). Some (v, rest)) same), spelled others _ later)
   where
     parts : (first : Datum) (found : Option (List Datum))
         → option_map (λ more. first ∷ more) found ≡ Some (value ∷ others) → (first ≡ value) × (found ≡ Some others)
@@ -102,9 +102,9 @@ spelled (value ∷ others) (x ∷ xs) e =
 pub read_all : (values : List Datum) (octets : List ℕ) → SpellsAll Spells octets values → values_of octets ≡ Some values
 unfolding values_within
 read_all [] _ s = ap values_of s
-read_all (value ∷ others) octets s =
-    values-first octets value s.0 (begins_read Spells value_at value_reader octets value s.0 s.1)
-    ∙ ap (option_map (λ more. value ∷ more)) (read_all others s.0 s.2)
+read_all (value ∷ others) octets (rest, first, later) =
+    values-first octets value rest (begins_read Spells value_at value_reader octets value rest first)
+    ∙ ap (option_map (λ more. value ∷ more)) (read_all others rest later)
 
 pub are_spelled : (region : List ℕ) (values : List Datum)
     → (values_of region ≡ Some values) ↔ SpellsAll Spells region values

@@ -64,16 +64,16 @@ with_shape tag _ rest = None
 
 -- The value at the front, and the octets behind it.
 unfoldable pub value_at : List ℕ → Option (Datum × List ℕ)
-value_at spelling = tag_at spelling >>= (λ tag. with_shape tag.0 tag.0.shape tag.1)
+value_at spelling = tag_at spelling >>= (λ (tag, rest). with_shape tag tag.shape rest)
 
 -- The values that the octets are, one after another, where these are at most so many.
 unfoldable pub values_within : ℕ → List ℕ → Option (List Datum)
 values_within count [] = Some []
 values_within zero (octet ∷ octets) = None
 values_within (suc count) (octet ∷ octets) = do
-  first ← value_at (octet ∷ octets)
-  others ← values_within count first.1
-  Some (first.0 ∷ others)
+  (first, rest) ← value_at (octet ∷ octets)
+  others ← values_within count rest
+  Some (first ∷ others)
 
 -- The values that a region is, if it is nothing else. No value has less than one octet.
 abbrev pub values_of : List ℕ → Option (List Datum)

@@ -4,7 +4,7 @@ use Rattle.std.specs.Prelude.{◌≡◌, ℕ, ◌≤◌, ◌<◌, slice_index, L
 -- What a reader found at the front is spelled there, and whatever is spelled at the front is found.
 pub record FindsFront {A : Type 0} (Spells : List ℕ → A → Type 0) (octets : List ℕ) (found : Option (A × ℕ))
     : Type 0 where
-  pub spelled : IfSome found (λ x. (x.1 ≤ length octets) × Spells (take x.1 octets) x.0)
+  pub spelled : IfSome found (λ (x, count). (count ≤ length octets) × Spells (take count octets) x)
   pub all : (front rest : List ℕ) (x : A) → Spells front x → octets ≡ front ++ rest → found ≡ Some (x, length front)
 
 -- The octets begin with a spelling of this thing, and this rest stands behind it.

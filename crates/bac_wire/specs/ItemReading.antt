@@ -15,7 +15,7 @@ closing_of number tag _ rest = None
 
 -- The octets behind the closing tag of this number.
 unfoldable pub behind_closing : ℕ → List ℕ → Option (List ℕ)
-behind_closing number octets = tag_at octets >>= (λ x. closing_of number x.0 x.0.shape x.1)
+behind_closing number octets = tag_at octets >>= (λ (tag, rest). closing_of number tag tag.shape rest)
 
 -- The octets behind the item that begins with this tag. `items` passes over the items inside of it, and `depth` says
 -- how many opening tags may be open.
@@ -35,7 +35,7 @@ behind_tag items depth octets tag shape rest = behind_item items depth tag shape
 abbrev pub behind_tag_found : (ℕ → List ℕ → Option (List ℕ)) → ℕ → List ℕ → Option (Tag × List ℕ) → Option (List ℕ)
 behind_tag_found items depth [] None = Some []
 behind_tag_found items depth (x ∷ xs) None = None
-behind_tag_found items depth octets (Some t) = behind_tag items depth octets t.0 t.0.shape t.1
+behind_tag_found items depth octets (Some (tag, rest)) = behind_tag items depth octets tag tag.shape rest
 
 -- The octets behind the items at the front. Each step takes an item or goes into one; `steps` ends the recursion, and
 -- one more than there are octets is enough (law `regions`, `rest`).

@@ -14,7 +14,7 @@ counted_of number tag _ rest = None
 
 -- The contents under a context tag of this number, and the octets behind them.
 unfoldable pub context_at : ℕ → List ℕ → Option (List ℕ × List ℕ)
-context_at number octets = tag_at octets >>= (λ x. counted_of number x.0 x.0.shape x.1)
+context_at number octets = tag_at octets >>= (λ (tag, rest). counted_of number tag tag.shape rest)
 
 -- The object's identifier in four octets.
 abbrev pub object_of_contents : List ℕ → Option Identifier
@@ -22,7 +22,7 @@ object_of_contents contents = if length contents == 4 then Some (identifier_of (
 
 -- What was read, taken as another thing where it is one, and the octets behind it.
 abbrev pub read_as : {A B : Type 0} → (A → Option B) → Option (A × List ℕ) → Option (B × List ℕ)
-read_as taken read = read >>= (λ x. taken x.0 >>= (λ y. Some (y, x.1)))
+read_as taken read = read >>= (λ (x, rest). taken x >>= (λ y. Some (y, rest)))
 
 -- The number in one to four octets under this tag, and the octets behind it.
 unfoldable pub number_at : ℕ → List ℕ → Option (ℕ × List ℕ)
@@ -41,7 +41,7 @@ opening_of number tag _ rest = None
 
 -- The octets behind an opening tag of this number.
 unfoldable pub behind_opening : ℕ → List ℕ → Option (List ℕ)
-behind_opening number octets = tag_at octets >>= (λ x. opening_of number x.0 x.0.shape x.1)
+behind_opening number octets = tag_at octets >>= (λ (tag, rest). opening_of number tag tag.shape rest)
 
 -- The items between an opening and a closing tag of this number, and the octets behind these.
 unfoldable pub enclosed_at : ℕ → List ℕ → Option (List ℕ × List ℕ)

@@ -37,15 +37,15 @@ length_at low octets = if nat_lt low 5 then Some (low, octets) else if low == 5 
 -- Class and length, or the bracket, by the low half of the initial octet.
 unfoldable pub shape_at : ℕ → List ℕ → Option (Shape × List ℕ)
 shape_at low octets =
-    if nat_lt low 8 then length_at low octets >>= (λ n. Some (App n.0, n.1))
+    if nat_lt low 8 then length_at low octets >>= (λ (n, rest). Some (App n, rest))
     else if low == 14 then Some (Opening, octets)
     else if low == 15 then Some (Closing, octets)
-    else length_at (low - 8) octets >>= (λ n. Some (Context n.0, n.1))
+    else length_at (low - 8) octets >>= (λ (n, rest). Some (Context n, rest))
 
 -- The tag at the front, and the octets behind it.
 unfoldable pub tag_at : List ℕ → Option (Tag × List ℕ)
 tag_at [] = None
 tag_at (initial ∷ octets) = do
-  number ← tag_number_at (initial / 16) octets
-  shape ← shape_at (initial % 16) number.1
-  Some (record { number = number.0; shape = shape.0 }, shape.1)
+  (number, behind) ← tag_number_at (initial / 16) octets
+  (shape, rest) ← shape_at (initial % 16) behind
+  Some (record { number = number; shape = shape }, rest)

@@ -20,13 +20,13 @@ pub in_turn : (args : List Arg) (app : App) (old new : Command) → IsCommand ol
     → list_any (λ a. a.global) args ≡ false → AddsInTurn AddsArg old args new
     → IsCommand new (fold with_rule app (map rule_of args))
 in_turn [] app _ _ is _ same = subst (λ c. IsCommand c app) same is
-in_turn (a ∷ rest) app _ _ is local chain =
-    let parts = or_parts _ _ local in
-    let next : IsCommand chain.0 (with_rule app (rule_of a)) = record {
-      shape = chain.1.shape parts.0 ∙ ap (λ (app : App). with_rule app (rule_of a)) is.shape;
-      local = chain.1.globals ∙ rw (is.local, parts.0) refl;
+in_turn (a ∷ rest) app _ _ is local (mid, added, chain) =
+    let (here, later) = or_parts _ _ local in
+    let next : IsCommand mid (with_rule app (rule_of a)) = record {
+      shape = added.shape here ∙ ap (λ (app : App). with_rule app (rule_of a)) is.shape;
+      local = added.globals ∙ rw (is.local, here) refl;
     } in
-    in_turn rest _ _ _ next parts.1 chain.2
+    in_turn rest _ _ _ next later chain
 
 -- help leaves the rules as they are
 pub helped : {app : App} {about after : Option (Bor Text)} (first second third : Command) → IsCommand first app

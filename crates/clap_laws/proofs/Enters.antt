@@ -9,21 +9,21 @@ use Rattle.clap_laws.{specs.Entering.Enters, proofs.Rows.{asks, none_fails, walk
 enters_by : (a : App) (words : List Text) (stop : Option (Text × List Text))
     → stop_after (built a).top.rules (names_of (built a)) (argument_words a words) ≡ stop
     → is_some (entered (built a) stop) ≡ true → entered_fault (built a) stop ≡ []
-    → IfSome stop (λ p. asks (built a).top p.0 ≡ false) → Enters a words
+    → IfSome stop (λ (name, _). asks (built a).top name ≡ false) → Enters a words
 enters_by = grind arith
 
 pub enters : (a : App) (words : List Text) → (built a).top.subcommand_required ≡ true → fault_of a words ≡ []
     → Enters a words
 enters a words wanted none =
     let stop = stop_after (built a).top.rules (names_of (built a)) (argument_words a words) in
-    let all = none_fails _ _ none in
-    let below = none_fails _ _ all.1 in
-    let settle = none_fails _ _ below.1 in
+    let (unfaulted, after) = none_fails _ _ none in
+    let (below, end_none) = none_fails _ _ after in
+    let (settle, defaults_none) = none_fails _ _ end_none in
     let end = (walk (built a).top.rules (names_of (built a)) nothing_held (argument_words a words)).held in
     let there = is_some (entered (built a) stop) in
     let rows = finished (built a).top.rules end in
     let defaults = none_fails (defaults_fault (settled (built a).top.rules end).rows (built a).top.rules)
-    (check_fault (built a).top rows there) settle.1 in
-    let else = (walk_goes (built a).top (names_of (built a)) (walk_from nothing_held) (argument_words a words) all.0
-    ((λ level. tt), tt)).1 in
-    enters_by a words stop refl (grind arith) below.0 else
+    (check_fault (built a).top rows there) defaults_none in
+    let (_, else) = walk_goes (built a).top (names_of (built a)) (walk_from nothing_held) (argument_words a words)
+    unfaulted ((λ level. tt), tt) in
+    enters_by a words stop refl (grind arith) below else

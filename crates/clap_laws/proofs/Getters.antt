@@ -26,7 +26,8 @@ entry : (c : List Rule) (id : Text) (rows : List Row) (r : Row) → RowsPass c r
     → (r.id ≡ id) × RowPasses c r
 entry c id rows r h is =
     when_found _ (λ rows. RowsPass c rows → (r.id ≡ id) × RowPasses c r) r
-    (λ xs passes h. ((bytes_eq-Decides _ _).0 passes, h.0)) (λ x xs fails is rest h. rest h.1) _ is h
+    (λ xs passes (entry, _). ((bytes_eq-Decides _ _).0 passes, entry))
+    (λ x xs fails is rest (_, others). rest others) _ is h
 
 -- the text of an argument is that of a value that passed
 record IsText (a : Rule) (text : Text) : Type 0 where
@@ -41,7 +42,7 @@ head_text a r [] how all filled = absurd (omega arith)
 head_text a r (v ∷ vs) how all _ = (
   read_as _ v,
   refl,
-  record { given = v; read = ap (λ how. read_as how v) how; passed = (both _ _ all).0 },
+  record { given = v; read = ap (λ how. read_as how v) how; passed = let (first, _) = both _ _ all in first },
 )
 
 -- such is the text of an argument, if it has one, and an argument that is given has one
@@ -53,11 +54,12 @@ text_of c a id rows h is = go _ refl
         × (option_map_or (λ r. explicit_source r.source) o false ≡ true → is_some (option_and_then row_text o) ≡ true)
     go None found = (tt, λ given. given)
     go (Some r) found =
-        let at = entry _ _ _ _ h found in
-        let there : Some at.1.rule ≡ Some a = sym at.1.own ∙ ap (arg_by_id c) at.0 ∙ is in
-        let rule : at.1.rule ≡ a = cc in
-        let head = head_text a r _ (at.1.reading ∙ ap reading_by rule) (rw (← rule) at.1.passed) at.1.filled in
-        rw head.1 (head.2, λ given. refl {a = true})
+        let (same, passes) = entry _ _ _ _ h found in
+        let there : Some passes.rule ≡ Some a = sym passes.own ∙ ap (arg_by_id c) same ∙ is in
+        let rule : passes.rule ≡ a = cc in
+        let (_, read, text) =
+        head_text a r _ (passes.reading ∙ ap reading_by rule) (rw (← rule) passes.passed) passes.filled in
+        rw read (text, λ given. refl {a = true})
 
 -- what the getter of a `u32` reads a text by
 abbrev pub Parses : Text → Result ℕ ParseIntError → Type 0
@@ -72,10 +74,10 @@ number_text a t r (vp.Signed (pos low) (pos high)) parser fits text reads =
     (subst (λ (p : ValueParser). accepts a.ignore_case p text.given ≡ true) parser text.passed) in
     let how : t ≡ read_as (reading_of (vp.Signed (pos low) (pos high))) text.given = text.read
     ∙ ap (λ (p : ValueParser). read_as (reading_of p) text.given) parser in
-    let got = signed_reads _ Parses 32 _ _ text.given r
-    (subst (λ (u : Text). ReadsOne Parses u r) how reads) (λ u x g. g.0) fits accepted in
-    let value : ReadsOne Parses t (Some got.0) = subst (λ (o : Option ℕ). ReadsOne Parses t o) got.1 reads in
-    (got.1 ∙ ap Some value.0.1, subst (λ o. IfSome o (IsWithin (Some (low, high)))) (sym got.1) (got.2, got.3))
+    let (n, is, least, most) = signed_reads _ Parses 32 _ _ text.given r
+    (subst (λ (u : Text). ReadsOne Parses u r) how reads) (λ u x (parsed, _, _). parsed) fits accepted in
+    let ((_, value), _, _) : ReadsOne Parses t (Some n) = subst (λ (o : Option ℕ). ReadsOne Parses t o) is reads in
+    (is ∙ ap Some value, subst (λ o. IfSome o (IsWithin (Some (low, high)))) (sym is) (least, most))
 number_text a t r _ parser fits _ _ = absurd fits
 
 -- the number of an argument is that of the words, and within its bounds
@@ -96,8 +98,7 @@ getter c id f r taken fits none value = at_rule _ refl fits
         → (r ≡ number_of id (rows_of f))
         × IfSome r (IsWithin (option_and_then (λ a. bounds_by (parser_of_value a.parser)) o))
     at_rule None is fits = absurd fits
-    at_rule (Some a) is fits =
-        at_text a _ refl (text_of _ _ _ _ taken.entries is).0 fits
+    at_rule (Some a) is fits = let (text, _) = text_of _ _ _ _ taken.entries is in at_text a _ refl text fits
 
 -- of an argument that has to be given there is one
 pub needed : (c : List Rule) (id : Text) (rows : List Row) → IsTaken c rows → is_needed c id ≡ true
@@ -111,9 +112,10 @@ needed c id rows taken is = at_rule _ refl is
         → option_map_or (λ a. a.required && bytes_eq a.id id) o false ≡ true → is_some (number_of id rows) ≡ true
     at_rule None found is = cc
     at_rule (Some a) found is =
-        let parts = both a.required (bytes_eq a.id id) is in
+        let (required, same) = both a.required (bytes_eq a.id id) is in
         let missing = any_not (λ a. a.required && not (is_given a.id rows)) (λ a. bytes_eq a.id id) _ _ taken.complete
         found in
-        let given : is_given a.id rows ≡ true = not-false _ (rw parts.0 at missing) in
-        some_number (one_of id rows) ((text_of c a id rows taken.entries found).1
-        (subst (λ (t : Text). is_given t rows ≡ true) ((bytes_eq-Decides a.id id).0 parts.1) given))
+        let given : is_given a.id rows ≡ true = not-false _ (rw required at missing) in
+        let (_, some) = text_of c a id rows taken.entries found in
+        some_number (one_of id rows)
+        (some (subst (λ (t : Text). is_given t rows ≡ true) ((bytes_eq-Decides a.id id).0 same) given))

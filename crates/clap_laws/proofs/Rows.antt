@@ -50,8 +50,9 @@ none_fails a b e = grind (arith, e)
 
 pub any_not : (q p : Rule → Bool) (c : List Rule) (a : Rule) → list_any q c ≡ false → find p c ≡ Some a → q a ≡ false
 any_not q p c a none is =
-    when_found p (λ c. list_any q c ≡ false → q a ≡ false) a (λ xs passes none. (or_parts _ _ none).0)
-    (λ x xs fails is rest none. rest (or_parts _ _ none).1) c is none
+    when_found p (λ c. list_any q c ≡ false → q a ≡ false) a
+    (λ xs passes none. let (here, _) = or_parts _ _ none in here)
+    (λ x xs fails is rest none. let (_, others) = or_parts _ _ none in rest others) c is none
 
 -- a plain rule, and the one of its id
 record IsOwn (c : List Rule) (a : Rule) : Type 0 where
@@ -64,11 +65,13 @@ owned : (p : Rule → Bool) (c : List Rule) (a : Rule) → find p c ≡ Some a �
 owned p c a is =
     when_found p (λ c. list_all is_plain_rule c ≡ true → has_distinct_ids c ≡ true → IsOwn c a) a
     (λ xs passes plain distinct.
-    let self : bytes_eq a.id a.id ≡ true = (bytes_eq-Decides _ a.id).1 refl in
-    record { own = rw self refl; plain = (both _ _ plain).0 }) (λ x xs fails is rest plain distinct.
-    let parts = both _ _ distinct in
-    let other = any_not _ p xs a (is_false _ parts.0) is in
-    let later = rest (both _ _ plain).1 parts.1 in
+    let (plain_here, _) = both _ _ plain in
+    record { own = rw ((bytes_eq-Decides _ a.id).1 refl) refl; plain = plain_here })
+    (λ x xs fails is rest plain distinct.
+    let (apart, distinct_later) = both _ _ distinct in
+    let (_, plain_later) = both _ _ plain in
+    let other = any_not _ p xs a (is_false _ apart) is in
+    let later = rest plain_later distinct_later in
     record { own = rw other later.own; plain = later.plain }) c is
 
 -- ---- rows
@@ -78,21 +81,21 @@ RowsPass rules rows = AllByRecursion (RowPasses rules) rows
 
 append_pass : (c : List Rule) (xs ys : List Row) → RowsPass c xs → RowsPass c ys → RowsPass c (xs ++ ys)
 append_pass c [] ys h k = k
-append_pass c (x ∷ xs) ys h k = (h.0, append_pass c xs _ h.1 k)
+append_pass c (x ∷ xs) ys (passes, others) k = (passes, append_pass c xs _ others k)
 
 -- the row of an id is changed, or a row is added
 at_row_pass : (c : List Rule) (id : Text) (change : Row → List Row) (missing : List Row)
     → ((r : Row) → bytes_eq r.id id ≡ true → RowPasses c r → RowsPass c (change r)) → RowsPass c missing
     → (rows : List Row) → RowsPass c rows → RowsPass c (at_row id change missing rows)
 at_row_pass c id _ _ _ added [] h = added
-at_row_pass c id change _ changed added (r ∷ rs) h =
+at_row_pass c id change _ changed added (r ∷ rs) (passes, others) =
     grind (
       arith,
-      at_row_pass c _ _ _ changed added rs h.1,
+      at_row_pass c _ _ _ changed added rs others,
       changed r,
       append_pass c (change r) rs,
-      h.0,
-      h.1,
+      passes,
+      others,
     )
 
 with_values_pass : (c : List Rule) (a : Rule) (vs : List Text) (rows : List Row) → arg_by_id c a.id ≡ Some a
@@ -130,7 +133,8 @@ used_as_pass : (c : List Rule) (a : Rule) (again : Bool) (x : ArgAction) (wants 
     → action_fault x again a vs rows ≡ [] → RowsPass c rows
     → RowsPass c (used_as x a.id (reading_by a) vs rows)
 used_as_pass c a _ action.Set _ vs _ is kept filled none h =
-    with_values_pass c a _ _ is (values_taken a _ (none_fails _ _ none).1) (filled kept)
+    let (_, untaken) = none_fails _ _ none in
+    with_values_pass c a _ _ is (values_taken a _ untaken) (filled kept)
     (at_row_pass c _ (λ _. []) [] _ tt _ h)
 used_as_pass c a _ action.Append _ vs _ is kept filled none h =
     with_values_pass c a _ _ is (values_taken a _ none) (filled kept) h
@@ -148,13 +152,17 @@ module _ (c : List Rule) (level : IsPlainLevel c) (again : Bool) where
   abbrev Keeps : Kinds → Held → Held → Type 0
   Keeps fault h after = fault ≡ [] → RowsPass c h.rows → RowsPass c after.rows
 
+  abbrev KeepsMet : Kinds → Held → Held × Outcome → Type 0
+  KeepsMet fault h (met, _) = Keeps fault h met
+
   used_pass : (a : Rule) (values : List Text) (rows : List Row) → IsOwn c a → use_fault again a values rows ≡ []
       → RowsPass c rows
       → RowsPass c (used a values rows)
   used_pass a _ _ is none h =
-      let parts = none_fails _ _ none in
-      used_as_pass c a _ _ _ _ _ is.own (both _ _ is.plain).1
-      (filled_by a (unwrap_or_range a.range).start_inclusive _ _ parts.0) parts.1 h
+      let (in_range, no_fault) = none_fails _ _ none in
+      let (_, kept) = both _ _ is.plain in
+      used_as_pass c a _ _ _ _ _ is.own kept (filled_by a (unwrap_or_range a.range).start_inclusive _ _ in_range)
+      no_fault h
 
   settled_pass : (h : Held) → Keeps (settle_fault c again h) h (settled c h)
   settled_pass = grind (arith, owned, used_pass)
@@ -165,34 +173,34 @@ module _ (c : List Rule) (level : IsPlainLevel c) (again : Bool) where
 
   -- a use as an option with this value, or what else the word comes to
   option_or : (a : Rule) (v : Option Text) (h : Held) (fault : Kinds) (other : Held × Outcome) → IsOwn c a
-      → Keeps fault h other.0
-      → Keeps (cond (takes_values a) (option_fault c again a v h) fault) h
-      (cond (takes_values a) (option_met c a v h) other).0
+      → KeepsMet fault h other
+      → KeepsMet (cond (takes_values a) (option_fault c again a v h) fault) h
+      (cond (takes_values a) (option_met c a v h) other)
   option_or a v h _ _ is keeps none rows =
       grind (arith, settled_pass h, λ (word : Text). reacted_pass a (word ∷ []) h is)
 
   long_pass : (o : Option Rule) (v : Option Text) (h : Held) → IfSome o (IsOwn c)
-      → Keeps (long_fault c again o v h) h (long_met c o v h).0
+      → KeepsMet (long_fault c again o v h) h (long_met c o v h)
   long_pass = grind (arith, option_or, reacted_pass)
 
   short_pass : (o : Option Rule) (rest : Text) (h : Held) (next : Held → Held × Outcome) (fault : Held → Kinds)
-      → ((k : Held) → Keeps (fault k) k (next k).0) → IfSome o (IsOwn c)
-      → Keeps (short_fault c again o rest h fault) h (short_met c o rest h next).0
+      → ((k : Held) → KeepsMet (fault k) k (next k)) → IfSome o (IsOwn c)
+      → KeepsMet (short_fault c again o rest h fault) h (short_met c o rest h next)
   short_pass = grind (arith, option_or, none_fails, reacted_pass)
 
   found_own : (p : Rule → Bool) → IfSome (find p c) (IsOwn c)
   found_own p = grind (arith, owned p c, level.plain, level.distinct)
 
   bundle_pass : (k : ℕ) (flags : Text) (skip : ℕ) (so_far : Outcome) (h : Held)
-      → Keeps (flags_fault c again k flags skip h) h (bundle_met c k flags skip so_far h).0
+      → KeepsMet (flags_fault c again k flags skip h) h (bundle_met c k flags skip so_far h)
   unfolding bundle_met flags_fault
   bundle_pass zero _ _ _ h none rows = rows
   bundle_pass (suc k) flags skip so_far h none rows = go _ _ none (bundle_pass k)
     where
       go : (o : Option ℕ) (skip : ℕ) → bundle_step_fault c again o flags skip h (flags_fault c again k) ≡ []
           → ((flags : Text) (skip : ℕ) (so_far : Outcome) (h : Held)
-          → Keeps (flags_fault c again k flags skip h) h (bundle_met c k flags skip so_far h).0)
-          → RowsPass c (bundle_step c o flags skip so_far h (bundle_met c k)).0.rows
+          → KeepsMet (flags_fault c again k flags skip h) h (bundle_met c k flags skip so_far h))
+          → (let (met, _) = bundle_step c o flags skip so_far h (bundle_met c k) in RowsPass c met.rows)
       go None skip none later = rows
       go (Some x) zero none later =
           let rest = drop (length (encode_utf8 x)) flags in
@@ -209,11 +217,11 @@ IsElsewhere P (w.subcommand name) = P name
 IsElsewhere P _ = Unit {0}
 
 plain_keeps : (c : List Rule) (waiting : Waiting) (word : Text) (h : Held) (P : Text → Type 0)
-    → ((plain_word c waiting word h).0.rows ≡ h.rows) × IsElsewhere P (plain_word c waiting word h).1
+    → (let (met, step) = plain_word c waiting word h in (met.rows ≡ h.rows) × IsElsewhere P step)
 plain_keeps = grind arith
 
 flag_keeps : (c : List Rule) (waiting : Waiting) (word : Text) (h : Held) (o : Outcome) (P : Text → Type 0)
-    → ((after_flag c waiting word h o).0.rows ≡ h.rows) × IsElsewhere P (after_flag c waiting word h o).1
+    → (let (met, step) = after_flag c waiting word h o in (met.rows ≡ h.rows) × IsElsewhere P step)
 flag_keeps = grind arith
 
 -- the name asks for help
@@ -223,17 +231,17 @@ asks s name = bytes_eq name (codes "help") && not s.disable_help_subcommand
 module _ (s : Shape) where
   -- Where nothing is wrong, entries that passed stay so, and the word does not ask for help.
   abbrev Goes : Kinds → Held → Held × Step → Type 0
-  Goes fault h met =
-      fault ≡ [] → (IsPlainLevel s.rules → RowsPass s.rules h.rows → RowsPass s.rules met.0.rows)
-      × IsElsewhere (λ name. asks s name ≡ false) met.1
+  Goes fault h (met, step) =
+      fault ≡ [] → (IsPlainLevel s.rules → RowsPass s.rules h.rows → RowsPass s.rules met.rows)
+      × IsElsewhere (λ name. asks s name ≡ false) step
 
   either : (b : Bool) (fault : Kinds) (h : Held) (met other : Held × Step) → Goes [] h met → Goes fault h other
       → Goes (if b then [] else fault) h (if b then met else other)
   either = grind arith
 
-  flag_goes : (fault : Kinds) (waiting : Waiting) (word : Text) (h : Held) (met : Held × Outcome)
-      → (IsPlainLevel s.rules → fault ≡ [] → RowsPass s.rules h.rows → RowsPass s.rules met.0.rows)
-      → Goes fault h (after_flag s.rules waiting word met.0 met.1)
+  flag_goes : (fault : Kinds) (waiting : Waiting) (word : Text) (h met : Held) (outcome : Outcome)
+      → (IsPlainLevel s.rules → fault ≡ [] → RowsPass s.rules h.rows → RowsPass s.rules met.rows)
+      → Goes fault h (after_flag s.rules waiting word met outcome)
   flag_goes = grind (arith, flag_keeps)
 
   short_goes : (waiting : Waiting) (word : Text) (o : Option Text) (h : Held)
@@ -258,11 +266,12 @@ module _ (s : Shape) where
 
   -- The entries passed, and the subcommand that was met asks for no help.
   abbrev pub Stands : Walk → Type 0
-  Stands walk = (IsPlainLevel s.rules → RowsPass s.rules walk.held.rows) × IfSome walk.stopped (λ p. asks s p.0 ≡ false)
+  Stands walk = (IsPlainLevel s.rules → RowsPass s.rules walk.held.rows)
+      × IfSome walk.stopped (λ (name, _). asks s name ≡ false)
 
   step_goes : (word : Text) (walk : Walk) (h : Held) (step : Step) → (IsPlainLevel s.rules → RowsPass s.rules h.rows)
       → IsElsewhere (λ name. asks s name ≡ false) step
-      → IfSome walk.stopped (λ p. asks s p.0 ≡ false) → step_fault s walk.position h step ≡ []
+      → IfSome walk.stopped (λ (name, _). asks s name ≡ false) → step_fault s walk.position h step ≡ []
       → Stands (after_step s.rules word walk h step)
   step_goes _ walk h (w.next waiting) rows _ stop none = (rows, stop)
   step_goes _ walk h (w.trailing position) rows _ stop none = (rows, stop)
@@ -281,21 +290,21 @@ module _ (s : Shape) where
       → Stands (fold (walked s.rules names) walk words)
   unfolding walk_fault walked
   walk_goes _ walk [] none h = h
-  walk_goes names walk (word ∷ rest) none h =
-      let parts = none_fails _ _ none in
-      walk_goes _ (walked _ _ walk word) rest parts.1 (go _ refl parts.0)
+  walk_goes names walk (word ∷ rest) none (rows, stop) =
+      let (no_fault, later) = none_fails _ _ none in
+      walk_goes _ (walked _ _ walk word) rest later (go _ refl no_fault)
     where
       go : (o : Option (Text × List Text)) → walk.stopped ≡ o
-          → (let met = word_met s.rules names walk.is_trailing walk.waiting walk.position word walk.held in
+          → (let (held, step) = word_met s.rules names walk.is_trailing walk.waiting walk.position word walk.held in
           cond (is_some o) []
           (or_else (word_fault s names walk.is_trailing walk.waiting word walk.held)
-          (step_fault s walk.position met.0 met.1))) ≡ []
+          (step_fault s walk.position held step))) ≡ []
           → Stands (walked_from s.rules names o walk word)
-      go (Some p) is none = (h.0, rw is at h.1)
+      go (Some p) is none = (rows, rw is at stop)
       go None is none =
-          let parts = none_fails _ _ none in
-          let goes = word_goes names _ _ walk.position word walk.held parts.0 in
-          step_goes word walk _ _ (λ level. goes.0 level (h.0 level)) goes.1 h.1 parts.1
+          let (no_fault, no_step_fault) = none_fails _ _ none in
+          let (passed, asks_none) = word_goes names _ _ walk.position word walk.held no_fault in
+          step_goes word walk _ _ (λ level. passed level (rows level)) asks_none stop no_step_fault
 
 -- ---- after the walk
 
@@ -303,8 +312,9 @@ defaults_pass : (rules : List Rule) (rows : List Row) → list_all is_plain_rule
     → fold with_default rows rules ≡ rows
 defaults_pass [] _ _ = refl
 defaults_pass (a ∷ rest) rows all =
-    let parts = both _ _ all in
-    ap (λ r. fold with_default r rest) (go _ _ (both _ _ parts.0).0) ∙ defaults_pass rest _ parts.1
+    let (first, others) = both _ _ all in
+    let (empty, _) = both _ _ first in
+    ap (λ r. fold with_default r rest) (go _ _ empty) ∙ defaults_pass rest _ others
   where
     go : (ds : List Text) (b : Bool) → is_empty ds ≡ true
         → cond b rows (default_rows a.id (reading_by a) ds rows) ≡ rows

@@ -18,8 +18,8 @@ datagram control apdu = 0x81 ∷ 0x0a ∷ 0x00 ∷ (6 + length apdu) ∷ 0x01 �
 -- What the desk asks a new device, one after the other, and what it gets: two APDUs each.
 abbrev pub Exchanges : List (List ℕ × List ℕ) → Type 0
 Exchanges pairs =
-    replies_to small demo_points [] (map (λ pair. record { from = desk; datagram = datagram 0x04 pair.0 }) pairs)
-    ≡ map (λ pair. Some (desk, datagram 0x00 pair.1)) pairs
+    replies_to small demo_points [] (map (λ (asked, _). record { from = desk; datagram = datagram 0x04 asked }) pairs)
+    ≡ map (λ (_, answered). Some (desk, datagram 0x00 answered)) pairs
 
 -- ---- objects and their properties
 

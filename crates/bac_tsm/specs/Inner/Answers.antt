@@ -4,4 +4,4 @@ use Rattle.bac_tsm.specs.Events.{Outcome, Failed, BadError}
 
 -- The outcome of an Error: by the class and the code that its body begins with.
 abbrev pub error_outcome : Option (ℕ × ℕ) → Outcome
-error_outcome read = option_map_or (λ named. Failed named.0 named.1) read BadError
+error_outcome read = option_map_or (λ (class, code). Failed class code) read BadError

@@ -26,9 +26,11 @@ IsRankOf ticket ws (Some rank) =
     × (find (λ w. nat_eq w.request.ticket ticket) ws ≡ Some (get_or ws rank nothing))
 
 -- One of the ranks at which this slot stood is taken out.
-abbrev pub IsTakenOut : ℕ → List ℕ → List ℕ → Type 0
-IsTakenOut slot before after = (rank : ℕ) × (rank < length before) × (get_or before rank 0 ≡ slot)
-    × (after ≡ remove before rank)
+pub record IsTakenOut (slot : ℕ) (before after : List ℕ) : Type 0 where
+  pub rank : ℕ
+  pub within : rank < length before
+  pub stood : get_or before rank 0 ≡ slot
+  pub left : after ≡ remove before rank
 
 -- One request that is due at this clock goes on to it, with this entry.
 abbrev pub IsPassed : Rules → ℕ → List Waiting → DueEntry → List Waiting → Type 0

@@ -19,12 +19,12 @@ bounds_in rules id = option_and_then (λ a. bounds_by (parser_of_value a.parser)
 
 abbrev pub IsWithin : Option (ℕ × ℕ) → ℕ → Type 0
 IsWithin None n = ⊤
-IsWithin (Some bounds) n = (bounds.0 ≤ n) × (n ≤ bounds.1)
+IsWithin (Some (least, most)) n = (least ≤ n) × (n ≤ most)
 
 -- The number is of 32 bits.
 abbrev pub FitsWord : Option (ℕ × ℕ) → Type 0
 FitsWord None = ⊥
-FitsWord (Some bounds) = bounds.1 < 2 ^ 32
+FitsWord (Some (_, most)) = most < 2 ^ 32
 
 -- The argument has to be given.
 abbrev pub is_needed : List Rule → Text → Bool

@@ -5,12 +5,12 @@ use Rattle.bac_tools.proofs.report.tell.Goals as goal
 
 pub returns-in-Some : goal.returns-in-Some
 returns-in-Some g c =
-    let said = c.print_telling.ensures in
+    let (octets, said, printed) = c.print_telling.ensures in
     rw c.in-Some.is (
-      said.0,
-      said.1,
-      subst (λ (after : Checked g.row.W.Denot). Writes g.W.Write.contents c.args.writer.now after [] [] said.0)
+      octets,
+      said,
+      subst (λ (after : Checked g.row.W.Denot). Writes g.W.Write.contents c.args.writer.now after [] [] octets)
           (search rules)
-          (finished {after = c.finish.new.self.0} c.new-page.ensures.writer c.new-page.ensures.empty said.2
+          (finished {after = c.finish.new.self.0} c.new-page.ensures.writer c.new-page.ensures.empty printed
           c.finish.ensures.printed),
     )

@@ -6,7 +6,7 @@ pub parts-init : goal.parts-init
 parts-init g c = ([], prints_nothing c.args.page.now)
 
 pub parts-preserved : goal.parts-preserved
-parts-preserved g c = (_, c.parts.invariant.1 ⨾ c.print.ensures)
+parts-preserved g c = let (_, printed) = c.parts.invariant in (_, printed ⨾ c.print.ensures)
 
 pub returns-then-octets-lt-PART_ROOM : goal.returns-then-octets-lt-PART_ROOM
-returns-then-octets-lt-PART_ROOM g c = (_, c.parts.invariant.1 ⨾ c.print.ensures)
+returns-then-octets-lt-PART_ROOM g c = let (_, printed) = c.parts.invariant in (_, printed ⨾ c.print.ensures)

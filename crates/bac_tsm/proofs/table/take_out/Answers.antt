@@ -5,8 +5,8 @@ use Rattle.bac_tsm.proofs.table.take_out.Goals as goal
 
 pub returns-in-Some : goal.returns-in-Some
 returns-in-Some c =
-    let found = position-Some (λ other. nat_eq other c.args.slot) c.args.slots.now.items c.in-Some.rank 0 (cc) in
-    (c.in-Some.rank, found.0, eqb-true _ _ found.1, c.remove-in-Some.ensures.items)
+    let (within, is, _) = position-Some (λ other. nat_eq other c.args.slot) _ c.in-Some.rank 0 (cc) in
+    record { rank = c.in-Some.rank; within = within; stood = eqb-true _ _ is; left = c.remove-in-Some.ensures.items }
 
 pub returns-in_default : goal.returns-in_default
 returns-in_default c =

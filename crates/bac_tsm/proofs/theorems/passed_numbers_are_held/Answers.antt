@@ -4,4 +4,4 @@ use Rattle.bac_tsm.proofs.theorems.passed_numbers_are_held.Goals as goal
 
 pub returns : goal.returns
 returns c rules first_ticket events n small before since a e =
-    (passed rules first_ticket events small n before a since e).1.seen
+    let (_, so_far) = passed rules first_ticket events small n before a since e in so_far.seen

@@ -6,7 +6,8 @@ pub unwrap-count-requires : goal.unwrap-count-requires
 unwrap-count-requires c =
     let wrote = c.in_ok-write_value.ensures in
     let finds = rw c.as_slice.ensures.value at c.read_value.ensures in
-    rw (value_alone _ _ _ _ _ c.clear.ensures wrote.appended.ok wrote.read_back finds).1 (refl {a = true})
+    let (_, found, _) = value_alone _ _ _ _ _ c.clear.ensures wrote.appended.ok wrote.read_back finds in
+    rw found (refl {a = true})
 
 pub returns : goal.returns
 returns c =

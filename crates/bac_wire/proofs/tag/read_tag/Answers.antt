@@ -5,7 +5,7 @@ pub returns-in_err-tag : goal.returns-in_err-tag
 returns-in_err-tag c = rw c.from_residual.ensures (none_front _ _ tag_reader _ c.in_err-tag.ensures)
 
 pub overflow_sub-result : goal.overflow_sub-result
-overflow_sub-result c = (found_front _ _ tag_reader _ _ _ c.in_ok-tag.ensures).0
+overflow_sub-result c = let (within, _) = found_front _ _ tag_reader _ _ _ c.in_ok-tag.ensures in within
 
 pub returns : goal.returns
-returns c = (found_front _ _ tag_reader _ _ _ c.in_ok-tag.ensures).1
+returns c = let (_, finds) = found_front _ _ tag_reader _ _ _ c.in_ok-tag.ensures in finds

@@ -6,15 +6,15 @@ use Rattle.bactool.proofs.laws.the_program_is_its_calls.Goals as goal
 
 pub returns-clause-had : goal.returns-clause-had
 returns-clause-had g c = λ reader reader' writer writer' errors errors' typed run had.
-    run_so run (λ link. link.socket.log.items) (λ network binding link given. (
-      given.0.0,
-      ap (λ (a : Account OverSocket). a.history) given.0.1,
+    run_so run (λ link. link.socket.log.items) (λ network binding link ((bound, is), _). (
+      bound,
+      ap (λ (a : Account OverSocket). a.history) is,
       λ later made.
           subst (λ (m : OverSocket). ∥ Logs (AreCallsFor m.refused 0 0 later.history.items) m.calls
-          later.socket.log.items ∥₁) (made ∙ ap (λ (a : Account OverSocket). a.made) given.0.1)
+          later.socket.log.items ∥₁) (made ∙ ap (λ (a : Account OverSocket). a.made) is)
           (∥∥₁_map later.keeps (λ k. k.logged)),
     )) had
 
 pub returns-clause-none : goal.returns-clause-none
 returns-clause-none g c = λ reader reader' writer writer' errors errors' typed none run had.
-    run_without run (λ network binding none given. given.1) had
+    run_without run (λ network binding none (_, asked). asked) had
