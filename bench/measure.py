@@ -223,15 +223,12 @@ def calls():
 PARTS = {"network": network, "instructions": instructions, "script": script, "calls": calls}
 
 
-def load_now():
-    return " ".join(text_of("/proc/loadavg").split()[:3])
-
-
 def lines_of(part):
     """A box: the command, when and where it was run, and what came."""
     tree = subprocess.check_output(["git", "describe", "--always"], cwd=TOP, text=True).strip()
     day = datetime.date.today()
     yield f"$ bench/measure.py {part}"
+    load_now = lambda: "{:.2f} {:.2f} {:.2f}".format(*os.getloadavg())
     yield f"# {day.day} {day:%B %Y}, tree {tree}, {processors()} processors, load {load_now()}"
     yield from PARTS[part]()
     yield f"# load at the end {load_now()}"

@@ -13,13 +13,11 @@ import os
 import re
 import shlex
 import shutil
-import signal
-import subprocess
 import sys
 import tempfile
 
 sys.path.insert(0, os.path.dirname(__file__) + "/..")
-from tree import TOP, free_port, left_out, put_tools, text_of
+from tree import TOP, Job, free_port, left_out, put_tools, text_of
 
 # Waits, for ten seconds at most, until a socket has the port.
 UNTIL_TAKEN = "for _ in {1..1000}; do grep -q ' [0-9A-F]*:%04X ' /proc/net/udp && break; sleep 0.01; done\n"
@@ -84,14 +82,12 @@ def run(text, program, room):
     put_tools(program, f"{room}/bin")
     shutil.copytree(f"{TOP}/examples", f"{room}/work/examples")
     outer = {**os.environ, "LC_ALL": "C", "PATH": f"{room}/bin:{os.environ['PATH']}"}
-    with open(f"{room}/came", "wb") as came:
-        how = {"cwd": f"{room}/work", "env": outer, "stdin": subprocess.DEVNULL, "stdout": came, "stderr": came}
-        shell = subprocess.Popen(["bash", "-c", text], start_new_session=True, **how)
-        try:
-            shell.wait(300)
-        finally:
-            os.killpg(shell.pid, signal.SIGKILL)
-    return text_of(f"{room}/came")
+    shell = Job(["bash", "-c", text], f"{room}/came", cwd=f"{room}/work", env=outer)
+    try:
+        shell.process.wait(300)
+    finally:
+        shell.stop()
+    return shell.said()
 
 
 def main(program):
