@@ -208,23 +208,16 @@ def is_taken(port):
 
 
 @contextlib.contextmanager
-def server(port, *words, **how):
-    """A process of these words, once it has this port; in the end it is killed."""
-    with subprocess.Popen(words, **how) as process:
+def device(*words, program=(PROGRAM,), **how):
+    """A bacdev of instance 1234, once it has a free port: its process, and the port. In the end it is killed."""
+    port = free_port()
+    with subprocess.Popen([*program, "bacdev", "1234", "--port", str(port), *words], **how) as process:
         try:
             if not any(is_taken(port) or time.sleep(0.01) for _ in range(1000)):
-                sys.exit(f"no socket at port {port}: {' '.join(words)}")
-            yield process
+                sys.exit(f"no socket at port {port}: {' '.join(process.args)}")
+            yield process, port
         finally:
             process.kill()
-
-
-@contextlib.contextmanager
-def device(*words, program=(PROGRAM,), **how):
-    """A bacdev of instance 1234 at a free port: its process, and the port."""
-    port = free_port()
-    with server(port, *program, "bacdev", "1234", "--port", str(port), *words, **how) as process:
-        yield process, port
 
 
 def resident(process):

@@ -15,8 +15,8 @@ import sys
 import tempfile
 
 sys.path.insert(0, os.path.dirname(__file__) + "/..")
-from tree import TOOLS, TOP, device, free_port, left_out, local_socket, plain, put_tools, same, says, server, shown
-from tree import sections_of, text_of, verdict
+from tree import TOOLS, TOP, device, left_out, local_socket, plain, put_tools, same, says, sections_of, shown, text_of
+from tree import verdict
 
 sys.path.append(TOP + "/man")
 import tables
@@ -231,9 +231,9 @@ def seen(rows):
     for what, line in (row.split(": ", 1) for row in rows):
         status = run(line)[0]
         same(f"the status of {line}", status, found.setdefault(what, status))
-    with server(port := free_port(), PROGRAM, "bacdev", "1", "--port", str(port), "--count", "1") as one:
+    with device("--count", "1", program=[PROGRAM]) as (process, port):
         run(f"bacwi --mac 127.0.0.1:{port} --apdu-timeout 200")
-        found["counted"] = one.wait(10)
+        found["counted"] = process.wait(10)
     return found
 
 

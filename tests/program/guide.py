@@ -17,7 +17,7 @@ import sys
 import tempfile
 
 sys.path.insert(0, os.path.dirname(__file__) + "/..")
-from tree import TOP, Job, free_port, left_out, put_tools, text_of
+from tree import TOP, Job, end_by_signals, free_port, left_out, put_tools, text_of
 
 # Waits, for ten seconds at most, until a socket has the port.
 UNTIL_TAKEN = "for _ in {1..1000}; do grep -q ' [0-9A-F]*:%04X ' /proc/net/udp && break; sleep 0.01; done\n"
@@ -90,16 +90,16 @@ def run(text, program, room):
     return shell.said()
 
 
-def main(program):
+def main(words):
     first, second = free_port(), free_port(48000)
     rows = list(commands(first, second))
     text, shown = script(rows, first, second)
     with tempfile.TemporaryDirectory() as room:
-        came = run(text, program, room)
+        came = run(text, os.path.realpath(words[0]), room)
     told = list(difflib.unified_diff(shown.splitlines(), came.splitlines(), "docs/GUIDE.md", "came", lineterm="", n=4))
     well = f"tests/program/guide.py: {len(rows)} commands of docs/GUIDE.md at port {first}, as shown"
     print("\n".join(told) or well)
     return 1 if told else 0
 
 
-sys.exit(main(os.path.realpath(sys.argv[1])))
+end_by_signals(main)
