@@ -240,7 +240,7 @@ fn next_datagram<S: Socket>(
     ensures asked { Logs (Waits refused set_ms.old (max wait_ms 1) (heard_by result datagram.new))
         (S.log socket.old) (S.log socket.new) }
 {
-    limit_wait(socket, set_ms, wait_ms.max(1)).map_err(|_| LinkFault)?;
+    limit_wait(socket, set_ms, wait_ms.max(1))?;
     match socket.recv_from(buffer) {
         Ok((len, from)) => Ok(keep(from, &buffer[..len], datagram)),
         Err(e) if is_quiet(refused, e.kind()) => Ok(None),
@@ -249,13 +249,15 @@ fn next_datagram<S: Socket>(
 }
 
 // The socket waits at most so long from now on. The system is asked only where that is another time than the one set.
-fn limit_wait<S: Socket>(socket: &mut S, set_ms: &mut u32, wait_ms: u32) -> io::Result<()>
+fn limit_wait<S: Socket>(socket: &mut S, set_ms: &mut u32, wait_ms: u32) -> Result<(), LinkFault>
     ensures limited { OnOk result (set_ms.new ≡ wait_ms) }
     ensures unlimited { OnErr result (wait_ms ≢ set_ms.old) }
     ensures asked { S.log socket.new ≡ S.log socket.old ++ limits set_ms.old wait_ms (is_ok result) }
 {
     if wait_ms != *set_ms {
-        socket.set_read_timeout(wait_of(wait_ms))?;
+        if socket.set_read_timeout(wait_of(wait_ms)).is_err() {
+            return Err(LinkFault);
+        }
         *set_ms = wait_ms;
     }
     Ok(())
