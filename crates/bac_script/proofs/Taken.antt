@@ -72,8 +72,6 @@ pub next_at_end : {R : Type 0} {remaining : R → Option (List ℕ)} {a : Checke
     → IsNext remaining a c held reading count
 next_at_end = grind (arith, take_all, drop_all, true)
 
-pub ruleset next_lines = (Takes-more, read_for_line, still_for_line, next_at_end)
-
 -- ---- line feeds
 
 no_feed_below : (xs : List ℕ) (i : ℕ) → ((k : ℕ) → k < i → (get_or xs k 0 == 10) ≡ false) → HasNoFeed (take i xs)

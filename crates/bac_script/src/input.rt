@@ -75,7 +75,6 @@ impl Chunk {
     /// # Errors
     ///
     /// `WriteFailed` where the page has failed before a read that would be needed.
-    #[tactic(auto, using(crate::proofs::Taken::next_lines, bac_print::proofs::Printed::printing), unfolding(bac_print::specs::Page::Wrote))]
     pub(crate) fn next_line<R: Read, W: Write>(
         &mut self,
         reader: &mut Checked<R>,

@@ -2,7 +2,7 @@
 use Rattle.std.proofs.Common.{◌≡◌, ◌<◌, length, List, ℕ, arith, sym, subst, rules}
 use Rattle.bac_print.proofs.Printed.{◌⨾◌, prints_nothing}
 use Rattle.bac_script.specs.{Inner.{Feeds.HasNoFeed, Limits.line_room}, declared.input.Reading.TheVariants.Open}
-use Rattle.bac_script.proofs.{Chunks.searched_on, Taken.{Takes-more, read_for_line, next_at_end}}
+use Rattle.bac_script.proofs.{Chunks.searched_on, Taken.{Takes-more, read_for_line, still_for_line, next_at_end}}
 use Rattle.bac_script.proofs.input.Chunk.next_line.Goals as goal
 
 pub loop-length-init : goal.loop-length-init
@@ -27,6 +27,12 @@ loop-length-preserved g c =
           c.read_more-reading.ensures.last);
     }
 
+pub returns-then-failed-clause-printed : goal.returns-then-failed-clause-printed
+returns-then-failed-clause-printed g c = c.loop-length.invariant.printed ⨾ c.turn_in.ensures.printed
+
+pub returns-then-failed-clause-needed : goal.returns-then-failed-clause-needed
+returns-then-failed-clause-needed g c = still_for_line c.loop-length.invariant.needed c.turn_in.ensures.printed
+
 pub returns-then-ne-clause-given : goal.returns-then-ne-clause-given
 returns-then-ne-clause-given g c = Takes-more c.loop-length.invariant.given c.read_more-reading.ensures.given
 
@@ -38,3 +44,13 @@ returns-then-ne-clause-next g c =
     (subst HasNoFeed same c.in_default.ensures.line.no_feed)
     (subst (λ (xs : List ℕ). length xs < line_room) same c.in_default.ensures.line.short)
     c.loop-length.invariant.unended c.read_more-reading.ensures.stands
+
+pub returns-then-ne-clause-printed : goal.returns-then-ne-clause-printed
+returns-then-ne-clause-printed g c = c.loop-length.invariant.printed ⨾ c.turn_in.ensures.printed
+
+pub returns-then-ne-clause-needed : goal.returns-then-ne-clause-needed
+returns-then-ne-clause-needed g c =
+    read_for_line c.loop-length.invariant.given c.loop-length.invariant.printed c.turn_in.ensures.printed
+    c.turn_in.ensures.empty (search rules) c.loop-length.invariant.needed
+    c.loop-length.invariant.asked c.in_default.ensures.line.no_feed c.in_default.ensures.line.short
+    c.read_more-reading.ensures.last c.read_more-reading.ensures.once
