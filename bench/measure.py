@@ -197,7 +197,7 @@ def script():
 def calls():
     """What each benchmark prints; of the client's calls the least of nine runs, in a table by the open requests. They
     are proved and built beside a copy of the crates that they call: in the tree the gate would prove them too."""
-    below, texts = ["bac_wire", "bac_pdu", "bac_tsm", "bac_device"], {}
+    below, texts = ["bac_wire", "bac_work", "bac_pdu", "bac_tsm", "bac_device"], {}
     with tempfile.TemporaryDirectory(dir=f"{TOP}/out") as room:
         os.mkdir(f"{room}/.git")  # the top of a repository, for rt
         subprocess.run(["cp", "-a", *(f"{TOP}/crates/{name}" for name in below), room], check=True)

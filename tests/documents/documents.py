@@ -18,8 +18,8 @@ where they differ, and says in what.
   pins.txt, once, with the worked row or example that would fail were it wrong in a definition and in the code at once.
   What is named there stands in the document, and the text which is named for it in its file.
 - No type has a `Drop` that is written by hand, which could do anything when a value is let go. bac_pdu has no loop, and
-  above bac_wire one function walks over a region. Each public constant, and the clone and the `==` of each public type,
-  is said by a law.
+  no crate from there to bac_device can begin a count of work. Each public constant, and the clone and the `==` of each
+  public type, is said by a law.
 - Links lead to what a package has: a document, or a file of examples/.
 - Lines have at most 120 columns, in the documents but for tables and what is printed; in scripts; and in src/, specs/
   and proofs/ but for attributes, which `rt fmt` lays out, and words that are longer.
@@ -32,7 +32,7 @@ import sys
 import textwrap
 
 sys.path.insert(0, os.path.dirname(__file__) + "/..")
-from tree import TOP, all_crates, text_of
+from tree import TOP, all_crates, crates_below, text_of
 
 SOURCES = ["crates/*/src/**/*.rt", "crates/*/specs/**/*.antt", "crates/*/proofs/**/*.antt"]
 OF_STD = {"arrayvec", "byteorder", "clap", "hex", "thiserror", "std", "fault_of", "map", "filter", "flat_map"}
@@ -221,17 +221,16 @@ def drops_by_hand():
             yield f"{file}: a `Drop` by hand: {on_one_line(found)}"
 
 
-def other_walks():
-    """What would make the work of a datagram more than PROOFS says: a loop in bac_pdu, or a second call of `region`."""
-    walks = [
-        f"{file}: {line.strip()}"
-        for file in files(SOURCES[0])
-        for line in text_of(file).split("\n")
-        if file.startswith("crates/bac_pdu/") and re.match(r" *(?:while|for|loop)\b", line)
-        or re.search(r"\bregion\(", line) and file.split("/")[1] not in TRIALS | {"bac_wire"}
-    ]
-    if len(walks) != 1:
-        yield from (f"{walk}: one walk over a region is all that PROOFS tells" for walk in walks)
+def uncounted_work():
+    """What no clause `work` would see: a loop in bac_pdu, or a count that is begun from there to bac_device."""
+    for file in files("crates/bac_pdu/src/**/*.rt"):
+        for loop in re.findall(r"(?m)^ *((?:while|for|loop)\b.*)$", text_of(file)):
+            yield f"{file}: a loop, whose work is not counted: {loop}"
+    for crate in ("bac_pdu", "bac_tsm", "bac_device"):
+        if "bac_work" in crates_below()[crate]:
+            yield f"crates.txt: {crate} can begin a count of work"
+        for file in files(f"crates/{crate}/proofs/**/Proof.antt"):
+            yield f"{file}: a proof by hand, by which a count of work can be begun"
 
 
 def public_names_without_a_law():
@@ -327,7 +326,7 @@ def main():
         *functions_without_a_contract(sections(proofs)["Functions without a clause"]),
         *texts_of_faults(rules["Statuses and faults"]),
         *drops_by_hand(),
-        *other_walks(),
+        *uncounted_work(),
         *public_names_without_a_law(),
         *rows_are_read_back(rules),
         *links_and_lines(),

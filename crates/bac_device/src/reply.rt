@@ -1,6 +1,6 @@
 //! The reply to a datagram.
 
-ghost use Rattle.std.specs.Prelude.{◌≡◌, ◌<◌, ◌≤◌, List, [], length, IfOk, IfSome, IfNone, OnOk, OnErr};
+ghost use Rattle.std.specs.Prelude.{◌≡◌, ◌<◌, ◌≤◌, ◌+◌, ◌*◌, List, [], length, IfOk, IfSome, IfNone, OnOk, OnErr};
 ghost use Rattle.std.specs.Option.{option_map};
 ghost use Rattle.bac_wire.specs.{Limits.frame_room, Identifier.identifier, Steps.result_seen};
 ghost use Rattle.bac_pdu.specs.{Apdu.{laid_out, reject, error}, Peer.station, Property.reference, Failure.error_octets};
@@ -21,7 +21,7 @@ use bac_pdu::{
     announced, begin_ack, end_ack, open_datagram, read_apdu, read_read, read_whois, read_write,
     wrap_within, write_apdu, write_error, write_iam,
 };
-use bac_wire::{Frame, Full, ObjectId};
+use bac_wire::{Frame, Full, ObjectId, Work};
 
 // The abort reason of what would have to be sent or taken in segments (clause 18.10).
 const SEGMENTATION_NOT_SUPPORTED: u8 = 4;
@@ -32,9 +32,16 @@ impl Device {
     /// accepts it.
     ///
     /// There is a reply to a Who-Is that asks for the device, and to a confirmed request that was not sent to all. An
-    /// APDU of more octets than the requester announced becomes an Abort. That of an I-Am has fifteen octets.
+    /// APDU of more octets than the requester announced becomes an Abort. That of an I-Am has fifteen octets. In walks
+    /// over regions at most two tags are read for each octet of the datagram.
     #[tactic(auto, using(crate::proofs::Answering::reply_held, crate::proofs::Answering::after_held))]
-    pub fn answer(&mut self, from: Peer, datagram: &[u8], frame: &mut Frame) -> Option<Peer>
+    pub fn answer(
+        &mut self,
+        from: Peer,
+        datagram: &[u8],
+        frame: &mut Frame,
+        work: &mut Work,
+    ) -> Option<Peer>
         ensures standing { option_map (λ peer. (station peer, frame.new)) result
             ≡ spec.reply_of self.old (station from) datagram.now }
         ensures written { self.new
@@ -47,23 +54,31 @@ impl Device {
             (spec.writes_after self.old.info (points_of self.old) writes (station from) datagram.now) }
         ensures fits { IfSome result (λ peer. ReplyFits (station from) datagram.now (station peer, frame.new)) }
         ensures silent { IfNone result (frame.new ≡ []) }
+        ensures work { work.new.tags ≤ work.old.tags + 2 * length datagram.now }
     {
         frame.clear();
-        self.answer_into(from, datagram, frame)
+        self.answer_into(from, datagram, frame, work)
     }
 
     // The same, where the frame is empty at first.
-    #[tactic(auto, unfolding(crate::specs::Reply::reply_of, crate::specs::Reply::write_in_datagram, crate::specs::Inner::Reply::reply_apdu, crate::specs::Inner::Reply::write_in_apdu))]
-    fn answer_into(&mut self, from: Peer, datagram: &[u8], frame: &mut Frame) -> Option<Peer>
+    #[tactic(auto, using(bac_pdu::proofs::DatagramLaws::carried_no_longer), unfolding(crate::specs::Reply::reply_of, crate::specs::Reply::write_in_datagram, crate::specs::Inner::Reply::reply_apdu, crate::specs::Inner::Reply::write_in_apdu))]
+    fn answer_into(
+        &mut self,
+        from: Peer,
+        datagram: &[u8],
+        frame: &mut Frame,
+        work: &mut Work,
+    ) -> Option<Peer>
         requires { frame.old ≡ [] }
         ensures reply { option_map (λ peer. (station peer, frame.new)) result
             ≡ spec.reply_of self.old (station from) datagram.now }
         ensures silent { IfNone result (frame.new ≡ []) }
         ensures after { self.new
             ≡ spec.with_write self.old (spec.write_in_datagram self.old (station from) datagram.now) }
+        ensures work { work.new.tags ≤ work.old.tags + 2 * length datagram.now }
     {
         let carried = open_datagram(from, datagram)?;
-        self.reply(carried.broadcast, carried.apdu, frame)?;
+        self.reply(carried.broadcast, carried.apdu, frame, work)?;
         match wrap_within(carried.peer, false, frame) {
             Ok(()) => Some(carried.peer),
             // What is announced at most fits a frame behind any header.
@@ -73,13 +88,20 @@ impl Device {
 
     // Appends the reply to the octets of an APDU to an empty frame; an accepted write is made. None where there is no
     // reply.
-    #[tactic(auto, using(crate::proofs::StateLaws::request_write), unfolding(crate::specs::Inner::Reply::reply_apdu, crate::specs::Inner::Reply::write_in_apdu))]
-    fn reply(&mut self, broadcast: bool, apdu: &[u8], frame: &mut Frame) -> Option<()>
+    #[tactic(auto, using(crate::proofs::StateLaws::request_write, bac_pdu::proofs::ApduLaws::confirmed_no_longer), unfolding(crate::specs::Inner::Reply::reply_apdu, crate::specs::Inner::Reply::write_in_apdu))]
+    fn reply(
+        &mut self,
+        broadcast: bool,
+        apdu: &[u8],
+        frame: &mut Frame,
+        work: &mut Work,
+    ) -> Option<()>
         requires { frame.old ≡ [] }
         ensures reply { option_map (λ _. frame.new) result ≡ reply_apdu self.old broadcast apdu.now }
         ensures silent { IfNone result (frame.new ≡ []) }
         ensures few { length frame.new ≤ 1476 }
         ensures after { self.new ≡ spec.with_write self.old (write_in_apdu self.old broadcast apdu.now) }
+        ensures work { work.new.tags ≤ work.old.tags + 2 * length apdu.now }
     {
         match read_apdu(apdu)? {
             Apdu::Confirmed {
@@ -89,7 +111,7 @@ impl Device {
                 service,
                 body,
             } if !broadcast => {
-                self.fitting_reply(part, code, id, service, body, frame);
+                self.fitting_reply(part, code, id, service, body, frame, work);
                 Some(())
             }
             Apdu::Unconfirmed {
@@ -109,14 +131,16 @@ impl Device {
         service: u8,
         body: &[u8],
         frame: &mut Frame,
+        work: &mut Work,
     )
         requires { frame.old ≡ [] }
         ensures reply { frame.new
             ≡ laid_out (spec.fitting code id (spec.full_reply self.old part id service body.now)) }
         ensures few { length frame.new ≤ 1476 }
         ensures after { self.new ≡ spec.with_write self.old (write_in_request self.old part service body.now) }
+        ensures work { work.new.tags ≤ work.old.tags + 2 * length body.now }
     {
-        match self.full_reply(part, id, service, body, frame) {
+        match self.full_reply(part, id, service, body, frame, work) {
             Ok(()) if frame.len() <= usize::from(announced(code)) => {}
             _ => make_abort(id, frame),
         }
@@ -131,12 +155,14 @@ impl Device {
         service: u8,
         body: &[u8],
         frame: &mut Frame,
+        work: &mut Work,
     ) -> Result<(), Full>
         requires { frame.old ≡ [] }
         ensures ok { OnOk result (frame.new ≡ laid_out (spec.full_reply self.old part id service body.now)) }
         ensures full { OnErr result
             (frame_room < length (laid_out (spec.full_reply self.old part id service body.now))) }
         ensures after { self.new ≡ spec.with_write self.old (write_in_request self.old part service body.now) }
+        ensures work { work.new.tags ≤ work.old.tags + 2 * length body.now }
     {
         if part.is_some() {
             make_abort(id, frame);
@@ -144,7 +170,7 @@ impl Device {
         }
         match service {
             READ_PROPERTY => self.read_reply(id, body, frame),
-            WRITE_PROPERTY => self.write_reply(id, body, frame),
+            WRITE_PROPERTY => self.write_reply(id, body, frame, work),
             _ => append_reject(id, RejectReason::UnknownService, frame),
         }
     }
@@ -168,13 +194,20 @@ impl Device {
 
     // Appends the reply to a WriteProperty with this body to an empty frame; an accepted write is made.
     #[tactic(auto, unfolding(crate::specs::Reply::write_reply, crate::specs::Inner::Reply::write_in_body))]
-    fn write_reply(&mut self, id: u8, body: &[u8], frame: &mut Frame) -> Result<(), Full>
+    fn write_reply(
+        &mut self,
+        id: u8,
+        body: &[u8],
+        frame: &mut Frame,
+        work: &mut Work,
+    ) -> Result<(), Full>
         requires { frame.old ≡ [] }
         ensures ok { OnOk result (frame.new ≡ laid_out (spec.write_reply self.old id body.now)) }
         ensures full { OnErr result (frame_room < length (laid_out (spec.write_reply self.old id body.now))) }
         ensures after { self.new ≡ spec.with_write self.old (write_in_body self.old body.now) }
+        ensures work { work.new.tags ≤ work.old.tags + 2 * length body.now }
     {
-        let request = match read_write(body) {
+        let request = match read_write(body, work) {
             Ok(request) => request,
             Err(reason) => return append_reject(id, reason, frame),
         };

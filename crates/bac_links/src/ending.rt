@@ -10,6 +10,7 @@ use crate::fault::ToolFault;
 use bac_pdu::read_ack;
 use bac_print::{Checked, Page, print_outcome};
 use bac_tsm::Outcome;
+use bac_work::begin;
 use std::io::Write;
 
 /// What a call is for.
@@ -74,7 +75,7 @@ fn print_value<W: Write>(page: &mut Page<'_, W>, body: &[u8]) -> Exit
         (option_map_or (λ (ack : ReadAck). region_text ack.value) (ack_of body.now) (codes "bad-ack")) }
     ensures exit { result ≡ (if is_some (ack_of body.now) then Exit.Good else Exit.Bad) }
 {
-    match read_ack(body) {
+    match read_ack(body, &mut begin()) {
         Some(ack) => {
             page.print_region(ack.value);
             Exit::Good

@@ -8,6 +8,7 @@ use crate::link::Link;
 use crate::turns::most_turns;
 use bac_device::Device;
 use bac_wire::Frame;
+use bac_work::begin;
 
 // How long a server waits for a datagram, in milliseconds.
 const SERVE_WAIT: u32 = 1_000;
@@ -58,7 +59,7 @@ fn serve_turn<L: Link>(
         Ok(None) => return Ok(Brought::Nothing),
         Err(_) => return Err(ToolFault::ReceiveFailed),
     };
-    let Some(to) = device.answer(from, datagram.as_slice(), frame) else {
+    let Some(to) = device.answer(from, datagram.as_slice(), frame, &mut begin()) else {
         return Ok(Brought::Ignored);
     };
     match link.send(to, frame.as_slice()) {

@@ -1,6 +1,7 @@
 -- What is read of an APDU is what its octets lay out, and what is laid out is read back.
 use Rattle.std.proofs.Common.{◌≡◌, ℕ, ◌+◌, ◌/◌, Bool, true, false, cond, eqb, List, [], ◌∷◌, ◌++◌, Option, Some, refl}
-use Rattle.std.proofs.{Common.{arith, ◌≤◌, slice_index_or}, lemmas.Option.{none-some, same_Some}}
+use Rattle.std.proofs.Common.{arith, ◌≤◌, length, sym, slice_index_or}
+use Rattle.std.proofs.lemmas.{Option.{none-some, same_Some}, List.length-append}
 use Rattle.std.specs.Prelude.{◌↔◌}
 use Rattle.bac_wire.{proofs.{Readers.{Took, found_at, chosen}, TagLaws.bind_some}, specs.Steps.◌>>=◌}
 use Rattle.bac_pdu.specs.{
@@ -82,6 +83,12 @@ apdu_again = grind (arith, parts_again)
 
 pub apdu_is : (octets : List ℕ) (m : Message) → (apdu_of octets ≡ Some m) ↔ IsLaidOut octets m
 apdu_is _ m = (apdu_takes _ m, apdu_again _ m)
+
+pub confirmed_no_longer : (octets : List ℕ) (part : Option Part) (code id service : ℕ) (body : List ℕ)
+    → Some (confirmed part code id service body) ≡ apdu_of octets → length body ≤ length octets
+confirmed_no_longer octets part code id service body e =
+    let laid = apdu_takes octets (confirmed part code id service body) (sym e) in
+    grind (arith, length-append)
 
 -- ---- what is written
 

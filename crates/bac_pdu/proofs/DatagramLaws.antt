@@ -278,6 +278,13 @@ pub carried_is : (from : Station) (datagram : List ℕ) (d : Delivery)
     → (carried from datagram ≡ Some d) ↔ Carries from datagram d
 carried_is _ _ d = (carried_takes _ _ d, carried_again _ _ d)
 
+pub carried_no_longer : (from peer : Station) (to_all : Bool) (datagram apdu : List ℕ)
+    → Some (record { peer = peer; broadcast = to_all; apdu = apdu }) ≡ carried from datagram
+    → length apdu ≤ length datagram
+carried_no_longer from peer to_all datagram apdu e =
+    let carries = carried_takes from datagram (record { peer = peer; broadcast = to_all; apdu = apdu }) (sym e) in
+    grind (arith, length-append)
+
 -- ---- what is written
 
 -- the exact count of the octets before an APDU

@@ -2,7 +2,8 @@
 -- answer of a ReadProperty finds the value.
 use Rattle.std.proofs.{
   Common.{arith, ◌≡◌, ℕ, List, [], ◌∷◌, ◌++◌, Some, None, Result, Ok, Err, refl, ap, subst, inl, inr, ◌∙◌, Bool, true},
-  Common.{false, cond, Option},
+  Common.{false, cond, Option, sym, ◌≤◌, length},
+  lemmas.List.length-append,
   lemmas.Bool.{false_from_ne_true, iff_false},
 }
 use Rattle.std.specs.{Result.result_ok, Prelude.{◌↔◌, ◌⊎◌, IfSome}}
@@ -47,6 +48,13 @@ reference_takes body r rest e =
         optional_begins 2 _ (numbered_step 2) after,
       ),
     )
+
+-- what stands behind a reference is no longer than the body
+pub reference_no_longer : (body rest : List ℕ) (r : Reference) → Ok (r, rest) ≡ reference_at body
+    → length rest ≤ length body
+reference_no_longer body rest r e =
+    let front = to_front _ _ _ (reference_parameters r) (reference_takes body r rest (sym e)) in
+    grind (arith, length-append)
 
 pub reference_again : (body : List ℕ) (r : Reference) (rest : List ℕ)
     → SpellsTo SpellsParameter body (reference_parameters r) rest

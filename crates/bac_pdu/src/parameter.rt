@@ -1,6 +1,6 @@
 //! The parameters of a service body: context tags, and items between brackets.
 
-ghost use Rattle.std.specs.{Prelude.{◌≡◌, ◌<◌, ◌≤◌, ◌^◌, length, IfSome}, Option.option_map};
+ghost use Rattle.std.specs.{Prelude.{◌≡◌, ◌<◌, ◌≤◌, ◌+◌, ◌*◌, ◌^◌, length, IfSome}, Option.option_map};
 ghost use Rattle.bac_wire.specs.{Identifier.{IsIdentifier, identifier}, Tag.plain_tag};
 ghost use Rattle.bac_wire.specs.{Region.{opening_tag, closing_tag}, DatumReading.number_within};
 ghost use Rattle.bac_wire.specs.ItemReading.{behind_closing};
@@ -10,7 +10,7 @@ ghost use Rattle.bac_wire.specs.{Writing.Appends, Inner.Writing.AppendsFront};
 ghost use Rattle.bac_pdu.specs.{Inner.Parameter.optional_octets, PropertyReading.optional_at};
 
 use arrayvec::ArrayVec;
-use bac_wire::{Frame, Full, ObjectId, Shape, octet_count, region, tag_and_rest};
+use bac_wire::{Frame, Full, ObjectId, Shape, Work, octet_count, region, tag_and_rest};
 use byteorder::{BigEndian, ByteOrder};
 
 // The numbers of the parameters of ReadProperty and WriteProperty.
@@ -58,11 +58,15 @@ pub(crate) fn number_and_rest(number: u8, octets: &[u8]) -> Option<(u32, &[u8])>
 
 /// The whole items between an opening and a closing tag 3.
 #[tactic(auto, unfolding(bac_wire::specs::ParameterReading::enclosed_at))]
-pub(crate) fn enclosed_and_rest(octets: &[u8]) -> Option<(&[u8], &[u8])>
-    ensures { option_map (λ x. (x.0.now, x.1.now)) result ≡ enclosed_at 3 octets.now }
+pub(crate) fn enclosed_and_rest<'a>(
+    octets: &'a [u8],
+    work: &mut Work,
+) -> Option<(&'a [u8], &'a [u8])>
+    ensures found { option_map (λ x. (x.0.now, x.1.now)) result ≡ enclosed_at 3 octets.now }
+    ensures work { work.new.tags ≤ work.old.tags + 2 * length octets.now }
 {
     let inside = rest_behind_opening(octets)?;
-    let (items, rest) = inside.split_at(region(inside).count?);
+    let (items, rest) = inside.split_at(region(inside, work)?);
     let rest = rest_behind_closing(rest)?;
     Some((items, rest))
 }
@@ -156,9 +160,10 @@ fn number_in(contents: &[u8]) -> Option<u32>
     }
 }
 
-#[tactic(auto, unfolding(bac_wire::specs::ParameterReading::behind_opening))]
+#[tactic(auto, using(bac_wire::proofs::RegionReading::after_shorter), unfolding(bac_wire::specs::ParameterReading::behind_opening))]
 fn rest_behind_opening(octets: &[u8]) -> Option<&[u8]>
-    ensures { option_map (λ x. x.now) result ≡ behind_opening 3 octets.now }
+    ensures found { option_map (λ x. x.now) result ≡ behind_opening 3 octets.now }
+    ensures shorter { IfSome result (λ x. length x.now < length octets.now) }
 {
     let (tag, rest) = tag_and_rest(octets)?;
     match tag.shape {

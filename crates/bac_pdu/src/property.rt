@@ -1,6 +1,7 @@
 //! ReadProperty, its answer, and WriteProperty, read and written.
 
-ghost use Rattle.std.specs.{Prelude.{◌≡◌, Some, Ok, OnOk, IfSome}, Option.option_map, List.AllByRecursion};
+ghost use Rattle.std.specs.{Prelude.{◌≡◌, ◌≤◌, ◌+◌, ◌*◌, length, Some, Ok, OnOk, IfSome}, Option.option_map};
+ghost use Rattle.std.specs.List.{AllByRecursion};
 ghost use Rattle.bac_wire.specs.{Limits.deepest, Front.IsShortest, Writing.Appends, Inner.Writing.AppendsFront};
 ghost use Rattle.bac_wire.specs.{Region.IsRegion, Steps.result_seen};
 ghost use Rattle.bac_pdu.specs.{Parameter.IsParameter, Property.{reference, order, ack_seen, reference_parameters}};
@@ -15,7 +16,7 @@ use crate::parameter::{
 };
 use crate::reject::RejectReason;
 use crate::writing::whole_or_nothing;
-use bac_wire::{Frame, Full, ObjectId};
+use bac_wire::{Frame, Full, ObjectId, Work};
 
 /// Which property of which object is asked for, or which element of it (clause 15.5).
 #[derive(Clone, Copy, Debug, PartialEq, Eq)]
@@ -69,21 +70,23 @@ pub fn read_read(body: &[u8]) -> Result<ReadRequest, RejectReason>
     }
 }
 
-/// Reads the body of a WriteProperty, the `write`: what it orders, or the first reject reason that it has.
+/// Reads the body of a WriteProperty, the `write`: what it orders, or the first reject reason that it has. In the walk
+/// over the value at most two tags are read for each octet of the body.
 ///
 /// # Errors
 ///
 /// `OutOfRange` where it is whole but for a priority that is not 1 to 16, `TooMany` where a front of the body is whole,
 /// `MissingParameter` where it ends before the property or the value, else `InvalidTag`.
-#[tactic(auto, unfolding(crate::specs::PropertyReading::write_of))]
-pub fn read_write(body: &[u8]) -> Result<WriteRequest<'_>, RejectReason>
+#[tactic(auto, using(crate::proofs::PropertyLaws::reference_no_longer), unfolding(crate::specs::PropertyReading::write_of))]
+pub fn read_write<'a>(body: &'a [u8], work: &mut Work) -> Result<WriteRequest<'a>, RejectReason>
     ensures value { result_seen order result ≡ write_of body.now }
+    ensures work { work.new.tags ≤ work.old.tags + 2 * length body.now }
 {
     let (request, rest) = reference_and_rest(body)?;
     if rest.is_empty() {
         return Err(RejectReason::MissingParameter);
     }
-    let Some((value, rest)) = enclosed_and_rest(rest) else {
+    let Some((value, rest)) = enclosed_and_rest(rest, work) else {
         return Err(RejectReason::InvalidTag);
     };
     let (priority, rest) = optional_and_rest(PRIORITY, rest);
@@ -105,15 +108,16 @@ pub fn read_write(body: &[u8]) -> Result<WriteRequest<'_>, RejectReason>
 }
 
 /// What the body of a ReadProperty-ACK says: a property, and its value. None where the body is not whole, or where more
-/// follows.
-#[tactic(auto, using(crate::proofs::PropertyLaws::value_there), unfolding(crate::specs::PropertyReading::ack_of))]
-pub fn read_ack(body: &[u8]) -> Option<Ack<'_>>
+/// follows. In the walk over the value at most two tags are read for each octet of the body.
+#[tactic(auto, using(crate::proofs::PropertyLaws::value_there, crate::proofs::PropertyLaws::reference_no_longer), unfolding(crate::specs::PropertyReading::ack_of))]
+pub fn read_ack<'a>(body: &'a [u8], work: &mut Work) -> Option<Ack<'a>>
     ensures value { option_map ack_seen result ≡ ack_of body.now }
+    ensures work { work.new.tags ≤ work.old.tags + 2 * length body.now }
 {
     let Ok((request, rest)) = reference_and_rest(body) else {
         return None;
     };
-    let (value, []) = enclosed_and_rest(rest)? else {
+    let (value, []) = enclosed_and_rest(rest, work)? else {
         return None;
     };
     Some(Ack {

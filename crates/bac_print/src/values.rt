@@ -12,6 +12,7 @@ use crate::checked::{Checked, WriteFailed};
 use crate::page::Page;
 use bac_pdu::read_ack;
 use bac_wire::{ObjectId, Value};
+use bac_work::begin;
 use std::io::Write;
 
 /// Writes the text of a region: of one value its text, of none or several their texts in braces, and of anything else
@@ -36,7 +37,7 @@ impl<W: Write> Page<'_, W> {
     pub fn print_ack(&mut self, body: &[u8])
         ensures { Prints W.contents self.old self.new (ack_text body.now) }
     {
-        match read_ack(body) {
+        match read_ack(body, &mut begin()) {
             Some(ack) => {
                 self.print(b"value ");
                 self.print_region(ack.value);

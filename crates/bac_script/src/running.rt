@@ -15,6 +15,7 @@ use bac_pdu::Peer;
 use bac_print::Page;
 use bac_tsm::{Client, SubmitFault};
 use bac_wire::Frame;
+use bac_work::begin;
 use std::io::Write;
 
 /// Runs a line on the client and the device, and prints what comes of it. The device's reply is put into the frame.
@@ -104,6 +105,6 @@ fn ask<W: Write>(
     ensures text { (writes : List Write) → device.old ≡ device_with writes
         → Prints W.contents page.old page.new (reply_after writes (arrival_seen received.entry)) }
 {
-    let to = device.answer(*received.from, received.datagram, reply);
+    let to = device.answer(*received.from, received.datagram, reply, &mut begin());
     print_answer(page, to, reply.as_slice());
 }

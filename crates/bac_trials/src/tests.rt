@@ -13,6 +13,7 @@ use bac_device::{Device, DeviceInfo, demo};
 use bac_pdu::{Peer, Route};
 use bac_tsm::{Client, Config};
 use bac_wire::{Frame, ObjectId};
+use bac_work::begin;
 use std::process::Abort;
 
 /// 127.0.0.1:47808, which the client asks.
@@ -105,7 +106,8 @@ fn is_fresh(device: &Device) -> bool {
 /// Whether the device is silent, leaves the frame empty, and stands as a fresh one.
 fn is_silent(device: &mut Device, datagram: &[u8]) -> bool {
     let mut frame = Frame::new();
-    device.answer(ASKER, datagram, &mut frame).is_none() && frame.is_empty() && is_fresh(device)
+    let to = device.answer(ASKER, datagram, &mut frame, &mut begin());
+    to.is_none() && frame.is_empty() && is_fresh(device)
 }
 
 /// A frame with these octets, and behind them so many brackets inside one another, at most 33.

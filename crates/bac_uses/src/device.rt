@@ -8,6 +8,7 @@ ghost use Rattle.bac_uses.specs.Heating.{heating, valve};
 use bac_device::{Device, DeviceInfo, Point};
 use bac_pdu::Peer;
 use bac_wire::{Frame, ObjectId};
+use bac_work::begin;
 
 /// Has the device answer a datagram, whatever it is and whoever sent it: whom the reply in the frame is for, if there
 /// is one, and where the valve stands then.
@@ -20,7 +21,7 @@ pub fn answered(from: Peer, datagram: &[u8], frame: &mut Frame) -> (Option<Peer>
         (writes_after heating (valve ∷ []) [] (station from) datagram.now) valve.object }
 {
     let mut device = one_valve();
-    let to = device.answer(from, datagram, frame);
+    let to = device.answer(from, datagram, frame, &mut begin());
     let valve = device.present(ObjectId::new(1, 1).unwrap()).unwrap();
     (to, valve)
 }

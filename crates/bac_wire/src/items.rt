@@ -15,8 +15,10 @@ pub const NESTING: u8 = 32;
 // The number of the tags round a parameter's value, which are not counted among those.
 const REGION_END: u8 = 3;
 
-/// `region`, with the tags that are read.
-pub(crate) fn region_within(octets: &[u8], work: &mut Work) -> Option<usize>
+/// How many octets at the front are whole items, up to a closing tag 3; `None` where no such tag stands behind them, or
+/// where more than 32 opening tags are open at once in them. Contents are passed over by their length, so an octet in
+/// them ends nothing (ANSI/ASHRAE 135, 20.2.1.3). At most two tags are read for each octet, and two more.
+pub fn region(octets: &[u8], work: &mut Work) -> Option<usize>
     ensures found { FindsRegion deepest 3 octets.now result }
     ensures work { work.new.tags ≤ work.old.tags + 2 * length octets.now + 2 }
 {
@@ -25,8 +27,9 @@ pub(crate) fn region_within(octets: &[u8], work: &mut Work) -> Option<usize>
     Some(octets.len() - rest.len())
 }
 
-/// `is_region`, with the tags that are read.
-pub(crate) fn is_region_within(octets: &[u8], work: &mut Work) -> bool
+/// Whether the octets are whole items and nothing else, with at most 32 opening tags open at once. No octets at all are
+/// that too. At most two tags are read for each octet, and one more.
+pub fn is_region(octets: &[u8], work: &mut Work) -> bool
     ensures found { IsTrue result ↔ IsRegion deepest octets.now }
     ensures work { work.new.tags ≤ work.old.tags + 2 * length octets.now + 1 }
 {

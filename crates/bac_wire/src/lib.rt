@@ -36,8 +36,8 @@ mod value;
 mod work;
 
 pub use frame::{FRAME_OCTETS, Frame, Full};
-pub use items::NESTING;
+pub use items::{NESTING, is_region, region};
 pub use object_id::ObjectId;
 pub use tag::{Shape, Tag, read_tag, tag_and_rest, write_tag};
 pub use value::{Value, octet_count, read_value, value_and_rest, write_value};
-pub use work::{Walk, Work, is_region, region};
+pub use work::Work;

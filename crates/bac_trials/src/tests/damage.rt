@@ -10,6 +10,7 @@ use bac_device::Device;
 use bac_pdu::{open_datagram, read_apdu};
 use bac_tsm::Client;
 use bac_wire::Frame;
+use bac_work::begin;
 
 /// Whether the octets are ignored: they carry nothing, and client and device stay as they were.
 fn is_ignored(client: &mut Client, device: &mut Device, octets: &[u8]) -> bool {
@@ -35,7 +36,8 @@ fn is_taken(client: &mut Client, octets: &[u8]) -> bool {
 /// as it was. Afterwards it is a fresh one.
 fn is_answered(device: &mut Device, octets: &[u8]) -> bool {
     let mut frame = Frame::new();
-    if device.answer(ASKER, octets, &mut frame).is_none() {
+    let to = device.answer(ASKER, octets, &mut frame, &mut begin());
+    if to.is_none() {
         return frame.is_empty() && is_fresh(device);
     }
     match small_device() {

@@ -4,6 +4,7 @@
 use crate::tests::datagrams::DATAGRAMS;
 use crate::tests::octets;
 use bac_wire::{Shape, read_tag, read_value, region};
+use bac_work::begin;
 
 /// The octets that each octet is changed to: the edges of a length, and octets that begin tags.
 static CHANGES: [u8; 8] = [0x00, 0x05, 0x0e, 0x3f, 0x65, 0xfd, 0xfe, 0xff];
@@ -37,7 +38,7 @@ fn add_rests(tally: &mut Tally, octets: &[u8]) {
         let part = &octets[start..];
         let [tags, numbers, counts, length] = tag_at(part);
         let [values, long] = counted(read_value(part).map(|(_, size)| size));
-        let [regions, wide] = counted(region(part).count);
+        let [regions, wide] = counted(region(part, &mut begin()));
         let found = [
             1, tags, numbers, counts, length, values, long, regions, wide,
         ];

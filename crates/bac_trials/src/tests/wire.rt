@@ -2,6 +2,7 @@
 
 use crate::tests::{nested, octets};
 use bac_wire::{Frame, Shape, Tag, Value, is_region, read_tag, region, write_tag, write_value};
+use bac_work::begin;
 
 /// How many octets are appended in turn, whether there is room for them, and how long the frame is then.
 static APPENDED: [(usize, bool, usize); 5] = [
@@ -98,17 +99,20 @@ static REGIONS: [(&str, Option<usize>, bool); 8] = [
 /// them.
 fn ends_nested(depth: usize) -> (bool, Option<usize>) {
     let mut frame = nested(b"", depth);
-    let is_whole = is_region(frame.as_slice());
+    let is_whole = is_region(frame.as_slice(), &mut begin());
     let _ = frame.append(&[0x3f]);
-    (is_whole, region(frame.as_slice()).count)
+    (is_whole, region(frame.as_slice(), &mut begin()))
 }
 
 #[test]
 fn regions_and_nesting(rt: HostRuntime) {
     for (text, end, is_whole) in &REGIONS {
         let part = octets(&rt, text);
-        assert!(&rt; region(part.as_slice()).count == *end, "{text}");
-        assert!(&rt; is_region(part.as_slice()) == *is_whole, "{text}");
+        assert!(&rt; region(part.as_slice(), &mut begin()) == *end, "{text}");
+        assert!(&rt;
+            is_region(part.as_slice(), &mut begin()) == *is_whole,
+            "{text}"
+        );
     }
     assert!(&rt; ends_nested(32) == (true, Some(64)) && ends_nested(33) == (false, None));
 }

@@ -3,28 +3,28 @@ use Rattle.std.proofs.Common.{refl}
 use Rattle.bac_wire.{specs.ParameterReading.enclosed_at, proofs.ItemLaws.{no_region, region_found}}
 use Rattle.bac_pdu.proofs.parameter.enclosed_and_rest.Goals as goal
 
-pub returns-in_err-region : goal.returns-in_err-region
+pub returns-in_err-region-clause-found : goal.returns-in_err-region-clause-found
 unfolding enclosed_at
-returns-in_err-region c =
-    rw (c.from_residual-in_err-region.ensures, ← c.in_ok-inside.ensures)
+returns-in_err-region-clause-found c =
+    rw (c.from_residual-in_err-region.ensures, ← c.in_ok-inside.ensures.found)
     (no_region 3 _ (rw c.in_err-region.was at c.region.ensures.found))
 
-pub returns-in_err-rest : goal.returns-in_err-rest
+pub returns-in_err-rest-clause-found : goal.returns-in_err-rest-clause-found
 unfolding enclosed_at
-returns-in_err-rest c =
+returns-in_err-rest-clause-found c =
     rw (
       c.from_residual-in_err-rest.ensures,
-      ← c.in_ok-inside.ensures,
+      ← c.in_ok-inside.ensures.found,
       region_found 3 _ _ _ _ c.split_at.ensures.front
           c.split_at.ensures.back (rw c.in_ok-region.was at c.region.ensures.found),
       ← c.in_err-rest.ensures,
     ) refl
 
-pub returns : goal.returns
+pub returns-clause-found : goal.returns-clause-found
 unfolding enclosed_at
-returns c =
+returns-clause-found c =
     rw (
-      ← c.in_ok-inside.ensures,
+      ← c.in_ok-inside.ensures.found,
       region_found 3 _ _ _ _ c.split_at.ensures.front c.split_at.ensures.back
           (rw c.in_ok-region.was at c.region.ensures.found),
       ← c.in_ok-rest.ensures,

@@ -6,6 +6,7 @@ use bac_pdu::{
     read_write, write_ack, write_error, write_iam, write_read, write_whois, write_write,
 };
 use bac_wire::{Frame, ObjectId, is_region};
+use bac_work::begin;
 use std::test::Fail;
 
 /// Requests to read a property of analog-input 5, its index, and whether the body is the shortest. The last has a
@@ -50,8 +51,8 @@ fn is_answer(body: &[u8], index: Option<u32>, value: &[u8]) -> Option<bool> {
         value,
     };
     let mut frame = Frame::new();
-    let is_written = is_region(value) && write_ack(&mut frame, &ack).is_ok();
-    Some(read_ack(body) == Some(ack) && is_written && frame.as_slice() == body)
+    let is_written = is_region(value, &mut begin()) && write_ack(&mut frame, &ack).is_ok();
+    Some(read_ack(body, &mut begin()) == Some(ack) && is_written && frame.as_slice() == body)
 }
 
 const TWENTY: &str = "0c0040000119553e4441a000003f4910";
@@ -76,9 +77,9 @@ fn is_order(body: &[u8], instance: u32, value: &[u8], priority: Option<u8>) -> O
     let mut frame = Frame::new();
     let is_written = match priority {
         Some(0 | 17..) => false,
-        _ => is_region(value) && write_write(&mut frame, &order).is_ok(),
+        _ => is_region(value, &mut begin()) && write_write(&mut frame, &order).is_ok(),
     };
-    Some(is_written && read_write(body) == Ok(order) && frame.as_slice() == body)
+    Some(is_written && read_write(body, &mut begin()) == Ok(order) && frame.as_slice() == body)
 }
 
 #[test]
@@ -104,7 +105,7 @@ fn properties_are_read_answered_and_written(rt: HostRuntime) {
 fn value_len(depth: usize) -> Option<usize> {
     let mut body = nested(b"\x0c\x00\x40\x00\x01\x19\x55\x3e", depth);
     let _ = body.append(&[0x3f]);
-    match read_write(body.as_slice()) {
+    match read_write(body.as_slice(), &mut begin()) {
         Ok(order) => Some(order.value.len()),
         Err(_) => None,
     }

@@ -1,6 +1,7 @@
 //! Calls over links in memory.
 use super::*;
 use bac_wire::Frame;
+use bac_work::begin;
 
 /// Answers to a read, how it ends, and the line that is printed.
 static ANSWERS: [(&str, Exit, &str); 10] = [
@@ -68,7 +69,8 @@ fn writes(alloc: Global, steps: &[Step<'_>], exit: Exit, text: &str) -> bool {
 fn denied() -> Option<Frame> {
     let mut device = small_device()?;
     let mut frame = Frame::new();
-    if device.answer(CONTROLLER, WRITE, &mut frame) != Some(CONTROLLER) {
+    let to = device.answer(CONTROLLER, WRITE, &mut frame, &mut begin());
+    if to != Some(CONTROLLER) {
         return None;
     }
     Some(frame)

@@ -3,6 +3,7 @@ use super::*;
 use bac_device::demo;
 use bac_pdu::WhoIs;
 use bac_wire::Frame;
+use bac_work::begin;
 
 /// Words that ask for a search, and the limits of the devices that are asked, if there are any.
 static SEARCHES: [(&str, Option<(u32, u32)>); 4] = [
@@ -46,7 +47,7 @@ fn plays(alloc: Global, line: &str, set: (u16, u32), digits: &str) -> bool {
     let is_set = (serve.port, serve.count) == set;
     let mut reply = Frame::new();
     let who_is = b"\x81\x0a\x00\x0e\x01\x00\x10\x08\x0a\x03\xe8\x1a\x04\xd2";
-    let _ = demo(serve.info).answer(OTHER, who_is, &mut reply);
+    let _ = demo(serve.info).answer(OTHER, who_is, &mut reply, &mut begin());
     is_set && are_digits(alloc, reply.as_slice(), digits)
 }
 

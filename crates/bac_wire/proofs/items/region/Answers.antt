@@ -1,6 +1,6 @@
 use Rattle.std.proofs.Common.{None}
 use Rattle.bac_wire.proofs.ItemLaws.{finds_by, closing_reads, region_leaves, region_finds}
-use Rattle.bac_wire.proofs.items.region_within.Goals as goal
+use Rattle.bac_wire.proofs.items.region.Goals as goal
 
 pub returns-in_err-rest-clause-found : goal.returns-in_err-rest-clause-found
 returns-in_err-rest-clause-found c =

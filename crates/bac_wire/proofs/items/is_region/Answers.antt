@@ -1,7 +1,7 @@
 use Rattle.std.proofs.Common.{arith}
 use Rattle.std.proofs.{lemmas.{Bool.{eqb-true}}}
 use Rattle.bac_wire.proofs.ItemLaws.{whole_region, region_whole, one_left}
-use Rattle.bac_wire.proofs.items.is_region_within.Goals as goal
+use Rattle.bac_wire.proofs.items.is_region.Goals as goal
 
 pub returns-in-Some-clause-found : goal.returns-in-Some-clause-found
 returns-in-Some-clause-found c = grind (arith, whole_region, eqb-true, one_left, region_whole)

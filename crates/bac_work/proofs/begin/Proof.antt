@@ -1,12 +1,13 @@
--- `new` picks that nothing was read. A proof by hand, as `Walks` says.
+-- `begin` picks that nothing was read. A proof by hand, as `Walks` of `bac_wire` says.
 use Rattle.bac_wire.proofs.Walks.{[], ◌∷◌, refl, proved, raw, ◌$◌, ◌∵◌, !, qed, done, drop, fjoin, suffices, agg, enter}
 use Rattle.bac_wire.proofs.Walks.{returns, no_more, alloc_all, pass_all, free_all, look_at, sets, nothing, on_entry}
-use Rattle.bac_wire.proofs.{Walks.{says, ends_at, none, none_made}, work.Work.new.Statement.statement}
-use Rattle.bac_wire.specs.contracts.work.Work.new as f
-use Rattle.bac_wire.proofs.work.Work.new.Code as code
+use Rattle.bac_wire.proofs.Walks.{says, ends_at, none, none_made}
+use Rattle.bac_work.proofs.begin.Statement.{statement}
+use Rattle.bac_work.specs.contracts.begin as f
+use Rattle.bac_work.proofs.begin.Code as code
 
-pub new_spec : {M : Type 1} → statement M
-new_spec 𝓤 𝓛 𝓜 𝓡 wired =
+pub begin_spec : {M : Type 1} → statement M
+begin_spec 𝓤 𝓛 𝓜 𝓡 wired =
     let c = f.clauses 𝓛 𝓜.mem 𝓡.returns in
     proved 𝓛 f.ended tt c 𝓜 𝓡 tt f.Key.name code.function (code.unfolded 𝓤 𝓛.H 𝓜 𝓡 wired) (λ κs. tt) (λ κs. tt)
     (λ κs qs bounds a g are.

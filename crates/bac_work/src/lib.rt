@@ -1,0 +1,16 @@
+//! Where a count of the tags that are read begins.
+//!
+//! No crate up to `bac_device` rests on this one. So a call there that walks over items counts in the count that it is
+//! handed, and its clause `work` bounds all its walks.
+#![tactic(auto)]
+
+ghost use Rattle.std.specs.Prelude.{◌≡◌};
+
+use bac_wire::Work;
+
+/// A count: no tag was read yet.
+pub fn begin() -> Work
+    ensures { result.tags ≡ 0 }
+{
+    Work {}
+}
