@@ -2,7 +2,7 @@
 use Rattle.std.proofs.Common.{arith, ◌≡◌, ℕ, List, [], ◌∷◌, ◌++◌, append_assoc, refl, sym, ap, ◌∙◌}
 use Rattle.std.proofs.{Common.{subst, Bool, false, Result, Ok, Err, OnOk, is_ok, is_err, max}, lemmas.List.append-nil}
 use Rattle.bac_pdu.specs.Peer.{Station}
-use Rattle.bac_links.specs.{SystemCall.SystemCall, History.{Heard, Entry, Waited, Timed, Posted, Unposted, posted}}
+use Rattle.bac_links.specs.{SystemCall.SystemCall, History.{Heard, Entry, Waited, Timed, posted}}
 use Rattle.bac_links.specs.Socket.{Logs, Sends, Times, Waits, CallsFor, AreCallsFor, waits_behind, time_behind}
 use Rattle.bac_links.specs.{Keeps.{waits_behind_all, time_behind_all, Keeps}, declared.udp.OnRefusal.OnRefusal}
 
@@ -47,7 +47,7 @@ module _ (refused : OnRefusal) where
     pub keeps_timed : (log' : List SystemCall) (now : ℕ) → Logs (Times time now) log log'
         → Keeps refused before log' (xs ++ Timed now ∷ []) waits now failed
     keeps_timed log' now asked =
-        keeps_more (Timed now) log' waits now failed
+        keeps_more _ _ _ _ _
         (subst (λ (t : ℕ). Logs (Times t now) log log') keeps.timed asked) keeps.limited refl
 
     -- The link has not failed yet.
@@ -56,16 +56,16 @@ module _ (refused : OnRefusal) where
           (failed' : Bool) → Logs (Sends refused to octets (is_ok result)) log log'
           → Keeps refused before log' (xs ++ posted result to octets ∷ []) waits time failed'
       keeps_sent (Ok x) to octets log' failed' asked =
-          keeps_more (Posted to octets) log' waits time failed' asked (λ s. keeps.limited sound) keeps.timed
+          keeps_more _ _ _ _ _ asked (λ s. keeps.limited sound) keeps.timed
       keeps_sent (Err e) to octets log' failed' asked =
-          keeps_more (Unposted to octets) log' waits time failed' asked (λ s. keeps.limited sound) keeps.timed
+          keeps_more _ _ _ _ _ asked (λ s. keeps.limited sound) keeps.timed
 
       pub keeps_waited : {A E : Type 0} (result : Result A E) (wait : ℕ) (heard : Heard) (log' : List SystemCall)
           (waits' : ℕ) (failed' : Bool) → Logs (Waits refused waits (max wait 1) heard) log log'
           → OnOk result (waits' ≡ max wait 1) → failed' ≡ is_err result
           → Keeps refused before log' (xs ++ Waited wait heard ∷ []) waits' time failed'
       keeps_waited result wait heard log' waits' failed' asked limited marked =
-          keeps_more (Waited wait heard) log' waits' time failed'
+          keeps_more _ _ _ _ _
           (subst (λ (w : ℕ). Logs (Waits refused w (max wait 1) heard) log log') (keeps.limited sound) asked)
           (λ good. go result limited (sym marked ∙ good)) keeps.timed
         where

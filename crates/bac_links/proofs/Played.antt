@@ -53,14 +53,14 @@ module _ (scenes : List Scene) (xs : List Entry) (next time : ℕ) (sent : List 
   goes_on = grind (arith, played_more, behind_more, sendings_more)
 
   pub stands_timed : HasPlayed scenes (xs ++ Timed time ∷ []) next time sent
-  stands_timed = goes_on (Timed time) next time sent refl refl (sym (append-nil sent))
+  stands_timed = goes_on _ _ _ _ refl refl (sym (append-nil sent))
 
   pub stands_sent : {A E : Type 0} (result : Result A E) (to : Station) (octets : List ℕ) (sent' : List Sending)
       → OnOk result (sent' ≡ sent ++ record { time = time; to = to; octets = octets } ∷ [])
       → OnErr result (sent' ≡ sent) → HasPlayed scenes (xs ++ posted result to octets ∷ []) next time sent'
-  stands_sent (Ok x) to octets sent' more _ = goes_on (Posted to octets) next time sent' tt refl more
+  stands_sent (Ok x) to octets sent' more _ = goes_on _ _ _ _ tt refl more
   stands_sent (Err e) to octets sent' _ same =
-      goes_on (Unposted to octets) next time sent' tt refl (same ∙ sym (append-nil sent))
+      goes_on _ _ _ _ tt refl (same ∙ sym (append-nil sent))
 
   -- A wait, where this scene is next, or none.
   pub stands_waited : (scene : Option Scene) (wait : ℕ) (heard : Heard) (next' time' : ℕ)
@@ -76,9 +76,9 @@ module _ (scenes : List Scene) (xs : List Entry) (next time : ℕ) (sent : List 
   stands_waited None wait heard next' time' spent hears passes few small goes =
       let left = drop_past _ next next spent (omega arith) in
       let within : next ≤ next' = omega (arith, goes, small) in
-      goes_on (Waited wait heard) next' time' sent (hears ∙ sym (ap heard_next left))
+      goes_on (Waited wait heard) _ _ _ (hears ∙ sym (ap heard_next left))
       (ap (λ (ss : List Scene). behind_wait wait ss time) left
-      ∙ (λ i. record { scenes = sym (drop_past _ next _ spent within) i; time = sym passes i })) (sym (append-nil sent))
+      ∙ (λ i. record { scenes = sym (drop_past _ _ _ spent within) i; time = sym passes i })) (sym (append-nil sent))
 
 -- ---- one proof at most
 

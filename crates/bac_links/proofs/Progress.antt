@@ -151,7 +151,7 @@ module _ (purpose : Purpose) (call : Call) where
         → IsAt (before ++ Timed (time_behind n) ∷ []) (Timed (time_behind n)) n (time_behind n)
     at_time before _ n now is = record {
       came_last = last_push (Some (Timed first)) before (Timed (time_behind n));
-      steady = further before (Timed (time_behind n)) now (time_behind n) is.steady (omega (arith, is.near))
+      steady = further before (Timed (time_behind n)) _ _ is.steady (omega (arith, is.near))
           (omega arith);
       near = omega arith;
       within = is.within;
@@ -166,14 +166,14 @@ module _ (purpose : Purpose) (call : Call) where
     in_bound _ _ n _ [] is goes told prompt = grind arith
     in_bound before last n now (Waited wait heard ∷ rest) is (asks, later) told prompt =
         let more = in_bound (before ++ Waited wait heard ∷ []) (Waited wait heard) (suc n) now rest
-        (at_wait before last wait heard n now is asks (prompt n (omega arith))) later told
+        (at_wait _ _ _ _ n _ is asks (prompt n (omega arith))) later told
         (λ k less. prompt k (omega (arith, less))) in
         grind (arith, more)
     in_bound before last n now (Timed time ∷ rest) is (_, later) (shown, told) prompt =
-        in_bound (before ++ Timed time ∷ []) (Timed time) n time rest (rw shown (at_time before last n now is)) later
+        in_bound (before ++ Timed time ∷ []) (Timed time) n time rest (rw shown (at_time _ _ n _ is)) later
         told prompt
     in_bound before last n now (x ∷ rest) is (asks, later) told prompt =
-        in_bound (before ++ x ∷ []) x n now rest (at_send before last x n now is refl (λ e. cc) asks) later told prompt
+        in_bound (before ++ x ∷ []) x n now rest (at_send _ _ x n _ is refl (λ e. cc) asks) later told prompt
 
     begun : first ≡ time_behind 0 → IsAt [] (Timed first) 0 first
     begun = grind (arith, all_by)
@@ -182,7 +182,7 @@ module _ (purpose : Purpose) (call : Call) where
       → AreTold time_behind 0 gained → ArePrompt time_behind longest (waits_in gained)
       → time_behind (waits_in gained) ≤ time_behind 0 + suc call.retries * (call.timeout + longest)
   in_time time_behind longest (Timed time ∷ more) (_, follows) (shown, told) prompt =
-      let in_all = in_bound time_behind longest time [] (Timed time) 0 time more (begun time_behind longest time shown)
+      let in_all = in_bound time_behind longest time [] (Timed time) 0 time more (begun time_behind _ _ shown)
       follows told (λ n less. prompt n (omega (arith, less))) in
       grind (arith, in_all)
   in_time _ _ _ follows told prompt = grind arith

@@ -65,7 +65,7 @@ module _ {Origin W : Type 0} {search : Search} {contents : W → Option (List �
     waited = goes.more ++ Waited (search_wait search) heard ∷ []
 
     gains_waited : GainsAll (searched search first waited) seen left
-    gains_waited = gains_both _ _ seen mid left goes.gains hears
+    gains_waited = gains_both _ _ _ _ _ goes.gains hears
 
     follows_waited : Follows (search_move search) [] (searched search first waited)
     follows_waited = grind (arith, follows_push, turn_begins)
@@ -105,7 +105,7 @@ module _ {Origin W : Type 0} {search : Search} {contents : W → Option (List �
     turned = grind (arith, waits_push)
 
     gains_timed : GainsAll all seen last
-    gains_timed = gains_both _ _ seen left last (gains_waited heard listens.gains) asks
+    gains_timed = gains_both _ _ _ _ _ (gains_waited heard listens.gains) asks
 
     follows_timed : Follows (search_move search) [] all
     follows_timed =
@@ -194,7 +194,7 @@ pub unbegun : {Origin W : Type 0} (search : Search) {contents : W → Option (Li
 unbegun search {before} {seen} {mid} {link} first asks sends = record {
   plays = record {
     gained = Timed first ∷ Unposted (station search.to) (who_is_to search) ∷ [];
-    gains = gains_both _ _ seen mid link asks sends;
+    gains = gains_both _ _ _ _ _ asks sends;
     follows = (refl, (refl, tt));
     over = refl;
   };

@@ -67,8 +67,8 @@ module _ {V W : Type 0} (contents : V → Option (List ℕ)) (contents' : W → 
       (Searched search contents' before' after') (λ result. result ≡ Err WriteFailed)
       (λ result other. result ≡ other) PrintAlike
   searches_so_far seen left seen' left' result result' first rest first' rest' tells tells' gains gains' same =
-      let a = stops search contents before after seen left result (first ++ rest) tells gains in
-      let b = stops search contents' before' after' seen' left' result' (first' ++ rest') tells' gains' in
+      let a = stops _ contents _ _ _ _ _ _ tells gains in
+      let b = stops _ contents' _ _ _ _ _ _ tells' gains' in
       let one = same_so_far (search_move search) [] first first' rest rest' a.follows b.follows same in
       let cut : rest ≡ [] → (x : Entry) → next_move (search_move search) first ≡ Asks (question_of x)
       → (result ≡ Err WriteFailed) × PrintAlike result result' =
@@ -79,6 +79,6 @@ module _ {V W : Type 0} (contents : V → Option (List ℕ)) (contents' : W → 
       let ends : rest ≡ [] → rest' ≡ [] → (result ≡ result') × PrintAlike result result' =
       grind (arith, append-nil, a, b, one) in (
         one,
-        so_far (search_move search) (λ r. r ≡ Err WriteFailed) (λ r s. r ≡ s) PrintAlike first rest rest' result result'
-            cut other_cut ends first' one a.follows b.follows,
+        so_far (search_move search) (λ r. r ≡ Err WriteFailed) (λ r s. r ≡ s) PrintAlike _ _ _ _ _
+            cut other_cut ends _ one a.follows b.follows,
       )

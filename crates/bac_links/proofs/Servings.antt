@@ -95,7 +95,7 @@ module _ {Origin : Type 0} {before device : DeviceState} {seen mid : Account Ori
   }
 
   pub serve_done : came ≡ count → Serves count before device seen mid (Ok replied)
-  serve_done all = served (Ok replied) (grind arith)
+  serve_done all = served _ (grind arith)
 
   turn_so : came < count → next_move (serve_move count before) goes.gained ≡ turn_after serve_wait n
   turn_so = grind (arith, lt-leb)
@@ -113,7 +113,7 @@ module _ {Origin : Type 0} {before device : DeviceState} {seen mid : Account Ori
     gains_waited = grind (arith, append_assoc, gains_both)
 
     gains_one : {left : Account Origin} → GainsAll (Waited serve_wait heard ∷ []) mid left → GainsAll waited seen left
-    gains_one more = gains_both _ _ seen mid _ goes.gains more
+    gains_one more = gains_both _ _ _ _ _ goes.gains more
 
     -- What holds of these entries behind the wait, where they are no further waits.
     record IsBehind (gained : List Entry) : Type 0 where
@@ -173,9 +173,9 @@ module _ {Origin : Type 0} {before device : DeviceState} {seen mid : Account Ori
             → GainsAll (Waited serve_wait turn.heard ∷ []) mid left →
             ServeGoes before after seen left count (came + came_in brings) (replied + replied_in brings) (suc n)
         silent rs e few none more =
-            on_with turn.heard turn.leaves (waited turn.heard) (behind_waited turn.heard) brings turn.came turn.replied
-            (gains_one turn.heard more) (follows_waited turn.heard within fewer)
-            (next_silent turn.heard turn.received rs e few none)
+            on_with turn.heard turn.leaves _ (behind_waited turn.heard) _ turn.came turn.replied
+            (gains_one _ more) (follows_waited turn.heard within fewer)
+            (next_silent _ turn.received rs e few none)
 
         go : (rs : List Reply) → replies_of device (brought_by turn.heard) ≡ rs → AtMostOne rs
             → GainsAll (Waited serve_wait turn.heard ∷ sends_of rs) mid left →
@@ -184,9 +184,9 @@ module _ {Origin : Type 0} {before device : DeviceState} {seen mid : Account Ori
         go (None ∷ []) e few more = silent (None ∷ []) e few refl more
         go (Some (to, octets) ∷ []) e few more =
             let x = Posted to octets in
-            on_with turn.heard turn.leaves (waited turn.heard ++ x ∷ []) (behind_sent turn.heard x refl refl) brings
-            turn.came turn.replied (gains_waited turn.heard (x ∷ []) more)
-            (follows_sent turn.heard within fewer turn.received x to octets e refl)
+            on_with turn.heard turn.leaves (waited turn.heard ++ x ∷ []) (behind_sent turn.heard x refl refl) _
+            turn.came turn.replied (gains_waited _ _ more)
+            (follows_sent _ within fewer turn.received x to octets e refl)
             (behind count before (waited turn.heard) x)
         go (r ∷ s ∷ rs) e few more = absurd few
 

@@ -12,4 +12,4 @@ module _ (count : ℕ) (before after after' : DeviceState) where
       (Serves count before after') (λ r. ⊥) EndAlike (λ result result'. Unit {0})
   servings_so_far seen left seen' left' result result' first rest first' rest' serves serves' gains gains' same =
       to_the_end EndAlike (λ r r'. Unit {0}) result result' serves.plays serves'.plays
-      (grind (arith, serves.device, serves'.device)) first rest first' rest' gains gains' same
+      (grind (arith, serves.device, serves'.device)) _ _ _ _ gains gains' same

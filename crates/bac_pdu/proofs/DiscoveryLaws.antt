@@ -41,11 +41,11 @@ then_takes step _ f y e =
 introduction_takes : (body : List ℕ) (i : Introduction) → introduction_of body ≡ Some i → IsIAmBody body i
 unfolding introduction_of
 introduction_takes _ i e =
-    let (_, a, device, behind_device) = then_takes object_step _ _ _ e in
-    let (_, b, size, behind_size) = then_takes unsigned_step _ _ _ behind_device in
-    let (_, c, segments, behind_segments) = then_takes enumerated_step _ _ _ behind_size in
-    let (_, d, vendor, behind_vendor) = then_takes unsigned_step _ _ _ behind_segments in
-    let (eight, whole) = only_if _ behind_vendor in
+    let (_, a, device, more) = then_takes object_step _ _ _ e in
+    let (_, b, size, more) = then_takes unsigned_step _ _ _ more in
+    let (_, c, segments, more) = then_takes enumerated_step _ _ _ more in
+    let (_, d, vendor, more) = then_takes unsigned_step _ _ _ more in
+    let (eight, whole) = only_if _ more in
     let (all, same) = whole_ended _ i _ whole in
     subst (IsIAmBody _) same (record {
       device = eqb-true _ 8 eight;

@@ -47,7 +47,7 @@ module _ (xs held : List ℕ) (start count limit end : ℕ) (is : slice_range xs
   front = take (limit - start) held
 
   size : length held ≡ end - start
-  size = range_size xs held start end is room
+  size = range_size _ _ _ _ is room
 
   long : length front ≡ limit - start
   long = grind (arith, length-take-le, size)
@@ -63,13 +63,13 @@ module _ (xs held : List ℕ) (start count limit end : ℕ) (is : slice_range xs
       (count + place + 1 ≤ length held) × IsLineCut Open (take (count + place + 1) held)
   cut_behind place found =
       let rest = drop count front in
-      let f = feed_at rest place (ap (position (λ octet. octet == 10)) (sym here) ∙ found) in
+      let f = feed_at _ _ (ap (position (λ octet. octet == 10)) (sym here) ∙ found) in
       let there : count + place + 1 ≤ limit - start = omega (arith, f.within, length-drop count front, long) in
       let cut = take-take (count + place + 1) (limit - start) held there in (
         omega (arith, size, there, limit_is),
         inl (record {
           text = take count front ++ take place rest;
-          no_feed = no_feed_on (take count front) (take place rest) searched f.before;
+          no_feed = no_feed_on _ _ searched f.before;
           ended = grind (arith, common_steps, cut, take-add count (place + 1) front, f.ended);
         }),
       )
@@ -111,7 +111,7 @@ pub placed_moved : (xs moved held : List ℕ) (start end : ℕ) → slice_range 
 placed_moved xs moved held start end is copied size size' within room short =
     let long = range_size xs held start end is (omega (arith, room, size')) in
     record {
-      is = moved_held xs moved held start end is copied within (omega (arith, room, size'));
+      is = moved_held _ _ _ _ _ is copied within (omega (arith, room, size'));
       within = omega arith;
       room = omega (arith, long, short);
       size = size;

@@ -75,7 +75,7 @@ module _ (timeout retries first_ticket : ℕ) (events : List Event) where
   prints_output n writes (Nothing ∷ later) (_, none) e = prints_output n writes later none e
   prints_output n _ (Settings t r f ∷ _) (other, _) e = absurd other
   prints_output n writes (Happens event ∷ later) (_, none) e =
-      let (here, behind) = drop_next events n event (events_in later) e in
+      let (here, behind) = drop_next _ n _ _ e in
       let now = one_step (client_rules timeout retries) first_ticket events (by_number timeout retries) few_open n
       event here in
       ap (text_after n writes later) now
@@ -96,7 +96,7 @@ module _ (timeout retries first_ticket : ℕ) (events : List Event) where
 pub text_is : (all : List Said) → SettingsFirst all → text_of all ≡ text_from first_stage all
 text_is [] h = refl
 text_is (Nothing ∷ later) h = text_is later h
-text_is (Settings t r f ∷ later) h = sym (prints_all t r f (events_in later) later h refl)
+text_is (Settings t r f ∷ later) h = sym (prints_all t r f _ _ h refl)
 text_is (Happens event ∷ later) h =
     sym (prints_all 3000 3 0 (events_in (Happens event ∷ later)) (Happens event ∷ later) (tt, h) refl)
 text_is (Asks arrival ∷ later) h = sym (prints_all 3000 3 0 (events_in later) (Asks arrival ∷ later) (tt, h) refl)

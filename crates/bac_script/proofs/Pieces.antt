@@ -57,7 +57,7 @@ pub lines-rest : (line : List ℕ) → HasNoFeed line → length line < line_roo
 lines-rest [] h _ = refl
 lines-rest (x ∷ xs) h short =
     let e : nat_lt longest_line (length (x ∷ xs)) ≡ false = grind (arith, nat_tests) in
-    rw (pieces-open x xs h, ends_with_feed-none (x ∷ xs) h, e) refl
+    rw (pieces-open x _ h, ends_with_feed-none _ h, e) refl
 
 pub lines-last : (line : List ℕ) → HasNoFeed line → 0 < length line → lines line AtEnd ≡ line ∷ []
 lines-last [] = grind arith
@@ -99,7 +99,7 @@ next_ended text held reading h =
     record {
       whole = text ++ 10 ∷ [];
       others = lines held reading;
-      split = lines-ended text held reading h;
+      split = lines-ended _ _ _ h;
       same = λ is_first. refl;
     }
 
@@ -108,7 +108,7 @@ next_last line h some =
     record {
       whole = line;
       others = [];
-      split = ap (λ zs. lines zs AtEnd) (append-nil line) ∙ lines-last line h some;
+      split = ap (λ zs. lines zs AtEnd) (append-nil line) ∙ lines-last _ h some;
       same = λ is_first. refl;
     }
 

@@ -35,7 +35,7 @@ other_then = grind arith
 others_settled : (lines : List (List ℕ)) → NoSettings (said_from false lines)
 others_settled [] = tt
 others_settled (line ∷ lines) =
-    other_then (said false line) (said_from false lines) (text_other (text_of_line line)) (others_settled lines)
+    other_then _ _ (text_other (text_of_line line)) (others_settled lines)
 
 first_then : (s : Result Said LineFault) (lines : List (List ℕ)) → SettingsFirst (said_from true lines)
     → NoSettings (said_from false lines) →

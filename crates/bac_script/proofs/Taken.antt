@@ -102,6 +102,6 @@ pub record FeedAt (held : List ℕ) (i : ℕ) : Type 0 where
 pub feed_at : (held : List ℕ) (i : ℕ) → position (λ octet. octet == 10) held ≡ Some i → FeedAt held i
 feed_at held i found =
     let (within, is_feed, none_before) = position-Some (λ octet. octet == 10) held i 0 found in
-    let before = no_feed_below held i none_before in
+    let before = no_feed_below _ i none_before in
     let cut = take_more held i 0 within in
     grind (arith, before, cut, eqb-true, is_feed)

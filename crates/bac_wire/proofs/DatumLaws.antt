@@ -123,13 +123,13 @@ behind_takes : (number n : ℕ) (after : List ℕ) (value : Datum) (rest : List 
 behind_takes number n after value rest e =
     elim (chosen (eqb number 1) _ _ _ e) [
       | inl (one, found) ↦
-          let (_, read, made) = bind_some _ _ (value, rest) found in
+          let (_, read, made) = bind_some _ _ _ found in
           let (same, all) = some_pair_parts _ _ _ _ made in
           let (_, boolean_is, in_tag) = boolean_takes n _ read in
           rw (sym same ∙ boolean_is) ([], sym (eqb-true _ 1 one), sym in_tag, refl, all)
       | inr (other, found) ↦
           let (room, counted) = unless _ found in
-          let (_, read, made) = bind_some _ _ (value, rest) counted in
+          let (_, read, made) = bind_some _ _ _ counted in
           let (same, behind) = some_pair_parts _ _ _ _ made in
           let (kind, stands) = contents_take _ _ _ read in
           let long : length (take n after) ≡ n = length-take-le n _ (ltb-false _ n room) in
@@ -155,7 +155,7 @@ value_takes : (spelling : List ℕ) (value : Datum) (rest : List ℕ) → value_
     → Took Spells spelling value rest
 unfolding value_at
 value_takes _ value rest e =
-    let (_, tag_read, shaped) = bind_some _ _ (value, rest) e in
+    let (_, tag_read, shaped) = bind_some _ _ _ e in
     let first = tag_reader.takes _ _ _ tag_read in
     let taken = shape_takes _ _ _ _ _ _ first.spelled shaped in
     subst (λ (w : List ℕ). Took Spells w value rest) (sym first.whole) taken

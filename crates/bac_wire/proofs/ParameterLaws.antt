@@ -42,7 +42,7 @@ counted_takes number _ tag (Context n) after contents rest e is f =
     let (room, found) = unless _ counted in
     let (contents_are, behind) = some_pair_parts _ _ _ _ found in
     let long : n ≡ length contents = grind (arith, length-take-le, ltb-false) in
-    let tag_here = tag_parts tag _ _ (is ∙ ap Context long) (eqb-true _ _ same) in
+    let tag_here = tag_parts _ _ _ (is ∙ ap Context long) (eqb-true _ _ same) in
     let taken = tag_reader.takes _ tag _ e in
     let after_is : after ≡ contents ++ rest = grind (arith, take-append-drop) in
     let here : SpellsContext number (taken.front ++ contents) contents =
@@ -156,8 +156,8 @@ kind_step : {A : Type 0} (made : A → Datum) (in_kind : Datum → Option A)
 unfolding kind_at
 kind_step made _ takes again = record {
   takes = λ octets x rest e.
-      let (_, value_read, kind) = bind_some _ _ (x, rest) e in
-      let (_, in_it, found) = bind_some _ _ (x, rest) kind in
+      let (_, value_read, kind) = bind_some _ _ _ e in
+      let (_, in_it, found) = bind_some _ _ _ kind in
       let (same, behind) = some_pair_parts _ x _ _ found in
       let taken = value_reader.takes _ _ _ value_read in
       record {

@@ -180,7 +180,7 @@ module _ (octets : List ℕ) (tag : Tag) (after : List ℕ) (e : tag_at octets �
     more_takes _ Closing _ is f = grind (arith, ended_leaves, ended_since)
     more_takes _ shape _ is f =
         let (others, first, later) = bind_some _ _ _ f in
-        let i = item_takes _ shape others is first in
+        let i = item_takes _ _ _ is first in
         let l = takes _ others _ later in
         record {
           front = i.front ++ l.front;
@@ -225,7 +225,7 @@ module _ (items : ℕ → List ℕ → Option (List ℕ)) (rest : List ℕ) wher
   counted_again = grind (arith, boolean_again, count_again)
 
   primitive_again : (top : ℕ) (item : List ℕ) → IsPrimitive item → item_at items top (item ++ rest) ≡ Some rest
-  primitive_again top _ p = rw (tag_again _ _ _ _ p.tagged) (counted_again top _ _ _ p.counted)
+  primitive_again top _ p = rw (tag_again _ _ _ _ p.tagged) (counted_again _ _ _ _ p.counted)
 
   module _ (most : ℕ) (again : Again items most) where
     bracket_again : (depth top number : ℕ) (item inside : List ℕ) → depth ≤ top → length (item ++ rest) < suc most
@@ -236,7 +236,7 @@ module _ (items : ℕ → List ℕ → Option (List ℕ)) (rest : List ℕ) wher
         let read = tag_again _ _ rest _ b.opened in
         let line = append_assoc inside b.closing rest in
         let within = again _ top _ _ le (grind (arith, after_shorter)) b.parts (inr (number, rest, c)) in
-        rw (read, line, within, closed_again _ _ rest c) refl
+        rw (read, line, within, closed_again _ _ _ c) refl
 
     pub item_again : (depth top : ℕ) (item : List ℕ) → depth ≤ top → length (item ++ rest) < suc most
         → IsItem depth item → item_at items top (item ++ rest) ≡ Some rest
@@ -260,9 +260,9 @@ more_again count top _ _ e =
 
 pub items_again : (count : ℕ) → Again (behind_items count) count
 items_again zero _ _ _ _ le short r ended = absurd (omega arith)
-items_again (suc count) _ top _ rest le _ none ended = ended_again _ top rest ended
+items_again (suc count) _ top _ rest le _ none ended = ended_again _ _ _ ended
 items_again (suc count) depth top _ rest le short (more {first} {rest = others} i s) ended =
     let line = append_assoc first others rest in
     let shorter = item_shorter _ _ (others ++ rest) i in
-    let read = item_again _ _ _ (items_again count) _ top _ le (rw line at short) i in
-    rw line (more_again _ top _ _ read ∙ items_again count depth top _ rest le (omega (arith, ap length line)) s ended)
+    let read = item_again _ _ _ (items_again count) _ _ _ le (rw line at short) i in
+    rw line (more_again _ _ _ _ read ∙ items_again count depth top _ rest le (omega (arith, ap length line)) s ended)

@@ -113,10 +113,10 @@ tag_takes : (octets : List ℕ) (tag : Tag) (rest : List ℕ) → tag_at octets 
 unfolding tag_at
 tag_takes [] _ _ e = cc
 tag_takes (initial ∷ octets) tag rest e =
-    let ((number, behind), number_read, more) = bind_some _ _ (tag, rest) e in
-    let ((shape, after), shape_read, made) = bind_some _ _ (tag, rest) more in
-    let (number_octets, number_is, behind_number) = number_takes _ octets number behind number_read in
-    let (length_octets, shape_is, behind_length) = shape_takes _ behind shape after shape_read in
+    let ((number, behind), number_read, more) = bind_some _ _ _ e in
+    let ((shape, after), shape_read, made) = bind_some _ _ _ more in
+    let (number_octets, number_is, behind_number) = number_takes _ _ _ _ number_read in
+    let (length_octets, shape_is, behind_length) = shape_takes _ _ _ _ shape_read in
     let front : List ℕ = initial ∷ (number_octets ++ length_octets) in
     let line : initial ∷ octets ≡ front ++ after = grind (arith, append_assoc) in
     let spelled : SpellsTag front (tag_of number shape) =

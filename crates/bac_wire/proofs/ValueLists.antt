@@ -29,7 +29,7 @@ enough (suc m) (suc n) (x ∷ xs) h k = go (λ rest. enough m n rest) (value_at 
         (found : Option (Datum × List ℕ)) → value_at (x ∷ xs) ≡ found → then_others m found ≡ then_others n found
     go same None e = refl
     go same (Some (first, rest)) e =
-        let short = value-shorter (x ∷ xs) first rest e in
+        let short = value-shorter _ _ _ e in
         ap (λ (found : Option (List Datum)). found >>= (λ others. Some (first ∷ others)))
         (same rest (omega arith) (omega arith))
 
@@ -66,7 +66,7 @@ pub counted_more : (region rest behind : List ℕ) (count : ℕ) (value : Datum)
     → value_at rest ≡ Some (value, behind) →
     Counted region behind (count + 1)
 counted_more _ rest behind _ value h found =
-    let more = values-first rest value behind found in
+    let more = values-first _ _ _ found in
     record { is = grind arith }
 
 pub counted_stuck : (region rest : List ℕ) (count : ℕ) → Counted region rest count → value_at rest ≡ None
@@ -87,10 +87,10 @@ pub ruleset counted = (counted_none, counted_more, counted_stuck, counted_all, n
 -- what the values of octets are, they spell
 pub spelled : (values : List Datum) (octets : List ℕ) → values_of octets ≡ Some values → SpellsAll Spells octets values
 unfolding values_within
-spelled [] octets e = values-empty octets e
+spelled [] octets e = values-empty _ e
 spelled (value ∷ others) [] e = absurd (let bad : [] ≡ value ∷ others = cc in cc)
 spelled (value ∷ others) (x ∷ xs) e =
-    let ((first, rest), read, _) = bind_some _ _ (value ∷ others) e in
+    let ((first, rest), read, _) = bind_some _ _ _ e in
     let (same, later) = parts first (values_of rest) (sym (values-first _ _ _ read) ∙ e) in
     (rest, value_reader.takes _ value _ (read ∙ ap (λ (v : Datum). Some (v, rest)) same), spelled others _ later)
   where
@@ -103,7 +103,7 @@ pub read_all : (values : List Datum) (octets : List ℕ) → SpellsAll Spells oc
 unfolding values_within
 read_all [] _ s = ap values_of s
 read_all (value ∷ others) octets (rest, first, later) =
-    values-first octets value rest (begins_read Spells value_at value_reader octets value rest first)
+    values-first _ _ _ (begins_read Spells value_at value_reader octets value rest first)
     ∙ ap (option_map (λ more. value ∷ more)) (read_all others rest later)
 
 pub are_spelled : (region : List ℕ) (values : List Datum)

@@ -1,7 +1,7 @@
 -- Where `clap` takes the words of a program that wants a tool, the words name one other than `help`, and it takes the
 -- words after it.
 use Rattle.std.proofs.Common.{arith, ◌≡◌, true, false, refl, List, [], Option, is_some, IfSome}
-use Rattle.clap.specs.Walk.{finished, settled, Text, nothing_held, walk, walk_from, stop_after}
+use Rattle.clap.specs.Walk.{finished, settled, Text, nothing_held, walk, stop_after}
 use Rattle.clap.specs.Simple.{App, argument_words, built, entered, names_of}
 use Rattle.clap.specs.Faults.{check_fault, defaults_fault, entered_fault, fault_of}
 use Rattle.clap_laws.{specs.Entering.Enters, proofs.Rows.{asks, none_fails, walk_goes}}
@@ -24,6 +24,6 @@ enters a words wanted none =
     let rows = finished (built a).top.rules end in
     let defaults = none_fails (defaults_fault (settled (built a).top.rules end).rows (built a).top.rules)
     (check_fault (built a).top rows there) defaults_none in
-    let (_, else) = walk_goes (built a).top (names_of (built a)) (walk_from nothing_held) (argument_words a words)
+    let (_, else) = walk_goes (built a).top (names_of (built a)) _ _
     unfaulted ((λ level. tt), tt) in
-    enters_by a words stop refl (grind arith) below else
+    enters_by a _ _ refl (grind arith) below else

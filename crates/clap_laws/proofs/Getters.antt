@@ -116,6 +116,6 @@ needed c id rows taken is = at_rule _ refl is
         let missing = any_not (λ a. a.required && not (is_given a.id rows)) (λ a. bytes_eq a.id id) _ _ taken.complete
         found in
         let given : is_given a.id rows ≡ true = not-false _ (rw required at missing) in
-        let (_, some) = text_of c a id rows taken.entries found in
+        let (_, some) = text_of c a _ _ taken.entries found in
         some_number (one_of id rows)
         (some (subst (λ (t : Text). is_given t rows ≡ true) ((bytes_eq-Decides a.id id).0 same) given))

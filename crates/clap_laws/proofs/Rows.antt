@@ -7,11 +7,10 @@ use Rattle.std.proofs.lemmas.{Bool.or_parts, List.Folds.list_all-append}
 use Rattle.std.specs.{List.{AllByRecursion, find, fold, list_all, list_any}, Str.bytes_eq, Prelude.nat_lt}
 use Rattle.std.specs.Option.{option_map_or}
 use Rattle.clap.specs.{
-  Facts.unwrap_or_range,
   Values.is_request,
   Kinds.{Kinds, check_kinds, or_else, range_kinds},
   Walk.{Held, bundle_step, has_short, Names, Outcome, Row, Rule, Step, Text, Waiting, Walk, after_flag, after_step},
-  Walk.{arg_by_id, arg_by_short, at_row, bundle_met, default_rows, done, is_empty, long_met, long_or_other},
+  Walk.{arg_by_id, at_row, bundle_met, default_rows, done, is_empty, long_met, long_or_other},
   Walk.{more_values, nothing_held, option_met, plain, plain_word, reacted, reading_by, settled, short_met},
   Walk.{short_or_plain, subcommand_or_other, takes_values, to_positional, used, used_as, values_or_missing, walk},
   Walk.{rows_after, walked, walked_from, with_default, with_values, word_met},
@@ -70,7 +69,7 @@ owned p c a is =
     (λ x xs fails is rest plain distinct.
     let (apart, distinct_later) = both _ _ distinct in
     let (_, plain_later) = both _ _ plain in
-    let other = any_not _ p xs a (is_false _ apart) is in
+    let other = any_not _ p _ a (is_false _ apart) is in
     let later = rest plain_later distinct_later in
     record { own = rw other later.own; plain = later.plain }) c is
 
@@ -161,7 +160,7 @@ module _ (c : List Rule) (level : IsPlainLevel c) (again : Bool) where
   used_pass a _ _ is none h =
       let (in_range, no_fault) = none_fails _ _ none in
       let (_, kept) = both _ _ is.plain in
-      used_as_pass c a _ _ _ _ _ is.own kept (filled_by a (unwrap_or_range a.range).start_inclusive _ _ in_range)
+      used_as_pass c a _ _ _ _ _ is.own kept (filled_by a _ _ _ in_range)
       no_fault h
 
   settled_pass : (h : Held) → Keeps (settle_fault c again h) h (settled c h)
@@ -204,7 +203,7 @@ module _ (c : List Rule) (level : IsPlainLevel c) (again : Bool) where
       go None skip none later = rows
       go (Some x) zero none later =
           let rest = drop (length (encode_utf8 x)) flags in
-          short_pass (arg_by_short c x) rest h (bundle_met c k rest 0 done) (flags_fault c again k rest 0)
+          short_pass _ _ h (bundle_met c k rest 0 done) (flags_fault c again k rest 0)
           (later rest 0 done)
           (found_own (λ a. not (is_some a.index) && has_short a x)) none rows
       go (Some x) (suc skip) none later = later (drop (length (encode_utf8 x)) flags) skip so_far h none rows
@@ -303,8 +302,8 @@ module _ (s : Shape) where
       go (Some p) is none = (rows, rw is at stop)
       go None is none =
           let (no_fault, no_step_fault) = none_fails _ _ none in
-          let (passed, asks_none) = word_goes names _ _ walk.position word walk.held no_fault in
-          step_goes word walk _ _ (λ level. passed level (rows level)) asks_none stop no_step_fault
+          let (passed, asks_none) = word_goes names _ _ walk.position word _ no_fault in
+          step_goes _ _ _ _ (λ level. passed level (rows level)) asks_none stop no_step_fault
 
 -- ---- after the walk
 

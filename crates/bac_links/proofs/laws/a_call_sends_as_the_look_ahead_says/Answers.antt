@@ -1,3 +1,4 @@
+-- The law is a lemma.
 use Rattle.bac_links.proofs.CallSends.{told_sent}
 use Rattle.bac_links.proofs.laws.a_call_sends_as_the_look_ahead_says.Goals as goal
 

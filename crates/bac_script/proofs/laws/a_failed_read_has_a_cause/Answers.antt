@@ -1,3 +1,4 @@
+-- The law is a lemma.
 use Rattle.bac_script.proofs.Functions.{read_fails}
 use Rattle.bac_script.proofs.laws.a_failed_read_has_a_cause.Goals as goal
 

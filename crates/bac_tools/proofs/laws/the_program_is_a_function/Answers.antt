@@ -1,3 +1,4 @@
+-- One part is a lemma; in the other both programs report the same.
 use Rattle.std.proofs.Common.{◌∙◌, sym}
 use Rattle.bac_tools.specs.Telling.{once_given}
 use Rattle.bac_tools.proofs.Alike.{runs_alike}

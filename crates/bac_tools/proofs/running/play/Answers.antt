@@ -1,3 +1,4 @@
+-- What is served is the device that `demo` makes.
 use Rattle.std.proofs.Common.{Ok, Err, refl, subst}
 use Rattle.bac_device.specs.Device.{DeviceState}
 use Rattle.bac_links.specs.Serve.{Serves}

@@ -1,3 +1,4 @@
+-- Each row computes once the definitions that read and write it are opened.
 use Rattle.std.proofs.Common.{arith}
 use Rattle.bac_wire.specs.TagReading.{tag_number_at, long_length_at, length_at, shape_at, tag_at}
 use Rattle.bac_wire.specs.{DatumReading.{contents_of, value_at}, Datum.plain, Tag.plain_tag}

@@ -1,3 +1,4 @@
+-- Each way out of an item, and out of the items, is a step of the reading on lists.
 use Rattle.std.proofs.{Common.{◌≡◌, Some, None, sym, refl, ◌∙◌, arith, inl}, lemmas.Bool.{eqb-true, eqb-false, ne_eqb}}
 use Rattle.std.proofs.lemmas.List.{nil_from_length}
 use Rattle.bac_wire.proofs.{RegionReading.{ended_again, ended_since}, ItemLaws.{rest_found, rest_none, rest_step}}

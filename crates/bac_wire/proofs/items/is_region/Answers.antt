@@ -1,3 +1,4 @@
+-- Octets are a region where their items leave nothing.
 use Rattle.std.proofs.Common.{arith}
 use Rattle.std.proofs.{lemmas.{Bool.{eqb-true}}}
 use Rattle.bac_wire.proofs.ItemLaws.{whole_region, region_whole, one_left}

@@ -1,3 +1,4 @@
+-- Items leave one rest, so a region that is found is the only one.
 use Rattle.std.proofs.Common.{None}
 use Rattle.bac_wire.proofs.ItemLaws.{finds_by, closing_reads, region_leaves, region_finds}
 use Rattle.bac_wire.proofs.items.region.Goals as goal

@@ -1,3 +1,4 @@
+-- The parts of the law are lemmas.
 use Rattle.bac_wire.proofs.ParameterLaws.{context_reader, number_reader, object_reader, enclosed_reader, number_spells}
 use Rattle.bac_wire.proofs.ParameterLaws.{object_spells, enclosed_spells}
 use Rattle.bac_wire.proofs.laws.parameters.Goals as goal
