@@ -47,7 +47,7 @@ class Calls:
         self.tool, self.timeout, self.retries, self.at_once = tool, timeout, retries, at_once
         self.processes = Processes()
         self.count = 0
-        self.writes = 0  # how many writes are under way
+        self.writes = 0  # how many are under way, or were when all was ended
         self._lock = threading.RLock()  # a signal may come while the main thread has it
         self._ports = Ports()
 
@@ -80,7 +80,8 @@ class Calls:
             self.writes += 1
         outcome = self.run(["bacwp", *words])
         with self._lock:
-            self.writes -= 1
+            if not self.processes.ended.is_set():  # one that was ended may have been made
+                self.writes -= 1
         return outcome
 
     def _heed_signals(self) -> None:

@@ -9,13 +9,13 @@ from unittest import mock
 
 import alone
 import harness
-from bacsite.calls import Ports
+from bacsite import calls
 from stand_ins import LateStandIn, real, string, unsigned
 
 
 class PortNumbers(unittest.TestCase):
     def test_none_comes_again_soon(self):
-        ports = Ports()
+        ports = calls.Ports()
         found = [ports.next() for _ in range(16384)]
         self.assertEqual((len(set(found)), min(found), max(found)), (16384, 49152, 65535))
 
@@ -23,7 +23,7 @@ class PortNumbers(unittest.TestCase):
         begins = []
         for process in range(700):
             with mock.patch("os.getpid", return_value=process):
-                begins.append(Ports().next())
+                begins.append(calls.Ports().next())
         near = sorted(begins)
         gaps = [after - at for at, after in zip(near, [*near[1:], near[0] + 16384])]
         self.assertGreaterEqual(min(gaps), 8)
@@ -40,6 +40,12 @@ class PortNumbers(unittest.TestCase):
 
 
 class Calls(harness.SiteTest):
+    def test_a_write_that_is_ended_is_told(self):
+        ended = calls.Calls("bactool", 1000, 0, 1)
+        ended.processes.end()
+        ended.write([])
+        self.assertEqual(ended.writes, 1)
+
     def test_a_port_that_somebody_has_is_passed_over(self):
         tool = self.path("taken", "")
         os.mkdir(self.world.folder + "/busy")
