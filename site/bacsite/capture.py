@@ -102,7 +102,7 @@ def arguments(parser: argparse.ArgumentParser) -> None:
     parser.add_argument(
         "--only", choices=("failed", "slow"), help="requests that failed or are slow"
     )
-    add_number(parser, "slow", 0, 999999, 1000, "from how many milliseconds on one is slow, ")
+    add_number(parser, "slow", 0, 999999, 1000, "from how many milliseconds on one is slow")
     parser.add_argument("--client", metavar="ADDRESS[:PORT]", help="whose requests")
     parser.add_argument("--device", metavar="ADDRESS[:PORT]", help="requests to whom")
     told = "of --trace: how long the client waits, where its resends don't show it"

@@ -51,10 +51,10 @@ def within(least: int, most: int) -> Callable[[str], int]:
 
 
 def add_number(
-    parser: argparse.ArgumentParser, name: str, least: int, most: int, usual: int, more: str = ""
+    parser: argparse.ArgumentParser, name: str, least: int, most: int, usual: int, what: str
 ) -> None:
     """An option that takes a whole number."""
-    told = f"{more}{least} to {most}; {usual} where it is not given"
+    told = f"{what}, {least} to {most}; {usual} where it is not given"
     parser.add_argument(
         "--" + name, metavar="N", type=within(least, most), default=usual, help=told
     )
@@ -64,9 +64,11 @@ def asking(at_once: int) -> Parser:
     """The options of all commands that ask controllers."""
     parser = Parser(add_help=False)
     parser.add_argument("--tools", metavar="FOLDER", help="where bactool is")
-    add_number(parser, "apdu-timeout", 1, 60000, 1000)
-    add_number(parser, "apdu-retries", 0, 9, 2)
-    add_number(parser, "at-once", 1, 256, at_once)
+    told = "milliseconds until a request is sent again or given up"
+    add_number(parser, "apdu-timeout", 1, 60000, 1000, told)
+    add_number(parser, "apdu-retries", 0, 9, 2, "how often it is sent again")
+    told = "how many controllers are asked at the same time"
+    add_number(parser, "at-once", 1, 256, at_once, told)
     return parser
 
 

@@ -36,8 +36,8 @@ def properties_arguments(parser: argparse.ArgumentParser) -> None:
     """The words of properties."""
     told = "[INSTANCE@]ADDRESS TYPE INSTANCE"
     parser.add_argument("words", nargs=3, metavar="WORD", help=told)
-    more = "up to which number it asks where there is no property-list, "
-    add_number(parser, "last", 0, 4194303, 512, more)
+    told = "up to which number it asks where there is no property-list"
+    add_number(parser, "last", 0, 4194303, 512, told)
 
 
 def properties(words: argparse.Namespace) -> int:

@@ -122,9 +122,9 @@ def arguments(parser: argparse.ArgumentParser) -> None:
     )
     parser.add_argument("--devices", action="store_true", help="devices alone, no objects")
     parser.add_argument("--silent", action="store_true", help="also who is silent in a range")
-    most = "up to so many objects of a device are asked, "
+    most = "up to so many objects of a device are asked"
     add_number(parser, "objects", 1, 999999, Bounds.objects, most)
-    told = "how many seconds one controller is asked, "
+    told = "how many seconds one controller is asked"
     add_number(parser, "deadline", 1, 999999, Bounds.seconds, told)
 
 
