@@ -98,7 +98,8 @@ def build(crates, below, done):
     try:
         while left or working:
             ready = [it for it in left if below[it] <= done][: places - len(working)]
-            share = -(-processors() // max(len(working) + len(ready), 1))
+            large = sum(size(crate) > PROCESS_CODE for crate in [*ready, *(work.crate for work in working)])
+            share = -(-processors() // max(large, 1))
             for crate in ready:
                 working.append(Work(crate, below[crate], max(min(share, size(crate) // PROCESS_CODE), 1)))
                 left.remove(crate)
