@@ -1,3 +1,4 @@
+-- Where there was a socket, and where there was none, a lemma says so.
 use Rattle.bac_tools.proofs.Calls.{run_so, run_without}
 use Rattle.bac_tools.proofs.laws.a_run_is_its_calls.Goals as goal
 

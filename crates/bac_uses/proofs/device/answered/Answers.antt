@@ -1,3 +1,4 @@
+-- The valve is present as it was written, since the device holds this one write.
 use Rattle.std.proofs.Common.{[], ◌∷◌, refl, sym, ◌∙◌}
 use Rattle.bac_device.proofs.{StateLaws.present_now, Answering.next_after}
 use Rattle.bac_uses.specs.Heating.{heating, valve}

@@ -1,3 +1,4 @@
+-- The status is told by the line, which is read off the histories of the link before and after.
 use Rattle.bac_links.{proofs.Lines.line_of, specs.{Socket.account_over, declared.ending.Purpose.TheVariants.Reading}}
 use Rattle.bac_uses.proofs.links.read_over_udp.Goals as goal
 

@@ -1,3 +1,4 @@
+-- The command has the rules of its arguments, in their order.
 use Rattle.bac_words.proofs.command.bacrp.Goals as goal
 
 pub returns : goal.returns

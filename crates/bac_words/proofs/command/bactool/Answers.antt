@@ -1,3 +1,4 @@
+-- The five tools are added, one after another, to a command that wants one.
 use Rattle.clap_laws.proofs.Built.{wanting_is}
 use Rattle.bac_words.proofs.command.bactool.Goals as goal
 

@@ -1,3 +1,4 @@
+-- What help says of a command is none of its rules.
 use Rattle.clap_laws.proofs.Built.{helped}
 use Rattle.bac_words.proofs.command.named.Goals as goal
 

@@ -1,3 +1,4 @@
+-- Each is computed: that its words are taken, and the job that they ask for.
 use Rattle.std.proofs.Common.{refl}
 use Rattle.clap.specs.{Faults.{walk_fault, defaults_fault}, Walk.walked}
 use Rattle.bac_wire.specs.{Datum.plain, Tag.plain_tag}

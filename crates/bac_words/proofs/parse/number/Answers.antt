@@ -1,3 +1,4 @@
+-- What `clap` hands out of such an argument is a number within its limits.
 use Rattle.std.proofs.Common.{subst, sym, Option, ℕ, IfSome}
 use Rattle.clap.specs.Words.{found_of}
 use Rattle.clap_laws.{specs.Inner.Numbers.{FitsWord, IsWithin}, proofs.Getters.getter}

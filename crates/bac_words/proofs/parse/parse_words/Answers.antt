@@ -1,3 +1,4 @@
+-- `clap` refuses the marked words, or takes them, and then has found a tool in them.
 use Rattle.std.proofs.Common.{◌≡◌, ◌∙◌, sym, ap, subst, inl, inr, map, List, [], Option, IsSomeAnd, option_map}
 use Rattle.std.specs.Cow.{cow_str_bytes}
 use Rattle.clap.specs.{Kinds.HasKind, Faults.{fault_of, is_simple_and_free}}

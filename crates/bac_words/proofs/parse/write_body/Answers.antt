@@ -1,3 +1,4 @@
+-- The words of the values are those that were typed, since the marks are taken off.
 use Rattle.std.proofs.Common.{◌∙◌, ap, codes, refl, map, List, [], Option, unwrap_or}
 use Rattle.std.{proofs.lemmas.Result.err_from_is_err_and, specs.Borrow.Bor}
 use Rattle.clap.{specs.{Words.found_of, Walk.{Text, texts}}, proofs.WalkLemmas.raw_values-rows}
