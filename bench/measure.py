@@ -137,7 +137,6 @@ def memory():
 
 
 def network():
-    subprocess.run([os.environ.get("CC", "cc"), "-O2", "-Wall", "-o", UDP, f"{TOP}/bench/udp.c"], check=True)
     for part in (servers, shares, clients, memory):
         yield from part()
 
@@ -236,6 +235,7 @@ def lines_of(part):
 
 def main(words):
     os.makedirs(f"{TOP}/out", exist_ok=True)
+    subprocess.run([os.environ.get("CC", "cc"), "-O2", "-Wall", "-o", UDP, f"{TOP}/bench/udp.c"], check=True)
     for part in [it for it in words if it != "--write"] or PARTS:
         box = ""
         for line in lines_of(part):
