@@ -44,4 +44,5 @@ pub use memory::{MemoryLink, Step};
 pub use search::run_whois;
 pub use serving::serve;
 pub use socket::{NoSocket, Socket, SystemSocket};
+pub use turns::{most_turns, turn_wait};
 pub use udp::{OnRefusal, UdpLink};

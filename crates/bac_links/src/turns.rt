@@ -6,14 +6,14 @@ ghost use Rattle.bac_links.specs.Limits.{most_turns, turn_wait};
 const LONGEST_WAIT: u32 = 50;
 
 /// The turns after which a tool gives up. A function and no constant, so that its clause says the number.
-pub(crate) const fn most_turns() -> u32
+pub const fn most_turns() -> u32
     ensures { result ≡ most_turns }
 {
     65_536
 }
 
 /// How long a turn of a call or a search with this timeout waits, in milliseconds.
-pub(crate) fn turn_wait(timeout: u32) -> u32
+pub fn turn_wait(timeout: u32) -> u32
     ensures { result ≡ turn_wait timeout }
 {
     timeout.min(LONGEST_WAIT)

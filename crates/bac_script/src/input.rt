@@ -22,7 +22,7 @@ const LINE_ROOM: usize = LONGEST_LINE + 1;
 
 /// Octets that were read and not yet taken.
 #[derive(Drop)]
-pub(crate) struct Chunk {
+pub struct Chunk {
     octets: [u8; CHUNK_ROOM],
     start: usize,
     end: usize,
@@ -30,14 +30,14 @@ pub(crate) struct Chunk {
 
 /// The next line is so many of the first octets that are held. Where reading is over, it is all that was left.
 #[derive(Clone, Copy)]
-pub(crate) struct Next {
-    pub(crate) reading: Reading,
-    pub(crate) length: usize,
+pub struct Next {
+    pub reading: Reading,
+    pub length: usize,
 }
 
 /// How reading stands.
 #[derive(Clone, Copy, PartialEq, Eq)]
-pub(crate) enum Reading {
+pub enum Reading {
     /// More may come.
     Open,
     /// A read gave nothing.
@@ -59,7 +59,7 @@ impl Model for Chunk {
 
 impl Chunk {
     /// A chunk that holds nothing.
-    pub(crate) fn new() -> Self
+    pub fn new() -> Self
         ensures { result ≡ [] }
     {
         Chunk {
@@ -75,7 +75,7 @@ impl Chunk {
     /// # Errors
     ///
     /// `WriteFailed` where the page has failed before a read that would be needed.
-    pub(crate) fn next_line<R: Read, W: Write>(
+    pub fn next_line<R: Read, W: Write>(
         &mut self,
         reader: &mut Checked<R>,
         page: &mut Page<'_, W>,
@@ -114,7 +114,7 @@ impl Chunk {
     }
 
     /// The first octets that are held.
-    pub(crate) fn front(&self, count: usize) -> &[u8]
+    pub fn front(&self, count: usize) -> &[u8]
         requires { count ≤ length self.now }
         ensures { result.now ≡ take count self.now }
     {
@@ -123,7 +123,7 @@ impl Chunk {
 
     /// Takes the first octets away.
     #[tactic(auto, using(crate::proofs::Chunks::range_skipped))]
-    pub(crate) fn skip(&mut self, count: usize)
+    pub fn skip(&mut self, count: usize)
         requires { count ≤ length self.old }
         ensures { self.new ≡ drop count self.old }
     {

@@ -25,5 +25,8 @@ mod notes;
 mod running;
 mod tracing;
 
-pub use notes::{show_outcome, show_value};
+pub use input::{Chunk, Next, Reading};
+pub use line::{Line, LineFault, LineRoom, Received, read_line};
+pub use long_write::LongWrite;
+pub use notes::{print_end, print_refusal, print_sent, show_outcome, show_value};
 pub use tracing::{TraceEnd, TraceFault, trace, trace_status};

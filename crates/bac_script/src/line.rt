@@ -25,7 +25,7 @@ use std::str;
 
 /// What a line says. Its peer and its octets lie in the room that was lent to read it.
 #[derive(Drop)]
-pub(crate) enum Line<'a> {
+pub enum Line<'a> {
     /// Nothing: it is blank or a remark.
     Skipped,
     /// The client's settings and its first ticket.
@@ -44,7 +44,7 @@ pub(crate) enum Line<'a> {
 
 impl Line<'_> {
     /// Whether the line says nothing.
-    pub(crate) fn is_skipped(&self) -> bool
+    pub fn is_skipped(&self) -> bool
         ensures { result ≡ is_nothing (line_seen self.now) }
     {
         matches!(self, Line::Skipped)
@@ -53,21 +53,21 @@ impl Line<'_> {
 
 /// A datagram, and whom it comes from.
 #[derive(Clone, Copy)]
-pub(crate) struct Received<'a> {
-    pub(crate) from: &'a Peer,
-    pub(crate) datagram: &'a [u8],
+pub struct Received<'a> {
+    pub from: &'a Peer,
+    pub datagram: &'a [u8],
 }
 
 /// Room for the peer and the octets that a line says, which is used again for the next line.
 #[derive(Drop)]
-pub(crate) struct LineRoom {
+pub struct LineRoom {
     peer: Peer,
     datagram: [u8; LONGEST_DATAGRAM],
     body: BodyRoom,
 }
 
 impl LineRoom {
-    pub(crate) fn new() -> Self {
+    pub fn new() -> Self {
         LineRoom {
             peer: Peer {
                 ip: 0,
@@ -82,7 +82,7 @@ impl LineRoom {
 
 /// Why a line can't be run.
 #[derive(Clone, Copy, PartialEq, Eq)]
-pub(crate) enum LineFault {
+pub enum LineFault {
     /// It is no line of the language.
     Bad,
     /// It has more octets than a line may have.
@@ -90,7 +90,7 @@ pub(crate) enum LineFault {
 }
 
 /// What a line says, which may end with a line feed. `is_first` says whether no line before it said anything.
-pub(crate) fn read_line<'a>(
+pub fn read_line<'a>(
     line: &'a [u8],
     is_first: bool,
     room: &'a mut LineRoom,

@@ -11,12 +11,12 @@ use bac_wire::ObjectId;
 
 /// A request to write as a line says it, where its service body has more octets than a client sends.
 #[derive(Drop)]
-pub(crate) struct LongWrite<'a> {
-    pub(crate) peer: &'a Peer,
-    pub(crate) object: ObjectId,
-    pub(crate) property: u32,
-    pub(crate) index: Option<u32>,
-    pub(crate) priority: Option<u8>,
-    pub(crate) words: Words<'a>,
+pub struct LongWrite<'a> {
+    pub peer: &'a Peer,
+    pub object: ObjectId,
+    pub property: u32,
+    pub index: Option<u32>,
+    pub priority: Option<u8>,
+    pub words: Words<'a>,
     ghost long: { IsTrue (is_long (whole_body_of (identifier object) property index priority words)) },
 }

@@ -48,7 +48,7 @@ pub fn show_value<W: Write>(region: &[u8], writer: &mut Checked<W>) -> Result<()
 
 /// Prints what the client sends under the ticket, where the request is open.
 #[tactic(auto, using(bac_print::proofs::Printed::printing, std::proofs::lemmas::Grind::common_steps))]
-pub(crate) fn print_sent<W: Write>(page: &mut Page<'_, W>, client: &Client, ticket: u64)
+pub fn print_sent<W: Write>(page: &mut Page<'_, W>, client: &Client, ticket: u64)
     ensures { Prints W.contents page.old page.new (notes_text (sent client.now.state ticket)) }
 {
     if let Some((peer, octets)) = client.to_send(ticket) {
@@ -60,7 +60,7 @@ pub(crate) fn print_sent<W: Write>(page: &mut Page<'_, W>, client: &Client, tick
 }
 
 /// Prints why a request was not accepted.
-pub(crate) fn print_refusal<W: Write>(page: &mut Page<'_, W>, fault: SubmitFault)
+pub fn print_refusal<W: Write>(page: &mut Page<'_, W>, fault: SubmitFault)
     ensures { Prints W.contents page.old page.new (note_text (Refused fault)) }
 {
     let text = match fault {
@@ -72,7 +72,7 @@ pub(crate) fn print_refusal<W: Write>(page: &mut Page<'_, W>, fault: SubmitFault
 }
 
 /// Prints the end of a request.
-pub(crate) fn print_end<W: Write>(page: &mut Page<'_, W>, ended: Ended<'_>)
+pub fn print_end<W: Write>(page: &mut Page<'_, W>, ended: Ended<'_>)
     ensures { Prints W.contents page.old page.new
         (note_text (Done ended.entry.ticket (outcome_seen ended.entry.outcome))) }
 {

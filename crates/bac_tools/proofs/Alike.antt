@@ -14,7 +14,8 @@ use Rattle.bac_links.{
 }
 use Rattle.bac_words.specs.{Command.bactool, declared.faults.UsageFault.{UsageFault, TheVariants.{Help, Memory, Words}}}
 use Rattle.bac_words.{
-  specs.declared.job.{Job.{Job, TheVariants.{Over, Trace}}, Tool.{Tool, TheVariants.{Read, Write, WhoIs, Device}}},
+  specs.declared.job.{Job.{Job, TheVariants.{Over, Run, Trace}}, Tool.{Tool, TheVariants.{Read, Write, WhoIs, Device}}},
+  specs.declared.job.Batch.{Batch},
   specs.{Line.{Answers, IsRefusal}, Marks.marked_words},
   proofs.OneAnswer.one_answer,
 }
@@ -213,9 +214,7 @@ module _ {N Origin L R W M Other K S V : Type 0} {gives : N → Binding → Resu
       )
 
   opened : (tool : Tool) (o p : Option (Result L NoSocket)) (o' p' : Option (Result K NoSocket)) →
-      RunsOpened out (fresh one.reader) one.reader' (fresh one.writer) one.writer' one.ran.report tool o p →
-      RunsOpened out' (fresh other.reader) other.reader' (fresh other.writer) other.writer' other.ran.report tool o' p'
-      →
+      Mine one (Over tool) o p → Mine other (Over tool) o' p' →
       Gained out.seen o p one.gained → Gained out'.seen o' p' other.gained → BothHad o o' → Alike
   opened tool (Some (Err f)) p (Some (Err g)) p' r s gains gains' e = grind (arith, none_asked, unprinted)
   opened tool (Some (Ok l)) (Some (Ok m)) (Some (Ok k)) (Some (Ok n)) r s gains gains' e =
@@ -243,14 +242,15 @@ module _ {N Origin L R W M Other K S V : Type 0} {gives : N → Binding → Resu
       ]
     ]
 
-  jobs : (job : Job) (o p : Option (Result L NoSocket)) (o' p' : Option (Result K NoSocket))
+  jobs : (job : Job) → ((batch : Batch) → job ≡ Run batch → ⊥) → (o p : Option (Result L NoSocket)) (o' p' : Option (Result K NoSocket))
       → IsGiven gives out one.network (asked_by job) o → IsGiven gives' out' other.network (asked_by job) o' →
       Mine one job o p → Mine other job o' p' → Gained out.seen o p one.gained → Gained out'.seen o' p' other.gained
       → BothHad o o' → Alike
-  jobs Trace None p None p' given given' (r, _) (s, _) gains gains' e =
+  jobs Trace unrun None p None p' given given' (r, _) (s, _) gains gains' e =
       let (ends, prints) = scripts r s in none_asked gains gains' ends prints
-  jobs Trace o p o' p' given given' r s gains gains' e = cc
-  jobs (Over tool) o p o' p' _ _ r s gains gains' e = opened tool o p o' p' r s gains gains' e
+  jobs Trace unrun o p o' p' given given' r s gains gains' e = cc
+  jobs (Run batch) unrun o p o' p' _ _ r s gains gains' e = absurd (unrun batch refl)
+  jobs (Over tool) unrun o p o' p' _ _ r s gains gains' e = opened tool o p o' p' r s gains gains' e
 
   abbrev Given : Result Job UsageFault → Type 0
   Given r = IsGiven gives out one.network (option_and_then asked_by (result_ok r)) one.program.opened
@@ -262,11 +262,11 @@ module _ {N Origin L R W M Other K S V : Type 0} {gives : N → Binding → Resu
       → OtherGiven (Err g) → (one.ran.report ≡ other.ran.report) ⊎ Refused → Alike
   both_refused f g r s given given' told = grind (arith, none_asked, ungained, unprinted)
 
-  same_answer : (r : Result Job UsageFault) → Given r → OtherGiven r → MyEnd one r one.program.opened
+  same_answer : (r : Result Job UsageFault) → one.program.answer ≡ r → Given r → OtherGiven r → MyEnd one r one.program.opened
       → MyEnd other r other.program.opened → Alike
-  same_answer (Err f) given given' r s = grind (arith, both_refused, reported)
-  same_answer (Ok j) given given' r s =
-      jobs j one.program.opened one.ran.socket other.program.opened other.ran.socket given given' r s one.gains
+  same_answer (Err f) is given given' r s = grind (arith, both_refused, reported)
+  same_answer (Ok j) is given given' r s =
+      jobs j (λ batch same. h.no_batch batch (is ∙ ap Ok same)) one.program.opened one.ran.socket other.program.opened other.ran.socket given given' r s one.gains
       other.gains h.socket
 
   compared : (r s : Result Job UsageFault) → one.program.answer ≡ r → other.program.answer ≡ s

@@ -2,12 +2,13 @@
 use Rattle.std.{proofs.Common.{ℕ, List, Option, Result, Ok, Bool, inl, arith}, specs.declared.io.ErrorKind.ErrorKind}
 use Rattle.clap.specs.Words.{Text}
 use Rattle.bac_print.specs.{Checked.has_failed, declared.checked.Checked.Checked}
+use Rattle.bac_run.specs.declared.fault.RunFault.{RunFault}
 use Rattle.bac_script.specs.declared.tracing.{TraceEnd.TraceEnd, TraceFault.TraceFault}
 use Rattle.bac_links.specs.declared.{exit.Exit.Exit, fault.ToolFault.ToolFault, socket.NoSocket.NoSocket}
 use Rattle.bac_words.specs.declared.{faults.UsageFault.UsageFault, job.Job.Job}
 use Rattle.bac_tools.{
   specs.{Outside.Outside, Program.{RunsAsRead, Program, IsCalled, IsRun}},
-  specs.{Report.{IsStatusOf, tool_report, trace_report}, Telling.once_given},
+  specs.{Report.{IsStatusOf, run_report, tool_report, trace_report}, Telling.once_given},
   specs.declared.{running.Binding.Binding, program.Ran.Ran, report.{Fault.Fault, Report.Report}},
 }
 
@@ -21,6 +22,9 @@ tool_status = grind arith
 trace_status : (answer : Result TraceEnd TraceFault) → IsTold (trace_report answer)
 trace_status = grind arith
 
+batch_status : (answer : Result TraceEnd RunFault) → IsTold (run_report answer)
+batch_status = grind arith
+
 given_status : (fault : Option Fault) (failed : Bool) (report : Report) → IsTold report
     → IsTold (once_given fault failed report)
 given_status = grind arith
@@ -29,7 +33,7 @@ module _ {N Origin L R W : Type 0} (gives : N → Binding → Result L NoSocket 
     (network : N) (reader reader' : Checked R) (writer : Checked W) where
   ended_status : (writer' : Checked W) (ran : Ran N L) (answer : Result Job UsageFault) (o : Option (Result L NoSocket))
       → RunsAsRead gives out network reader reader' writer writer' ran answer o → IsTold ran.report
-  ended_status = grind (arith, tool_status, trace_status)
+  ended_status = grind (arith, batch_status, tool_status, trace_status)
 
   pub program_status : {writer' : Checked W} {ran : Ran N L} {words : List Text}
       → Program gives out network reader reader' writer writer' ran words

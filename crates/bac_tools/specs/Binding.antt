@@ -2,7 +2,7 @@
 use Rattle.std.specs.Prelude.{ℕ, Option, Some, None}
 use Rattle.bac_links.specs.declared.udp.OnRefusal.TheVariants.{Fails, IsLost}
 use Rattle.bac_words.specs.declared.{
-  job.{Job.{Job, TheVariants.{Over, Trace}}, Tool.{Tool, TheVariants.{Read, Write, WhoIs, Device}}},
+  job.{Job.{Job, TheVariants.{Over, Run, Trace}}, Tool.{Tool, TheVariants.{Read, Write, WhoIs, Device}}},
 }
 use Rattle.bac_tools.specs.declared.running.Binding.{Binding}
 
@@ -17,7 +17,8 @@ binding_of (Write call) = client_at call.port
 binding_of (WhoIs search) = client_at search.port
 binding_of (Device serve) = record (client_at serve.port) { refused = IsLost }
 
--- What a job asks for: the socket of its tool. A script asks for none.
+-- What a job asks for: the socket of its tool. A script asks for none, and many requests for one.
 abbrev pub asked_by : Job → Option Binding
 asked_by Trace = None
+asked_by (Run batch) = Some (client_at batch.port)
 asked_by (Over tool) = Some (binding_of tool)

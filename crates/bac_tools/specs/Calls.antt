@@ -1,5 +1,5 @@
 -- From the words to the calls of the system.
-use Rattle.std.specs.Prelude.{◌≡◌, ℕ, List, [], ◌∷◌, Option, Result, Ok, Err}
+use Rattle.std.specs.Prelude.{◌≡◌, ℕ, List, [], ◌∷◌, Option, Some, Result, Ok, Err}
 use Rattle.std.specs.declared.net.socket_addr.SocketAddr.{SocketAddr}
 use Rattle.clap.specs.Words.{Text}
 use Rattle.bac_pdu.specs.Peer.{station}
@@ -8,8 +8,10 @@ use Rattle.bac_links.{
   specs.{History.{Account, Entry}, Socket.{AreCallsFor, Binds, BindsAtMost, IsAddressOf, Logs}},
   specs.{SystemCall.{SystemCall, Bind}, declared.{exit.Exit.Exit, fault.ToolFault.ToolFault, socket.NoSocket.NoSocket}},
 }
-use Rattle.bac_words.specs.{Line.Answers, declared.job.{Job.TheVariants.Over, Tool.Tool}}
-use Rattle.bac_tools.specs.{Binding.binding_of, Report.{report_of, tool_report}, Runs.ToolRuns}
+use Rattle.bac_script.specs.declared.tracing.TraceEnd.{TraceEnd}
+use Rattle.bac_run.specs.declared.fault.RunFault.{RunFault}
+use Rattle.bac_words.specs.{Line.Answers, declared.job.{Batch.Batch, Job.{Job, TheVariants.{Over, Run, Trace}}, Tool.Tool}}
+use Rattle.bac_tools.specs.{Binding.asked_by, Report.{report_of, run_report, tool_report}, Runs.{BatchRuns, ToolRuns}}
 use Rattle.bac_tools.specs.{Telling.{IsTold, on_error}, declared.{running.Binding.Binding, report.Report.Report}}
 use Rattle.bac_tools.specs.declared.report.Fault.TheVariants as faults
 
@@ -28,36 +30,60 @@ abbrev pub AsksAtMostOnce : {N L : Type 0} → (N → Binding → Result L NoSoc
 AsksAtMostOnce {N} {L} gives = (network : N) (binding : Binding) (none : NoSocket)
     → gives network binding (Err none) → BindsAtMost binding.at none.log.items
 
--- These words asked for a tool, which ran over a link. Its writer was given its lines, `errors` what is told of its
--- fault, the reader was not read, and the report says how it ended. The system was asked for one socket, at the address
--- that the tool wants; then for what the tool asked of its link, one thing after another; and for nothing else.
-pub record RunsAsCalls (Origin : Type 0) {R W E : Type 0} (contents : W → Option (List ℕ))
-    (error_contents : E → Option (List ℕ)) (reader reader' : Checked R) (writer writer' : Checked W)
-    (errors errors' : Checked E) (report : Report) (words : List Text) (log : List SystemCall) : Type 0 where
-  pub tool : Tool
-  pub answered : Answers words (Ok (Over tool))
+module _ {Origin R W : Type 0} (remaining : R → Option (List ℕ)) (contents : W → Option (List ℕ))
+    (reader reader' : Checked R) (writer writer' : Checked W) (seen left : Account Origin) (report : Report) where
+  -- A tool ran over a link: its writer was given its lines, the reader was not read, and the report says how it ended.
+  pub record ToolCalled (tool : Tool) : Type 0 where
+    pub answer : Result Exit ToolFault
+    pub runs : ToolRuns contents writer writer' seen left answer tool
+    pub unread : reader' ≡ reader
+    pub reported : report ≡ tool_report answer
+
+  -- Many requests were made over a link, as the reader's lines ask: the writer was given their journal, and the report
+  -- says how they ended.
+  pub record BatchCalled (batch : Batch) : Type 0 where
+    pub answer : Result TraceEnd RunFault
+    pub runs : BatchRuns remaining contents batch reader reader' writer writer' seen left answer
+    pub reported : report ≡ run_report answer
+
+  -- A job that has a socket.
+  abbrev pub JobCalled : Job → Type 0
+  JobCalled Trace = ⊥
+  JobCalled (Run batch) = BatchCalled batch
+  JobCalled (Over tool) = ToolCalled tool
+
+-- These words asked for a job that has a socket, which ran over a link. Its writer was given its lines, `errors` what is
+-- told of its fault, and the report says how it ended. The system was asked for one socket, at the address that the job
+-- wants; then for what the job asked of its link, one thing after another; and for nothing else.
+pub record RunsAsCalls (Origin : Type 0) {R W E : Type 0} (remaining : R → Option (List ℕ))
+    (contents : W → Option (List ℕ)) (error_contents : E → Option (List ℕ)) (reader reader' : Checked R)
+    (writer writer' : Checked W) (errors errors' : Checked E) (report : Report) (words : List Text)
+    (log : List SystemCall) : Type 0 where
+  pub job : Job
+  pub answered : Answers words (Ok job)
   pub made : Origin
   pub history : List Entry
-  pub answer : Result Exit ToolFault
-  pub runs : ToolRuns contents writer writer' (record { made = made; history = [] })
-      (record { made = made; history = history }) answer tool
-  pub unread : reader' ≡ reader
-  pub reported : report ≡ tool_report answer
+  pub runs : JobCalled remaining contents reader reader' writer writer' (record { made = made; history = [] })
+      (record { made = made; history = history }) report job
   pub told : IsTold error_contents errors errors' (on_error report.fault)
+  pub binding : Binding
+  pub wanted : asked_by job ≡ Some binding
   pub address : SocketAddr
-  pub at : IsAddressOf (station (binding_of tool).at) address
-  pub asked : ∥ Logs (AreCallsFor (binding_of tool).refused 0 0 history) (Bind address ∷ []) log ∥₁
+  pub at : IsAddressOf (station binding.at) address
+  pub asked : ∥ Logs (AreCallsFor binding.refused 0 0 history) (Bind address ∷ []) log ∥₁
 
--- These words asked for a tool, for which there was no socket to be had. Nothing was read or printed, `errors` was
--- given what is told of that, and the system was asked for one socket at most, at the address that the tool wants, and
+-- These words asked for a job, for which there was no socket to be had. Nothing was read or printed, `errors` was
+-- given what is told of that, and the system was asked for one socket at most, at the address that the job wants, and
 -- for nothing else.
 pub record RunsWithout {R W E : Type 0} (error_contents : E → Option (List ℕ)) (reader reader' : Checked R)
     (writer writer' : Checked W) (errors errors' : Checked E) (report : Report) (words : List Text)
     (log : List SystemCall) : Type 0 where
-  pub tool : Tool
-  pub answered : Answers words (Ok (Over tool))
+  pub job : Job
+  pub answered : Answers words (Ok job)
   pub unread : reader' ≡ reader
   pub unprinted : writer' ≡ writer
   pub reported : report ≡ report_of (faults.Link record {})
   pub told : IsTold error_contents errors errors' (on_error report.fault)
-  pub asked : BindsAtMost (binding_of tool).at log
+  pub binding : Binding
+  pub wanted : asked_by job ≡ Some binding
+  pub asked : BindsAtMost binding.at log

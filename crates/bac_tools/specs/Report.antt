@@ -2,17 +2,19 @@
 use Rattle.std.specs.Prelude.{◌≡◌, ◌≤◌, ℕ, Option, Some, None, option_map, Result, Err}
 use Rattle.std.specs.{Result.result_err, declared.io.ErrorKind.{ErrorKind, TheVariants.OutOfMemory}}
 use Rattle.bac_script.specs.{Tracing.trace_status_of, declared.tracing.{TraceEnd.TraceEnd, TraceFault.TraceFault}}
+use Rattle.bac_run.specs.{Fault.run_status_of, declared.fault.RunFault.RunFault}
 use Rattle.bac_links.specs.{Ending.status_of, declared.{exit.Exit.Exit, fault.ToolFault.ToolFault}}
 use Rattle.bac_words.specs.{Fault.usage_status_of, declared.faults.UsageFault.TheVariants.Memory}
 use Rattle.bac_tools.specs.declared.report.{Fault.Fault, Report.Report}
 use Rattle.bac_tools.specs.declared.report.Fault.TheVariants as faults
 
--- The status of each fault: 0 where help was asked for; 2 where words or a line of a script are wrong; 3 where a
+-- The status of each fault: 0 where help was asked for; 2 where words, or a line of a script or of requests, are wrong; 3 where a
 -- socket, a reader, a writer or the turns gave out; 4 without memory.
 abbrev pub fault_status : Fault → ℕ
 fault_status faults.NoText = 2
 fault_status (faults.Usage fault) = usage_status_of fault
 fault_status (faults.Trace fault) = trace_status_of (Err fault)
+fault_status (faults.Run fault) = run_status_of (Err fault)
 fault_status _ = 3
 
 -- The status is that of the fault that is told; without one it is 0, or 1 where the tool ended otherwise than it was
@@ -37,3 +39,7 @@ tool_report answer = record { status = status_of answer; fault = option_map faul
 -- The report after a script.
 abbrev pub trace_report : Result TraceEnd TraceFault → Report
 trace_report answer = record { status = trace_status_of answer; fault = option_map faults.Trace (result_err answer) }
+
+-- The report after a run of many requests.
+abbrev pub run_report : Result TraceEnd RunFault → Report
+run_report answer = record { status = run_status_of answer; fault = option_map faults.Run (result_err answer) }

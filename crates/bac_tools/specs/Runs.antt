@@ -1,5 +1,5 @@
 -- What a job prints, sends and leaves, and how the program ends: for each job by the definition of its tool.
-use Rattle.std.specs.{Prelude.{◌≡◌, ◌↔◌, ℕ, true, [], List, Option, Some, Result, Ok, Err}, Result.result_map_both}
+use Rattle.std.specs.{Prelude.{◌≡◌, ◌↔◌, ◌⊎◌, ℕ, true, [], List, Option, Some, Result, Ok, Err}, Result.result_map_both}
 use Rattle.bac_device.specs.{Demo.demo_points, Device.{DeviceState, device_after}}
 use Rattle.bac_print.specs.{Checked.has_failed, declared.checked.Checked.Checked}
 use Rattle.bac_script.specs.{Tracing.Traces, declared.tracing.{TraceEnd.TraceEnd, TraceFault.TraceFault}}
@@ -7,11 +7,13 @@ use Rattle.bac_script.specs.declared.tracing.TraceFault.TheVariants as stops
 use Rattle.bac_links.specs.{Call.Tells, Fault.{is_link_fault, is_write_fault}, History.Account, Search.Searched}
 use Rattle.bac_links.specs.{Serve.Serves, declared.{ending.Purpose.TheVariants.{Reading, Writing}, exit.Exit.Exit}}
 use Rattle.bac_links.specs.declared.{exit.Exit.TheVariants.Good, fault.ToolFault.ToolFault, socket.NoSocket.NoSocket}
+use Rattle.bac_run.specs.{Fault.{is_at_link, is_of_link, write_failed}, Run.{Runs as Requested}}
+use Rattle.bac_run.specs.declared.{fault.RunFault.RunFault, session.Session.Session}
 use Rattle.bac_words.specs.declared.{
-  job.{Job.{Job, TheVariants.{Over, Trace}}, Serve.Serve, Tool.{Tool, TheVariants.{Read, Write, WhoIs, Device}}},
+  job.{Batch.Batch, Job.{Job, TheVariants.{Over, Run, Trace}}, Serve.Serve, Tool.{Tool, TheVariants.{Read, Write, WhoIs, Device}}},
 }
 use Rattle.bac_tools.{
-  specs.{Outside.Outside, Report.{report_of, tool_report, trace_report}, declared.report.Report.Report},
+  specs.{Outside.Outside, Report.{report_of, run_report, tool_report, trace_report}, declared.report.Report.Report},
 }
 use Rattle.bac_tools.specs.declared.report.Fault.TheVariants as faults
 
@@ -35,6 +37,22 @@ module _ {Origin W : Type 0} (contents : W → Option (List ℕ)) (writer writer
   ToolRuns (WhoIs search) = Searched search contents writer writer' seen left answer
   ToolRuns (Device serve) = DevicePlays serve seen left answer × (writer' ≡ writer)
 
+-- ---- many requests over a link
+
+-- A session goes by the words of its batch.
+pub record IsSessionOf (batch : Batch) (session : Session) : Type 0 where
+  pub timeout : session.config.timeout ≡ batch.timeout
+  pub retries : session.config.retries ≡ batch.retries
+  pub window : session.window ≡ batch.window
+
+-- The requests that the lines of the reader ask for were made, and the journal of that was printed.
+pub record BatchRuns {Origin R W : Type 0} (remaining : R → Option (List ℕ)) (contents : W → Option (List ℕ))
+    (batch : Batch) (reader reader' : Checked R) (writer writer' : Checked W) (seen left : Account Origin)
+    (answer : Result TraceEnd RunFault) : Type 0 where
+  pub session : Session
+  pub of_batch : IsSessionOf batch session
+  pub requested : Requested remaining contents session reader reader' writer writer' seen left answer
+
 -- ---- the whole
 
 module _ {Origin L R W : Type 0} (out : Outside Origin L R W) (reader reader' : Checked R) (writer writer' : Checked W)
@@ -49,6 +67,17 @@ module _ {Origin L R W : Type 0} (out : Outside Origin L R W) (reader reader' : 
     pub unread : reader' ≡ reader
     pub reported : report ≡ tool_report answer
 
+  -- Many requests were made over a link: the report is that of their answer. The link has failed exactly where it is
+  -- its fault; a writer that failed is told of, unless the fault is at the link.
+  pub record RunsBatch (batch : Batch) (link link' : L) : Type 0 where
+    pub answer : Result TraceEnd RunFault
+    pub runs : BatchRuns out.remaining out.contents batch reader reader' writer writer' (out.seen link) (out.seen link')
+        answer
+    pub link_fault : out.failed link' ≡ is_of_link answer
+    pub not_written : answer ≡ Err write_failed → has_failed writer' ≡ true
+    pub unsaid : has_failed writer' ≡ true → (answer ≡ Err write_failed) ⊎ (is_at_link answer ≡ true)
+    pub reported : report ≡ run_report answer
+
   -- A script was run: its text was printed, and the report says how it ended.
   pub record RunsScript : Type 0 where
     pub answer : Result TraceEnd TraceFault
@@ -56,15 +85,16 @@ module _ {Origin L R W : Type 0} (out : Outside Origin L R W) (reader reader' : 
     pub write_fault : (has_failed writer' ≡ true) ↔ (answer ≡ Err stops.WriteFailed)
     pub reported : report ≡ trace_report answer
 
-  -- A tool was run over the socket that was to be had, which is there afterwards. Where none was to be had, nothing was
-  -- read and nothing printed, it is told that there was none, and why is handed back.
-  abbrev pub RunsOpened : Tool → Option (Result L NoSocket) → Option (Result L NoSocket) → Type 0
-  RunsOpened tool (Some (Err none)) opened' = (opened' ≡ Some (Err none)) × (reader' ≡ reader) × (writer' ≡ writer)
+  -- Something was run over the socket that was to be had, which is there afterwards. Where none was to be had, nothing
+  -- was read and nothing printed, it is told that there was none, and why is handed back.
+  abbrev pub RunsOpened : (L → L → Type 0) → Option (Result L NoSocket) → Option (Result L NoSocket) → Type 0
+  RunsOpened over (Some (Err none)) opened' = (opened' ≡ Some (Err none)) × (reader' ≡ reader) × (writer' ≡ writer)
       × (report ≡ report_of (faults.Link record {}))
-  RunsOpened tool (Some (Ok link)) (Some (Ok link')) = RunsOver tool link link'
-  RunsOpened tool opened opened' = ⊥
+  RunsOpened over (Some (Ok link)) (Some (Ok link')) = over link link'
+  RunsOpened over opened opened' = ⊥
 
   -- What a job does with what was opened for it, its reader and its writer, and the report.
   abbrev pub Runs : Job → Option (Result L NoSocket) → Option (Result L NoSocket) → Type 0
   Runs Trace = λ opened opened'. RunsScript × (opened' ≡ opened)
-  Runs (Over tool) = RunsOpened tool
+  Runs (Run batch) = RunsOpened (RunsBatch batch)
+  Runs (Over tool) = RunsOpened (RunsOver tool)

@@ -3,6 +3,7 @@ use Rattle.std.specs.Prelude.{◌≡◌, ℕ, Bool, true, List, [], ◌++◌, Op
 use Rattle.bac_print.specs.{Page.Writes, declared.checked.Checked.Checked}
 use Rattle.bac_script.specs.Tracing.{trace_fault_text}
 use Rattle.bac_links.specs.{Fault.{link_fault_text, tool_fault_text}, declared.fault.ToolFault.TheVariants.WriteFailed}
+use Rattle.bac_run.specs.Fault.{run_fault_text}
 use Rattle.bac_words.specs.{Fault.usage_told, Telling.{Told, Text, Line}, declared.faults.UsageFault.TheVariants.Help}
 use Rattle.bac_tools.specs.{Report.tool_report, declared.report.{Fault.Fault, Report.Report}}
 use Rattle.bac_tools.specs.declared.report.Fault.TheVariants as faults
@@ -14,6 +15,7 @@ fault_told (faults.Usage fault) = usage_told fault
 fault_told (faults.Link fault) = Line link_fault_text
 fault_told (faults.Tool fault) = Line (tool_fault_text fault)
 fault_told (faults.Trace fault) = Line (trace_fault_text fault)
+fault_told (faults.Run fault) = Line (run_fault_text fault)
 
 -- Standard output is given help that was asked for, and nothing else.
 abbrev pub on_output : Option Fault → Option Told

@@ -5,6 +5,7 @@
 //! with the status and the fault that is told. [`run_words`] does this for words that one has already.
 //!
 //! [`run_tool`] runs a tool over a link that one has already; [`binding_for`] says which socket a tool asks for.
+//! [`run_batch`] makes many requests over one.
 //! `specs/Program.antt` says what comes of the words. The other names are of the crates below, where each is said and
 //! proved.
 //!
@@ -22,9 +23,12 @@ pub use bac_links::{
     Step, SystemSocket, ToolFault, UdpLink, run_read, run_whois, run_write, serve, status,
 };
 pub use bac_print::{Checked, Message};
+pub use bac_run::{RunFault, Session, run_requests, run_status};
 pub use bac_script::{TraceEnd, TraceFault, show_outcome, show_value, trace, trace_status};
 pub use bac_text::{Call, Search, read_peer};
-pub use bac_words::{Job, Serve, Telling, Tool, UsageFault, parse_words, usage_status, words_of};
+pub use bac_words::{
+    Batch, Job, Serve, Telling, Tool, UsageFault, parse_words, usage_status, words_of,
+};
 pub use program::{Finished, Network, Ran, run_program, run_words};
 pub use report::{Fault, Report, tell};
-pub use running::{Binding, binding_for, run_tool};
+pub use running::{Binding, binding_for, run_batch, run_tool};

@@ -4,14 +4,15 @@ ghost use Rattle.std.specs.{IoError.error_kind, String.string_bytes, declared.io
 ghost use Rattle.clap.specs.Walk.{texts};
 ghost use Rattle.bac_print.specs.Checked.{fresh, has_failed};
 ghost use Rattle.bac_links.specs.declared.socket.NoSocket.{NoSocket};
-ghost use Rattle.bac_tools.specs.{Program.{IsCalled, IsRun, Program, texts_of}, declared.running.Binding.Binding};
+ghost use Rattle.bac_words.specs.{Job.CanOpen, declared.job.Job.TheVariants.{Run}};
+ghost use Rattle.bac_tools.specs.{Program.{IsCalled, IsRun, Program, RunsJob, texts_of}, declared.running.Binding.Binding};
 
 use crate::report::{Report, tell};
-use crate::running::{Binding, binding_for, run_tool};
+use crate::running::{Binding, binding_for, client_at, run_batch, run_tool};
 use bac_links::{Link, LinkFault, NoSocket};
 use bac_print::Checked;
 use bac_script::trace;
-use bac_words::{Job, UsageFault, parse_words, words_of};
+use bac_words::{Batch, Job, UsageFault, parse_words, words_of};
 use std::alloc::Global;
 use std::env;
 use std::io::{self, Read, Write};
@@ -108,12 +109,41 @@ pub fn run_words<N: Network + Drop, R: Read, W: Write>(
 {
     let tool = match parse_words(alloc, words) {
         Ok(Job::Over(tool)) => tool,
+        Ok(Job::Run(batch)) => return run_many(&batch, network, reader, writer),
         Ok(Job::Trace) => return Ran::only(Report::from(trace(reader, writer)), network),
         Err(fault) => return Ran::only(Report::from(fault), network),
     };
     match network.bind(binding_for(&tool)) {
         Ok(mut link) => Ran {
             report: Report::from(run_tool(tool, &mut link, writer)),
+            socket: Some(Ok(link)),
+            unasked: None,
+        },
+        Err(none) => Ran {
+            report: Report::from(LinkFault),
+            socket: Some(Err(none)),
+            unasked: None,
+        },
+    }
+}
+
+// Makes many requests over the socket that they ask for, or reports that there is none.
+fn run_many<N: Network + Drop, R: Read, W: Write>(
+    batch: &Batch,
+    network: N,
+    reader: &mut Checked<R>,
+    writer: &mut Checked<W>,
+) -> Ran<N, N::Socket>
+    requires ready { CanOpen batch.now }
+    requires reader { has_failed reader.old ≡ false }
+    requires writer { has_failed writer.old ≡ false }
+    ensures { RunsJob N.gives
+        record { seen = N.Socket.seen; failed = N.Socket.has_failed; remaining = R.remaining; contents = W.contents }
+        network reader.old reader.new writer.old writer.new result (Run batch.now) }
+{
+    match network.bind(client_at(batch.port)) {
+        Ok(mut link) => Ran {
+            report: Report::from(run_batch(batch, &mut link, reader, writer)),
             socket: Some(Ok(link)),
             unasked: None,
         },

@@ -2,7 +2,7 @@
 ghost use Rattle.std.specs.Prelude.{◌≡◌, option_map};
 ghost use Rattle.bac_words.specs.Telling.{told_by};
 ghost use Rattle.bac_tools.{
-  specs.Report.{report_of, tool_report, trace_report, unread_report},
+  specs.Report.{report_of, run_report, tool_report, trace_report, unread_report},
   specs.Telling.{fault_told, on_error, on_output, once_given, IsTold},
   specs.declared.report.Fault.TheVariants.{Link, Usage},
 };
@@ -10,6 +10,7 @@ ghost use Rattle.bac_tools.{
 use crate::telling::print_telling;
 use bac_links::{Exit, LinkFault, ToolFault, status};
 use bac_print::{Checked, Message, Page};
+use bac_run::{RunFault, run_status};
 use bac_script::{TraceEnd, TraceFault, trace_status};
 use bac_words::{Telling, UsageFault, usage_status};
 use std::io::{self, ErrorKind, Write};
@@ -29,6 +30,8 @@ pub enum Fault {
     Tool(ToolFault),
     /// A script stopped.
     Trace(TraceFault),
+    /// A run of many requests stopped.
+    Run(RunFault),
 }
 
 /// The status with which the program ends, and the fault that it tells of.
@@ -51,6 +54,7 @@ impl Fault {
             Fault::Link(fault) => fault.message(),
             Fault::Tool(fault) => fault.message(),
             Fault::Trace(fault) => fault.message(),
+            Fault::Run(fault) => fault.message(),
         })
     }
 }
@@ -119,6 +123,17 @@ impl From<Result<TraceEnd, TraceFault>> for Report {
         Report {
             status: trace_status(&answer),
             fault: answer.err().map(Fault::Trace),
+        }
+    }
+}
+
+impl From<Result<TraceEnd, RunFault>> for Report {
+    ghost from_gives = { λ answer report. report ≡ run_report answer };
+
+    fn from(answer: Result<TraceEnd, RunFault>) -> Report {
+        Report {
+            status: run_status(&answer),
+            fault: answer.err().map(Fault::Run),
         }
     }
 }

@@ -1,16 +1,20 @@
 //! A tool: the socket that it asks for, and its run over that and its writer.
-ghost use Rattle.std.specs.Prelude.{◌≡◌, false};
+ghost use Rattle.std.specs.Prelude.{◌≡◌, ◌⊎◌, false, true, Err};
 ghost use Rattle.bac_print.specs.Checked.{has_failed};
 ghost use Rattle.bac_links.specs.Fault.{is_link_fault, is_write_fault};
-ghost use Rattle.bac_words.specs.Job.{IsReady};
-ghost use Rattle.bac_tools.specs.{Binding.{binding_of, client_at}, Runs.{DevicePlays, ToolRuns}};
+ghost use Rattle.bac_run.specs.Fault.{is_at_link, is_of_link, write_failed};
+ghost use Rattle.bac_words.specs.Job.{CanOpen, IsReady};
+ghost use Rattle.bac_tools.specs.{Binding.{binding_of, client_at}, Runs.{BatchRuns, DevicePlays, IsSessionOf, ToolRuns}};
 
 use bac_device::demo;
 use bac_links::{Exit, Link, OnRefusal, ToolFault, run_read, run_whois, run_write, serve};
 use bac_pdu::Peer;
 use bac_print::Checked;
-use bac_words::{Serve, Tool};
-use std::io::Write;
+use bac_run::{RunFault, Session, run_requests};
+use bac_script::TraceEnd;
+use bac_tsm::Config;
+use bac_words::{Batch, Serve, Tool};
+use std::io::{Read, Write};
 
 /// Where a socket is to be, and what becomes of a datagram that the system refuses to send from it.
 #[derive(Clone, Copy, Debug)]
@@ -57,8 +61,42 @@ pub fn run_tool<L: Link, W: Write>(
     }
 }
 
+/// Makes the requests that the reader's lines ask for over the link, and prints the journal of that.
+pub fn run_batch<L: Link, R: Read, W: Write>(
+    batch: &Batch,
+    link: &mut L,
+    reader: &mut Checked<R>,
+    writer: &mut Checked<W>,
+) -> Result<TraceEnd, RunFault>
+    requires ready { CanOpen batch.now }
+    requires link { L.has_failed link.old ≡ false }
+    requires reader { has_failed reader.old ≡ false }
+    requires writer { has_failed writer.old ≡ false }
+    ensures runs { BatchRuns R.remaining W.contents batch.now reader.old reader.new writer.old writer.new
+        (L.seen link.old) (L.seen link.new) result }
+    ensures link_fault { L.has_failed link.new ≡ is_of_link result }
+    ensures not_written { result ≡ Err write_failed → has_failed writer.new ≡ true }
+    ensures unsaid { has_failed writer.new ≡ true → (result ≡ Err write_failed) ⊎ (is_at_link result ≡ true) }
+{
+    run_requests(session_of(batch), link, reader, writer)
+}
+
+// What a batch goes by.
+fn session_of(batch: &Batch) -> Session
+    requires { CanOpen batch.now }
+    ensures { IsSessionOf batch.now result }
+{
+    Session {
+        config: Config {
+            timeout: batch.timeout,
+            retries: batch.retries,
+        },
+        window: batch.window as usize,
+    }
+}
+
 // A client's socket: every address of this machine; the port 0 is any free one.
-fn client_at(port: u16) -> Binding
+pub(crate) fn client_at(port: u16) -> Binding
     ensures { result ≡ client_at port }
 {
     Binding {

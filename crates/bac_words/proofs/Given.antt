@@ -7,8 +7,8 @@ use Rattle.clap_laws.{specs.{Inner.Numbers.{FitsWord, bounds_in, is_needed}, Pas
 use Rattle.bac_wire.specs.Steps.{◌>>=◌}
 use Rattle.bac_pdu.specs.{Peer.{Station, network_address, station}, declared.{peer.Peer.Peer, route.Route.Route}}
 use Rattle.bac_text.specs.Address.{address_of, cut_at, plain_peer_of, short_number, station_at}
-use Rattle.bac_words.specs.Command.{bacrp, bacwp, bacwi}
-use Rattle.bac_words.specs.{Job.peer_in, Marks.unmarked, Inner.Job.{IsClient, IsGiven, IsNumberWord, IsRequest, bounds}}
+use Rattle.bac_words.specs.Command.{bacrp, bacrun, bacwp, bacwi}
+use Rattle.bac_words.specs.{Job.peer_in, Marks.unmarked, Inner.Job.{IsClient, IsGiven, IsNumberWord, IsRequest, IsSender, bounds}}
 
 -- What the getters of words read.
 pub ruleset first_words = (first_value-rows)
@@ -23,10 +23,16 @@ module _ (id : Text) (rows : List Row) where
   of_request taken reads writes fits =
       elim taken [ inl read ↦ of_tool _ read reads fits | inr write ↦ of_tool _ write writes fits ]
 
+  pub of_sender : IsSender rows → bounds_in (rules_of bacrp) id ≡ bounds id → bounds_in (rules_of bacwp) id ≡ bounds id
+      → bounds_in (rules_of bacrun) id ≡ bounds id → FitsWord (bounds id) → IsNumberWord id rows
+  of_sender taken reads writes runs fits =
+      elim taken [ inl request ↦ of_request request reads writes fits | inr run ↦ of_tool _ run runs fits ]
+
   pub of_client : IsClient rows → bounds_in (rules_of bacrp) id ≡ bounds id → bounds_in (rules_of bacwp) id ≡ bounds id
-      → bounds_in (rules_of bacwi) id ≡ bounds id → FitsWord (bounds id) → IsNumberWord id rows
-  of_client taken reads writes seeks fits =
-      elim taken [ inl request ↦ of_request request reads writes fits | inr search ↦ of_tool _ search seeks fits ]
+      → bounds_in (rules_of bacrun) id ≡ bounds id → bounds_in (rules_of bacwi) id ≡ bounds id → FitsWord (bounds id)
+      → IsNumberWord id rows
+  of_client taken reads writes runs seeks fits =
+      elim taken [ inl sender ↦ of_sender sender reads writes runs fits | inr search ↦ of_tool _ search seeks fits ]
 
   -- An argument that has to be given.
   pub given_to_tool : (rules : List Rule) → IsTaken rules rows → is_needed rules id ≡ true → IsGiven id rows

@@ -1,4 +1,4 @@
--- Words that `clap` takes name one of the five tools, with matches that passed its rules.
+-- Words that `clap` takes name one of the six tools, with matches that passed its rules.
 use Rattle.std.proofs.Common.{◌∙◌, ◌≡◌, ◌⊎◌, Bool, codes, true, false}
 use Rattle.std.proofs.Common.{refl, sym, subst, inl, inr, List, [], ◌∷◌, Some, Result, Ok, Err, IsSomeAnd, IsErrAnd}
 use Rattle.std.{proofs.{Math.Bool.or-false, lemmas.{Bool.false≢true, Slice.Eq.bytes_eq-Decides}}, specs.List.find}
@@ -46,8 +46,13 @@ each_tool = (
         (λ name words answers other none.
             inr (inr (inr (inl (refl, level_taken _ words (record { plain = refl; distinct = refl }) refl none))))),
         (
-          (λ name words answers other none. inr (inr (inr (inr refl)))),
-          ((λ name words answers other none. absurd (false≢true (sym other ∙ asks name answers))), tt),
+          (λ name words answers other none.
+              inr (inr (inr (inr
+              (inl (refl, level_taken _ words (record { plain = refl; distinct = refl }) refl none)))))),
+          (
+            (λ name words answers other none. inr (inr (inr (inr (inr refl))))),
+            ((λ name words answers other none. absurd (false≢true (sym other ∙ asks name answers))), tt),
+          ),
         ),
       ),
     ),

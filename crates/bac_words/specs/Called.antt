@@ -4,7 +4,7 @@ use Rattle.std.specs.{Prelude.{codes, if◌then◌else◌}, Option.option_map_or
 
 abbrev pub is_tool : List ℕ → Bool
 is_tool name = bytes_eq name (codes "bacrp") || bytes_eq name (codes "bacwp") || bytes_eq name (codes "bacwi")
-    || bytes_eq name (codes "bacdev") || bytes_eq name (codes "bactrace")
+    || bytes_eq name (codes "bacdev") || bytes_eq name (codes "bacrun") || bytes_eq name (codes "bactrace")
 
 -- The tool that the last part of the program's own name names, if it names one.
 abbrev pub tool_named : List ℕ → Option (List ℕ)

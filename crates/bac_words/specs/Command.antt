@@ -1,4 +1,4 @@
--- The command line of `bactool`, as `clap` reads it: five tools, each with its words.
+-- The command line of `bactool`, as `clap` reads it: six tools, each with its words.
 use Rattle.std.specs.{Prelude.{List, [], ◌∷◌, ◌++◌, codes}, List.fold}
 use Rattle.clap.specs.Words.{App, Rule, new_app, new_rule, with_rule, with_subcommand}
 use Rattle.clap_laws.specs.Commands.{number, needed, by_name, several, wanting}
@@ -39,10 +39,16 @@ abbrev pub bacdev : App
 bacdev = fold with_rule (new_app (codes "bacdev")) (needed (number (codes "device-instance") 0 4194302)
     ∷ port_rule ∷ by_name (number (codes "count") 1 65535) ∷ [])
 
+-- Many requests over one socket: how many of them are open at most.
+abbrev pub bacrun : App
+bacrun = fold with_rule (new_app (codes "bacrun")) (timeout_rule ∷ retries_rule ∷ port_rule
+    ∷ by_name (number (codes "window") 1 64) ∷ [])
+
 abbrev pub bactrace : App
 bactrace = new_app (codes "bactrace")
 
--- The program: one of the five tools is wanted. `help` before a tool's name asks for help.
+-- The program: one of the six tools is wanted. `help` before a tool's name asks for help.
 abbrev pub bactool : App
-bactool = with_subcommand (with_subcommand (with_subcommand (with_subcommand
-    (with_subcommand (wanting (new_app (codes "bactool"))) bacrp.top) bacwp.top) bacwi.top) bacdev.top) bactrace.top
+bactool = with_subcommand (with_subcommand (with_subcommand (with_subcommand (with_subcommand
+    (with_subcommand (wanting (new_app (codes "bactool"))) bacrp.top) bacwp.top) bacwi.top) bacdev.top) bacrun.top)
+    bactrace.top

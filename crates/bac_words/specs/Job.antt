@@ -11,7 +11,7 @@ use Rattle.bac_text.specs.{Address.plain_peer_of, Parameters.{priority_from, wri
 use Rattle.bac_text.specs.{Pairs.body_of, declared.{jobs.Call.Call, pairs.PairFault.PairFault}}
 use Rattle.bac_words.{
   specs.{declared.faults.UsageFault.{UsageFault, TheVariants.{BadIndex, BadMac}}, Fault.usage_of, Marks.unmarked},
-  specs.declared.job.{Job.Job, Tool.Tool},
+  specs.declared.job.{Job.Job, Tool.Tool, Batch.Batch},
 }
 use Rattle.bac_words.specs.declared.job.Job.TheVariants as job
 use Rattle.bac_words.specs.declared.job.Tool.TheVariants as tool
@@ -101,6 +101,19 @@ serve_order rows =
       count = unwrap_or (number_of (codes "count") rows) 65535;
     })))
 
+-- Many requests: as those of one tool, and one is open at most where nothing else is said.
+abbrev pub batch_given : List Row → Batch
+batch_given rows =
+    record {
+      timeout = timeout_given rows;
+      retries = retries_given rows;
+      port = port_given rows;
+      window = unwrap_or (number_of (codes "window") rows) 1;
+    }
+
+abbrev pub run_order : List Row → Result Job UsageFault
+run_order rows = Ok (job.Run (batch_given rows))
+
 -- ---- the whole line
 
 -- What the matches of a tool ask for.
@@ -110,6 +123,7 @@ order_of (tool, rows) =
     else if bytes_eq tool (codes "bacwp") then write_order rows
     else if bytes_eq tool (codes "bacwi") then search_order rows
     else if bytes_eq tool (codes "bacdev") then serve_order rows
+    else if bytes_eq tool (codes "bacrun") then run_order rows
     else Ok job.Trace
 
 -- A tool can be run: a request and a search wait for some time, and a device takes some datagram.
@@ -119,7 +133,12 @@ IsReady (tool.Write call) = 0 < call.timeout
 IsReady (tool.WhoIs search) = 0 < search.timeout
 IsReady (tool.Device serve) = 0 < serve.count
 
+-- Many requests can be made: they wait for some time, and one may be open.
+abbrev pub CanOpen : Batch → Type 0
+CanOpen batch = (0 < batch.timeout) × (0 < batch.window)
+
 -- A job can be: a script always.
 abbrev pub CanRun : Job → Type 0
 CanRun job.Trace = ⊤
+CanRun (job.Run batch) = CanOpen batch
 CanRun (job.Over tool) = IsReady tool

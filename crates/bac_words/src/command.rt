@@ -4,7 +4,7 @@ ghost use Rattle.std.specs.{Prelude.{◌≡◌, false, IfOk, codes, map}, List.{
 ghost use Rattle.clap.specs.Words.{App, new_app, new_rule, rule_of, with_rule, with_subcommand};
 ghost use Rattle.clap_laws.specs.Commands.{IsCommand, number, needed, by_name, several};
 ghost use Rattle.bac_words.{
-  specs.Command.{mac_rule, timeout_rule, retries_rule, port_rule, bacrp, bacwp, bacwi, bacdev, bactrace, bactool},
+  specs.Command.{mac_rule, timeout_rule, retries_rule, port_rule, bacrp, bacwp, bacwi, bacdev, bacrun, bactrace, bactool},
 };
 
 use crate::help;
@@ -21,6 +21,7 @@ pub fn bactool<'a>(alloc: Global) -> Result<Command<'a>, AllocError>
     let command = with_tool(command, bacwp(alloc))?;
     let command = with_tool(command, bacwi(alloc))?;
     let command = with_tool(command, bacdev(alloc))?;
+    let command = with_tool(command, bacrun(alloc))?;
     with_tool(command, Ok(bactrace(alloc)))
 }
 
@@ -115,6 +116,21 @@ fn bacdev<'a>(alloc: Global) -> Result<Command<'a>, AllocError>
     ]?;
     tool(
         named(alloc, "bacdev", help::SERVES, help::SERVE_LINES),
+        arguments,
+    )
+}
+
+fn bacrun<'a>(alloc: Global) -> Result<Command<'a>, AllocError>
+    ensures { IfOk result (λ c. IsCommand c bacrun) }
+{
+    let arguments = vec![in alloc;
+        timeout_arg(alloc, help::TIMEOUT),
+        retries_arg(alloc),
+        port_arg(alloc, help::RUN_PORT),
+        option(alloc, "window", 1, 64, help::WINDOW),
+    ]?;
+    tool(
+        named(alloc, "bacrun", help::RUNS, help::RUN_LINES),
         arguments,
     )
 }

@@ -3,7 +3,7 @@
 ghost use Rattle.std.specs.Prelude.{[], ◌∷◌, codes, Ok, Err};
 ghost use Rattle.bac_pdu.specs.declared.discovery.WhoIs.TheVariants.{All, Range};
 ghost use Rattle.bac_words.{
-  specs.declared.job.{Job.TheVariants.{Over, Trace}, Tool.TheVariants.{Read, Write, WhoIs, Device}},
+  specs.declared.job.{Job.TheVariants.{Over, Run, Trace}, Tool.TheVariants.{Read, Write, WhoIs, Device}},
 };
 ghost use Rattle.bac_words.specs.declared.faults.UsageFault.TheVariants.{BadIndex, BadMac, BadValue};
 ghost use Rattle.bac_words.specs.Inner.Examples.{IsOrdered, at_port, usual};
@@ -55,12 +55,16 @@ fn examples_of_other_tools()
     ensures some { IsOrdered (codes "bactool bacwi 1000 1999 --mac 192.0.2.7")
         (Ok (Over (WhoIs (record { to = at_port 47808; timeout = 3000; port = 0; who = Range 1000 1999 })))) }
 
-    // A device at the usual port, for 65,535 datagrams, and a script.
+    // A device at the usual port, for 65,535 datagrams, many requests, one of which is open at most, and a script.
     ensures device { IsOrdered (codes "bactool bacdev 1234")
         (Ok (Over (Device (record {
           info = record { instance = 1234; name = codes "Small device" };
           port = 47808;
           count = 65535;
         })))) }
+    ensures batch { IsOrdered (codes "bactool bacrun")
+        (Ok (Run (record { timeout = 3000; retries = 3; port = 0; window = 1 }))) }
+    ensures window { IsOrdered (codes "bactool bacrun --window 8 --apdu-timeout 500 --apdu-retries 1 --port 47810")
+        (Ok (Run (record { timeout = 500; retries = 1; port = 47810; window = 8 }))) }
     ensures script { IsOrdered (codes "bactool bactrace") (Ok Trace) }
 {}

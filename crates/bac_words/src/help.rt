@@ -13,6 +13,9 @@ pub(crate) const SEARCHES: &str =
 
 pub(crate) const SERVES: &str = "Plays a small device with eleven points, to try things out";
 
+pub(crate) const RUNS: &str =
+    "Makes the requests that standard input has, over one socket, and prints a journal of them";
+
 pub(crate) const TRACES: &str =
     "Runs a script of requests, datagrams and clock ticks from standard input";
 
@@ -25,6 +28,8 @@ pub(crate) const TYPICAL: &str = "A typical line of each tool:
       asks for the devices 1000 to 1999
   bactool bacdev 1234
       is the device 1234 at UDP port 47808
+  bactool bacrun < requests
+      makes many requests, and prints a script of what came of them
   bactool bactrace < session.trace
       runs a script, with no network
 
@@ -108,6 +113,30 @@ second without one: some 18 hours of silence.
 Status: 0 it has taken --count datagrams, or help; 2 wrong words; 3 no such port to be had, a receive
 that failed, or turns spent; 4 out of memory";
 
+pub(crate) const RUN_LINES: &str = "Example:
+  bactool bacrun < requests
+      where requests has: read 192.0.2.7 0 5 85
+
+Lines of the input, each with what is done of it:
+  read PEER TYPE INSTANCE PROPERTY [INDEX]    a request, once fewer than --window are open
+  write PEER TYPE INSTANCE PROPERTY PRIORITY INDEX TAG VALUE [TAG VALUE ..]
+                                              the same
+An empty line waits until no request is open. A line that begins with # is skipped. What each word may be:
+man bactrace. The first line of the input is number 1, and the first request has the ticket 0.
+
+Prints a script of bactrace: client TIMEOUT RETRIES 0, then each line of the input that was done, each datagram
+that came (data PEER HEX) and each time that was told (tick MILLISECONDS). What comes of each stands behind
+it, behind a # and a space:
+  send TICKET PEER HEX, full, or too-long     a request was sent, or was not
+  done TICKET OUTCOME, or drop                what a datagram was
+  timeout TICKET                              no answer
+An answer to a request of TICKET is done TICKET and what bacrp or bacwp prints of it.
+
+Status 0: every line was done, whatever the answers. Status 2: a word is refused; or a line is, which is told with
+its number. Status 3: a port, a datagram or a text that failed; 4 out of memory.
+With --window above 1, the requests to one device are open together, and it may carry them out in any order: put an
+empty line between a write and what is to come after it.";
+
 pub(crate) const TRACE_LINES: &str = "Example:
   bactool bactrace < session.trace
       where session.trace has: read 192.0.2.7 0 5 85
@@ -174,6 +203,14 @@ pub(crate) const PORT: &str = "UDP port to send from, 0 to 65535, as 47809; 0 is
 [default: 0]; at a fixed port the late answer to an earlier
 call may be taken for the answer to this one: leave it out,
 or wait out the earlier call";
+
+pub(crate) const RUN_PORT: &str = "UDP port to send from, 0 to 65535, as 47809; 0 is any free one
+[default: 0]; at a fixed port the late answer to an earlier
+run may be taken for the answer to a request of this one:
+leave it out, or wait out the earlier run";
+
+pub(crate) const WINDOW: &str = "Requests that are open at once at most, 1 to 64, as 8
+[default: 1]";
 
 pub(crate) const SEARCH_PORT: &str = "UDP port to send from and to listen at, 0 to 65535,
 as 47808; 0 is any free one [default: 0];

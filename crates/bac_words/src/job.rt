@@ -7,6 +7,8 @@ use bac_text::{Call, Search};
 pub enum Job {
     /// Runs a script: `bactrace`. It has no socket.
     Trace,
+    /// Makes many requests over one socket: `bacrun`.
+    Run(Batch),
     /// Runs a tool over a socket.
     Over(Tool),
 }
@@ -22,6 +24,19 @@ pub enum Tool {
     WhoIs(Search),
     /// Is a device: `bacdev`.
     Device(Serve),
+}
+
+/// Many requests, each a line of the input.
+#[derive(Drop)]
+pub struct Batch {
+    /// Milliseconds until a request is sent again or given up, at least 1.
+    pub timeout: u32,
+    /// How often it is sent again.
+    pub retries: u8,
+    /// The port that they are sent from; 0 is any.
+    pub port: u16,
+    /// How many are open at most, at least 1.
+    pub window: u32,
 }
 
 /// A device to be run.

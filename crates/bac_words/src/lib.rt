@@ -29,7 +29,7 @@ mod words;
 
 pub use command::bactool;
 pub use faults::{UsageFault, usage_status};
-pub use job::{Job, Serve, Tool};
+pub use job::{Batch, Job, Serve, Tool};
 pub use parse::parse_words;
 pub use telling::Telling;
 pub use words::words_of;

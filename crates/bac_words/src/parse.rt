@@ -9,15 +9,16 @@ ghost use Rattle.bac_wire.specs.{Identifier.identifier, Steps.result_seen};
 ghost use Rattle.bac_pdu.specs.Property.{IsPriority, read_octets, reference};
 ghost use Rattle.bac_text.specs.Parameters.{priority_from};
 ghost use Rattle.bac_words.{
-  specs.Command.{bacdev, bacrp, bacwi, bacwp},
+  specs.Command.{bacdev, bacrp, bacrun, bacwi, bacwp},
   specs.Job.{peer_in, peer_given, index_given, object_given, needed_number, timeout_given, retries_given, port_given},
-  specs.Job.{call_given, body_given, limits, read_order, write_order, search_order, serve_order, order_of, CanRun},
-  specs.{Inner.Job.{IsTool, IsRequest, IsClient, IsNumberWord, IsGiven, bounds}, Line.{Answers, IsRefusal}},
+  specs.Job.{call_given, body_given, limits, read_order, write_order, search_order, serve_order, run_order, order_of},
+  specs.Job.{CanRun},
+  specs.{Inner.Job.{IsTool, IsRequest, IsSender, IsClient, IsNumberWord, IsGiven, bounds}, Line.{Answers, IsRefusal}},
 };
 
 use crate::command::bactool;
 use crate::faults::UsageFault;
-use crate::job::{Job, Serve, Tool};
+use crate::job::{Batch, Job, Serve, Tool};
 use crate::typed::TypedWords;
 use crate::words::{marked_words, unmarked};
 use arrayvec::ArrayVec;
@@ -60,6 +61,7 @@ fn job(matches: &ArgMatches<'_>) -> Result<Job, UsageFault>
         "bacwp" => write_job(tool),
         "bacwi" => search_job(tool),
         "bacdev" => serve_job(tool),
+        "bacrun" => run_job(tool),
         _ => Ok(Job::Trace),
     }
 }
@@ -126,6 +128,20 @@ fn serve_job(matches: &ArgMatches<'_>) -> Result<Job, UsageFault>
     let count = number(matches, "count").unwrap_or(65_535);
     let info = DeviceInfo::new(instance, "Small device").unwrap();
     Ok(Job::Over(Tool::Device(Serve { info, port, count })))
+}
+
+#[tactic(auto, using(crate::proofs::Given::of_tool, crate::proofs::Given::given_to_tool))]
+fn run_job(matches: &ArgMatches<'_>) -> Result<Job, UsageFault>
+    requires { IsTaken (rules_of bacrun) (rows_of (found_of matches.now)) }
+    ensures job { result ≡ run_order (rows_of (found_of matches.now)) }
+    ensures ready { IfOk result CanRun }
+{
+    Ok(Job::Run(Batch {
+        timeout: timeout(matches),
+        retries: retries(matches),
+        port: port(matches),
+        window: number(matches, "window").unwrap_or(1),
+    }))
 }
 
 // The request to this peer with this body.
@@ -243,9 +259,9 @@ fn timeout(matches: &ArgMatches<'_>) -> u32
 }
 
 // How often a request is sent again, three times where it isn't said.
-#[tactic(auto, using(crate::proofs::Given::of_request))]
+#[tactic(auto, using(crate::proofs::Given::of_sender))]
 fn retries(matches: &ArgMatches<'_>) -> u8
-    requires { IsRequest (rows_of (found_of matches.now)) }
+    requires { IsSender (rows_of (found_of matches.now)) }
     ensures { result ≡ retries_given (rows_of (found_of matches.now)) }
 {
     number(matches, "apdu-retries").unwrap_or(3) as u8

@@ -71,7 +71,10 @@ fn tool_called(program: &str) -> Option<&str>
 fn is_tool(name: &str) -> bool
     ensures { result ≡ is_tool name.now }
 {
-    matches!(name, "bacrp" | "bacwp" | "bacwi" | "bacdev" | "bactrace")
+    matches!(
+        name,
+        "bacrp" | "bacwp" | "bacwi" | "bacdev" | "bacrun" | "bactrace"
+    )
 }
 
 fn marked<'a>(alloc: Global, word: &'a str) -> Result<CowStr<'a>, AllocError>

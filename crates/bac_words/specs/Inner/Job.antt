@@ -2,11 +2,11 @@
 use Rattle.std.specs.Prelude.{◌≡◌, ◌⊎◌, ◌++◌, ℕ, true, List, is_some, Option, codes}
 use Rattle.clap.specs.Words.{Row, Rule, Text}
 use Rattle.clap_laws.specs.{Inner.{Commands.rules_of, Numbers.{FitsWord, bounds_in}}, Numbers.number_of, Passes.IsTaken}
-use Rattle.bac_words.specs.Command.{bacdev, bacrp, bacwi, bacwp}
+use Rattle.bac_words.specs.Command.{bacdev, bacrp, bacrun, bacwi, bacwp}
 
 -- The bounds of an argument that is a number: those of the first rule that has its name, in this order of the tools.
 abbrev pub bounds : Text → Option (ℕ × ℕ)
-bounds id = bounds_in (rules_of bacdev ++ rules_of bacrp ++ rules_of bacwp ++ rules_of bacwi) id
+bounds id = bounds_in (rules_of bacdev ++ rules_of bacrp ++ rules_of bacwp ++ rules_of bacwi ++ rules_of bacrun) id
 
 -- The argument is a number within its bounds, since the matches passed the rules of its tool.
 pub record IsNumberWord (id : Text) (rows : List Row) : Type 0 where
@@ -23,8 +23,12 @@ pub record IsGiven (id : Text) (rows : List Row) : Type 0 where
 abbrev pub IsRequest : List Row → Type 0
 IsRequest rows = IsTaken (rules_of bacrp) rows ⊎ IsTaken (rules_of bacwp) rows
 
+-- These passed the rules of a tool that sends requests again.
+abbrev pub IsSender : List Row → Type 0
+IsSender rows = IsRequest rows ⊎ IsTaken (rules_of bacrun) rows
+
 abbrev pub IsClient : List Row → Type 0
-IsClient rows = IsRequest rows ⊎ IsTaken (rules_of bacwi) rows
+IsClient rows = IsSender rows ⊎ IsTaken (rules_of bacwi) rows
 
 -- The words name a tool, and these matches passed its rules.
 abbrev pub IsTool : Text × List Row → Type 0
@@ -32,4 +36,5 @@ IsTool (tool, rows) = ((tool ≡ codes "bacrp") × IsTaken (rules_of bacrp) rows
     ⊎ (((tool ≡ codes "bacwp") × IsTaken (rules_of bacwp) rows)
     ⊎ (((tool ≡ codes "bacwi") × IsTaken (rules_of bacwi) rows)
     ⊎ (((tool ≡ codes "bacdev") × IsTaken (rules_of bacdev) rows)
-    ⊎ (tool ≡ codes "bactrace"))))
+    ⊎ (((tool ≡ codes "bacrun") × IsTaken (rules_of bacrun) rows)
+    ⊎ (tool ≡ codes "bactrace")))))

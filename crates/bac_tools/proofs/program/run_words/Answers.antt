@@ -1,6 +1,6 @@
 -- A tool was run over the socket that it asked for, or was told that there is none.
 use Rattle.std.proofs.Common.{Some, Ok, Err, refl}
-use Rattle.bac_words.specs.declared.job.Job.TheVariants.{Over}
+use Rattle.bac_words.specs.declared.job.Job.TheVariants.{Over, Run}
 use Rattle.bac_tools.proofs.program.run_words.Goals as goal
 
 pub returns-in-Ok : goal.returns-in-Ok
@@ -28,4 +28,14 @@ returns-in-Err-bind g c = record {
   given = rw (← c.binding_for.ensures) c.in-Err-bind.ensures.gives;
   ends = (refl, refl, refl, c.from-in-Err-bind.ensures);
   unasked = tt;
+}
+
+pub returns-in-Ok-Run : goal.returns-in-Ok-Run
+returns-in-Ok-Run g c = record {
+  answer = Ok (Run c.in-Ok-Run.batch);
+  answered = rw c.in-Ok-Run.field-0-is at c.in-Ok-Run.ensures.answer;
+  opened = c.run_many.ensures.opened;
+  given = c.run_many.ensures.given;
+  ends = c.run_many.ensures.ends;
+  unasked = c.run_many.ensures.unasked;
 }

@@ -1,4 +1,4 @@
--- The five tools are added, one after another, to a command that wants one.
+-- The six tools are added, one after another, to a command that wants one.
 use Rattle.clap_laws.proofs.Built.{wanting_is}
 use Rattle.bac_words.proofs.command.bactool.Goals as goal
 
@@ -9,4 +9,4 @@ returns c =
     let with_2 = c.in_ok-command-2.ensures _ _ (c.in_ok-command.ensures _ _ wanting c.bacrp.ensures) c.bacwp.ensures in
     let with_4 = c.in_ok-command-4.ensures _ _ (c.in_ok-command-3.ensures _ _ with_2 c.bacwi.ensures)
     c.bacdev.ensures in
-    c.with_tool-5.ensures _ _ with_4 c.bactrace.ensures
+    c.with_tool-6.ensures _ _ (c.in_ok-command-5.ensures _ _ with_4 c.bacrun.ensures) c.bactrace.ensures

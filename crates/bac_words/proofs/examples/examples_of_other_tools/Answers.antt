@@ -10,5 +10,7 @@ returns c = record {
   one = record { taken = refl; answer_is = refl };
   some = record { taken = refl; answer_is = refl };
   device = record { taken = refl; answer_is = refl };
+  batch = record { taken = refl; answer_is = refl };
+  window = record { taken = refl; answer_is = refl };
   script = record { taken = refl; answer_is = refl };
 }

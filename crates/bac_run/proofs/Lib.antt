@@ -1,0 +1,6 @@
+pub mod Acts
+pub mod Runs
+pub mod Sends
+pub mod Replays
+pub mod ReadBack
+pub mod Lines

@@ -1,0 +1,60 @@
+-- What was sent is what the notes say.
+use Rattle.std.proofs.{Common.{◌≡◌, ℕ, List, [], ◌∷◌, ◌++◌, Option, Result, Ok, Err, refl, sym, ◌∙◌, ap, arith}}
+use Rattle.std.{proofs.lemmas.List.{append-nil, append_cancel_left, Concat.flat_map-append}, specs.List.flat_map}
+use Rattle.bac_pdu.specs.Peer.{Station}
+use Rattle.bac_tsm.specs.{Client.Client, Events.{Note, Sent}}
+use Rattle.bac_print.specs.declared.checked.Checked.{Checked}
+use Rattle.bac_script.specs.declared.tracing.TraceEnd.{TraceEnd}
+use Rattle.bac_links.specs.History.{Entry, Account}
+use Rattle.bac_links.specs.declared.fault.ToolFault.TheVariants.{SendFailed, ReceiveFailed}
+use Rattle.bac_run.specs.declared.{session.Session.Session, fault.RunFault.{RunFault, TheVariants.{Script, Link}}}
+use Rattle.bac_run.specs.{
+  Journal.{Act, Asked, Paused, Came, Passed, Told, Untold, asked_by, posts, history_of, new_client, notes_of, turn_at},
+  Replay.{AreSent, posted_in, sent_in},
+  Run.Runs,
+  Went.IsGained,
+}
+
+posts_sent : (notes : List Note) → flat_map posted_in (posts notes) ≡ flat_map sent_in notes
+posts_sent [] = refl
+posts_sent (Sent ticket to octets ∷ notes) = ap (λ (xs : List (Station × List ℕ)). (to, octets) ∷ xs) (posts_sent notes)
+posts_sent (_ ∷ notes) = posts_sent notes
+
+asked_none : (act : Act) → flat_map posted_in (asked_by act) ≡ []
+asked_none (Asked line event) = refl
+asked_none Paused = refl
+asked_none (Came wait from octets) = refl
+asked_none (Passed wait heard) = refl
+asked_none (Told time) = refl
+asked_none (Untold time) = refl
+
+history_sent : (client : Client) (acts : List Act)
+    → flat_map posted_in (history_of client acts) ≡ flat_map sent_in (notes_of client acts)
+history_sent client [] = refl
+history_sent client (act ∷ later) =
+    let none = asked_none act in
+    let here = posts_sent (turn_at client act).notes in
+    let rest = history_sent (turn_at client act).after later in
+    grind (arith, flat_map-append, append-nil, none, here, rest)
+
+sent_as_due : (result : Result TraceEnd RunFault) (due gained : List Entry) → IsGained result due gained
+    → AreSent result (flat_map posted_in due) (flat_map posted_in gained)
+sent_as_due (Ok end) due gained is = ap (λ (xs : List Entry). flat_map posted_in xs) is
+sent_as_due (Err (Script fault)) due gained is = ap (λ (xs : List Entry). flat_map posted_in xs) is
+sent_as_due (Err (Link SendFailed)) due gained (sent, later, to, octets, whole, was) =
+    ((to, octets), flat_map posted_in later, grind (arith, flat_map-append, append-nil, whole, was))
+sent_as_due (Err (Link ReceiveFailed)) due gained (wait, is) = grind (arith, flat_map-append, append-nil, is)
+sent_as_due (Err (Link fault)) due gained is = ap (λ (xs : List Entry). flat_map posted_in xs) is
+
+module _ {Origin R W : Type 0} (remaining : R → Option (List ℕ)) (contents : W → Option (List ℕ)) where
+  pub all_sent : (session : Session) (reader reader' : Checked R) (before after : Checked W) (seen left : Account Origin)
+      (result : Result TraceEnd RunFault) (gained : List Entry)
+      → (runs : Runs remaining contents session reader reader' before after seen left result) → left.history ≡ seen.history ++ gained
+      → AreSent result
+      (flat_map sent_in (notes_of (new_client session.config.timeout session.config.retries) runs.acts))
+      (flat_map posted_in gained)
+  all_sent session reader reader' before after seen left result gained runs is =
+      let here : runs.asks.gained ≡ gained =
+      append_cancel_left seen.history _ _ (sym (ap (λ (a : Account Origin). a.history) runs.asks.gains) ∙ is) in
+      rw (sym (history_sent (new_client session.config.timeout session.config.retries) runs.acts), sym here)
+      (sent_as_due result _ _ runs.asks.as_due)

@@ -1,0 +1,10 @@
+use Rattle.std.{proofs.Common.take, specs.List.flat_map}
+use Rattle.bac_tsm.specs.Machine.{due_notes}
+use Rattle.bac_print.specs.Page.{Prints}
+use Rattle.bac_run.specs.Journal.{remarks}
+use Rattle.bac_run.proofs.journal.remark_due.Given as goal
+
+abbrev pub invariant-loop-entry : goal.invariant-loop-entry
+invariant-loop-entry g l =
+    Prints g.W.Write.contents l.fn.page l.page
+    (remarks (flat_map (due_notes l.client.state) (take l.entry-index l.due)))

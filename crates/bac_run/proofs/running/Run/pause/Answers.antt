@@ -1,0 +1,20 @@
+-- A line without words.
+use Rattle.std.proofs.Common.{arith, refl}
+use Rattle.std.proofs.lemmas.Result.{err_from_is_err_and}
+use Rattle.bac_run.proofs.Acts.{due_nothing, for_front, for_quiet, for_same, went_more, went_nothing, went_one}
+use Rattle.bac_run.specs.{Input.skipped, Journal.Paused}
+use Rattle.bac_run.proofs.running.Run.pause.Goals as goal
+
+pub returns-in_err-wait-clause-went : goal.returns-in_err-wait-clause-went
+returns-in_err-wait-clause-went g c =
+    let (_, was, same) = err_from_is_err_and c.from_residual.result c.from_residual.ensures.1 in
+    rw (was, same) (for_front _ _ (skipped c.args.line.now) refl c.in_err-wait.ensures.went)
+
+pub returns-in_ok-wait-clause-went : goal.returns-in_ok-wait-clause-went
+returns-in_ok-wait-clause-went g c =
+    for_same (grind (arith, c.is_remark.ensures, c.if-not-is_remark.true))
+    (for_quiet _ (tt, tt) (went_more c.in_ok-wait.ensures.went (went_one Paused refl c.print.ensures (due_nothing _))))
+
+pub returns-else-not-is_remark-clause-went : goal.returns-else-not-is_remark-clause-went
+returns-else-not-is_remark-clause-went g c =
+    for_same (grind (arith, c.is_remark.ensures, c.if-not-is_remark.false)) (for_quiet _ tt (went_nothing _ _ _))

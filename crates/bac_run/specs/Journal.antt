@@ -1,0 +1,127 @@
+-- What a run does, one thing after another; and its journal, what it asks of its link, and what `bactrace` prints of it.
+use Rattle.std.specs.Prelude.{ℕ, ◌-◌, ◌==◌, Bool, nat_lt, nat_le, ◌&&◌, List, [], ◌∷◌, ◌++◌, length, slice_index, codes, decimal, if◌then◌else◌}
+use Rattle.std.specs.List.{flat_map}
+use Rattle.hex.specs.Hex.{encode_lower}
+use Rattle.bac_pdu.specs.Peer.{Station}
+use Rattle.bac_tsm.specs.Events.{Event, Data, Tick, Note, Sent}
+use Rattle.bac_tsm.specs.{Machine.{initial, step, Stepped}, Client.{Client, rules_of, keeping}}
+use Rattle.bac_print.specs.PeerTexts.{peer_text}
+use Rattle.bac_script.specs.{Line.ends_with_feed, Text.{note_text}}
+use Rattle.bac_links.specs.History.{Heard, Arrived, Entry, Waited, Timed, Posted}
+
+-- One thing that a run does: a line of its input asks for a request; a line without words was waited for; a datagram is
+-- heard in a wait of so long, and handed to the client; a wait of so long hears nothing that is handed on; the client is
+-- told the time; the time is not told.
+pub data Act : Type 0 where
+  Asked : (line : List ℕ) (event : Event) → Act
+  Paused : Act
+  Came : (wait : ℕ) (from : Station) (octets : List ℕ) → Act
+  Passed : (wait : ℕ) (heard : Heard) → Act
+  Told : (time : ℕ) → Act
+  Untold : (time : ℕ) → Act
+
+-- The step that a client makes at an event.
+abbrev pub step_of : Client → Event → Stepped
+step_of client event = step (rules_of client) client.state event
+
+-- What the client is told of, and what it is then.
+pub record Turn : Type 0 where
+  pub notes : List Note
+  pub after : Client
+
+abbrev pub at_event : Client → Event → Turn
+at_event client event =
+    record { notes = (step_of client event).notes; after = keeping client (step_of client event).after }
+
+-- What an act is to the client.
+abbrev pub turn_at : Client → Act → Turn
+turn_at client (Asked line event) = at_event client event
+turn_at client (Came wait from octets) = at_event client (Data from octets)
+turn_at client (Told time) = at_event client (Tick time)
+turn_at client _ = record { notes = []; after = client }
+
+-- The last octet of a line is a carriage return (13).
+abbrev pub ends_with_return : List ℕ → Bool
+ends_with_return line = slice_index line (length line - 1) == 13
+
+-- A line with its line feed (10), which the last of the input may lack. Where that ends with a carriage return, it has
+-- one more, since one that stands before a line feed is none of the line.
+abbrev pub whole_line : List ℕ → List ℕ
+whole_line line =
+    if ends_with_feed line then line
+    else if ends_with_return line then line ++ 13 ∷ 10 ∷ []
+    else line ++ 10 ∷ []
+
+-- The line of the settings of a client, whose first ticket is 0.
+abbrev pub settings_line : ℕ → ℕ → List ℕ
+settings_line timeout retries = codes "client " ++ (decimal timeout ++ 32 ∷ (decimal retries ++ codes " 0\n"))
+
+-- The line of a datagram, and that of a time.
+abbrev pub arrival_line : Station → List ℕ → List ℕ
+arrival_line from octets = codes "data " ++ (peer_text from ++ 32 ∷ (encode_lower octets ++ 10 ∷ []))
+
+abbrev pub time_line : ℕ → List ℕ
+time_line time = codes "tick " ++ (decimal time ++ 10 ∷ [])
+
+-- A datagram of so many octets has a line of at most 4,096 octets: `data `, at most 21 of its peer, a space, and two
+-- digits for each of its octets. One without octets has none.
+abbrev pub has_line : ℕ → Bool
+has_line count = nat_lt 0 count && nat_le count 2034
+
+-- The line of an act in the journal.
+abbrev pub line_of : Act → List ℕ
+line_of (Asked line event) = whole_line line
+line_of Paused = 10 ∷ []
+line_of (Came wait from octets) = arrival_line from octets
+line_of (Told time) = time_line time
+line_of _ = []
+
+-- What `bactrace` prints of a note, as a remark: behind # (35) and a space (32).
+abbrev pub remark : Note → List ℕ
+remark note = codes "# " ++ note_text note
+
+abbrev pub remarks : List Note → List ℕ
+remarks = flat_map remark
+
+-- What an act asks of the link, but for what the client sends.
+abbrev pub asked_by : Act → List Entry
+asked_by (Came wait from octets) = Waited wait (Arrived from octets) ∷ []
+asked_by (Passed wait heard) = Waited wait heard ∷ []
+asked_by (Told time) = Timed time ∷ []
+asked_by (Untold time) = Timed time ∷ []
+asked_by _ = []
+
+-- The send in a note.
+abbrev pub post_in : Note → List Entry
+post_in (Sent ticket peer octets) = Posted peer octets ∷ []
+post_in _ = []
+
+-- The sends among notes.
+abbrev pub posts : List Note → List Entry
+posts = flat_map post_in
+
+-- The client behind these acts.
+abbrev pub client_after : Client → List Act → Client
+client_after client [] = client
+client_after client (act ∷ later) = client_after (turn_at client act).after later
+
+-- The notes of the client at these acts.
+abbrev pub notes_of : Client → List Act → List Note
+notes_of client [] = []
+notes_of client (act ∷ later) = (turn_at client act).notes ++ notes_of (turn_at client act).after later
+
+-- The journal of these acts: of each its line, and behind it the client's notes as remarks.
+abbrev pub journal : Client → List Act → List ℕ
+journal client [] = []
+journal client (act ∷ later) =
+    (line_of act ++ remarks (turn_at client act).notes) ++ journal (turn_at client act).after later
+
+-- What these acts ask of the link: of each what it asks itself, and then what the client sends.
+abbrev pub history_of : Client → List Act → List Entry
+history_of client [] = []
+history_of client (act ∷ later) =
+    (asked_by act ++ posts (turn_at client act).notes) ++ history_of (turn_at client act).after later
+
+-- A new client of these settings, whose first ticket is 0.
+abbrev pub new_client : ℕ → ℕ → Client
+new_client timeout retries = record { timeout = timeout; retries = retries; state = initial 0 }

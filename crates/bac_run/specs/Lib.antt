@@ -1,0 +1,6 @@
+pub mod Fault
+pub mod Journal
+pub mod Input
+pub mod Went
+pub mod Run
+pub mod Replay

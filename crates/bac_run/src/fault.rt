@@ -1,0 +1,53 @@
+//! Why a run of many requests stopped.
+ghost use Rattle.std.specs.Prelude.{◌≡◌};
+ghost use Rattle.bac_print.specs.Message.{message_text};
+ghost use Rattle.bac_run.specs.Fault.{run_fault_text, run_status_of};
+
+use bac_links::ToolFault;
+use bac_print::{Message, WriteFailed};
+use bac_script::{TraceEnd, TraceFault};
+use thiserror::Error;
+
+/// Why a run stopped.
+#[derive(Clone, Copy, Debug, PartialEq, Eq, Error)]
+#[error("{}", self.message())]
+pub enum RunFault {
+    /// A line is bad, or reading or writing failed.
+    Script(TraceFault),
+    /// The link failed, or the turns of a wait are spent.
+    Link(ToolFault),
+}
+
+impl RunFault {
+    /// What is told of it.
+    pub fn message(&self) -> Message
+        ensures { message_text result ≡ run_fault_text self.now }
+    {
+        match self {
+            RunFault::Script(fault) => fault.message(),
+            RunFault::Link(fault) => fault.message(),
+        }
+    }
+}
+
+impl From<WriteFailed> for RunFault {
+    ghost use Rattle.bac_run.specs.Fault.{write_failed};
+
+    ghost from_gives = { λ _ fault. fault ≡ write_failed };
+
+    fn from(_failed: WriteFailed) -> RunFault {
+        RunFault::Script(TraceFault::WriteFailed)
+    }
+}
+
+/// The status with which the program ends: 0 at the end of the input, 2 after a line that is bad or too long, 3 where
+/// the link, reading or writing failed.
+pub fn run_status(answer: &Result<TraceEnd, RunFault>) -> u8
+    ensures { result ≡ run_status_of answer.now }
+{
+    match answer {
+        Ok(_) => 0,
+        Err(RunFault::Script(TraceFault::BadLine(_) | TraceFault::LineTooLong(_))) => 2,
+        Err(_) => 3,
+    }
+}

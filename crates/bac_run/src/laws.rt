@@ -1,0 +1,102 @@
+//! What holds of every run. Each function has an empty body, and its clauses are the laws.
+ghost use Rattle.std.specs.Prelude.{◌≡◌, ◌⊎◌, [], ◌∷◌, ◌++◌, ◌<◌, ◌^◌, ◌≤◌, length, true, false, ℕ, List, None, Result, Ok};
+ghost use Rattle.std.specs.List.{flat_map};
+ghost use Rattle.bac_wire.specs.Copies.{EqualsBy, MakesCopies};
+ghost use Rattle.bac_print.specs.declared.checked.Checked.{Checked};
+ghost use Rattle.bac_script.specs.{Script.{text, lines, first_fault}, Text.notes_text};
+ghost use Rattle.bac_script.specs.declared.{input.Reading.TheVariants.AtEnd, tracing.TraceEnd.TraceEnd};
+ghost use Rattle.bac_script.specs.{Line.{Happens, Settings as SettingsSaid, said}, Text.note_text};
+ghost use Rattle.hex.specs.Hex.{IsBytes};
+ghost use Rattle.bac_tsm.specs.Events.{Data, Dropped, Event, Note, Refused, TimedOut};
+ghost use Rattle.bac_tsm.specs.declared.client.SubmitFault.{SubmitFault};
+ghost use Rattle.bac_links.specs.History.{Account, Entry};
+ghost use Rattle.bac_run.specs.{
+  Input.{EndsWithFeed, HasNoFeed},
+  Journal.{Act, Asked, Paused, Told, arrival_line, ends_with_return, new_client, notes_of, settings_line},
+  Replay.{AreReadBack, AreSent, AreSettings, IsLineOf, IsPassedOver, IsReadBack, IsShown, posted_in, sent_in},
+  Run.{Runs, journal_of},
+};
+ghost use Rattle.bac_run.specs.declared.{session.Session.Session as Settings, fault.RunFault.RunFault as Fault};
+
+use crate::fault::RunFault;
+use crate::session::Session;
+use bac_links::Link;
+use std::io::{Read, Write};
+
+/// What was sent over the link is what the remarks `send` say, in their order; where a send failed, that one and those
+/// behind it were not.
+pub fn a_run_sends_what_it_remarks<L: Link, R: Read, W: Write>()
+    ensures { (session : Settings) (reader reader' : Checked R) (before after : Checked W) (seen left : Account L.Origin)
+        (result : Result TraceEnd Fault) (gained : List Entry)
+        → (runs : Runs R.remaining W.contents session reader reader' before after seen left result)
+        → left.history ≡ seen.history ++ gained
+        → AreSent result
+        (flat_map sent_in (notes_of (new_client session.config.timeout session.config.retries) runs.acts))
+        (flat_map posted_in gained) }
+{}
+
+/// The journal is a script, and what `bactrace` prints of it is what the client told: its remarks without their marks.
+#[tactic(auto, using(crate::proofs::Replays::replays, crate::proofs::Replays::no_fault))]
+pub fn a_journal_is_a_script()
+    ensures text { (session : Settings) (acts : List Act) → AreSettings session
+        → AreReadBack (new_client session.config.timeout session.config.retries) acts
+        → text (journal_of session acts) AtEnd
+        ≡ notes_text (notes_of (new_client session.config.timeout session.config.retries) acts) }
+    ensures fault { (session : Settings) (acts : List Act) → AreSettings session
+        → AreReadBack (new_client session.config.timeout session.config.retries) acts
+        → first_fault (lines (journal_of session acts) AtEnd) ≡ None }
+{}
+
+/// `bactrace` reads the line of a time as that time.
+#[tactic(auto, using(crate::proofs::ReadBack::time_read_back))]
+pub fn a_time_is_read_back()
+    ensures { (time : ℕ) → time < 2 ^ 64 → IsReadBack (Told time) }
+{}
+
+/// `bactrace` reads the line of the settings as these settings.
+#[tactic(auto, using(crate::proofs::ReadBack::settings_read_back))]
+pub fn settings_are_read_back()
+    ensures { (timeout retries : ℕ) → 0 < timeout → timeout < 2 ^ 32 → retries < 2 ^ 8
+        → IsLineOf true (settings_line timeout retries) (SettingsSaid timeout retries 0) }
+{}
+
+/// `bactrace` reads the line of a datagram from a peer without a route as that datagram from that peer.
+#[tactic(auto, using(crate::proofs::ReadBack::arrival_read_back))]
+pub fn an_arrival_is_read_back()
+    ensures { (ip port : ℕ) (octets : List ℕ) → ip < 2 ^ 32 → port < 2 ^ 16 → IsBytes octets → 0 < length octets
+        → length octets ≤ 2034
+        → IsLineOf false (arrival_line (record { ip = ip; port = port; route = None }) octets)
+        (Happens (Data (record { ip = ip; port = port; route = None }) octets)) }
+{}
+
+/// `bactrace` reads the line of a request, as it stands in the journal, as that request. (The last line of the input may
+/// lack its line feed; where it ends with a carriage return then, there has to be room for one more.)
+#[tactic(auto, using(crate::proofs::Lines::empty_read_back))]
+pub fn a_request_is_read_back()
+    ensures asked { (line : List ℕ) (event : Event) → EndsWithFeed line ⊎ HasNoFeed line
+        → said false line ≡ Ok (Happens event) → (ends_with_return line ≡ true → length line < 4096)
+        → IsReadBack (Asked line event) }
+    ensures paused { IsReadBack Paused }
+{}
+
+/// `bactrace` passes over a remark in ASCII of at most 4,096 octets; so over each that a request was refused or timed
+/// out, or that a datagram was dropped.
+#[tactic(auto, using(crate::proofs::Lines::note_passed, crate::proofs::Lines::drop_passed, crate::proofs::Lines::refusal_passed, crate::proofs::Lines::timeout_passed))]
+pub fn a_remark_is_passed_over()
+    ensures short { (note : Note) (text : List ℕ) → note_text note ≡ text ++ 10 ∷ [] → IsShown text
+        → length text ≤ 4094 → IsPassedOver note }
+    ensures dropped { IsPassedOver Dropped }
+    ensures refused { (why : SubmitFault) → IsPassedOver (Refused why) }
+    ensures timed_out { (ticket : ℕ) → ticket < 2 ^ 64 → IsPassedOver (TimedOut ticket) }
+{}
+
+/// A clone is what it was cloned from, and takes no memory.
+pub fn clones()
+    ensures fault { MakesCopies ⟦<RunFault as Clone>⟧.is_clone ⟦<RunFault as Clone>⟧.is_infallible }
+    ensures session { MakesCopies ⟦<Session as Clone>⟧.is_clone ⟦<Session as Clone>⟧.is_infallible }
+{}
+
+/// What `==` compares: which fault it is.
+pub fn equals()
+    ensures { EqualsBy (λ fault. fault) ⟦<RunFault as PartialEq>⟧.eq }
+{}

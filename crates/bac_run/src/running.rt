@@ -1,0 +1,314 @@
+//! A run of many requests over one link.
+
+ghost use Rattle.std.specs.Prelude.{◌≡◌, ◌≢◌, ◌⊎◌, ◌<◌, ◌≤◌, [], ◌∷◌, Some, false, true, Err, IfErr, IfOk};
+ghost use Rattle.bac_pdu.specs.Peer.{station};
+ghost use Rattle.bac_tsm.specs.Events.{Ask};
+ghost use Rattle.bac_print.specs.{Checked.has_failed, Page.{held, writer_of}};
+ghost use Rattle.bac_run.specs.{Fault.{is_at_link, is_of_link, stopped, write_failed}};
+ghost use Rattle.bac_script.specs.declared.tracing.TraceFault.TheVariants.{WriteFailed};
+ghost use Rattle.bac_run.specs.{Journal.Asked, Went.{Went, WentFor, Opened}, Run.{Runs, RunsOn}};
+ghost use Rattle.bac_run.specs.Went.{IsOfWait, IsOver, IsOverAt, open_in};
+ghost use Rattle.bac_run.specs.Input.{acts_of_line, is_remark, skipped};
+
+use crate::fault::RunFault;
+use crate::journal::{print_line, print_settings, remark_refusal, remark_sent};
+use crate::session::Session;
+use crate::turns::{freshen, send_request, wait};
+use bac_links::{Datagram, Link, turn_wait};
+use bac_pdu::Peer;
+use bac_print::{Checked, Page};
+use bac_script::{Chunk, Line, LineFault, LineRoom, Reading, TraceEnd, TraceFault, read_line};
+use bac_tsm::{Client, SubmitFault};
+use std::io::{Read, Write};
+
+// What a run has beside its streams.
+#[derive(Drop)]
+struct Run {
+    session: Session,
+    client: Client,
+    datagram: Datagram,
+    // How often in a row the time was not told, where the run was held up.
+    in_row: u32,
+}
+
+/// Asks for what the lines of the reader say, and prints the journal of that.
+pub fn run_requests<L: Link, R: Read, W: Write>(
+    session: Session,
+    link: &mut L,
+    reader: &mut Checked<R>,
+    writer: &mut Checked<W>,
+) -> Result<TraceEnd, RunFault>
+    requires link { L.has_failed link.old ≡ false }
+    requires reader { has_failed reader.old ≡ false }
+    requires writer { has_failed writer.old ≡ false }
+    ensures fault { L.has_failed link.new ≡ is_of_link result }
+    ensures runs { Runs R.remaining W.contents session reader.old reader.new writer.old writer.new (L.seen link.old)
+        (L.seen link.new) result }
+    ensures not_written { result ≡ Err write_failed → has_failed writer.new ≡ true }
+    ensures unsaid { has_failed writer.new ≡ true → (result ≡ Err write_failed) ⊎ (is_at_link result ≡ true) }
+{
+    let mut page = Page::new(writer);
+    let answer = run_lines(session, link, reader, &mut page);
+    if page.finish().is_err() && !is_at_link(&answer) {
+        return Err(RunFault::Script(TraceFault::WriteFailed));
+    }
+    answer
+}
+
+// Whether the answer is a fault at the link. Such a fault is told, also where the writer has failed too.
+fn is_at_link(answer: &Result<TraceEnd, RunFault>) -> bool
+    ensures { result ≡ is_at_link answer.now }
+{
+    matches!(answer, Err(RunFault::Link(_)))
+}
+
+// Asks for what the lines say. In the end some of the journal may still be on the page.
+fn run_lines<L: Link, R: Read, W: Write>(
+    session: Session,
+    link: &mut L,
+    reader: &mut Checked<R>,
+    page: &mut Page<'_, W>,
+) -> Result<TraceEnd, RunFault>
+    requires link { L.has_failed link.old ≡ false }
+    requires reader { has_failed reader.old ≡ false }
+    requires page { held page.old ≡ [] }
+    ensures fault { L.has_failed link.new ≡ is_of_link result }
+    ensures runs { RunsOn R.remaining W.contents session reader.old reader.new page.old page.new (L.seen link.old)
+        (L.seen link.new) result }
+    ensures not_written { result ≡ Err write_failed → has_failed (writer_of page.new) ≡ true }
+{
+    let mut chunk = Chunk::new();
+    let mut room = LineRoom::new();
+    let mut run = Run {
+        session,
+        client: Client::new(session.config, 0),
+        datagram: Datagram::new(),
+        in_row: 0,
+    };
+    let mut lines = 0;
+    print_settings(page, session.config);
+    'lines: loop {
+        run.make_room(link, page)?;
+        let next = chunk.next_line(reader, page)?;
+        if next.reading == Reading::Failed {
+            return Err(run.stop(TraceFault::ReadFailed, link, page));
+        }
+        if next.length == 0 {
+            return run.end(lines, link, page);
+        }
+        lines += 1;
+        run.take_line(chunk.front(next.length), lines, &mut room, link, page)?;
+        if next.reading == Reading::AtEnd {
+            return run.end(lines, link, page);
+        }
+        chunk.skip(next.length);
+    }
+}
+
+impl Run {
+    // Does what a line says.
+    fn take_line<L: Link, W: Write>(
+        &mut self,
+        line: &[u8],
+        number: u64,
+        room: &mut LineRoom,
+        link: &mut L,
+        page: &mut Page<'_, W>,
+    ) -> Result<(), RunFault>
+        requires link { L.has_failed link.old ≡ false }
+        requires room { open_in self.old.client < self.old.session.window }
+        ensures fault { L.has_failed link.new ≡ is_of_link result }
+        ensures went { WentFor self.old.session.window W.contents self.old.client self.new.client page.old page.new (L.seen link.old)
+            (L.seen link.new) result (acts_of_line line.now) }
+        ensures same { self.new.session ≡ self.old.session }
+        ensures not_written { result ≡ Err write_failed → has_failed (writer_of page.new) ≡ true }
+        ensures over { IfErr result (λ fault. IsOverAt fault self.new.client) }
+    {
+        match read_line(line, false, room) {
+            Ok(Line::Skipped) => self.pause(line, link, page),
+            Ok(Line::Request(peer, service, body)) => {
+                self.ask(line, *peer, service, body, link, page)
+            }
+            Ok(Line::LongWrite(_)) => {
+                print_line(page, line);
+                remark_refusal(page, SubmitFault::TooLong);
+                Ok(())
+            }
+            Ok(_) | Err(LineFault::Bad) => Err(self.stop(TraceFault::BadLine(number), link, page)),
+            Err(LineFault::TooLong) => Err(self.stop(TraceFault::LineTooLong(number), link, page)),
+        }
+    }
+
+    // Waits until no request is open, where the line is no remark.
+    fn pause<L: Link, W: Write>(
+        &mut self,
+        line: &[u8],
+        link: &mut L,
+        page: &mut Page<'_, W>,
+    ) -> Result<(), RunFault>
+        requires { L.has_failed link.old ≡ false }
+        ensures fault { L.has_failed link.new ≡ is_of_link result }
+        ensures went { WentFor self.old.session.window W.contents self.old.client self.new.client page.old page.new (L.seen link.old)
+            (L.seen link.new) result (Some (skipped line.now)) }
+        ensures same { self.new.session ≡ self.old.session }
+        ensures not_written { result ≡ Err write_failed → has_failed (writer_of page.new) ≡ true }
+        ensures cause { IfErr result IsOfWait }
+    {
+        if !is_remark(line) {
+            self.wait(0, link, page)?;
+            page.print(b"\n");
+        }
+        Ok(())
+    }
+
+    // Asks the client to make a request of the peer, and sends it.
+    fn ask<L: Link, W: Write>(
+        &mut self,
+        line: &[u8],
+        peer: Peer,
+        service: u8,
+        body: &[u8],
+        link: &mut L,
+        page: &mut Page<'_, W>,
+    ) -> Result<(), RunFault>
+        requires link { L.has_failed link.old ≡ false }
+        requires room { open_in self.old.client < self.old.session.window }
+        ensures fault { L.has_failed link.new ≡ is_of_link result }
+        ensures went { WentFor self.old.session.window W.contents self.old.client self.new.client page.old page.new (L.seen link.old)
+            (L.seen link.new) result (Some (Asked line.now (Ask (station peer) service body.now) ∷ [])) }
+        ensures same { self.new.session ≡ self.old.session }
+        ensures not_written { result ≡ Err write_failed → has_failed (writer_of page.new) ≡ true }
+        ensures cause { IfErr result IsOfWait }
+    {
+        freshen(&mut self.in_row, &mut self.client, link, page)?;
+        print_line(page, line);
+        submit(&mut self.client, peer, service, body, link, page)
+    }
+
+    // Waits until one more request may be open. Before that no line is read.
+    fn make_room<L: Link, W: Write>(
+        &mut self,
+        link: &mut L,
+        page: &mut Page<'_, W>,
+    ) -> Result<(), RunFault>
+        requires { L.has_failed link.old ≡ false }
+        ensures fault { L.has_failed link.new ≡ is_of_link result }
+        ensures went { Went W.contents self.old.client self.new.client page.old page.new (L.seen link.old)
+            (L.seen link.new) result [] }
+        ensures same { self.new.session ≡ self.old.session }
+        ensures not_written { result ≡ Err write_failed → has_failed (writer_of page.new) ≡ true }
+        ensures room { IfOk result (λ _. open_in self.new.client < self.new.session.window) }
+        ensures cause { IfErr result IsOfWait }
+    {
+        self.wait(self.session.window - 1, link, page)
+    }
+
+    // Waits until no request is open, and then stops with this fault; or with that of the wait.
+    fn stop<L: Link, W: Write>(
+        &mut self,
+        fault: TraceFault,
+        link: &mut L,
+        page: &mut Page<'_, W>,
+    ) -> RunFault
+        requires link { L.has_failed link.old ≡ false }
+        requires other { fault ≢ WriteFailed }
+        ensures fault { L.has_failed link.new ≡ is_of_link (stopped result) }
+        ensures went { Went W.contents self.old.client self.new.client page.old page.new (L.seen link.old)
+            (L.seen link.new) (stopped result) [] }
+        ensures same { self.new.session ≡ self.old.session }
+        ensures not_written { result ≡ write_failed → has_failed (writer_of page.new) ≡ true }
+        ensures over { IsOverAt result self.new.client }
+    {
+        match self.wait(0, link, page) {
+            Ok(()) => RunFault::Script(fault),
+            Err(other) => other,
+        }
+    }
+
+    // Waits until no request is open. So many lines were taken.
+    fn end<L: Link, W: Write>(
+        &mut self,
+        lines: u64,
+        link: &mut L,
+        page: &mut Page<'_, W>,
+    ) -> Result<TraceEnd, RunFault>
+        requires { L.has_failed link.old ≡ false }
+        ensures fault { L.has_failed link.new ≡ is_of_link result }
+        ensures went { Went W.contents self.old.client self.new.client page.old page.new (L.seen link.old)
+            (L.seen link.new) result [] }
+        ensures lines { IfOk result (λ end. end.lines ≡ lines) }
+        ensures not_written { result ≡ Err write_failed → has_failed (writer_of page.new) ≡ true }
+        ensures over { IsOver result self.new.client }
+    {
+        match self.wait(0, link, page) {
+            Ok(()) => Ok(TraceEnd { lines }),
+            Err(fault) => Err(fault),
+        }
+    }
+
+    // Takes turns until at most so many requests are open.
+    fn wait<L: Link, W: Write>(
+        &mut self,
+        most_open: usize,
+        link: &mut L,
+        page: &mut Page<'_, W>,
+    ) -> Result<(), RunFault>
+        requires { L.has_failed link.old ≡ false }
+        ensures fault { L.has_failed link.new ≡ is_of_link result }
+        ensures went { Went W.contents self.old.client self.new.client page.old page.new (L.seen link.old)
+            (L.seen link.new) result [] }
+        ensures same { self.new.session ≡ self.old.session }
+        ensures not_written { result ≡ Err write_failed → has_failed (writer_of page.new) ≡ true }
+        ensures few { IfOk result (λ _. open_in self.new.client ≤ most_open) }
+        ensures cause { IfErr result IsOfWait }
+    {
+        let Run {
+            session,
+            client,
+            datagram,
+            in_row,
+        } = self;
+        let wait_ms = turn_wait(session.config.timeout);
+        wait(most_open, wait_ms, in_row, client, link, datagram, page)
+    }
+}
+
+// Asks the client to make a request of the peer, and sends it. Its line was printed.
+fn submit<L: Link, W: Write>(
+    client: &mut Client,
+    peer: Peer,
+    service: u8,
+    body: &[u8],
+    link: &mut L,
+    page: &mut Page<'_, W>,
+) -> Result<(), RunFault>
+    requires { L.has_failed link.old ≡ false }
+    ensures fault { L.has_failed link.new ≡ is_of_link result }
+    ensures opened { Opened W.contents client.old client.new page.old page.new (L.seen link.old) (L.seen link.new) result
+        (Ask (station peer) service body.now) }
+    ensures not_written { result ≡ Err write_failed → has_failed (writer_of page.new) ≡ true }
+    ensures cause { IfErr result IsOfWait }
+{
+    match client.submit(peer, service, body) {
+        Ok(ticket) => {
+            remark_sent(page, client, ticket);
+            send_request(client, ticket, link)
+        }
+        Err(fault) => {
+            remark_refusal(page, fault);
+            Ok(())
+        }
+    }
+}
+
+// Whether the first octet of a line behind its blanks is that of a remark.
+fn is_remark(line: &[u8]) -> bool
+    ensures { result ≡ is_remark line.now }
+{
+    for octet in line {
+        if *octet != b' ' && *octet != b'\t' {
+            return *octet == b'#';
+        }
+    }
+    false
+}
