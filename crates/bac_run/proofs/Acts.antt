@@ -14,8 +14,8 @@ use Rattle.bac_run.specs.declared.fault.RunFault.{RunFault, TheVariants.{Script,
 use Rattle.bac_script.specs.declared.tracing.TraceFault.{TraceFault}
 use Rattle.bac_run.specs.{Fault.send_failed, Input.{inputs_in, input_in}}
 use Rattle.bac_run.specs.{
-  Journal.{Act, Turn, remark, Asked, Paused, Came, Passed, Told, Untold, whole_line, arrival_line, time_line, client_after, journal, history_of, turn_at, at_event, remarks, posts, line_of, asked_by},
-  Went.{IsGained, GainsDue, IsWithin, Went, WentFor, Opened, open_in},
+  Journal.{Act, Turn, remark, Asked, Paused, Came, Passed, Told, Read, whole_line, arrival_line, time_line, client_after, journal, history_of, turn_at, at_event, remarks, posts, line_of, asked_by},
+  Went.{IsGained, GainsDue, IsWithin},
 }
 
 pub client_after-append : (client : Client) (xs ys : List Act)
@@ -55,8 +55,6 @@ gained_more done (Ok x) due gained more further same is = grind arith
 gained_more done (Err (Script fault)) due gained more further same is = grind arith
 gained_more done (Err (Link SendFailed)) due gained more further same (sent, later, to, octets, is, was) =
     (due ++ sent, later, to, octets, grind (arith, append_assoc, is), grind (arith, append_assoc, was, same))
-gained_more done (Err (Link ReceiveFailed)) due gained more further same (wait, is) =
-    (wait, grind (arith, append_assoc, is, same))
 gained_more done (Err (Link fault)) due gained more further same is = grind arith
 
 -- What is due, and then what more is due.
@@ -77,7 +75,6 @@ pub gained_err : (A B : Type 0) (fault : RunFault) (due gained : List Entry) →
     → IsGained (failed B fault) due gained
 gained_err A B (Script fault) due gained is = is
 gained_err A B (Link SendFailed) due gained is = is
-gained_err A B (Link ReceiveFailed) due gained is = is
 gained_err A B (Link fault) due gained is = is
 
 pub due_nothing : {Origin : Type 0} (a : Account Origin) → GainsDue done [] a a
@@ -116,7 +113,7 @@ due_some state due k d fault within is first then =
     grind (arith, flat_map-append, append_assoc, append-nil, more, all) in
     rw whole (due_front fault rest is (due_more first then))
 
-posts-answer : (answer : Option (ℕ × Outcome)) → posts (datagram_notes answer) ≡ []
+pub posts-answer : (answer : Option (ℕ × Outcome)) → posts (datagram_notes answer) ≡ []
 posts-answer None = refl
 posts-answer (Some x) = refl
 
@@ -142,8 +139,8 @@ within_append window client (Passed wait heard ∷ xs) ys here later =
     within_append window (turn_at client (Passed wait heard)).after xs ys here later
 within_append window client (Told time ∷ xs) ys here later =
     within_append window (turn_at client (Told time)).after xs ys here later
-within_append window client (Untold time ∷ xs) ys here later =
-    within_append window (turn_at client (Untold time)).after xs ys here later
+within_append window client (Read time ∷ xs) ys here later =
+    within_append window (turn_at client (Read time)).after xs ys here later
 
 -- Acts, and then those of a client that they leave.
 pub within_more : (window : ℕ) (client middle : Client) (xs ys : List Act) → middle ≡ client_after client xs
@@ -167,8 +164,8 @@ quiet_acts window client (Passed wait heard ∷ later) quiet =
     quiet_acts window (turn_at client (Passed wait heard)).after later quiet
 quiet_acts window client (Told time ∷ later) quiet =
     quiet_acts window (turn_at client (Told time)).after later quiet
-quiet_acts window client (Untold time ∷ later) quiet =
-    quiet_acts window (turn_at client (Untold time)).after later quiet
+quiet_acts window client (Read time ∷ later) quiet =
+    quiet_acts window (turn_at client (Read time)).after later quiet
 
 pub quiet_within : (window : ℕ) (client : Client) (acts : List Act) {inputs : List Act} → inputs_in acts ≡ inputs
     → AllByRecursion IsQuiet inputs → IsWithin window client acts
@@ -184,232 +181,3 @@ pub tick_none : (client : Client) (time : ℕ) → length client.state.waiting �
     → length (tick (rules_of client) client.state time).after.waiting ≡ 0
 tick_none client time none = none_kept _ client.state.waiting none
 
-module _ {Origin W : Type 0} {contents : W → Option (List ℕ)} where
-  -- Some acts, and then more.
-  pub went_more : {A B : Type 0} {x : A} {result : Result B RunFault} {c d e : Client} {p q r : Page W}
-      {s t u : Account Origin} {xs ys : List Act} → Went contents c d p q s t (Ok x) xs
-      → Went contents d e q r t u result ys → Went contents c e p r s u result (xs ++ ys)
-  went_more {result} {c} first second =
-      let moved = client_after-append c first.acts second.acts in
-      let printed = journal-append c first.acts second.acts in
-      let asked = history-append c first.acts second.acts in
-      record {
-        acts = first.acts ++ second.acts;
-        of_input = grind (arith, inputs-append, first.of_input, second.of_input);
-        client_is = grind (arith, moved, first.client_is, second.client_is);
-        prints = printed_as (first.prints ⨾ second.prints) (grind (arith, printed, first.client_is));
-        asks = grind (arith, asked, first.client_is, due_more first.asks second.asks);
-      }
-
-  -- Nothing was done yet.
-  pub went_nothing : (c : Client) (p : Page W) (s : Account Origin) → Went contents c c p p s s done []
-  went_nothing c p s = record { acts = []; of_input = refl; client_is = refl; prints = prints_nothing p; asks = due_nothing s }
-
-  -- The page was turned in.
-  pub went_turned : {A : Type 0} {result : Result A RunFault} {c d : Client} {p q r : Page W} {s t : Account Origin}
-      {xs : List Act} → Prints contents p q [] → Went contents c d q r s t result xs
-      → Went contents c d p r s t result xs
-  went_turned first then = record {
-    acts = then.acts;
-    of_input = then.of_input;
-    client_is = then.client_is;
-    prints = first ⨾ then.prints;
-    asks = then.asks;
-  }
-
-  -- One act.
-  pub went_one : {A : Type 0} {result : Result A RunFault} {c d : Client} {p q : Page W} {s t : Account Origin}
-      (act : Act) → d ≡ (turn_at c act).after
-      → Prints contents p q (line_of act ++ remarks (turn_at c act).notes)
-      → GainsDue result (asked_by act ++ posts (turn_at c act).notes) s t → Went contents c d p q s t result (input_in act)
-  went_one act moved printed asked = record {
-    acts = act ∷ [];
-    of_input = append-nil _;
-    client_is = moved;
-    prints = printed_as printed (sym (append-nil _));
-    asks = grind (arith, append-nil, asked);
-  }
-
-  -- A wait in which nothing came that is handed on.
-  pub went_passed : (c : Client) (p : Page W) {s t : Account Origin} (wait : ℕ) (heard : Heard)
-      → Gains (Waited wait heard) s t → Went contents c c p p s t done []
-  went_passed c p wait heard gains =
-      went_one (Passed wait heard) refl (prints_nothing p)
-      (record { gained = Waited wait heard ∷ []; gains = gains; as_due = refl })
-
-  -- A wait that failed.
-  pub went_lost : (c : Client) (p : Page W) {s t : Account Origin} (wait : ℕ) → Gains (Waited wait Failure) s t
-      → Went contents c c p p s t (failed (Unit {0}) (Link ReceiveFailed)) []
-  went_lost c p wait gains = record {
-    acts = [];
-    of_input = refl;
-    client_is = refl;
-    prints = prints_nothing p;
-    asks = record { gained = Waited wait Failure ∷ []; gains = gains; as_due = (wait, refl) };
-  }
-
-  -- The time was that which the client was told.
-  pub went_untold : (c : Client) (p : Page W) {s t : Account Origin} (time : ℕ) → Gains (Timed time) s t
-      → Went contents c c p p s t done []
-  went_untold c p time gains =
-      went_one (Untold time) refl (prints_nothing p)
-      (record { gained = Timed time ∷ []; gains = gains; as_due = refl })
-
-  -- A datagram was handed on.
-  pub went_came : {c d : Client} {p q r : Page W} {s t : Account Origin} (wait : ℕ) (from : Station) (octets : List ℕ)
-      (answer : Option (ℕ × Outcome)) → answer ≡ (datagram (rules_of c) c.state from octets).answer
-      → d ≡ keeping c (datagram (rules_of c) c.state from octets).after
-      → Prints contents p q (arrival_line from octets) → Prints contents q r (remarks (datagram_notes answer))
-      → Gains (Waited wait (Arrived from octets)) s t → Went contents c d p r s t done []
-  went_came {c} wait from octets answer is left line notes gains =
-      let none = posts-answer answer in
-      went_one (Came wait from octets) left
-      (printed_as (line ⨾ notes) (ap (λ (a : Option (ℕ × Outcome)). arrival_line from octets ++ remarks (datagram_notes a)) is))
-      (record {
-        gained = Waited wait (Arrived from octets) ∷ [];
-        gains = gains;
-        as_due = grind (arith, append-nil, none, is);
-      })
-
-  -- The time was told.
-  pub went_told : {A : Type 0} {result : Result A RunFault} {c d : Client} {p q r : Page W} {s t u : Account Origin}
-      (time : ℕ) (due : List DueEntry) → due ≡ (tick (rules_of c) c.state time).answer
-      → d ≡ keeping c (tick (rules_of c) c.state time).after → Prints contents p q (time_line time)
-      → Prints contents q r (remarks (flat_map (due_notes d.state) due)) → Gains (Timed time) s t
-      → GainsDue result (posts (flat_map (due_notes d.state) due)) t u → Went contents c d p r s u result []
-  went_told {result} {c} {d} {s} {t} time due is left line notes gains sends =
-      let same : flat_map (due_notes d.state) due ≡ (turn_at c (Told time)).notes = grind (arith, is, left) in
-      let first : GainsDue done (Timed time ∷ []) s t = record { gained = Timed time ∷ []; gains = gains; as_due = refl } in
-      went_one (Told time) left
-      (printed_as (line ⨾ notes) (ap (λ (ns : List Note). time_line time ++ remarks ns) same))
-      (rw (sym same) (due_more first sends))
-
-  -- A request was asked for.
-  pub went_asked : {A : Type 0} {result : Result A RunFault} {c d : Client} {p q r : Page W} {s t : Account Origin}
-      (line : List ℕ) (event : Event) → Prints contents p q (whole_line line)
-      → Opened contents c d q r s t result event
-      → Went contents c d p r s t result (Asked line event ∷ [])
-  went_asked line event printed opened =
-      went_one (Asked line event) opened.client_is (printed ⨾ opened.prints) opened.asks
-
-  -- A fault of one part is that of the whole.
-  pub went_err : {A : Type 0} (B : Type 0) {c d : Client} {p q : Page W} {s t : Account Origin} {xs : List Act}
-      (fault : RunFault) → Went contents c d p q s t (failed A fault) xs → Went contents c d p q s t (failed B fault) xs
-  went_err {A} B fault went = record {
-    acts = went.acts;
-    of_input = went.of_input;
-    client_is = went.client_is;
-    prints = went.prints;
-    asks = record {
-      gained = went.asks.gained;
-      gains = went.asks.gains;
-      as_due = gained_err A B fault _ _ went.asks.as_due;
-    };
-  }
-
-  -- All was done, whatever it answers.
-  pub went_ok : {A B : Type 0} {x : A} (y : B) {c d : Client} {p q : Page W} {s t : Account Origin}
-      {xs : List Act} → Went contents c d p q s t (Ok x) xs → Went contents c d p q s t (Ok y) xs
-  went_ok y went = record {
-    acts = went.acts;
-    of_input = went.of_input;
-    client_is = went.client_is;
-    prints = went.prints;
-    asks = record { gained = went.asks.gained; gains = went.asks.gains; as_due = went.asks.as_due };
-  }
-
-  -- A line stops the run, and nothing was done.
-  pub went_stopped : (A : Type 0) (c : Client) (p : Page W) (s : Account Origin) (fault : TraceFault)
-      → Went contents c c p p s s (failed A (Script fault)) []
-  went_stopped A c p s fault =
-      record { acts = []; of_input = refl; client_is = refl; prints = prints_nothing p; asks = due_stopped A fault s }
-
-  -- A request that is too long was refused.
-  pub went_refused : (c : Client) {p q r : Page W} (s : Account Origin) (line : List ℕ) (peer : Station) (body : List ℕ)
-      → longest_body < length body → Prints contents p q (whole_line line)
-      → Prints contents q r (remark (Refused TooLong))
-      → Went contents c c p r s s done (Asked line (Ask peer 15 body) ∷ [])
-  went_refused c {q} {r} s line peer body long printed noted =
-      let is = sym (refused_long c peer body long) in
-      let refused : Turn = record { notes = Refused TooLong ∷ []; after = c } in
-      let plain : Prints contents q r (remarks refused.notes) = printed_as noted (sym (append-nil _)) in
-      went_asked line (Ask peer 15 body) printed
-      (record {
-        client_is = ap (λ (t : Turn). t.after) is;
-        prints = printed_as plain (ap (λ (t : Turn). remarks t.notes) is);
-        asks = subst (λ (t : Turn). GainsDue done (posts t.notes) s s) is (due_nothing s);
-      })
-
-  -- Within so many open requests: acts and more, and those of a part.
-  pub within_both : (window : ℕ) {A B : Type 0} {x : A} {result : Result B RunFault} {c d e : Client} {p q r : Page W}
-      {s t u : Account Origin} {xs ys : List Act} (first : Went contents c d p q s t (Ok x) xs)
-      (second : Went contents d e q r t u result ys) → IsWithin window c first.acts → IsWithin window d second.acts
-      → IsWithin window c (went_more first second).acts
-  unfolding went_more
-  within_both window {c} {d} first second here later =
-      within_more window c d first.acts second.acts first.client_is here later
-
-  pub within_turned : (window : ℕ) {A : Type 0} {result : Result A RunFault} {c d : Client} {p q r : Page W}
-      {s t : Account Origin} {xs : List Act} (turned : Prints contents p q []) (went : Went contents c d q r s t result xs)
-      → IsWithin window c went.acts → IsWithin window c (went_turned turned went).acts
-  unfolding went_turned
-  within_turned window turned went is = is
-
-  pub within_err : (window : ℕ) {A : Type 0} (B : Type 0) {c d : Client} {p q : Page W} {s t : Account Origin}
-      {xs : List Act} (fault : RunFault) (went : Went contents c d p q s t (failed A fault) xs)
-      → IsWithin window c went.acts → IsWithin window c (went_err B fault went).acts
-  unfolding went_err
-  within_err window B fault went is = is
-
-  pub within_asked : (window : ℕ) {A : Type 0} {result : Result A RunFault} {c d : Client} {p q r : Page W}
-      {s t : Account Origin} (line : List ℕ) (event : Event) (printed : Prints contents p q (whole_line line))
-      (opened : Opened contents c d q r s t result event) → open_in c < window
-      → IsWithin window c (went_asked line event printed opened).acts
-  unfolding went_asked went_one
-  within_asked window line event printed opened few = (few, tt)
-
-  pub quiet_went : (window : ℕ) {A : Type 0} {result : Result A RunFault} {c d : Client} {p q : Page W}
-      {s t : Account Origin} {xs : List Act} (went : Went contents c d p q s t result xs) → AllByRecursion IsQuiet xs
-      → IsWithin window c went.acts
-  quiet_went window {c} went quiet = quiet_within window c went.acts went.of_input quiet
-
-  -- A front of what is wanted was done: nothing.
-  pub for_front : {window : ℕ} {A : Type 0} {c d : Client} {p q : Page W} {s t : Account Origin}
-      (wanted : Option (List Act)) (fault : RunFault) (rest : List Act) → unwrap_or wanted [] ≡ rest
-      → Went contents c d p q s t (failed A fault) [] → WentFor window contents c d p q s t (failed A fault) wanted
-  for_front {window} {c} wanted fault rest is went = record {
-    inputs = [];
-    is_done = (rest, is);
-    went = went;
-    within = quiet_within window c went.acts went.of_input tt;
-  }
-
-  -- All that is wanted was done, as far as the link goes.
-  pub for_whole : {window : ℕ} {A : Type 0} {c d : Client} {p q : Page W} {s t : Account Origin} {inputs : List Act}
-      (result : Result A RunFault) (went : Went contents c d p q s t result inputs) → IsWithin window c went.acts
-      → WentFor window contents c d p q s t result (Some inputs)
-  for_whole {inputs} (Ok x) went within = record { inputs = inputs; is_done = refl; went = went; within = within }
-  for_whole {inputs} (Err fault) went within =
-      record { inputs = inputs; is_done = ([], sym (append-nil inputs)); went = went; within = within }
-
-  -- A request that is too long was refused, while there was room.
-  pub for_refused : {window : ℕ} (c : Client) {p q r : Page W} (s : Account Origin) (line : List ℕ) (peer : Station)
-      (body : List ℕ) → longest_body < length body → Prints contents p q (whole_line line)
-      → Prints contents q r (remark (Refused TooLong)) → open_in c < window
-      → WentFor window contents c c p r s s done (Some (Asked line (Ask peer 15 body) ∷ []))
-  unfolding went_refused went_asked went_one
-  for_refused c s line peer body long printed noted few =
-      for_whole done (went_refused c s line peer body long printed noted) (few, tt)
-
-  -- The same of what asks for no request.
-  pub for_quiet : {window : ℕ} {A : Type 0} {c d : Client} {p q : Page W} {s t : Account Origin} {inputs : List Act}
-      (result : Result A RunFault) → AllByRecursion IsQuiet inputs → Went contents c d p q s t result inputs
-      → WentFor window contents c d p q s t result (Some inputs)
-  for_quiet {window} {c} result quiet went =
-      for_whole result went (quiet_within window c went.acts went.of_input quiet)
-
-  -- What is wanted, said otherwise.
-  pub for_same : {window : ℕ} {A : Type 0} {result : Result A RunFault} {c d : Client} {p q : Page W} {s t : Account Origin}
-      {wanted other : Option (List Act)} → wanted ≡ other → WentFor window contents c d p q s t result other
-      → WentFor window contents c d p q s t result wanted
-  for_same is went = rw is went

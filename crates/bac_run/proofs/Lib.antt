@@ -1,4 +1,6 @@
 pub mod Acts
+pub mod Counts
+pub mod Parts
 pub mod Runs
 pub mod Sends
 pub mod Replays

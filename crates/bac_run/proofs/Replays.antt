@@ -6,7 +6,7 @@ use Rattle.bac_tsm.specs.{Client.Client, Events.{Event, Data, Tick, Note}}
 use Rattle.bac_script.{specs.{Line.{Said, Nothing, Happens}, Text.{notes_text}, Inner.Running.{Stage, ran}}, specs.Script.{lines, said_from, all_said, text, fault_from, first_fault}, specs.declared.{input.Reading.TheVariants.AtEnd}, proofs.{Machine.{text_from, text_is}, Pieces.lines-ended, Settled.settings_first}}
 use Rattle.bac_run.specs.declared.session.Session.{Session}
 use Rattle.bac_run.specs.{
-  Journal.{Act, Asked, Paused, Came, Passed, Told, Untold, turn_at, line_of, remark, remarks, journal, new_client, notes_of},
+  Journal.{Act, Asked, Paused, Came, Passed, Told, Read, turn_at, line_of, remark, remarks, journal, new_client, notes_of},
   Replay.{IsLineOf, IsReadBack, IsPassedOver, AreReadBack, AreSettings},
   Run.journal_of,
 }
@@ -58,7 +58,7 @@ act_then client (Told time) rest is all =
     ap (printed client) (append_assoc (line_of (Told time)) _ rest)
     ∙ happens_then client (Tick time) _ is
     ∙ ap (λ (xs : List ℕ). (ran (on client) (Happens (Tick time))).text ++ xs) (remarks_then _ _ rest all)
-act_then client (Untold time) rest is all = refl
+act_then client (Read time) rest is all = refl
 
 notes_text-append : (xs ys : List Note) → notes_text (xs ++ ys) ≡ notes_text xs ++ notes_text ys
 notes_text-append = grind (arith, flat_map-append)
@@ -114,7 +114,7 @@ act_well client (Passed wait heard) rest is all well n = well n
 act_well client (Told time) rest is all well n =
     regroup n (line_of (Told time)) (remarks (turn_at client (Told time)).notes) rest
     (line_well n _ is (remarks_well _ rest all well (n + 1)))
-act_well client (Untold time) rest is all well n = well n
+act_well client (Read time) rest is all well n = well n
 
 journal_well : (client : Client) (acts : List Act) → AreReadBack client acts → (n : ℕ)
     → faultless n (journal client acts)

@@ -1,37 +1,63 @@
 -- A run so far, and where it stops.
-use Rattle.std.proofs.{Common.{◌≡◌, ◌≢◌, ◌⊎◌, ℕ, ◌+◌, false, List, [], ◌∷◌, ◌++◌, length, take, drop, Option, Some, Result, Ok, Err}, Common.{refl, subst, sym, ◌∙◌, ap, inl, inr, append_assoc, arith, length-append, unwrap_or, IfOk}, lemmas.{Bool.false≢true, List.{append-nil, Concat.flat_map-append}}}
+use Rattle.std.proofs.{Common.{◌≡◌, ◌≢◌, ◌⊎◌, ℕ, ◌+◌, false, List, [], ◌∷◌, ◌++◌, length, take, drop, suc, ◌≤◌, Bool, true, Option, Some, None, Result, Ok, Err}, Common.{refl, subst, sym, ◌∙◌, ap, inl, inr, append_assoc, arith, length-append, take-append-drop, unwrap_or, is_some, IfErr, IfOk}, lemmas.{Bool.false≢true, List.{append-nil, Concat.flat_map-append}}}
 use Rattle.std.specs.{Prelude.option_and_then, Result.result_ok, List.{AllByRecursion, concat, flat_map}}
 use Rattle.bac_tsm.specs.Client.{Client}
-use Rattle.bac_print.specs.{declared.{checked.Checked.Checked, page.Page.Page}, Checked.{has_failed, Gave}}
+use Rattle.bac_print.specs.{declared.{checked.Checked.Checked, page.Page.Page}, Checked.{has_failed, octets_of, Gave}}
 use Rattle.bac_print.specs.Page.{held, writer_of, Prints, Writes}
 use Rattle.bac_print.proofs.{Printed.{◌⨾◌, prints_nothing}, Shown.finished, Known.Gave-none}
 use Rattle.bac_script.specs.{Input.ReaderStands, Line.{Said}, Inner.{Input.{TakesAndKeeps, IsLineCut}, Limits.line_room}, declared.line.LineFault.LineFault, declared.input.Reading.{Reading, TheVariants.{Open, AtEnd, Failed}}}
-use Rattle.bac_script.specs.declared.tracing.{TraceEnd.TraceEnd, TraceFault.{TraceFault, TheVariants.WriteFailed}}
+use Rattle.bac_script.specs.declared.tracing.{TraceEnd.TraceEnd, TraceFault.{TraceFault, TheVariants.{BadLine, LineTooLong, ReadFailed, WriteFailed}}}
 use Rattle.bac_links.specs.History.{Account, Entry}
-use Rattle.bac_run.specs.declared.{session.Session.Session, fault.RunFault.{RunFault, TheVariants.{Script, Link}}}
-use Rattle.bac_run.specs.{Journal.{Act, client_after, new_client, settings_line}, Went.{IsGained, IsOfWait, IsOver, IsOverAt, IsWithin, Went, WentFor}, Run.{Runs, RunsOn}}
+use Rattle.bac_links.specs.declared.datagram.Datagram.{Datagram}
+use Rattle.bac_run.specs.declared.{session.Session.Session, fault.RunFault.{RunFault, TheVariants.{Script, Link}}, turns.Run.Run}
+use Rattle.bac_run.specs.Course.{Aim, Goes, Stage, Turns, aims_behind, aims_of, aims_for, aims_in_room, aims_of_lines, last_aims, room_for, stage_after}
+use Rattle.bac_script.specs.{Input.CanReadOn, Line.said, Script.lines, declared.line.LineFault.TheVariants.{Bad, TooLong}}
+use Rattle.bac_script.proofs.Pieces.{lines-ended, lines-last, lines-rest, next_long}
+use Rattle.bac_run.specs.{Journal.{Act, client_after, new_client, settings_line}, Went.{ComesTo, IsGained, IsNamed, IsOfWait, IsOver, IsOverAt, IsWithin, Went, WentFor, started}, Run.{EndsAt, IsAtRest, Runs, RunsOn, first_stage}}
 use Rattle.bac_run.specs.Fault.{is_at_link, is_of_link, stopped, write_failed}
-use Rattle.bac_run.proofs.Acts.{done, failed, quiet_went, within_both, within_err, within_turned, went_err, went_more, went_nothing, went_stopped, went_turned}
+use Rattle.bac_run.proofs.Acts.{done, failed}
+use Rattle.bac_run.proofs.Parts.{quiet_went, within_at, within_both, within_fault, within_from, within_turned, went_at, went_err, went_failed, went_fault, went_from, went_more, went_still, went_stopped, went_turned}
+use Rattle.bac_links.specs.{Limits.most_turns, declared.fault.ToolFault.TheVariants.{SendFailed, ReceiveFailed, TurnsSpent, WriteFailed as LinkNotWritten}}
+use Rattle.bac_run.specs.declared.turns.Until.TheVariants.{FewOpen}
 use Rattle.bac_script.proofs.{Pieces.said-whole_long, Taken.{Takes-more, Takes-front}}
-use Rattle.bac_run.specs.Input.{acts_of_line, acts_of_said, acts_or_none, inputs_in, AllDone, AreCut, EndsWithFeed}
+use Rattle.bac_run.specs.Input.{acts_of_line, acts_or_none, fault_in, fault_of_line, inputs_in, is_full, AllDone, AreCut, EndsWithFeed, Takes}
 use Rattle.bac_run.specs.Input.{HasNoFeed, IsGood}
+
+-- What a run is about for lines that were taken.
+abbrev pub taken_aims : (window : ℕ) → List (List ℕ) → List Aim
+taken_aims window [] = []
+taken_aims window (line ∷ later) =
+    (room_for window ∷ aims_for (acts_of_line line)) ++ taken_aims window later
+
+-- A run as it begins.
+abbrev pub begins : Session → Datagram → Run
+begins session datagram = record {
+  session = session;
+  client = new_client session.config.timeout session.config.retries;
+  datagram = datagram;
+  behind = 0;
+}
 
 -- The settings were printed, and lines were taken, and what they ask for was done.
 pub record SoFar {Origin R W : Type 0} (remaining : R → Option (List ℕ)) (contents : W → Option (List ℕ))
-    (session : Session) (client : Client) (reader reader' : Checked R) (held : List ℕ) (page page' : Page W)
-    (seen left : Account Origin) (lines : ℕ) : Type 0 where
+    (session : Session) (run : Run) (reader reader' : Checked R) (held : List ℕ) (page page' : Page W)
+    (seen left : Account Origin) (count : ℕ) : Type 0 where
+  pub datagram : Datagram
   pub first : Page W
   pub settings : Prints contents page first (settings_line session.config.timeout session.config.retries)
   pub inputs : List Act
-  pub went : Went contents (new_client session.config.timeout session.config.retries) client first page' seen left done
-      inputs
   pub taken : List (List ℕ)
+  pub went : Went contents (begins session datagram) run first page' seen left
+      (λ later. first_stage session (taken_aims session.window taken ++ later)) (λ later. started run later) done inputs
   pub cut : AllByRecursion EndsWithFeed taken
   pub good : AllByRecursion IsGood taken
+  pub split : (more : List ℕ) (reading : Reading)
+      → lines (concat taken ++ more) reading ≡ taken ++ lines more reading
   pub gives : TakesAndKeeps remaining reader reader' [] held (concat taken)
+  pub stands : CanReadOn reader reader'
   pub asked : inputs ≡ flat_map acts_or_none taken
   pub within : IsWithin session.window (new_client session.config.timeout session.config.retries) went.acts
-  pub count : lines ≡ length taken
+  pub counts : count ≡ length taken
 
 -- ---- lines
 
@@ -72,9 +98,66 @@ cut_so Open line (inr c) = inr c.no_feed
 cut_so AtEnd line c = inr c.no_feed
 cut_so Failed line c = inr c.no_feed
 
+-- A line that says nothing is bad, and so is its fault.
+unsaid : (line : List ℕ) (fault : LineFault) → said false line ≡ Err fault → acts_of_line line ≡ None
+unsaid line fault is = here (is_full line) refl
+  where
+    here : (b : Bool) → is_full line ≡ b → acts_of_line line ≡ None
+    here true full = rw full refl
+    here false fits = rw (fits, is) refl
+
+long_fault : (n : ℕ) (line : List ℕ) → said false line ≡ Err TooLong → fault_of_line n line ≡ LineTooLong n
+long_fault n line is = here (is_full line) refl
+  where
+    here : (b : Bool) → is_full line ≡ b → fault_of_line n line ≡ LineTooLong n
+    here true full = rw full refl
+    here false fits = rw (fits, is) refl
+
+-- The next line that was taken asks for what the first line of the octets from there on asks for.
+pub record IsCut (line now : List ℕ) (reading : Reading) : Type 0 where
+  pub whole : List ℕ
+  pub others : List (List ℕ)
+  pub split : lines now reading ≡ whole ∷ others
+  pub same : acts_of_line whole ≡ acts_of_line line
+  pub alike : (n : ℕ) → fault_of_line n whole ≡ fault_of_line n line
+
+cut_long : (line held : List ℕ) (reading : Reading) → HasNoFeed line → length line ≡ line_room
+    → IsCut line (line ++ held) reading
+cut_long line held reading none long =
+    let next = next_long line held reading none long in
+    let here = said-whole_long false line none long in
+    let there = next.same false ∙ here in
+    record {
+      whole = next.whole;
+      others = next.others;
+      split = next.split;
+      same = unsaid next.whole TooLong there ∙ sym (unsaid line TooLong here);
+      alike = λ n. long_fault n next.whole there ∙ sym (long_fault n line here);
+    }
+
+cut_same : (line now : List ℕ) (reading : Reading) (others : List (List ℕ)) → lines now reading ≡ line ∷ others
+    → IsCut line now reading
+cut_same line now reading others is =
+    record { whole = line; others = others; split = is; same = refl; alike = λ n. refl }
+
+pub cut_next : (reading : Reading) (now : List ℕ) (n : ℕ) → reading ≢ Failed → (n ≡ 0 → ⊥) → n ≤ length now
+    → IsLineCut reading (take n now) → (reading ≡ AtEnd → drop n now ≡ []) → IsCut (take n now) now reading
+cut_next Failed now n sure some within cut last = absurd (sure refl)
+cut_next Open now n sure some within (inl c) last =
+    cut_same _ _ _ (lines (drop n now) Open)
+    (ap (λ (xs : List ℕ). lines xs Open) (sym (take-append-drop n now) ∙ ap (λ (xs : List ℕ). xs ++ drop n now) c.ended)
+    ∙ lines-ended c.text (drop n now) Open c.no_feed ∙ ap (λ (xs : List ℕ). xs ∷ lines (drop n now) Open) (sym c.ended))
+cut_next Open now n sure some within (inr c) last =
+    subst (λ (xs : List ℕ). IsCut (take n now) xs Open) (take-append-drop n now)
+    (cut_long (take n now) (drop n now) Open c.no_feed c.long)
+cut_next AtEnd now n sure some within c last =
+    let all : take n now ≡ now = sym (append-nil (take n now)) ∙ ap (λ (xs : List ℕ). take n now ++ xs) (sym (last refl)) ∙ take-append-drop n now in
+    cut_same _ _ _ []
+    (rw all (lines-last now (rw all at c.no_feed) (omega (arith, some, within))))
+
 -- A line that is good is not too long, so it ends with a line feed, unless reading has ended.
 too_long_bad : (line : List ℕ) → HasNoFeed line → length line ≡ line_room → IsGood line → ⊥
-too_long_bad line none long good = good (ap (λ (r : Result Said LineFault). option_and_then (acts_of_said line) (result_ok r)) (said-whole_long false line none long))
+too_long_bad line none long good = good (unsaid line TooLong (said-whole_long false line none long))
 
 feed_so : (line : List ℕ) → IsLineCut Open line → IsGood line → EndsWithFeed line
 feed_so line (inl c) good = (c.text, c.no_feed, c.ended)
@@ -155,198 +238,562 @@ takes_none : {R : Type 0} (remaining : R → Option (List ℕ)) (reader : Checke
     → TakesAndKeeps remaining reader reader kept kept []
 takes_none remaining reader kept = record { given = []; gave = Gave-none _; order = append-nil kept }
 
+-- ---- what a run is about
+
+aims_taken : (window : ℕ) (reading : Reading) (taken later : List (List ℕ)) → AllByRecursion IsGood taken
+    → aims_of_lines window reading (taken ++ later)
+    ≡ taken_aims window taken ++ aims_of_lines window reading later
+aims_taken window reading [] later good = refl
+aims_taken window reading (line ∷ taken) later (here, good) =
+    go (acts_of_line line) refl (aims_taken window reading taken later good)
+  where
+    go : (o : Option (List Act)) → acts_of_line line ≡ o → aims_of_lines window reading (taken ++ later)
+        ≡ taken_aims window taken ++ aims_of_lines window reading later
+        → aims_of_lines window reading ((line ∷ taken) ++ later)
+        ≡ taken_aims window (line ∷ taken) ++ aims_of_lines window reading later
+    go None is rest = absurd (here is)
+    go (Some acts) is rest =
+        rw is
+        (ap (λ (xs : List Aim). room_for window ∷ (flat_map aims_of acts ++ xs)) rest
+        ∙ sym (append_assoc (room_for window ∷ flat_map aims_of acts) (taken_aims window taken)
+        (aims_of_lines window reading later)))
+
+faults_taken : (n : ℕ) (taken later : List (List ℕ)) → AllByRecursion IsGood taken
+    → fault_in n (taken ++ later) ≡ fault_in (n + length taken) later
+faults_taken n [] later good = ap (λ (m : ℕ). fault_in m later) (omega arith)
+faults_taken n (line ∷ taken) later (here, good) =
+    go (acts_of_line line) refl (faults_taken (suc n) taken later good)
+  where
+    go : (o : Option (List Act)) → acts_of_line line ≡ o
+        → fault_in (suc n) (taken ++ later) ≡ fault_in (suc n + length taken) later
+        → fault_in n ((line ∷ taken) ++ later) ≡ fault_in (n + length (line ∷ taken)) later
+    go None is rest = absurd (here is)
+    go (Some acts) is rest = rw is (rest ∙ ap (λ (m : ℕ). fault_in m later) (omega arith))
+
+-- The aims of all lines, where some were taken and there is room for the next.
+aims_so_far : (window : ℕ) (reading : Reading) (taken later : List (List ℕ)) → AllByRecursion IsGood taken
+    → aims_of_lines window reading (taken ++ later)
+    ≡ taken_aims window taken ++ (room_for window ∷ aims_in_room window reading later)
+aims_so_far = aims_taken
+
+at_rest : (run : Run) → IsAtRest (started run [])
+at_rest run = (refl, refl)
+
+-- A reader that could be read on, and then on, or not.
+reads_on : {R : Type 0} {a b c : Checked R} → CanReadOn a b → CanReadOn b c → CanReadOn a c
+reads_on first then = record { sound = then.sound; unended = then.unended ∙ first.unended }
+
+reading_on : {R : Type 0} (remaining : R → Option (List ℕ)) (a b c : Checked R) (reading : Reading) → CanReadOn a b
+    → ReaderStands remaining reading b c [] → ReaderStands remaining reading a c []
+reading_on remaining a b c Open first then = reads_on first then
+reading_on remaining a b c AtEnd first then = record {
+  empty = refl;
+  sound = then.sound;
+  ended = then.ended;
+  once = then.once ∙ ap (λ (n : ℕ). n + 1) first.unended;
+  left = then.left;
+}
+reading_on remaining a b c Failed first then =
+    record { empty = refl; failed = then.failed; unended = then.unended ∙ first.unended }
+
+-- What a reader stands like when the next line was found, and nothing more is held or taken.
+pub still_stands : {R : Type 0} (remaining : R → Option (List ℕ)) (a b : Checked R) (held : List ℕ) (reading : Reading)
+    → ReaderStands remaining reading a b held → ReaderStands remaining reading a b []
+still_stands remaining a b held Open stands = stands
+still_stands remaining a b held AtEnd stands =
+    record { empty = refl; sound = stands.sound; ended = stands.ended; once = stands.once; left = stands.left }
+still_stands remaining a b held Failed stands =
+    record { empty = refl; failed = stands.failed; unended = stands.unended }
+
+pub open_stands : {R : Type 0} (remaining : R → Option (List ℕ)) (a b : Checked R) (held : List ℕ) (reading : Reading)
+    → reading ≢ Failed → reading ≢ AtEnd → ReaderStands remaining reading a b held → CanReadOn a b
+open_stands remaining a b held Open sure going stands = stands
+open_stands remaining a b held AtEnd sure going stands = absurd (going refl)
+open_stands remaining a b held Failed sure going stands = absurd (sure refl)
+
+-- Where reading failed no line is among what is held.
+pub failed_lines : {R : Type 0} (remaining : R → Option (List ℕ)) (a b : Checked R) (reading : Reading) (now : List ℕ)
+    (n : ℕ) → reading ≡ Failed → IsLineCut reading (take n now) → ReaderStands remaining reading a b (drop n now)
+    → lines now Failed ≡ []
+failed_lines remaining a b reading now n is cut stands =
+    let c = rw is at cut in
+    let s = rw is at stands in
+    let all : take n now ≡ now =
+    sym (append-nil (take n now)) ∙ ap (λ (xs : List ℕ). take n now ++ xs) (sym s.empty) ∙ take-append-drop n now in
+    lines-rest now (rw all at c.no_feed) (rw all at c.short)
+
+-- The last line, where reading has ended.
+pub last_line : {R : Type 0} (remaining : R → Option (List ℕ)) (a b : Checked R) (reading : Reading) (now : List ℕ)
+    (n : ℕ) → reading ≡ AtEnd → (n ≡ 0 → ⊥) → n ≤ length now → IsLineCut reading (take n now)
+    → ReaderStands remaining reading a b (drop n now) → lines now AtEnd ≡ take n now ∷ []
+last_line remaining a b reading now n is some within cut stands =
+    let c = rw is at cut in
+    let s = rw is at stands in
+    let all : take n now ≡ now =
+    sym (append-nil (take n now)) ∙ ap (λ (xs : List ℕ). take n now ++ xs) (sym s.empty) ∙ take-append-drop n now in
+    rw all (lines-last now (rw all at c.no_feed) (omega (arith, some, within)))
+
+-- Reading has ended where the next line is none.
+pub at_end : {R : Type 0} (remaining : R → Option (List ℕ)) (a b : Checked R) (reading : Reading) (now : List ℕ)
+    (n : ℕ) → n ≡ 0 → reading ≢ Failed → IsLineCut reading (take n now)
+    → ReaderStands remaining reading a b (drop n now) → ReaderStands remaining AtEnd a b []
+at_end remaining a b Open now n zero sure (inl c) stands =
+    absurd (not_empty c.text (sym (take_none n now zero) ∙ c.ended))
+at_end remaining a b Open now n zero sure (inr c) stands =
+    let long = rw (take_none n now zero) at c.long in absurd (omega (arith, long))
+at_end remaining a b AtEnd now n zero sure c stands = still_stands remaining a b (drop n now) AtEnd stands
+at_end remaining a b Failed now n zero sure c stands = absurd (sure refl)
+
+-- One more line that ends with its line feed.
+split_push : (taken : List (List ℕ)) (line more : List ℕ) (reading : Reading)
+    → ((more : List ℕ) (reading : Reading) → lines (concat taken ++ more) reading ≡ taken ++ lines more reading)
+    → EndsWithFeed line → lines (concat (taken ++ line ∷ []) ++ more) reading ≡ (taken ++ line ∷ []) ++ lines more reading
+split_push taken line more reading split (text, none, ended) =
+    ap (λ (xs : List ℕ). lines (xs ++ more) reading) (concat_push taken line)
+    ∙ ap (λ (xs : List ℕ). lines xs reading) (append_assoc (concat taken) line more)
+    ∙ split (line ++ more) reading
+    ∙ ap (λ (ls : List (List ℕ)). taken ++ ls)
+    (ap (λ (xs : List ℕ). lines (xs ++ more) reading) ended ∙ lines-ended text more reading none
+    ∙ ap (λ (xs : List ℕ). xs ∷ lines more reading) (sym ended))
+    ∙ sym (append_assoc taken (line ∷ []) (lines more reading))
+
+taken_push : (window : ℕ) (taken : List (List ℕ)) (line : List ℕ) → taken_aims window (taken ++ line ∷ [])
+    ≡ taken_aims window taken ++ (room_for window ∷ aims_for (acts_of_line line))
+taken_push window [] line = append-nil _
+taken_push window (x ∷ xs) line = grind (arith, append_assoc, taken_push window xs line)
+
+-- A fault that may come in a wait ends a run wherever it stands.
+ends_wait : (fault : RunFault) (reading : Reading) (ls : List (List ℕ)) (to left : Stage) → IsOfWait fault
+    → ComesTo (failed TraceEnd fault) to left → EndsAt (failed TraceEnd fault) reading ls left
+ends_wait (Link SendFailed) reading ls to left waits is = is
+ends_wait (Link ReceiveFailed) reading ls to left waits is = is
+ends_wait (Link TurnsSpent) reading ls to left waits is = is
+ends_wait (Link LinkNotWritten) reading ls to left waits is = is
+ends_wait (Script WriteFailed) reading ls to left waits is = tt
+ends_wait (Script ReadFailed) reading ls to left waits is = absurd waits
+ends_wait (Script (BadLine n)) reading ls to left waits is = absurd waits
+ends_wait (Script (LineTooLong n)) reading ls to left waits is = absurd waits
+
+-- The end of the input ends it at rest.
+ends_all : (result : Result TraceEnd RunFault) (ls : List (List ℕ)) (left : Stage) (run : Run) (count : ℕ)
+    → IfOk result (λ end. end.lines ≡ count) → IfErr result IsOfWait → ComesTo result (started run []) left
+    → fault_in 1 ls ≡ None → length ls ≡ count → EndsAt result AtEnd ls left
+ends_all (Ok end) ls left run count counted waits comes none size =
+    (rw comes (at_rest run), refl, none, counted ∙ sym size)
+ends_all (Err fault) ls left run count counted waits comes none size =
+    ends_wait fault AtEnd ls (started run []) left waits comes
+
+-- A reader that failed ends it at rest.
+ends_read : (fault : RunFault) (ls : List (List ℕ)) (left : Stage) (run : Run)
+    → (fault ≡ Script ReadFailed) ⊎ IsOfWait fault → ComesTo (failed TraceEnd fault) (started run []) left
+    → fault_in 1 ls ≡ None → EndsAt (failed TraceEnd fault) Failed ls left
+ends_read fault ls left run (inl is) comes none =
+    rw is (rw (rw is at comes) (at_rest run, refl, none))
+ends_read fault ls left run (inr waits) comes none = ends_wait fault Failed ls (started run []) left waits comes
+
+-- A line names its fault, which is none of reading.
+not_read : (n : ℕ) (line : List ℕ) → ReadFailed ≡ fault_of_line n line → ⊥
+not_read n line is = here (is_full line) refl (said false line) refl
+  where
+    here : (b : Bool) → is_full line ≡ b → (r : Result Said LineFault) → said false line ≡ r → ⊥
+    here true full r said_is = absurd (let bad = rw full at is in cc)
+    here false fits (Ok one) said_is = absurd (let bad = rw (fits, said_is) at is in cc)
+    here false fits (Err TooLong) said_is = absurd (let bad = rw (fits, said_is) at is in cc)
+    here false fits (Err Bad) said_is = absurd (let bad = rw (fits, said_is) at is in cc)
+
+-- So does a line with a fault.
+ends_line : (fault : RunFault) (n : ℕ) (line : List ℕ) (reading : Reading) (ls : List (List ℕ)) (to left : Stage)
+    → IsNamed fault n line → ComesTo (failed TraceEnd fault) to left
+    → (acts_of_line line ≡ None → IsAtRest to) → (acts_of_line line ≡ None → fault_in 1 ls ≡ Some (fault_of_line n line))
+    → EndsAt (failed TraceEnd fault) reading ls left
+ends_line (Link fault) n line reading ls to left named comes rests faulty =
+    ends_wait (Link fault) reading ls to left tt comes
+ends_line (Script WriteFailed) n line reading ls to left named comes rests faulty = tt
+ends_line (Script ReadFailed) n line reading ls to left (none, is) comes rests faulty = absurd (not_read n line is)
+ends_line (Script (BadLine k)) n line reading ls to left (none, is) comes rests faulty =
+    (rw comes (rests none), faulty none ∙ ap (λ (x : TraceFault). Some x) (sym is))
+ends_line (Script (LineTooLong k)) n line reading ls to left (none, is) comes rests faulty =
+    (rw comes (rests none), faulty none ∙ ap (λ (x : TraceFault). Some x) (sym is))
+
+
+abbrev start : Session → Client
+start session = new_client session.config.timeout session.config.retries
+
+-- A wait for room, in the words of the session.
+pub roomed : {Origin W A : Type 0} {contents : W → Option (List ℕ)} {session : Session} {result : Result A RunFault}
+    {c d : Run} {p q : Page W} {s t : Account Origin} → c.session ≡ session
+    → Went contents c d p q s t (λ later. started c (room_for c.session.window ∷ later)) (λ later. started d later)
+    result []
+    → Went contents c d p q s t (λ later. started c (room_for session.window ∷ later)) (λ later. started d later)
+    result []
+roomed {c} same went =
+    went_from (λ later. ap (λ (x : Session). started c (room_for x.window ∷ later)) (sym same)) went
+
+ends_as : (session : Session) (acts : List Act) (result : Result TraceEnd RunFault) (reading : Reading)
+    {ls ls' : List (List ℕ)} {aims aims' : List Aim} → ls ≡ ls' → aims ≡ aims'
+    → EndsAt result reading ls' (stage_after session.config.timeout (first_stage session aims') acts)
+    → EndsAt result reading ls (stage_after session.config.timeout (first_stage session aims) acts)
+ends_as session acts result reading {ls} {ls'} {aims} {aims'} same alike ends =
+    subst (λ (xs : List Aim). EndsAt result reading ls (stage_after session.config.timeout (first_stage session xs) acts))
+    (sym alike)
+    (subst (λ (xs : List (List ℕ)). EndsAt result reading xs
+    (stage_after session.config.timeout (first_stage session aims') acts)) (sym same) ends)
+
 module _ {Origin R W : Type 0} {remaining : R → Option (List ℕ)} {contents : W → Option (List ℕ)} {session : Session}
   where
-    pub so_far_none : {page first : Page W} (reader : Checked R) (seen : Account Origin) {client : Client} {held : List ℕ}
+    pub so_far_none : {page first : Page W} (run : Run) (reader : Checked R) (seen : Account Origin) {held : List ℕ}
         → Prints contents page first (settings_line session.config.timeout session.config.retries)
-        → client ≡ new_client session.config.timeout session.config.retries → held ≡ []
-        → SoFar remaining contents session client reader reader held page first seen seen 0
-    so_far_none {first} reader seen {client} printed is empty =
-        let none : Went contents (new_client session.config.timeout session.config.retries) client first first seen seen done
-        [] = rw is (went_nothing _ _ _) in
+        → run.session ≡ session → run.client ≡ start session → run.behind ≡ 0 → has_failed reader ≡ false → held ≡ []
+        → SoFar remaining contents session run reader reader held page first seen seen 0
+    so_far_none {first} run reader seen printed same is none sound empty =
+        let went = went_still (begins session run.datagram) run first seen same is
+        (λ (later : List Aim). rw (is, none) refl) in
         record {
+          datagram = run.datagram;
           first = first;
           settings = printed;
           inputs = [];
-          went = none;
           taken = [];
+          went = went;
           cut = tt;
           good = tt;
+          split = λ more reading. refl;
           gives = rw empty (record { given = []; gave = Gave-none _; order = refl });
+          stands = record { sound = sound; unended = refl };
           asked = refl;
-          within = quiet_went session.window none tt;
-          count = refl;
+          within = quiet_went session.window went tt;
+          counts = refl;
         }
 
-    -- A wait.
-    pub so_far_waited : {reader middle : Checked R} {held : List ℕ} {page p q : Page W} {s t u : Account Origin}
-        {c d : Client} {lines : ℕ} → SoFar remaining contents session c reader middle held page p s t lines
-        → Went contents c d p q t u done [] → SoFar remaining contents session d reader middle held page q s u lines
-    so_far_waited f waited = record {
-      first = f.first;
-      settings = f.settings;
-      inputs = f.inputs ++ [];
-      went = went_more f.went waited;
-      taken = f.taken;
-      cut = f.cut;
-      good = f.good;
-      gives = f.gives;
-      asked = append-nil f.inputs ∙ f.asked;
-      within = within_both session.window f.went waited f.within (quiet_went session.window waited tt);
-      count = f.count;
-    }
+    module _ {reader middle : Checked R} {held : List ℕ} {page p q : Page W} {s t u : Account Origin}
+        {c d : Run} {count : ℕ} (f : SoFar remaining contents session c reader middle held page p s t count)
+        (waited : Went contents c d p q t u (λ later. started c (room_for session.window ∷ later))
+        (λ later. started d later) done []) where
+      -- Lines were taken, and there is room for one more.
+      abbrev at_line : List Aim → Stage
+      at_line later = first_stage session (taken_aims session.window f.taken ++ (room_for session.window ∷ later))
 
-    module _ {reader middle reader' : Checked R} {held now : List ℕ} {page p q : Page W} {s t : Account Origin} {c : Client}
-        {lines : ℕ} (f : SoFar remaining contents session c reader middle held page p s t lines)
-        (given : TakesAndKeeps remaining middle reader' held now []) (turned : Prints contents p q []) where
-      gives_now : TakesAndKeeps remaining reader reader' [] now (concat f.taken)
-      gives_now = subst (λ (xs : List ℕ). TakesAndKeeps remaining reader reader' [] now xs) (append-nil (concat f.taken))
-          (Takes-more f.gives given)
+      roomy : Went contents (begins session f.datagram) d f.first q s u at_line (λ later. started d later) done (f.inputs ++ [])
+      roomy = went_more (went_at (λ later. room_for session.window ∷ later) f.went) waited
 
-      gives_line : (n : ℕ)
-          → TakesAndKeeps remaining reader reader' [] (drop n now) (concat (f.taken ++ take n now ∷ []))
-      gives_line n = subst (λ (xs : List ℕ). TakesAndKeeps remaining reader reader' [] (drop n now) xs)
-          (sym (concat_push f.taken (take n now))) (Takes-more f.gives (Takes-front n given))
+      roomy_within : IsWithin session.window (start session) roomy.acts
+      unfolding roomy
+      roomy_within = within_both session.window (went_at (λ later. room_for session.window ∷ later) f.went) waited
+          (within_at session.window f.went (λ later. room_for session.window ∷ later) f.within)
+          (quiet_went session.window waited tt)
 
-      -- It stops, where it may be after a wait, and no further line is taken.
-      pub stops_with : {d : Client} {r : Page W} {u : Account Origin} (fault : RunFault)
-          → Went contents c d q r t u (stopped fault) [] → IsOverAt fault d
-          → RunsOn remaining contents session reader reader' page r s u (failed TraceEnd fault)
-      stops_with fault last over =
-          let all = went_more f.went (went_turned turned (went_err TraceEnd fault last)) in
+      -- The run as a whole, whatever it came to behind that, about these aims.
+      whole_run : {e : Run} {r : Page W} {v : Account Origin} {to : List Aim → Stage} {inputs : List Act}
+          {reader'' : Checked R} (result : Result TraceEnd RunFault) (reading : Reading) (rest : List ℕ)
+          (front : List Aim → List Aim) (later : List Aim)
+          (all : Went contents (begins session f.datagram) e f.first r s v (λ later. at_line (front later)) to result
+          inputs) → aims_in_room session.window reading (lines rest reading) ≡ front later
+          → Takes remaining reader reader'' all.acts result
+          → octets_of reader'' ≡ octets_of reader ++ (concat f.taken ++ rest)
+          → ReaderStands remaining reading reader reader'' [] → IsOver result e.client
+          → IsWithin session.window (start session) all.acts
+          → EndsAt result reading (f.taken ++ lines rest reading)
+          (stage_after session.config.timeout (at_line (front later)) all.acts)
+          → RunsOn remaining contents session reader reader'' page r s v result
+      whole_run result reading rest front later all is takes gave stands over within ends =
+          let all_aims = ap (λ (ls : List (List ℕ)). aims_of_lines session.window reading ls) (f.split rest reading)
+          ∙ aims_so_far session.window reading f.taken (lines rest reading) f.good
+          ∙ ap (λ (others : List Aim). taken_aims session.window f.taken ++ (room_for session.window ∷ others)) is in
           record {
             acts = all.acts;
-            takes = record {
-              taken = f.taken;
-              kept = now;
-              cut = cut_all f.taken f.cut;
-              gave = gave_so gives_now;
-              all_done = ([], grind (arith, append-nil, all.of_input, f.asked));
+            takes = takes;
+            course = record {
+              given = concat f.taken ++ rest;
+              reading = reading;
+              gave = gave;
+              stands = stands;
+              goes = subst (λ (xs : List Aim). Goes session.config.timeout (first_stage session xs) all.acts)
+                  (sym all_aims) (all.goes later);
+              ends = ends_as session all.acts result reading (f.split rest reading) all_aims ends;
             };
             prints = f.settings ⨾ all.prints;
             asks = all.asks;
-            over = subst (λ (client : Client). IsOver (failed TraceEnd fault) client) all.client_is over;
-            within = within_both session.window f.went (went_turned turned (went_err TraceEnd fault last)) f.within
-                (quiet_went session.window (went_turned turned (went_err TraceEnd fault last)) tt);
+            over = subst (λ (client : Client). IsOver result client) all.client_is over;
+            within = within;
           }
 
-      pub stops : (fault : TraceFault) → IsOverAt (Script fault) c
-          → RunsOn remaining contents session reader reader' page q s t (Err (Script fault))
-      stops fault over = stops_with (Script fault) (went_stopped (Unit {0}) c q t fault) over
+      module _ {reader' : Checked R} {now : List ℕ} {q' : Page W}
+          (given : TakesAndKeeps remaining middle reader' held now []) (turned : Prints contents q q' []) where
+        gives_now : TakesAndKeeps remaining reader reader' [] now (concat f.taken)
+        gives_now = subst (λ (xs : List ℕ). TakesAndKeeps remaining reader reader' [] now xs) (append-nil (concat f.taken))
+            (Takes-more f.gives given)
 
-      -- It ends where no line is left.
-      pub ends : {d : Client} {r : Page W} {u : Account Origin} (result : Result TraceEnd RunFault) → now ≡ []
-          → IfOk result (λ end. end.lines ≡ lines) → Went contents c d q r t u result [] → IsOver result d
-          → RunsOn remaining contents session reader reader' page r s u result
-      ends result none counted last over =
-          let all = went_more f.went (went_turned turned last) in
-          record {
-            acts = all.acts;
-            takes = record {
+        gives_line : (n : ℕ)
+            → TakesAndKeeps remaining reader reader' [] (drop n now) (concat (f.taken ++ take n now ∷ []))
+        gives_line n = subst (λ (xs : List ℕ). TakesAndKeeps remaining reader reader' [] (drop n now) xs)
+            (sym (concat_push f.taken (take n now))) (Takes-more f.gives (Takes-front n given))
+
+        gave_now : octets_of reader' ≡ octets_of reader ++ (concat f.taken ++ now)
+        gave_now = (gave_so gives_now).passed
+
+        -- It stops, where it may be after a wait, and no further line is taken.
+        takes_no_more : (fault : RunFault) (acts : List Act) → inputs_in acts ≡ f.inputs
+            → Takes remaining reader reader' acts (failed TraceEnd fault)
+        takes_no_more fault acts is = record {
+          taken = f.taken;
+          kept = now;
+          cut = cut_all f.taken f.cut;
+          gave = gave_so gives_now;
+          all_done = ([], grind (arith, append-nil, is, f.asked));
+        }
+
+        -- The writer fails before more is read.
+        pub stops_unread : ReaderStands remaining Open middle reader' now
+            → RunsOn remaining contents session reader reader' page q' s u (Err write_failed)
+        stops_unread stands =
+            let stop : Went contents d d q' q' u u (λ later. started d later) (λ later. started d later)
+            (failed TraceEnd write_failed) [] = went_stopped TraceEnd d q' u (λ later. started d later) WriteFailed in
+            let all = went_more roomy (went_turned turned stop) in
+            let aims = aims_in_room session.window Open (lines now Open) in
+            whole_run (Err write_failed) Open now (λ (later : List Aim). later) aims all refl
+            (takes_no_more write_failed all.acts (grind (arith, append-nil, all.of_input))) gave_now
+            (reads_on f.stands stands) tt
+            (within_both session.window roomy (went_turned turned stop) roomy_within
+            (quiet_went session.window (went_turned turned stop) tt)) tt
+
+        -- The reader failed.
+        pub stops_reading : {e : Run} {r : Page W} {v : Account Origin} (fault : RunFault)
+            → Went contents d e q' r u v (λ later. started d (Turns (FewOpen 0) most_turns ∷ later))
+            (λ later. started e later) (stopped fault) []
+            → (fault ≡ Script ReadFailed) ⊎ IsOfWait fault → IsOverAt fault e.client
+            → lines now Failed ≡ [] → ReaderStands remaining Failed middle reader' []
+            → RunsOn remaining contents session reader reader' page r s v (failed TraceEnd fault)
+        stops_reading {e} fault last named over none stands =
+            let wait = λ (later : List Aim). Turns (FewOpen 0) most_turns ∷ later in
+            let end = went_turned turned (went_err TraceEnd fault (λ (later : List Aim). refl) last) in
+            let all = went_more (went_at wait roomy) end in
+            let no_fault = ap (λ (ls : List (List ℕ)). fault_in 1 (f.taken ++ ls)) none
+            ∙ faults_taken 1 f.taken [] f.good in
+            whole_run (failed TraceEnd fault) Failed now wait [] all
+            (ap (λ (ls : List (List ℕ)). aims_in_room session.window Failed ls) none)
+            (takes_no_more fault all.acts (grind (arith, append-nil, all.of_input))) gave_now
+            (reading_on remaining _ _ _ Failed f.stands stands) over
+            (within_both session.window (went_at wait roomy) end (within_at session.window roomy wait roomy_within)
+            (quiet_went session.window end tt))
+            (ends_read fault (f.taken ++ lines now Failed)
+            (stage_after session.config.timeout (at_line (wait [])) all.acts) e named (all.comes []) no_fault)
+
+        -- It ends where no line is left.
+        pub ends_unread : {e : Run} {r : Page W} {v : Account Origin} (result : Result TraceEnd RunFault) → now ≡ []
+            → IfOk result (λ end. end.lines ≡ count) → IfErr result IsOfWait
+            → Went contents d e q' r u v (λ later. started d (Turns (FewOpen 0) most_turns ∷ later))
+            (λ later. started e later) result [] → IsOver result e.client
+            → ReaderStands remaining AtEnd middle reader' []
+            → RunsOn remaining contents session reader reader' page r s v result
+        ends_unread {e} result none counted waits last over stands =
+            let wait = λ (later : List Aim). Turns (FewOpen 0) most_turns ∷ later in
+            let end = went_turned turned last in
+            let all = went_more (went_at wait roomy) end in
+            let none_read : lines now AtEnd ≡ [] = rw none refl in
+            let no_fault = ap (λ (ls : List (List ℕ)). fault_in 1 (f.taken ++ ls)) none_read
+            ∙ faults_taken 1 f.taken [] f.good in
+            let size = ap (λ (ls : List (List ℕ)). length (f.taken ++ ls)) none_read
+            ∙ ap (λ (ls : List (List ℕ)). length ls) (append-nil f.taken) ∙ sym f.counts in
+            whole_run result AtEnd now wait [] all
+            (ap (λ (ls : List (List ℕ)). aims_in_room session.window AtEnd ls) none_read)
+            (record {
               taken = f.taken;
               kept = [];
               cut = cut_all f.taken f.cut;
               gave = gave_so (rw none at gives_now);
-              all_done = all_done_so result f.taken all.acts lines counted
-                  (grind (arith, append-nil, all.of_input, f.asked)) f.good f.count;
-            };
-            prints = f.settings ⨾ all.prints;
-            asks = all.asks;
-            over = subst (λ (client : Client). IsOver result client) all.client_is over;
-            within = within_both session.window f.went (went_turned turned last) f.within
-                (quiet_went session.window (went_turned turned last) tt);
-          }
+              all_done = all_done_so result f.taken all.acts count counted
+                  (grind (arith, append-nil, all.of_input, f.asked)) f.good f.counts;
+            })
+            gave_now (reading_on remaining _ _ _ AtEnd f.stands stands) over
+            (within_both session.window (went_at wait roomy) end (within_at session.window roomy wait roomy_within)
+            (quiet_went session.window end tt))
+            (ends_all result (f.taken ++ lines now AtEnd)
+            (stage_after session.config.timeout (at_line (wait [])) all.acts) e count counted waits (all.comes []) no_fault size)
 
-      -- It stops at a line.
-      pub stops_at : {d : Client} {r : Page W} {u : Account Origin} (n : ℕ) (fault : RunFault)
-          → EndsWithFeed (take n now) ⊎ HasNoFeed (take n now)
-          → WentFor session.window contents c d q r t u (failed (Unit {0}) fault) (acts_of_line (take n now)) → IsOverAt fault d
-          → RunsOn remaining contents session reader reader' page r s u (failed TraceEnd fault)
-      stops_at n fault cut line over =
-          let all = went_more f.went (went_turned turned (went_err TraceEnd fault line.went)) in
-          let (rest, front) = line.is_done in
-          let flat = flat_push f.taken (take n now) in
-          record {
-            acts = all.acts;
-            takes = record {
-              taken = f.taken ++ take n now ∷ [];
-              kept = drop n now;
-              cut = cut_push f.taken (take n now) f.cut cut;
-              gave = gave_so (gives_line n);
-              all_done = (rest, grind (arith, append_assoc, all.of_input, f.asked, flat, front));
-            };
-            prints = f.settings ⨾ all.prints;
-            asks = all.asks;
-            over = subst (λ (client : Client). IsOver (failed TraceEnd fault) client) all.client_is over;
-            within = within_both session.window f.went (went_turned turned (went_err TraceEnd fault line.went)) f.within
-                (within_turned session.window turned (went_err TraceEnd fault line.went)
-                (within_err session.window TraceEnd fault line.went line.within));
-          }
+        module _ (n : ℕ) (line : List ℕ) (is : line ≡ take n now) where
+          -- It stops at a line.
+          pub stops_line : {e : Run} {r : Page W} {v : Account Origin} (fault : RunFault) (reading : Reading)
+              → IsCut (take n now) now reading → EndsWithFeed (take n now) ⊎ HasNoFeed (take n now)
+              → d.session ≡ session
+              → WentFor contents d e q' r u v (failed (Unit {0}) fault) (acts_of_line line)
+              → IsOverAt fault e.client → IsNamed fault (count + 1) line
+              → ReaderStands remaining reading middle reader' []
+              → RunsOn remaining contents session reader reader' page r s v (failed TraceEnd fault)
+          stops_line {e} fault reading cut one same went over named stands =
+              let whole_is : acts_of_line cut.whole ≡ acts_of_line line = cut.same ∙ ap acts_of_line (sym is) in
+              let behind = aims_behind (is_some (acts_of_line line))
+              (room_for session.window ∷ aims_in_room session.window reading cut.others) in
+              let front = λ (later : List Aim). aims_for (acts_of_line line) ++ later in
+              let here = went_turned turned (went_fault TraceEnd fault went.went) in
+              let all = went_more (went_at front roomy) here in
+              let (rest, done_so) = went.is_done in
+              let flat = flat_push f.taken (take n now) in
+              let asked = ap acts_or_none is in
+              whole_run (failed TraceEnd fault) reading now front behind all
+              (ap (λ (ls : List (List ℕ)). aims_in_room session.window reading ls) cut.split
+              ∙ ap (λ (o : Option (List Act)). aims_for o ++ aims_behind (is_some o) (room_for session.window ∷ aims_in_room session.window reading cut.others)) whole_is)
+              (record {
+                taken = f.taken ++ take n now ∷ [];
+                kept = drop n now;
+                cut = cut_push f.taken (take n now) f.cut one;
+                gave = gave_so (gives_line n);
+                all_done = (rest, grind (arith, append_assoc, append-nil, all.of_input, f.asked, flat, done_so, asked));
+              })
+              gave_now (reading_on remaining _ _ _ reading f.stands stands) over
+              (within_both session.window (went_at front roomy) here (within_at session.window roomy front roomy_within)
+              (within_fault session.window TraceEnd fault turned went.went (rw same at went.within)))
+              (ends_line fault (count + 1) line reading (f.taken ++ lines now reading) (started e behind)
+              (stage_after session.config.timeout (at_line (front behind)) all.acts) named (all.comes behind)
+              (λ none. rw none (at_rest e))
+              (λ none. ap (λ (ls : List (List ℕ)). fault_in 1 (f.taken ++ ls)) cut.split
+              ∙ faults_taken 1 f.taken (cut.whole ∷ cut.others) f.good
+              ∙ rw (whole_is, none) (ap (λ (x : TraceFault). Some x)
+              (cut.alike (1 + length f.taken) ∙ ap (λ (ls : List ℕ). fault_of_line (1 + length f.taken) ls) (sym is)
+              ∙ ap (λ (m : ℕ). fault_of_line m line) (omega (arith, f.counts))))))
 
-      -- One more line, behind which more comes.
-      pub so_far_more : {d : Client} {r : Page W} {u : Account Origin} (n : ℕ) (line : List ℕ) → line ≡ take n now
-          → IsLineCut Open (take n now) → WentFor session.window contents c d q r t u done (acts_of_line line)
-          → SoFar remaining contents session d reader reader' (drop n now) page r s u (lines + 1)
-      so_far_more n line same cut taken =
-          let wanted : acts_of_line (take n now) ≡ Some taken.inputs =
-          ap acts_of_line (sym same) ∙ taken.is_done in
-          let good = good_so (take n now) taken.inputs wanted in
-          let flat = flat_push f.taken (take n now) in
-          let acts = acts_so (take n now) taken.inputs wanted in
-          record {
-            first = f.first;
-            settings = f.settings;
-            inputs = f.inputs ++ taken.inputs;
-            went = went_more f.went (went_turned turned taken.went);
-            taken = f.taken ++ take n now ∷ [];
-            cut = all_push EndsWithFeed f.taken (take n now) f.cut (feed_so _ cut good);
-            good = all_push IsGood f.taken (take n now) f.good good;
-            gives = gives_line n;
-            asked = grind (arith, f.asked, flat, acts);
-            within = within_both session.window f.went (went_turned turned taken.went) f.within
-                (within_turned session.window turned taken.went taken.within);
-            count = grind (arith, length-append, f.count);
-          }
+          -- One more line, behind which more comes.
+          pub so_far_more : {e : Run} {r : Page W} {v : Account Origin} → IsLineCut Open (take n now)
+              → d.session ≡ session → WentFor contents d e q' r u v done (acts_of_line line)
+              → ReaderStands remaining Open middle reader' (drop n now)
+              → SoFar remaining contents session e reader reader' (drop n now) page r s v (count + 1)
+          so_far_more cut same taken stands =
+              let wanted : acts_of_line (take n now) ≡ Some taken.inputs = ap acts_of_line (sym is) ∙ taken.is_done in
+              let good = good_so (take n now) taken.inputs wanted in
+              let flat = flat_push f.taken (take n now) in
+              let acts = acts_so (take n now) taken.inputs wanted in
+              let ended = feed_so (take n now) cut good in
+              let front = λ (later : List Aim). aims_for (acts_of_line line) ++ later in
+              let aims : taken_aims session.window (f.taken ++ take n now ∷ [])
+              ≡ taken_aims session.window f.taken ++ (room_for session.window ∷ aims_for (acts_of_line line)) =
+              taken_push session.window f.taken (take n now)
+              ∙ ap (λ (xs : List ℕ). taken_aims session.window f.taken ++ (room_for session.window ∷ aims_for (acts_of_line xs))) (sym is) in
+              let here = went_turned turned taken.went in
+              let all = went_more (went_at front roomy) here in
+              let same_stage : (later : List Aim)
+              → first_stage session (taken_aims session.window (f.taken ++ take n now ∷ []) ++ later)
+              ≡ at_line (front later) =
+              λ later. ap (λ (xs : List Aim). first_stage session xs)
+              (ap (λ (xs : List Aim). xs ++ later) aims
+              ∙ append_assoc (taken_aims session.window f.taken) (room_for session.window ∷ aims_for (acts_of_line line))
+              later) in
+              record {
+                datagram = f.datagram;
+                first = f.first;
+                settings = f.settings;
+                inputs = (f.inputs ++ []) ++ taken.inputs;
+                taken = f.taken ++ take n now ∷ [];
+                went = went_from same_stage all;
+                cut = all_push EndsWithFeed f.taken (take n now) f.cut ended;
+                good = all_push IsGood f.taken (take n now) f.good good;
+                split = λ more reading. split_push f.taken (take n now) more reading f.split ended;
+                gives = gives_line n;
+                stands = reads_on f.stands stands;
+                asked = grind (arith, append-nil, f.asked, flat, acts);
+                within = within_from session.window same_stage all
+                    (within_both session.window (went_at front roomy) here (within_at session.window roomy front roomy_within)
+                    (within_turned session.window turned taken.went (rw same at taken.within)));
+                counts = grind (arith, length-append, f.counts);
+              }
 
-      -- It ends behind the last line, which may lack its line feed.
-      pub ends_at : {d e : Client} {r last : Page W} {u v : Account Origin} (n : ℕ) (line : List ℕ)
-          (result : Result TraceEnd RunFault) → line ≡ take n now → EndsWithFeed (take n now) ⊎ HasNoFeed (take n now)
-          → drop n now ≡ [] → IfOk result (λ end. end.lines ≡ lines + 1)
-          → WentFor session.window contents c d q r t u done (acts_of_line line) → Went contents d e r last u v result [] → IsOver result e
-          → RunsOn remaining contents session reader reader' page last s v result
-      ends_at n line result same cut none counted taken then over =
-          let all = went_more f.went (went_turned turned (went_more taken.went then)) in
-          let wanted : acts_of_line (take n now) ≡ Some taken.inputs =
-          ap acts_of_line (sym same) ∙ taken.is_done in
-          let good = good_so (take n now) taken.inputs wanted in
-          let flat = flat_push f.taken (take n now) in
-          let acts = acts_so (take n now) taken.inputs wanted in
-          record {
-            acts = all.acts;
-            takes = record {
-              taken = f.taken ++ take n now ∷ [];
-              kept = [];
-              cut = cut_push f.taken (take n now) f.cut cut;
-              gave = gave_so (rw none at (gives_line n));
-              all_done = all_done_so result _ all.acts (lines + 1) counted
-                  (grind (arith, append-nil, append_assoc, all.of_input, f.asked, flat, acts))
-                  (all_push IsGood f.taken (take n now) f.good good) (grind (arith, length-append, f.count));
-            };
-            prints = f.settings ⨾ all.prints;
-            asks = all.asks;
-            over = subst (λ (client : Client). IsOver result client) all.client_is over;
-            within = within_both session.window f.went (went_turned turned (went_more taken.went then)) f.within
-                (within_turned session.window turned (went_more taken.went then)
-                (within_both session.window taken.went then taken.within (quiet_went session.window then tt)));
-          }
+          -- It ends behind the last line, which may lack its line feed.
+          pub ends_behind : {e g : Run} {r last : Page W} {v w : Account Origin} (result : Result TraceEnd RunFault)
+              → lines now AtEnd ≡ take n now ∷ [] → EndsWithFeed (take n now) ⊎ HasNoFeed (take n now)
+              → drop n now ≡ [] → d.session ≡ session → WentFor contents d e q' r u v done (acts_of_line line)
+              → Went contents e g r last v w
+              (λ later. started e (room_for session.window ∷ Turns (FewOpen 0) most_turns ∷ later))
+              (λ later. started g later) result []
+              → IfOk result (λ end. end.lines ≡ count + 1) → IfErr result IsOfWait → IsOver result g.client
+              → ReaderStands remaining AtEnd middle reader' []
+              → RunsOn remaining contents session reader reader' page last s w result
+          ends_behind {g} result split one none same taken then counted waits over stands =
+              let wanted : acts_of_line (take n now) ≡ Some taken.inputs = ap acts_of_line (sym is) ∙ taken.is_done in
+              let good = good_so (take n now) taken.inputs wanted in
+              let flat = flat_push f.taken (take n now) in
+              let acts = acts_so (take n now) taken.inputs wanted in
+              let end = λ (later : List Aim). room_for session.window ∷ Turns (FewOpen 0) most_turns ∷ later in
+              let front = λ (later : List Aim). aims_for (acts_of_line line) ++ end later in
+              let line_then = went_turned turned (went_more (went_at end taken.went) then) in
+              let all = went_more (went_at front roomy) line_then in
+              let all_good = all_push IsGood f.taken (take n now) f.good good in
+              let size : length (f.taken ++ lines now AtEnd) ≡ count + 1 =
+              ap (λ (ls : List (List ℕ)). length (f.taken ++ ls)) split ∙ grind (arith, length-append, f.counts) in
+              let no_fault : fault_in 1 (f.taken ++ lines now AtEnd) ≡ None =
+              ap (λ (ls : List (List ℕ)). fault_in 1 (f.taken ++ ls)) split
+              ∙ ap (λ (ls : List (List ℕ)). fault_in 1 ls) (sym (append-nil (f.taken ++ take n now ∷ [])))
+              ∙ faults_taken 1 (f.taken ++ take n now ∷ []) [] all_good in
+              whole_run result AtEnd now front [] all
+              (ap (λ (ls : List (List ℕ)). aims_in_room session.window AtEnd ls) split
+              ∙ ap (λ (xs : List ℕ). aims_for (acts_of_line xs) ++ aims_behind (is_some (acts_of_line xs)) (end [])) (sym is)
+              ∙ ap (λ (o : Option (List Act)). aims_for (acts_of_line line) ++ aims_behind (is_some o) (end [])) taken.is_done)
+              (record {
+                taken = f.taken ++ take n now ∷ [];
+                kept = [];
+                cut = cut_push f.taken (take n now) f.cut one;
+                gave = gave_so (rw none at (gives_line n));
+                all_done = all_done_so result _ all.acts (count + 1) counted
+                    (grind (arith, append-nil, append_assoc, all.of_input, f.asked, flat, acts)) all_good
+                    (grind (arith, length-append, f.counts));
+              })
+              gave_now (reading_on remaining _ _ _ AtEnd f.stands stands) over
+              (within_both session.window (went_at front roomy) line_then
+              (within_at session.window roomy front roomy_within)
+              (within_turned session.window turned (went_more (went_at end taken.went) then)
+              (within_both session.window (went_at end taken.went) then
+              (within_at session.window taken.went end (rw same at taken.within)) (quiet_went session.window then tt))))
+              (ends_all result (f.taken ++ lines now AtEnd)
+              (stage_after session.config.timeout (at_line (front [])) all.acts) g (count + 1) counted waits (all.comes []) no_fault size)
+
+          -- It stops behind the last line, in a wait.
+          pub stops_last : {e g : Run} {r last : Page W} {v w : Account Origin} (fault : RunFault)
+              → lines now AtEnd ≡ take n now ∷ [] → EndsWithFeed (take n now) ⊎ HasNoFeed (take n now)
+              → drop n now ≡ [] → d.session ≡ session → WentFor contents d e q' r u v done (acts_of_line line)
+              → Went contents e g r last v w (λ later. started e (room_for session.window ∷ later))
+              (λ later. started g later) (failed (Unit {0}) fault) [] → IsOfWait fault
+              → ReaderStands remaining AtEnd middle reader' []
+              → RunsOn remaining contents session reader reader' page last s w (failed TraceEnd fault)
+          stops_last fault split one none same taken then waits stands =
+              ends_behind (failed TraceEnd fault) split one none same taken
+              (went_failed TraceEnd fault waits (went_at (λ later. Turns (FewOpen 0) most_turns ∷ later) then))
+              tt waits (over_wait fault _ waits) stands
 
     -- It stops at a wait before a line is read.
     pub stops_waiting : {reader middle : Checked R} {held : List ℕ} {page p q : Page W} {s t u : Account Origin}
-        {c d : Client} {lines : ℕ} → SoFar remaining contents session c reader middle held page p s t lines
-        → (fault : RunFault) → Went contents c d p q t u (stopped fault) [] → IsOfWait fault
+        {c d : Run} {count : ℕ} → SoFar remaining contents session c reader middle held page p s t count
+        → (fault : RunFault) → Went contents c d p q t u (λ later. started c (room_for session.window ∷ later))
+        (λ later. started d later) (stopped fault) [] → IsOfWait fault
         → RunsOn remaining contents session reader middle page q s u (failed TraceEnd fault)
-    stops_waiting {middle} {held} {p} f fault last waits =
-        stops_with f (takes_none remaining middle held) (prints_nothing p) fault last (over_wait fault _ waits)
+    stops_waiting {held} {p} {q} {t} {u} {c} {d} f fault last waits =
+        let end : Went contents c d p q t u (λ later. started c (room_for session.window ∷ later))
+        (λ later. started d later) (failed TraceEnd fault) [] = went_failed TraceEnd fault waits last in
+        let room = λ (later : List Aim). room_for session.window ∷ later in
+        let all = went_more (went_at room f.went) end in
+        let aims = ap (λ (ls : List (List ℕ)). aims_of_lines session.window Open ls) (f.split held Open)
+        ∙ aims_so_far session.window Open f.taken (lines held Open) f.good in
+        record {
+          acts = all.acts;
+          takes = record {
+            taken = f.taken;
+            kept = held;
+            cut = cut_all f.taken f.cut;
+            gave = gave_so f.gives;
+            all_done = ([], grind (arith, append-nil, all.of_input, f.asked));
+          };
+          course = record {
+            given = concat f.taken ++ held;
+            reading = Open;
+            gave = (gave_so f.gives).passed;
+            stands = f.stands;
+            goes = subst (λ (xs : List Aim). Goes session.config.timeout (first_stage session xs) all.acts)
+                (sym aims) (all.goes (aims_in_room session.window Open (lines held Open)));
+            ends = ends_as session all.acts (failed TraceEnd fault) Open (f.split held Open) aims (ends_wait fault Open
+                (f.taken ++ lines held Open) _ _ waits (all.comes (aims_in_room session.window Open (lines held Open))));
+          };
+          prints = f.settings ⨾ all.prints;
+          asks = all.asks;
+          over = subst (λ (client : Client). IsOver (failed TraceEnd fault) client) all.client_is (over_wait fault _ waits);
+          within = within_both session.window (went_at room f.went) end (within_at session.window f.went room f.within)
+              (quiet_went session.window end tt);
+        }
 
     -- What is left on the page in the end goes out, or the writer fails.
     pub goes_out : {reader reader' : Checked R} {first last : Page W} {writer after back : Checked W} {s t : Account Origin}
@@ -356,6 +803,7 @@ module _ {Origin R W : Type 0} {remaining : R → Option (List ℕ)} {contents :
     goes_out is runs same empty gone = record {
       acts = runs.acts;
       takes = runs.takes;
+      course = runs.course;
       printed = rw is at (finished same empty runs.prints gone);
       asks = runs.asks;
       over = runs.over;
@@ -374,6 +822,14 @@ module _ {Origin R W : Type 0} {remaining : R → Option (List ℕ)} {contents :
         cut = runs.takes.cut;
         gave = runs.takes.gave;
         all_done = done_front result _ _ _ runs.takes.all_done;
+      };
+      course = record {
+        given = runs.course.given;
+        reading = runs.course.reading;
+        gave = runs.course.gave;
+        stands = runs.course.stands;
+        goes = runs.course.goes;
+        ends = tt;
       };
       printed = runs.printed;
       asks = record {

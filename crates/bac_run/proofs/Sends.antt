@@ -6,10 +6,10 @@ use Rattle.bac_tsm.specs.{Client.Client, Events.{Note, Sent}}
 use Rattle.bac_print.specs.declared.checked.Checked.{Checked}
 use Rattle.bac_script.specs.declared.tracing.TraceEnd.{TraceEnd}
 use Rattle.bac_links.specs.History.{Entry, Account}
-use Rattle.bac_links.specs.declared.fault.ToolFault.TheVariants.{SendFailed, ReceiveFailed}
+use Rattle.bac_links.specs.declared.fault.ToolFault.TheVariants.{SendFailed}
 use Rattle.bac_run.specs.declared.{session.Session.Session, fault.RunFault.{RunFault, TheVariants.{Script, Link}}}
 use Rattle.bac_run.specs.{
-  Journal.{Act, Asked, Paused, Came, Passed, Told, Untold, asked_by, posts, history_of, new_client, notes_of, turn_at},
+  Journal.{Act, Asked, Paused, Came, Passed, Told, Read, asked_by, posts, history_of, new_client, notes_of, turn_at},
   Replay.{AreSent, posted_in, sent_in},
   Run.Runs,
   Went.IsGained,
@@ -26,7 +26,7 @@ asked_none Paused = refl
 asked_none (Came wait from octets) = refl
 asked_none (Passed wait heard) = refl
 asked_none (Told time) = refl
-asked_none (Untold time) = refl
+asked_none (Read time) = refl
 
 history_sent : (client : Client) (acts : List Act)
     → flat_map posted_in (history_of client acts) ≡ flat_map sent_in (notes_of client acts)
@@ -43,7 +43,6 @@ sent_as_due (Ok end) due gained is = ap (λ (xs : List Entry). flat_map posted_i
 sent_as_due (Err (Script fault)) due gained is = ap (λ (xs : List Entry). flat_map posted_in xs) is
 sent_as_due (Err (Link SendFailed)) due gained (sent, later, to, octets, whole, was) =
     ((to, octets), flat_map posted_in later, grind (arith, flat_map-append, append-nil, whole, was))
-sent_as_due (Err (Link ReceiveFailed)) due gained (wait, is) = grind (arith, flat_map-append, append-nil, is)
 sent_as_due (Err (Link fault)) due gained is = ap (λ (xs : List Entry). flat_map posted_in xs) is
 
 module _ {Origin R W : Type 0} (remaining : R → Option (List ℕ)) (contents : W → Option (List ℕ)) where

@@ -10,15 +10,15 @@ use Rattle.bac_script.specs.{Line.ends_with_feed, Text.{note_text}}
 use Rattle.bac_links.specs.History.{Heard, Arrived, Entry, Waited, Timed, Posted}
 
 -- One thing that a run does: a line of its input asks for a request; a line without words was waited for; a datagram is
--- heard in a wait of so long, and handed to the client; a wait of so long hears nothing that is handed on; the client is
--- told the time; the time is not told.
+-- heard in a wait of so long, and handed to the client; a wait of so long hears nothing that is handed on; the time is
+-- read; the client is told a time that was read.
 pub data Act : Type 0 where
   Asked : (line : List ℕ) (event : Event) → Act
   Paused : Act
   Came : (wait : ℕ) (from : Station) (octets : List ℕ) → Act
   Passed : (wait : ℕ) (heard : Heard) → Act
+  Read : (time : ℕ) → Act
   Told : (time : ℕ) → Act
-  Untold : (time : ℕ) → Act
 
 -- The step that a client makes at an event.
 abbrev pub step_of : Client → Event → Stepped
@@ -87,8 +87,7 @@ remarks = flat_map remark
 abbrev pub asked_by : Act → List Entry
 asked_by (Came wait from octets) = Waited wait (Arrived from octets) ∷ []
 asked_by (Passed wait heard) = Waited wait heard ∷ []
-asked_by (Told time) = Timed time ∷ []
-asked_by (Untold time) = Timed time ∷ []
+asked_by (Read time) = Timed time ∷ []
 asked_by _ = []
 
 -- The send in a note.

@@ -1,11 +1,14 @@
 -- A whole run: its journal, and what it asked of its link.
-use Rattle.std.specs.Prelude.{ℕ, List, [], ◌++◌, Option, Result}
+use Rattle.std.specs.Prelude.{◌≡◌, ℕ, List, [], ◌++◌, length, Option, Some, None, Result, Ok, Err, ⊤}
 use Rattle.bac_print.specs.{declared.{checked.Checked.Checked, page.Page.Page}, Page.{Writes, Prints}}
-use Rattle.bac_script.specs.declared.tracing.TraceEnd.{TraceEnd}
+use Rattle.bac_print.specs.Checked.{octets_of}
+use Rattle.bac_script.specs.{Input.ReaderStands, Script.lines, declared.input.Reading.{Reading, TheVariants.{AtEnd, Failed}}}
+use Rattle.bac_script.specs.declared.tracing.{TraceEnd.TraceEnd, TraceFault.TheVariants.{ReadFailed, WriteFailed}}
 use Rattle.bac_links.specs.History.{Account}
-use Rattle.bac_run.specs.{Journal.{Act, client_after, new_client, settings_line, journal, history_of}, Went.{GainsDue, IsOver, IsWithin}}
-use Rattle.bac_run.specs.Input.{Takes}
-use Rattle.bac_run.specs.declared.{session.Session.Session, fault.RunFault.RunFault}
+use Rattle.bac_run.specs.{Journal.{Act, client_after, new_client, settings_line, journal, history_of}, Went.{ComesTo, GainsDue, IsOver, IsWithin}}
+use Rattle.bac_run.specs.Course.{Aim, Goes, Outside, Stage, aims_of_lines, ready, stage_after}
+use Rattle.bac_run.specs.Input.{Takes, fault_in}
+use Rattle.bac_run.specs.declared.{session.Session.Session, fault.RunFault.{RunFault, TheVariants.{Script, Link}}}
 
 -- The journal of a session: its settings, and what it does.
 abbrev pub journal_of : Session → List Act → List ℕ
@@ -16,14 +19,47 @@ journal_of session acts = settings_line session.config.timeout session.config.re
 abbrev pub IsPrinted : {W : Type 0} → (W → Option (List ℕ)) → Checked W → Checked W → List ℕ → Type 0
 IsPrinted contents before after text = Writes contents before after [] [] text
 
--- A run did some acts: those that its input asks for, and others; their journal was printed, and the link was asked what
--- they ask. Fewer requests than the window were open wherever one was asked for. In the end no request is open, also after a line that is bad; but some may be where the link, the turns or the
--- writer gave out.
+-- The stage at which a run of this session begins, about these aims.
+abbrev pub first_stage : Session → List Aim → Stage
+first_stage session = ready (new_client session.config.timeout session.config.retries) 0
+
+-- A run is over: outside of a turn, with all aims reached.
+abbrev pub IsAtRest : Stage → Type 0
+IsAtRest stage = (stage.phase ≡ Outside) × (stage.aims ≡ [])
+
+-- A run with this result ends at this stage, where reading stands so and these are the lines. At the end of the input no
+-- line had a fault; and no other fault is told than that of the first line that has one.
+abbrev pub EndsAt : Result TraceEnd RunFault → Reading → List (List ℕ) → Stage → Type 0
+EndsAt (Ok end) reading lines stage =
+    IsAtRest stage × (reading ≡ AtEnd) × (fault_in 1 lines ≡ None) × (end.lines ≡ length lines)
+EndsAt (Err (Script WriteFailed)) reading lines stage = ⊤
+EndsAt (Err (Script ReadFailed)) reading lines stage =
+    IsAtRest stage × (reading ≡ Failed) × (fault_in 1 lines ≡ None)
+EndsAt (Err (Script fault)) reading lines stage = IsAtRest stage × (fault_in 1 lines ≡ Some fault)
+EndsAt (Err (Link fault)) reading lines stage = ComesTo {A = TraceEnd} (Err (Link fault)) stage stage
+
+-- Each act of a run was due where it was done, by the lines of the octets that the reader gave, and by how reading
+-- stands in the end.
+pub record IsCourse {R : Type 0} (remaining : R → Option (List ℕ)) (session : Session) (reader reader' : Checked R)
+    (acts : List Act) (result : Result TraceEnd RunFault) : Type 0 where
+  pub given : List ℕ
+  pub reading : Reading
+  pub gave : octets_of reader' ≡ octets_of reader ++ given
+  pub stands : ReaderStands remaining reading reader reader' []
+  pub goes : Goes session.config.timeout
+      (first_stage session (aims_of_lines session.window reading (lines given reading))) acts
+  pub ends : EndsAt result reading (lines given reading) (stage_after session.config.timeout
+      (first_stage session (aims_of_lines session.window reading (lines given reading))) acts)
+
+-- A run did some acts, each where it was due; among them are those that its input asks for. Their journal was printed,
+-- and the link was asked what they ask. Fewer requests than the window were open wherever one was asked for. In the end
+-- no request is open, also after a line that is bad; but some may be where the link, the turns or the writer gave out.
 pub record Runs {Origin R W : Type 0} (remaining : R → Option (List ℕ)) (contents : W → Option (List ℕ))
     (session : Session) (reader reader' : Checked R) (before after : Checked W)
     (seen left : Account Origin) (result : Result TraceEnd RunFault) : Type 0 where
   pub acts : List Act
   pub takes : Takes remaining reader reader' acts result
+  pub course : IsCourse remaining session reader reader' acts result
   pub printed : IsPrinted contents before after (journal_of session acts)
   pub asks : GainsDue result (history_of (new_client session.config.timeout session.config.retries) acts) seen left
   pub over : IsOver result (client_after (new_client session.config.timeout session.config.retries) acts)
@@ -35,6 +71,7 @@ pub record RunsOn {Origin R W : Type 0} (remaining : R → Option (List ℕ)) (c
     (seen left : Account Origin) (result : Result TraceEnd RunFault) : Type 0 where
   pub acts : List Act
   pub takes : Takes remaining reader reader' acts result
+  pub course : IsCourse remaining session reader reader' acts result
   pub prints : Prints contents page page' (journal_of session acts)
   pub asks : GainsDue result (history_of (new_client session.config.timeout session.config.retries) acts) seen left
   pub over : IsOver result (client_after (new_client session.config.timeout session.config.retries) acts)

@@ -1,21 +1,22 @@
 -- What a part of a run did to its client, its page and its link.
-use Rattle.std.specs.Prelude.{◌≡◌, ◌<◌, ℕ, List, [], ◌∷◌, ◌++◌, length, Option, Result, Ok, Err}
+use Rattle.std.specs.Prelude.{◌≡◌, ◌<◌, ℕ, zero, suc, Bool, ⊤, List, [], ◌∷◌, ◌++◌, if◌then◌else◌, Option, None, Result, Ok, Err}
 use Rattle.bac_pdu.specs.Peer.{Station}
 use Rattle.bac_tsm.specs.{Client.Client, Events.Event}
 use Rattle.bac_print.specs.{declared.page.Page.Page, Page.Prints}
 use Rattle.bac_script.specs.declared.tracing.TraceFault.TheVariants.{WriteFailed}
-use Rattle.bac_links.specs.History.{Entry, Failure, Waited, Posted, Unposted, Account, GainsAll}
-use Rattle.bac_links.specs.declared.fault.ToolFault.TheVariants.{SendFailed, ReceiveFailed}
-use Rattle.bac_run.specs.declared.fault.RunFault.{RunFault, TheVariants.{Link, Script}}
-use Rattle.bac_run.specs.Input.{inputs_in, IsDone}
+use Rattle.bac_links.specs.History.{Entry, Posted, Unposted, Account, GainsAll}
+use Rattle.bac_links.specs.declared.fault.ToolFault.TheVariants.{SendFailed, ReceiveFailed, TurnsSpent}
+use Rattle.bac_run.specs.declared.{fault.RunFault.{RunFault, TheVariants.{Link, Script}}, turns.{Run.Run, Until.Until}}
+use Rattle.bac_run.specs.Input.{acts_of_line, fault_of_line, inputs_in, IsDone}
 use Rattle.bac_run.specs.Journal.{Act, Asked, client_after, journal, history_of, turn_at, at_event, remarks, posts}
+use Rattle.bac_run.specs.Course.{
+  Aim, Broken, Goes, Looked, Outside, Phase, Stage, Turns, aims_for, open_in, settled, stage_after, telling,
+}
 
--- With this result a link was asked all that is due; but where a send failed, all before that send; and where a receive
--- failed, that receive too.
+-- With this result a link was asked all that is due; but where a send failed, all before that send.
 abbrev pub IsGained : {A : Type 0} → Result A RunFault → (due gained : List Entry) → Type 0
 IsGained (Err (Link SendFailed)) due gained = (sent later : List Entry) × (to : Station) × (octets : List ℕ)
     × (due ≡ sent ++ Posted to octets ∷ later) × (gained ≡ sent ++ Unposted to octets ∷ [])
-IsGained (Err (Link ReceiveFailed)) due gained = (wait : ℕ) × (gained ≡ due ++ Waited wait Failure ∷ [])
 IsGained _ due gained = gained ≡ due
 
 -- The history of a link gains what is due, as far as the result says.
@@ -25,15 +26,63 @@ pub record GainsDue {Origin A : Type 0} (result : Result A RunFault) (due : List
   pub gains : GainsAll gained seen left
   pub as_due : IsGained result due gained
 
--- Some acts were done, of the input these: the client is what they leave, their journal was printed, and the link was
--- asked what they ask.
-pub record Went {Origin W A : Type 0} (contents : W → Option (List ℕ)) (client client' : Client) (page page' : Page W)
-    (seen left : Account Origin) (result : Result A RunFault) (inputs : List Act) : Type 0 where
+-- Where a run stands outside of a turn, with these aims; and without those that are reached.
+abbrev pub outside : Run → List Aim → Stage
+outside run aims = record { client = run.client; behind = run.behind; phase = Outside; aims = aims }
+
+abbrev pub started : Run → List Aim → Stage
+started run aims = settled (outside run aims)
+
+-- Where a turn begins, and where it ends: of the turns until something is reached one is taken.
+abbrev pub begins_turn : Run → Until × ℕ × List Aim → Stage
+begins_turn run (until, left, later) = outside run (Turns until (suc left) ∷ later)
+
+abbrev pub ends_turn : Run → Until × ℕ × List Aim → Stage
+ends_turn run (until, left, later) = started run (Turns until left ∷ later)
+
+-- Where the time of a turn was read.
+abbrev pub looking : Run → ℕ × List Aim → Stage
+looking run (time, aims) = record (outside run aims) { phase = Looked time }
+
+-- Where a time is to be told.
+abbrev pub to_tell : Run → ℕ → List Aim → Stage
+to_tell run time aims = settled (telling (outside run aims) time)
+
+-- Where a wait is over: the time of the turn is told, or not yet.
+abbrev pub heard_until : Run → (defers : Bool) → ℕ → List Aim → Stage
+heard_until run defers time aims = if defers then started run aims else to_tell run time aims
+
+abbrev pub hearing : {A : Type 0} → Run → Result Bool A → ℕ × List Aim → Stage
+hearing run (Ok defers) (time, aims) = heard_until run defers time aims
+hearing run (Err fault) (time, aims) = started run aims
+
+-- All turns until something is reached are taken.
+abbrev pub IsSpent : Phase → List Aim → Type 0
+IsSpent Outside (Turns until zero ∷ later) = ⊤
+IsSpent phase aims = ⊥
+
+-- With this result a part of a run comes to this stage; where the link, the turns or the writer gave out, to another.
+abbrev pub ComesTo : {A : Type 0} → Result A RunFault → (stage left : Stage) → Type 0
+ComesTo (Err (Link TurnsSpent)) stage left = IsSpent left.phase left.aims
+ComesTo (Err (Link ReceiveFailed)) stage left = left.phase ≡ Broken
+ComesTo (Err (Link SendFailed)) stage left = ⊤
+ComesTo (Err (Link fault)) stage left = ⊥
+ComesTo (Err (Script WriteFailed)) stage left = ⊤
+ComesTo result stage left = left ≡ stage
+
+-- Some acts were done, of the input these, each where it was due, from one stage to another, whatever the run is about
+-- then: the client is what they leave, their journal was printed, and the link was asked what they ask.
+pub record Went {Origin W A I : Type 0} (contents : W → Option (List ℕ)) (run run' : Run) (page page' : Page W)
+    (seen left : Account Origin) (from to : I → Stage) (result : Result A RunFault) (inputs : List Act)
+    : Type 0 where
   pub acts : List Act
   pub of_input : inputs_in acts ≡ inputs
-  pub client_is : client' ≡ client_after client acts
-  pub prints : Prints contents page page' (journal client acts)
-  pub asks : GainsDue result (history_of client acts) seen left
+  pub same : run'.session ≡ run.session
+  pub goes : (i : I) → Goes run.session.config.timeout (from i) acts
+  pub comes : (i : I) → ComesTo result (to i) (stage_after run.session.config.timeout (from i) acts)
+  pub client_is : run'.client ≡ client_after run.client acts
+  pub prints : Prints contents page page' (journal run.client acts)
+  pub asks : GainsDue result (history_of run.client acts) seen left
 
 -- The client made its step at this event, its notes were printed as remarks, and what it sends was sent.
 pub record Opened {Origin W A : Type 0} (contents : W → Option (List ℕ)) (client client' : Client) (page page' : Page W)
@@ -41,10 +90,6 @@ pub record Opened {Origin W A : Type 0} (contents : W → Option (List ℕ)) (cl
   pub client_is : client' ≡ (at_event client event).after
   pub prints : Prints contents page page' (remarks (at_event client event).notes)
   pub asks : GainsDue result (posts (at_event client event).notes) seen left
-
--- How many requests of a client are open.
-abbrev pub open_in : Client → ℕ
-open_in client = length client.state.waiting
 
 -- Fewer than so many requests are open at each act that asks for one.
 abbrev pub IsWithin : ℕ → Client → List Act → Type 0
@@ -54,12 +99,14 @@ IsWithin window client (Asked line event ∷ later) = (open_in client < window)
 IsWithin window client (act ∷ later) = IsWithin window (turn_at client act).after later
 
 -- What is wanted of a line was done, as far as the result says; within so many open requests.
-pub record WentFor {Origin W A : Type 0} (window : ℕ) (contents : W → Option (List ℕ)) (client client' : Client) (page page' : Page W)
-    (seen left : Account Origin) (result : Result A RunFault) (wanted : Option (List Act)) : Type 0 where
+pub record WentFor {Origin W A : Type 0} (contents : W → Option (List ℕ)) (run run' : Run) (page page' : Page W)
+    (seen left : Account Origin) (result : Result A RunFault) (wanted : Option (List Act))
+    : Type 0 where
   pub inputs : List Act
   pub is_done : IsDone result wanted inputs
-  pub went : Went contents client client' page page' seen left result inputs
-  pub within : IsWithin window client went.acts
+  pub went : Went contents run run' page page' seen left (λ later. started run (aims_for wanted ++ later))
+      (λ later. started run' later) result inputs
+  pub within : IsWithin run.session.window run.client went.acts
 
 -- The fault may come while requests are open: it is one at the link, or the writer's.
 abbrev pub IsOfWait : RunFault → Type 0
@@ -77,3 +124,9 @@ IsOverAt (Script fault) client = open_in client ≡ 0
 abbrev pub IsOver : {A : Type 0} → Result A RunFault → Client → Type 0
 IsOver (Ok x) client = open_in client ≡ 0
 IsOver (Err fault) client = IsOverAt fault client
+
+-- A fault at a line is that of the line, by its number; or it may come while requests are open.
+abbrev pub IsNamed : RunFault → ℕ → List ℕ → Type 0
+IsNamed (Link fault) n line = ⊤
+IsNamed (Script WriteFailed) n line = ⊤
+IsNamed (Script fault) n line = (acts_of_line line ≡ None) × (fault ≡ fault_of_line n line)

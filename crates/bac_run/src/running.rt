@@ -1,35 +1,32 @@
 //! A run of many requests over one link.
 
-ghost use Rattle.std.specs.Prelude.{◌≡◌, ◌≢◌, ◌⊎◌, ◌<◌, ◌≤◌, [], ◌∷◌, Some, false, true, Err, IfErr, IfOk};
+ghost use Rattle.std.specs.Prelude.{◌≡◌, ◌≢◌, ◌⊎◌, ◌-◌, ◌<◌, [], ◌∷◌, Some, false, true, Err, IfErr, IfOk};
 ghost use Rattle.bac_pdu.specs.Peer.{station};
 ghost use Rattle.bac_tsm.specs.Events.{Ask};
 ghost use Rattle.bac_print.specs.{Checked.has_failed, Page.{held, writer_of}};
-ghost use Rattle.bac_run.specs.{Fault.{is_at_link, is_of_link, stopped, write_failed}};
+ghost use Rattle.bac_run.specs.{Fault.{is_at_link, is_of_link, send_failed, stopped, write_failed}};
 ghost use Rattle.bac_script.specs.declared.tracing.TraceFault.TheVariants.{WriteFailed};
-ghost use Rattle.bac_run.specs.{Journal.Asked, Went.{Went, WentFor, Opened}, Run.{Runs, RunsOn}};
-ghost use Rattle.bac_run.specs.Went.{IsOfWait, IsOver, IsOverAt, open_in};
-ghost use Rattle.bac_run.specs.Input.{acts_of_line, is_remark, skipped};
+ghost use Rattle.bac_run.specs.{
+  Course.{Turns, open_in},
+  Input.{acts_of_line, is_full, is_remark, skipped},
+  Journal.Asked,
+  Run.{Runs, RunsOn},
+  Went.{IsNamed, IsOfWait, IsOver, IsOverAt, Opened, Went, WentFor, started},
+};
+ghost use Rattle.bac_run.specs.declared.{fault.RunFault.TheVariants.{Script}, turns.Until.TheVariants.{FewOpen}};
+ghost use Rattle.bac_links.specs.Limits.{most_turns};
 
 use crate::fault::RunFault;
 use crate::journal::{print_line, print_settings, remark_refusal, remark_sent};
 use crate::session::Session;
-use crate::turns::{freshen, send_request, wait};
-use bac_links::{Datagram, Link, turn_wait};
+use crate::turns::{Run, Until, send_request};
+use bac_links::{Datagram, Link};
 use bac_pdu::Peer;
 use bac_print::{Checked, Page};
 use bac_script::{Chunk, Line, LineFault, LineRoom, Reading, TraceEnd, TraceFault, read_line};
+use bac_text::LONGEST_LINE;
 use bac_tsm::{Client, SubmitFault};
 use std::io::{Read, Write};
-
-// What a run has beside its streams.
-#[derive(Drop)]
-struct Run {
-    session: Session,
-    client: Client,
-    datagram: Datagram,
-    // How often in a row the time was not told, where the run was held up.
-    in_row: u32,
-}
 
 /// Asks for what the lines of the reader say, and prints the journal of that.
 pub fn run_requests<L: Link, R: Read, W: Write>(
@@ -83,7 +80,7 @@ fn run_lines<L: Link, R: Read, W: Write>(
         session,
         client: Client::new(session.config, 0),
         datagram: Datagram::new(),
-        in_row: 0,
+        behind: 0,
     };
     let mut lines = 0;
     print_settings(page, session.config);
@@ -99,6 +96,7 @@ fn run_lines<L: Link, R: Read, W: Write>(
         lines += 1;
         run.take_line(chunk.front(next.length), lines, &mut room, link, page)?;
         if next.reading == Reading::AtEnd {
+            run.make_room(link, page)?;
             return run.end(lines, link, page);
         }
         chunk.skip(next.length);
@@ -118,23 +116,32 @@ impl Run {
         requires link { L.has_failed link.old ≡ false }
         requires room { open_in self.old.client < self.old.session.window }
         ensures fault { L.has_failed link.new ≡ is_of_link result }
-        ensures went { WentFor self.old.session.window W.contents self.old.client self.new.client page.old page.new (L.seen link.old)
-            (L.seen link.new) result (acts_of_line line.now) }
-        ensures same { self.new.session ≡ self.old.session }
+        ensures went { WentFor W.contents self.old self.new page.old page.new (L.seen link.old) (L.seen link.new) result
+            (acts_of_line line.now) }
         ensures not_written { result ≡ Err write_failed → has_failed (writer_of page.new) ≡ true }
         ensures over { IfErr result (λ fault. IsOverAt fault self.new.client) }
+        ensures named { IfErr result (λ fault. IsNamed fault number line.now) }
     {
+        let bad = TraceFault::BadLine(number);
+        if is_full(line) {
+            return Err(self.stop(TraceFault::LineTooLong(number), link, page));
+        }
         match read_line(line, false, room) {
             Ok(Line::Skipped) => self.pause(line, link, page),
             Ok(Line::Request(peer, service, body)) => {
                 self.ask(line, *peer, service, body, link, page)
             }
             Ok(Line::LongWrite(_)) => {
+                self.freshen(link, page)?;
                 print_line(page, line);
                 remark_refusal(page, SubmitFault::TooLong);
                 Ok(())
             }
-            Ok(_) | Err(LineFault::Bad) => Err(self.stop(TraceFault::BadLine(number), link, page)),
+            Ok(Line::Client(..)) => Err(self.stop(bad, link, page)),
+            Ok(Line::Data(_)) => Err(self.stop(bad, link, page)),
+            Ok(Line::Tick(_)) => Err(self.stop(bad, link, page)),
+            Ok(Line::Ask(_)) => Err(self.stop(bad, link, page)),
+            Err(LineFault::Bad) => Err(self.stop(bad, link, page)),
             Err(LineFault::TooLong) => Err(self.stop(TraceFault::LineTooLong(number), link, page)),
         }
     }
@@ -148,14 +155,13 @@ impl Run {
     ) -> Result<(), RunFault>
         requires { L.has_failed link.old ≡ false }
         ensures fault { L.has_failed link.new ≡ is_of_link result }
-        ensures went { WentFor self.old.session.window W.contents self.old.client self.new.client page.old page.new (L.seen link.old)
-            (L.seen link.new) result (Some (skipped line.now)) }
-        ensures same { self.new.session ≡ self.old.session }
+        ensures went { WentFor W.contents self.old self.new page.old page.new (L.seen link.old) (L.seen link.new) result
+            (Some (skipped line.now)) }
         ensures not_written { result ≡ Err write_failed → has_failed (writer_of page.new) ≡ true }
         ensures cause { IfErr result IsOfWait }
     {
         if !is_remark(line) {
-            self.wait(0, link, page)?;
+            self.wait(Until::FewOpen(0), link, page)?;
             page.print(b"\n");
         }
         Ok(())
@@ -174,13 +180,12 @@ impl Run {
         requires link { L.has_failed link.old ≡ false }
         requires room { open_in self.old.client < self.old.session.window }
         ensures fault { L.has_failed link.new ≡ is_of_link result }
-        ensures went { WentFor self.old.session.window W.contents self.old.client self.new.client page.old page.new (L.seen link.old)
-            (L.seen link.new) result (Some (Asked line.now (Ask (station peer) service body.now) ∷ [])) }
-        ensures same { self.new.session ≡ self.old.session }
+        ensures went { WentFor W.contents self.old self.new page.old page.new (L.seen link.old) (L.seen link.new) result
+            (Some (Asked line.now (Ask (station peer) service body.now) ∷ [])) }
         ensures not_written { result ≡ Err write_failed → has_failed (writer_of page.new) ≡ true }
         ensures cause { IfErr result IsOfWait }
     {
-        freshen(&mut self.in_row, &mut self.client, link, page)?;
+        self.freshen(link, page)?;
         print_line(page, line);
         submit(&mut self.client, peer, service, body, link, page)
     }
@@ -193,14 +198,14 @@ impl Run {
     ) -> Result<(), RunFault>
         requires { L.has_failed link.old ≡ false }
         ensures fault { L.has_failed link.new ≡ is_of_link result }
-        ensures went { Went W.contents self.old.client self.new.client page.old page.new (L.seen link.old)
-            (L.seen link.new) result [] }
-        ensures same { self.new.session ≡ self.old.session }
+        ensures went { Went W.contents self.old self.new page.old page.new (L.seen link.old) (L.seen link.new)
+            (λ later. started self.old (Turns (FewOpen (self.old.session.window - 1)) most_turns ∷ later))
+            (λ later. started self.new later) result [] }
         ensures not_written { result ≡ Err write_failed → has_failed (writer_of page.new) ≡ true }
         ensures room { IfOk result (λ _. open_in self.new.client < self.new.session.window) }
         ensures cause { IfErr result IsOfWait }
     {
-        self.wait(self.session.window - 1, link, page)
+        self.wait(Until::FewOpen(self.session.window - 1), link, page)
     }
 
     // Waits until no request is open, and then stops with this fault; or with that of the wait.
@@ -213,13 +218,14 @@ impl Run {
         requires link { L.has_failed link.old ≡ false }
         requires other { fault ≢ WriteFailed }
         ensures fault { L.has_failed link.new ≡ is_of_link (stopped result) }
-        ensures went { Went W.contents self.old.client self.new.client page.old page.new (L.seen link.old)
-            (L.seen link.new) (stopped result) [] }
-        ensures same { self.new.session ≡ self.old.session }
+        ensures went { Went W.contents self.old self.new page.old page.new (L.seen link.old) (L.seen link.new)
+            (λ later. started self.old (Turns (FewOpen 0) most_turns ∷ later)) (λ later. started self.new later)
+            (stopped result) [] }
         ensures not_written { result ≡ write_failed → has_failed (writer_of page.new) ≡ true }
         ensures over { IsOverAt result self.new.client }
+        ensures named { (result ≡ Script fault) ⊎ IsOfWait result }
     {
-        match self.wait(0, link, page) {
+        match self.wait(Until::FewOpen(0), link, page) {
             Ok(()) => RunFault::Script(fault),
             Err(other) => other,
         }
@@ -234,42 +240,18 @@ impl Run {
     ) -> Result<TraceEnd, RunFault>
         requires { L.has_failed link.old ≡ false }
         ensures fault { L.has_failed link.new ≡ is_of_link result }
-        ensures went { Went W.contents self.old.client self.new.client page.old page.new (L.seen link.old)
-            (L.seen link.new) result [] }
+        ensures went { Went W.contents self.old self.new page.old page.new (L.seen link.old) (L.seen link.new)
+            (λ later. started self.old (Turns (FewOpen 0) most_turns ∷ later)) (λ later. started self.new later) result
+            [] }
         ensures lines { IfOk result (λ end. end.lines ≡ lines) }
         ensures not_written { result ≡ Err write_failed → has_failed (writer_of page.new) ≡ true }
         ensures over { IsOver result self.new.client }
+        ensures cause { IfErr result IsOfWait }
     {
-        match self.wait(0, link, page) {
+        match self.wait(Until::FewOpen(0), link, page) {
             Ok(()) => Ok(TraceEnd { lines }),
             Err(fault) => Err(fault),
         }
-    }
-
-    // Takes turns until at most so many requests are open.
-    fn wait<L: Link, W: Write>(
-        &mut self,
-        most_open: usize,
-        link: &mut L,
-        page: &mut Page<'_, W>,
-    ) -> Result<(), RunFault>
-        requires { L.has_failed link.old ≡ false }
-        ensures fault { L.has_failed link.new ≡ is_of_link result }
-        ensures went { Went W.contents self.old.client self.new.client page.old page.new (L.seen link.old)
-            (L.seen link.new) result [] }
-        ensures same { self.new.session ≡ self.old.session }
-        ensures not_written { result ≡ Err write_failed → has_failed (writer_of page.new) ≡ true }
-        ensures few { IfOk result (λ _. open_in self.new.client ≤ most_open) }
-        ensures cause { IfErr result IsOfWait }
-    {
-        let Run {
-            session,
-            client,
-            datagram,
-            in_row,
-        } = self;
-        let wait_ms = turn_wait(session.config.timeout);
-        wait(most_open, wait_ms, in_row, client, link, datagram, page)
     }
 }
 
@@ -287,7 +269,7 @@ fn submit<L: Link, W: Write>(
     ensures opened { Opened W.contents client.old client.new page.old page.new (L.seen link.old) (L.seen link.new) result
         (Ask (station peer) service body.now) }
     ensures not_written { result ≡ Err write_failed → has_failed (writer_of page.new) ≡ true }
-    ensures cause { IfErr result IsOfWait }
+    ensures cause { IfErr result (λ fault. fault ≡ send_failed) }
 {
     match client.submit(peer, service, body) {
         Ok(ticket) => {
@@ -299,6 +281,13 @@ fn submit<L: Link, W: Write>(
             Ok(())
         }
     }
+}
+
+// Whether a last line without a line feed has no room for one more carriage return.
+fn is_full(line: &[u8]) -> bool
+    ensures { result ≡ is_full line.now }
+{
+    line.len() >= LONGEST_LINE && line.last() == Some(&b'\r')
 }
 
 // Whether the first octet of a line behind its blanks is that of a remark.

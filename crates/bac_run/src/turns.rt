@@ -1,102 +1,212 @@
 //! Turns of a run: what the link hears and the time are handed to the client, and what it sends is sent.
 
-ghost use Rattle.std.specs.{Prelude.{◌≡◌, ◌≤◌, [], false, true, Err, IfErr, IfOk}, List.flat_map};
-ghost use Rattle.bac_print.specs.{Checked.has_failed, Page.writer_of};
+ghost use Rattle.std.specs.{Prelude.{◌≡◌, ◌≤◌, ℕ, List, [], ◌∷◌, false, true, Err, IfErr, IfOk}, List.flat_map};
+ghost use Rattle.bac_print.specs.{Checked.has_failed, Page.{held, writer_of}};
 ghost use Rattle.bac_tsm.specs.Machine.{sent, due_notes};
-ghost use Rattle.bac_run.specs.{Fault.{is_of_link, send_failed, write_failed}, Journal.posts, Went.{GainsDue, IsOfWait, Went, open_in}};
+ghost use Rattle.bac_links.specs.Limits.{most_turns};
+ghost use Rattle.bac_run.specs.{
+  Course.{Aim, Fresh, Turns, heard_at, is_reached, open_in, settled, wait_at},
+  Fault.{is_of_link, send_failed, write_failed},
+  Journal.posts,
+  Went.{GainsDue, IsOfWait, Went, begins_turn, ends_turn, heard_until, hearing, looking, outside, started, to_tell},
+};
 
 use crate::fault::RunFault;
 use crate::journal::{has_line, print_arrival, print_time, remark_due, remark_end};
-use bac_links::{Datagram, Link, ToolFault, most_turns};
+use crate::session::Session;
+use bac_links::{Datagram, Link, ToolFault, most_turns, turn_wait};
 use bac_print::{Page, WriteFailed};
 use bac_tsm::{Client, DueEntry};
 use std::io::Write;
 
-// Where the time has gone on by more than this since it was last told, in milliseconds, the run was held up.
-const HELD_UP: u64 = 100;
+// Behind so many datagrams in a row the time is told all the same.
+const LONGEST_ROW: u32 = 256;
 
-// After so many datagrams in a row the time is told all the same.
-const LONGEST_ROW: u32 = 64;
+// What a run has beside its streams.
+#[derive(Drop)]
+pub(crate) struct Run {
+    pub session: Session,
+    pub client: Client,
+    pub datagram: Datagram,
+    // How many datagrams were heard since the time was told. None where that was the time of the last turn.
+    pub behind: u32,
+}
 
-/// Takes turns until at most so many requests are open.
-pub(crate) fn wait<L: Link, W: Write>(
-    most_open: usize,
-    wait_ms: u32,
-    in_row: &mut u32,
-    client: &mut Client,
-    link: &mut L,
-    datagram: &mut Datagram,
-    page: &mut Page<'_, W>,
-) -> Result<(), RunFault>
-    requires { L.has_failed link.old ≡ false }
-    ensures fault { L.has_failed link.new ≡ is_of_link result }
-    ensures went { Went W.contents client.old client.new page.old page.new (L.seen link.old) (L.seen link.new) result
-        [] }
-    ensures not_written { result ≡ Err write_failed → has_failed (writer_of page.new) ≡ true }
-    ensures few { IfOk result (λ _. open_in client.new ≤ most_open) }
-    ensures cause { IfErr result IsOfWait }
-{
-    for _turn in 0..most_turns() {
-        if client.open_count() <= most_open {
+// Until when turns are taken.
+#[derive(Clone, Copy)]
+pub(crate) enum Until {
+    // At most so many requests are open.
+    FewOpen(usize),
+    // The time of the last turn is told.
+    TimeTold,
+}
+
+impl Run {
+    /// Takes turns until that is reached.
+    pub fn wait<L: Link, W: Write>(
+        &mut self,
+        until: Until,
+        link: &mut L,
+        page: &mut Page<'_, W>,
+    ) -> Result<(), RunFault>
+        requires { L.has_failed link.old ≡ false }
+        ensures fault { L.has_failed link.new ≡ is_of_link result }
+        ensures went { Went W.contents self.old self.new page.old page.new (L.seen link.old) (L.seen link.new)
+            (λ later. started self.old (Turns until most_turns ∷ later)) (λ later. started self.new later) result [] }
+        ensures not_written { result ≡ Err write_failed → has_failed (writer_of page.new) ≡ true }
+        ensures reached { IfOk result (λ _. is_reached self.new.client self.new.behind (Turns until 0) ≡ true) }
+        ensures kept { open_in self.new.client ≤ open_in self.old.client }
+        ensures cause { IfErr result IsOfWait }
+    {
+        let mut left = most_turns();
+        'turns: while !self.has_reached(until) {
+            if left == 0 {
+                return Err(RunFault::Link(ToolFault::TurnsSpent));
+            }
+            left -= 1;
+            self.turn(link, page)?;
+        }
+        Ok(())
+    }
+
+    /// Reads the time for a request: it is told where no request is open. Else, where the one that was told last lies
+    /// back by more than a tenth of the timeout, turns are taken until it is told.
+    pub fn freshen<L: Link, W: Write>(
+        &mut self,
+        link: &mut L,
+        page: &mut Page<'_, W>,
+    ) -> Result<(), RunFault>
+        requires { L.has_failed link.old ≡ false }
+        ensures fault { L.has_failed link.new ≡ is_of_link result }
+        ensures went { Went W.contents self.old self.new page.old page.new (L.seen link.old) (L.seen link.new)
+            (λ later. started self.old (Fresh ∷ later)) (λ later. started self.new later) result [] }
+        ensures not_written { result ≡ Err write_failed → has_failed (writer_of page.new) ≡ true }
+        ensures kept { open_in self.new.client ≤ open_in self.old.client }
+        ensures cause { IfErr result IsOfWait }
+    {
+        let now = link.now();
+        if self.client.open_count() == 0 {
+            return self.tell(now, link, page);
+        }
+        let late = u64::from(self.session.config.timeout / 10);
+        if now.saturating_sub(self.client.clock()) <= late {
             return Ok(());
         }
-        turn(wait_ms, in_row, client, link, datagram, page)?;
+        self.behind = self.behind.max(1);
+        self.wait(Until::TimeTold, link, page)
     }
-    Err(RunFault::Link(ToolFault::TurnsSpent))
-}
 
-// Tells the client the time, where it is later than the last, and sends what is due then. Where the run was held up and
-// a datagram came, others may have come with it: the time is not told yet, so that no request ends that was answered. So
-// often in a row it was not.
-fn pass_time<L: Link, W: Write>(
-    came: bool,
-    in_row: &mut u32,
-    client: &mut Client,
-    link: &mut L,
-    page: &mut Page<'_, W>,
-) -> Result<(), RunFault>
-    requires { L.has_failed link.old ≡ false }
-    ensures fault { L.has_failed link.new ≡ is_of_link result }
-    ensures went { Went W.contents client.old client.new page.old page.new (L.seen link.old) (L.seen link.new) result
-        [] }
-    ensures not_written { result ≡ Err write_failed → has_failed (writer_of page.new) ≡ true }
-    ensures none { open_in client.old ≡ 0 → open_in client.new ≡ 0 }
-    ensures cause { IfErr result IsOfWait }
-{
-    let now = link.now();
-    if now <= client.clock() {
-        return Ok(());
+    // Whether that is reached.
+    fn has_reached(&self, until: Until) -> bool
+        ensures { result ≡ is_reached self.now.client self.now.behind (Turns until 0) }
+    {
+        match until {
+            Until::FewOpen(most) => self.client.open_count() <= most,
+            Until::TimeTold => self.behind == 0,
+        }
     }
-    if came && *in_row < LONGEST_ROW && now - client.clock() > HELD_UP {
-        *in_row += 1;
-        return Ok(());
-    }
-    *in_row = 0;
-    let due = client.tick(now);
-    print_time(page, now);
-    remark_due(page, client, due.as_slice());
-    send_due(client, due.as_slice(), link)
-}
 
-/// Tells the client the time, where no request is open: what was told last may be long ago.
-pub(crate) fn freshen<L: Link, W: Write>(
-    in_row: &mut u32,
-    client: &mut Client,
-    link: &mut L,
-    page: &mut Page<'_, W>,
-) -> Result<(), RunFault>
-    requires { L.has_failed link.old ≡ false }
-    ensures fault { L.has_failed link.new ≡ is_of_link result }
-    ensures went { Went W.contents client.old client.new page.old page.new (L.seen link.old) (L.seen link.new) result
-        [] }
-    ensures not_written { result ≡ Err write_failed → has_failed (writer_of page.new) ≡ true }
-    ensures kept { open_in client.new ≤ open_in client.old }
-    ensures cause { IfErr result IsOfWait }
-{
-    if client.open_count() == 0 {
-        pass_time(false, in_row, client, link, page)
-    } else {
-        Ok(())
+    // How long a turn waits, in milliseconds: only a moment where a datagram was heard since the time was told.
+    fn longest_wait(&self) -> u32
+        ensures { result ≡ wait_at self.now.session.config.timeout self.now.behind }
+    {
+        if self.behind == 0 {
+            turn_wait(self.session.config.timeout)
+        } else {
+            1
+        }
+    }
+
+    // One turn: what was printed goes out, the time is read, and then comes a wait. What waited in the socket when the
+    // time was read is heard before that time is told.
+    fn turn<L: Link, W: Write>(
+        &mut self,
+        link: &mut L,
+        page: &mut Page<'_, W>,
+    ) -> Result<(), RunFault>
+        requires { L.has_failed link.old ≡ false }
+        ensures fault { L.has_failed link.new ≡ is_of_link result }
+        ensures went { Went W.contents self.old self.new page.old page.new (L.seen link.old) (L.seen link.new)
+            (begins_turn self.old) (ends_turn self.new) result [] }
+        ensures not_written { result ≡ Err write_failed → has_failed (writer_of page.new) ≡ true }
+        ensures kept { open_in self.new.client ≤ open_in self.old.client }
+        ensures cause { IfErr result IsOfWait }
+    {
+        page.turn_in();
+        if page.failed() {
+            return Err(RunFault::from(WriteFailed));
+        }
+        let now = link.now();
+        if self.hear(link, page)? {
+            return Ok(());
+        }
+        self.tell(now, link, page)
+    }
+
+    // Hands the client what the link hears in the wait of a turn. True where a datagram came: others may have come with
+    // it, so the time of the turn is not told yet.
+    fn hear<L: Link, W: Write>(
+        &mut self,
+        link: &mut L,
+        page: &mut Page<'_, W>,
+    ) -> Result<bool, RunFault>
+        requires link { L.has_failed link.old ≡ false }
+        requires out { held page.old ≡ [] }
+        ensures fault { L.has_failed link.new ≡ is_of_link result }
+        ensures went { Went W.contents self.old self.new page.old page.new (L.seen link.old) (L.seen link.new)
+            (looking self.old) (hearing self.new result) result [] }
+        ensures not_written { result ≡ Err write_failed → has_failed (writer_of page.new) ≡ true }
+        ensures kept { open_in self.new.client ≤ open_in self.old.client }
+        ensures cause { IfErr result IsOfWait }
+    {
+        let wait_ms = self.longest_wait();
+        let from = match link.receive(wait_ms, &mut self.datagram) {
+            Ok(Some(from)) => from,
+            Ok(None) => return Ok(false),
+            Err(_) => return Err(RunFault::Link(ToolFault::ReceiveFailed)),
+        };
+        let octets = self.datagram.as_slice();
+        if !has_line(octets.len()) {
+            return Ok(self.defers());
+        }
+        print_arrival(page, from, octets);
+        remark_end(page, self.client.datagram(from, octets));
+        Ok(self.defers())
+    }
+
+    // Counts a datagram. True where the time is not told yet: it is behind so many in a row.
+    fn defers(&mut self) -> bool
+        ensures same { self.new ≡ record self.old { behind = self.new.behind } }
+        ensures defers { (time : ℕ) (aims : List Aim)
+            → settled (heard_at (outside self.old aims) time) ≡ heard_until self.new result time aims }
+    {
+        self.behind = self.behind.saturating_add(1);
+        self.behind < LONGEST_ROW
+    }
+
+    // Tells the client the time, where it is later than the last, and sends what is due then.
+    fn tell<L: Link, W: Write>(
+        &mut self,
+        now: u64,
+        link: &mut L,
+        page: &mut Page<'_, W>,
+    ) -> Result<(), RunFault>
+        requires { L.has_failed link.old ≡ false }
+        ensures fault { L.has_failed link.new ≡ is_of_link result }
+        ensures went { Went W.contents self.old self.new page.old page.new (L.seen link.old) (L.seen link.new)
+            (to_tell self.old now) (started self.new) result [] }
+        ensures not_written { result ≡ Err write_failed → has_failed (writer_of page.new) ≡ true }
+        ensures kept { open_in self.new.client ≤ open_in self.old.client }
+        ensures cause { IfErr result IsOfWait }
+    {
+        self.behind = 0;
+        if now <= self.client.clock() {
+            return Ok(());
+        }
+        let due = self.client.tick(now);
+        print_time(page, now);
+        remark_due(page, &self.client, due.as_slice());
+        send_due(&self.client, due.as_slice(), link)
     }
 }
 
@@ -117,58 +227,6 @@ pub(crate) fn send_request<L: Link>(
         }
     }
     Ok(())
-}
-
-// One turn: the page is turned in, a wait, and the time.
-fn turn<L: Link, W: Write>(
-    wait_ms: u32,
-    in_row: &mut u32,
-    client: &mut Client,
-    link: &mut L,
-    datagram: &mut Datagram,
-    page: &mut Page<'_, W>,
-) -> Result<(), RunFault>
-    requires { L.has_failed link.old ≡ false }
-    ensures fault { L.has_failed link.new ≡ is_of_link result }
-    ensures went { Went W.contents client.old client.new page.old page.new (L.seen link.old) (L.seen link.new) result
-        [] }
-    ensures not_written { result ≡ Err write_failed → has_failed (writer_of page.new) ≡ true }
-    ensures cause { IfErr result IsOfWait }
-{
-    page.turn_in();
-    if page.failed() {
-        return Err(RunFault::from(WriteFailed));
-    }
-    let came = hear(wait_ms, client, link, datagram, page)?;
-    pass_time(came, in_row, client, link, page)
-}
-
-// Hands the client what the link hears. True where a datagram came.
-fn hear<L: Link, W: Write>(
-    wait_ms: u32,
-    client: &mut Client,
-    link: &mut L,
-    datagram: &mut Datagram,
-    page: &mut Page<'_, W>,
-) -> Result<bool, RunFault>
-    requires { L.has_failed link.old ≡ false }
-    ensures fault { L.has_failed link.new ≡ is_of_link result }
-    ensures went { Went W.contents client.old client.new page.old page.new (L.seen link.old) (L.seen link.new) result
-        [] }
-    ensures not_written { result ≡ Err write_failed → has_failed (writer_of page.new) ≡ true }
-    ensures cause { IfErr result IsOfWait }
-{
-    let from = match link.receive(wait_ms, datagram) {
-        Ok(Some(from)) => from,
-        Ok(None) => return Ok(false),
-        Err(_) => return Err(RunFault::Link(ToolFault::ReceiveFailed)),
-    };
-    let octets = datagram.as_slice();
-    if has_line(octets.len()) {
-        print_arrival(page, from, octets);
-        remark_end(page, client.datagram(from, octets));
-    }
-    Ok(true)
 }
 
 // Sends what is due.

@@ -1,9 +1,13 @@
 -- Each way out of the loop ends the run that stands so far in another way.
 use denote.Enum.Bare.{same_true}
-use Rattle.std.proofs.{Common.{◌∙◌, refl, sym, length-drop, arith, rules}, lemmas.Result.err_from_is_err_and}
-use Rattle.bac_script.specs.contracts.input.Reading.{the_type}
-use Rattle.bac_script.specs.declared.tracing.TraceFault.TheVariants.{WriteFailed}
-use Rattle.bac_run.proofs.Runs.{so_far_none, so_far_more, so_far_waited, stops_waiting, stops_with, ends, ends_at, stops, stops_at, can_read, cut_so, none_left, open_cut, at_last}
+use Rattle.std.proofs.{Common.{◌≡◌, ◌≢◌, ◌∙◌, ◌∷◌, refl, sym, length-drop, arith, rules}, lemmas.Result.err_from_is_err_and}
+use Rattle.bac_script.specs.{contracts.input.Reading.the_type, declared.input.Reading.TheVariants.{AtEnd, Failed}}
+use Rattle.bac_links.specs.Limits.{most_turns}
+use Rattle.bac_run.specs.{Course.Turns, declared.turns.Until.TheVariants.FewOpen}
+use Rattle.bac_run.proofs.Parts.{went_at, went_more}
+use Rattle.bac_run.proofs.Runs.{so_far_none, so_far_more, stops_waiting, stops_unread, stops_reading, stops_line}
+use Rattle.bac_run.proofs.Runs.{stops_last, ends_unread, ends_behind, at_end, at_last, can_read, cut_next, cut_so}
+use Rattle.bac_run.proofs.Runs.{failed_lines, last_line, none_left, open_cut, open_stands, roomed, still_stands}
 use Rattle.bac_run.proofs.running.run_lines.Goals as goal
 
 pub lines-init : goal.lines-init
@@ -11,68 +15,109 @@ lines-init g c = record {
   reader = c.requires.reader;
   link = c.requires.link;
   session = refl;
-  so_far = so_far_none _ _ c.print_settings.ensures c.new.ensures c.new-chunk.ensures;
+  so_far = so_far_none _ _ _ c.print_settings.ensures refl c.new.ensures refl c.requires.reader c.new-chunk.ensures;
   room = rw c.new-chunk.ensures (omega arith);
 }
 
 pub returns-in_err-make_room-clause-runs : goal.returns-in_err-make_room-clause-runs
 returns-in_err-make_room-clause-runs g c =
-    let (_, was, same) =
-    err_from_is_err_and c.from_residual.result c.from_residual.ensures.1 in
-    rw (was, same) (stops_waiting c.lines.invariant.so_far _ c.in_err-make_room.ensures.went c.in_err-make_room.ensures.cause)
+    let (_, was, same) = err_from_is_err_and c.from_residual.result c.from_residual.ensures.1 in
+    rw (was, same)
+    (stops_waiting c.lines.invariant.so_far _ (roomed c.lines.invariant.session c.in_err-make_room.ensures.went)
+    c.in_err-make_room.ensures.cause)
 
 pub returns-in_err-next-clause-runs : goal.returns-in_err-next-clause-runs
 returns-in_err-next-clause-runs g c =
     let (_, was, same) = err_from_is_err_and c.from_residual-in_err-next.result c.from_residual-in_err-next.ensures.1 in
     rw (was, same)
-    (stops (so_far_waited c.lines.invariant.so_far c.in_ok-make_room.ensures.went) c.next_line.ensures.given c.next_line.ensures.printed WriteFailed tt)
+    (stops_unread c.lines.invariant.so_far (roomed c.lines.invariant.session c.in_ok-make_room.ensures.went)
+    c.next_line.ensures.given c.next_line.ensures.printed c.in_err-next.ensures.next)
 
 pub returns-then-eq-clause-runs : goal.returns-then-eq-clause-runs
 returns-then-eq-clause-runs g c =
-    stops_with (so_far_waited c.lines.invariant.so_far c.in_ok-make_room.ensures.went) c.next_line.ensures.given
-    c.next_line.ensures.printed c.stop.result c.stop.ensures.went c.stop.ensures.over
+    let n = c.in_ok-next.ensures.next in
+    let failed : c.in_ok-next.next.reading ≡ Failed = same_true the_type (search rules) _ _ (sym c.if-eq.ensures) in
+    stops_reading c.lines.invariant.so_far (roomed c.lines.invariant.session c.in_ok-make_room.ensures.went)
+    c.next_line.ensures.given c.next_line.ensures.printed c.stop.result c.stop.ensures.went c.stop.ensures.named
+    c.stop.ensures.over (failed_lines _ _ _ c.in_ok-next.next.reading _ c.in_ok-next.next.length failed n.cut n.stands)
+    (still_stands g.R.Read.remaining _ _ _ Failed (rw failed at n.stands))
 
 pub returns-then-next-eq0-clause-runs : goal.returns-then-next-eq0-clause-runs
 returns-then-next-eq0-clause-runs g c =
     let n = c.in_ok-next.ensures.next in
-    ends (so_far_waited c.lines.invariant.so_far c.in_ok-make_room.ensures.went) c.next_line.ensures.given c.next_line.ensures.printed _
-    (none_left _ _ _ c.in_ok-next.next.reading _ c.in_ok-next.next.length c.if-next-eq0.true
-    (λ e. absurd (let bad = rw e at c.if-eq.ensures in cc)) n.cut n.stands) c.end.ensures.lines c.end.ensures.went c.end.ensures.over
+    let sure : c.in_ok-next.next.reading ≢ Failed = λ e. absurd (let bad = rw e at c.if-eq.ensures in cc) in
+    ends_unread c.lines.invariant.so_far (roomed c.lines.invariant.session c.in_ok-make_room.ensures.went)
+    c.next_line.ensures.given c.next_line.ensures.printed _
+    (none_left _ _ _ c.in_ok-next.next.reading _ c.in_ok-next.next.length c.if-next-eq0.true sure n.cut n.stands)
+    c.end.ensures.lines c.end.ensures.cause c.end.ensures.went c.end.ensures.over
+    (at_end _ _ _ c.in_ok-next.next.reading _ c.in_ok-next.next.length c.if-next-eq0.true sure n.cut n.stands)
 
 pub returns-in_err-take_line-clause-runs : goal.returns-in_err-take_line-clause-runs
 returns-in_err-take_line-clause-runs g c =
-    let same_session = c.in_ok-make_room.ensures.same ∙ c.lines.invariant.session in
     let (_, was, same) =
     err_from_is_err_and c.from_residual-in_err-take_line.result c.from_residual-in_err-take_line.ensures.1 in
     let n = c.in_ok-next.ensures.next in
+    let reading = c.in_ok-next.next.reading in
+    let sure : c.in_ok-next.next.reading ≢ Failed = λ e. absurd (let bad = rw e at c.if-eq.ensures in cc) in
     rw (was, same)
-    (stops_at (so_far_waited c.lines.invariant.so_far c.in_ok-make_room.ensures.went) c.next_line.ensures.given c.next_line.ensures.printed
-    c.in_ok-next.next.length _ (cut_so c.in_ok-next.next.reading _ n.cut)
-    (rw (c.front.ensures, same_session) at c.in_err-take_line.ensures.went) c.in_err-take_line.ensures.over)
+    (stops_line c.lines.invariant.so_far (roomed c.lines.invariant.session c.in_ok-make_room.ensures.went)
+    c.next_line.ensures.given c.next_line.ensures.printed c.in_ok-next.next.length c.front.result.now c.front.ensures _
+    reading
+    (cut_next reading _ c.in_ok-next.next.length sure (λ none. omega (arith, none, c.if-next-eq0.false)) n.within n.cut
+    (at_last _ _ _ _ reading n.stands)) (cut_so reading _ n.cut)
+    (c.in_ok-make_room.ensures.went.same ∙ c.lines.invariant.session) c.in_err-take_line.ensures.went
+    c.in_err-take_line.ensures.over c.in_err-take_line.ensures.named (still_stands g.R.Read.remaining _ _ _ reading n.stands))
+
+pub returns-in_err-make_room-2-clause-runs : goal.returns-in_err-make_room-2-clause-runs
+returns-in_err-make_room-2-clause-runs g c =
+    let (_, was, same) =
+    err_from_is_err_and c.from_residual-in_err-make_room-2.result c.from_residual-in_err-make_room-2.ensures.1 in
+    let n = c.in_ok-next.ensures.next in
+    let reading = c.in_ok-next.next.reading in
+    let last : c.in_ok-next.next.reading ≡ AtEnd = same_true the_type (search rules) _ _ (sym c.if-eq-2.ensures) in
+    let same_session = c.in_ok-make_room.ensures.went.same ∙ c.lines.invariant.session in
+    rw (was, same)
+    (stops_last c.lines.invariant.so_far (roomed c.lines.invariant.session c.in_ok-make_room.ensures.went)
+    c.next_line.ensures.given c.next_line.ensures.printed c.in_ok-next.next.length c.front.result.now c.front.ensures _
+    (last_line _ _ _ reading _ c.in_ok-next.next.length last (λ none. omega (arith, none, c.if-next-eq0.false))
+    n.within n.cut n.stands) (cut_so reading _ n.cut) (at_last _ _ _ _ reading n.stands last) same_session
+    c.in_ok-take_line.ensures.went
+    (roomed (c.in_ok-take_line.ensures.went.went.same ∙ same_session) c.in_err-make_room-2.ensures.went)
+    c.in_err-make_room-2.ensures.cause (still_stands g.R.Read.remaining _ _ _ AtEnd (rw last at n.stands)))
 
 pub returns-then-eq-2-clause-runs : goal.returns-then-eq-2-clause-runs
 returns-then-eq-2-clause-runs g c =
-    let same_session = c.in_ok-make_room.ensures.same ∙ c.lines.invariant.session in
     let n = c.in_ok-next.ensures.next in
-    ends_at (so_far_waited c.lines.invariant.so_far c.in_ok-make_room.ensures.went) c.next_line.ensures.given c.next_line.ensures.printed
-    c.in_ok-next.next.length c.front.result.now _ c.front.ensures (cut_so c.in_ok-next.next.reading _ n.cut)
-    (at_last _ _ _ _ c.in_ok-next.next.reading n.stands (same_true the_type (search rules) _ _ (sym c.if-eq-2.ensures)))
-    c.end-then-eq-2.ensures.lines (rw same_session at c.in_ok-take_line.ensures.went) c.end-then-eq-2.ensures.went c.end-then-eq-2.ensures.over
+    let reading = c.in_ok-next.next.reading in
+    let last : c.in_ok-next.next.reading ≡ AtEnd = same_true the_type (search rules) _ _ (sym c.if-eq-2.ensures) in
+    let same_session = c.in_ok-make_room.ensures.went.same ∙ c.lines.invariant.session in
+    ends_behind c.lines.invariant.so_far (roomed c.lines.invariant.session c.in_ok-make_room.ensures.went)
+    c.next_line.ensures.given c.next_line.ensures.printed c.in_ok-next.next.length c.front.result.now c.front.ensures _
+    (last_line _ _ _ reading _ c.in_ok-next.next.length last (λ none. omega (arith, none, c.if-next-eq0.false))
+    n.within n.cut n.stands) (cut_so reading _ n.cut) (at_last _ _ _ _ reading n.stands last) same_session
+    c.in_ok-take_line.ensures.went
+    (went_more (went_at (λ later. Turns (FewOpen 0) most_turns ∷ later)
+    (roomed (c.in_ok-take_line.ensures.went.went.same ∙ same_session) c.in_ok-make_room-2.ensures.went))
+    c.end-then-eq-2.ensures.went)
+    c.end-then-eq-2.ensures.lines c.end-then-eq-2.ensures.cause c.end-then-eq-2.ensures.over
+    (still_stands g.R.Read.remaining _ _ _ AtEnd (rw last at n.stands))
 
 pub lines-preserved : goal.lines-preserved
 lines-preserved g c =
-    let same_session = c.in_ok-make_room.ensures.same ∙ c.lines.invariant.session in
     let n = c.in_ok-next.ensures.next in
+    let reading = c.in_ok-next.next.reading in
+    let sure : c.in_ok-next.next.reading ≢ Failed = λ e. absurd (let bad = rw e at c.if-eq.ensures in cc) in
+    let going : c.in_ok-next.next.reading ≢ AtEnd = λ e. absurd (let bad = rw e at c.if-eq-2.ensures in cc) in
+    let same_session = c.in_ok-make_room.ensures.went.same ∙ c.lines.invariant.session in
     rw c.skip.ensures
     (record {
-      reader = can_read _ _ _ _ c.in_ok-next.next.reading n.stands
-          (λ e. absurd (let bad = rw e at c.if-eq.ensures in cc));
+      reader = can_read _ _ _ _ reading n.stands sure;
       link = c.in_ok-take_line.ensures.fault;
-      session = c.in_ok-take_line.ensures.same ∙ same_session;
-      so_far = so_far_more (so_far_waited c.lines.invariant.so_far c.in_ok-make_room.ensures.went) c.next_line.ensures.given c.next_line.ensures.printed
-          c.in_ok-next.next.length c.front.result.now c.front.ensures
-          (open_cut c.in_ok-next.next.reading _ (λ e. absurd (let bad = rw e at c.if-eq.ensures in cc))
-          (λ e. absurd (let bad = rw e at c.if-eq-2.ensures in cc)) n.cut) (rw same_session at c.in_ok-take_line.ensures.went);
+      session = c.in_ok-take_line.ensures.went.went.same ∙ same_session;
+      so_far = so_far_more c.lines.invariant.so_far (roomed c.lines.invariant.session c.in_ok-make_room.ensures.went)
+          c.next_line.ensures.given c.next_line.ensures.printed c.in_ok-next.next.length c.front.result.now
+          c.front.ensures (open_cut reading _ sure going n.cut) same_session c.in_ok-take_line.ensures.went
+          (open_stands _ _ _ _ reading sure going n.stands);
       room =
           omega (
             arith,

@@ -1,0 +1,53 @@
+-- What a wait brought.
+use Rattle.std.proofs.Common.{◌≡◌, ◌∙◌, ℕ, false, true, refl, sym, ap, arith, length}
+use Rattle.bac_pdu.specs.Peer.{station}
+use Rattle.bac_tsm.specs.Client.{Client}
+use Rattle.bac_links.specs.History.{Arrived, Failure, Silence}
+use Rattle.bac_run.specs.{Course.{Outside, heard_at, settled}, Journal.has_line, declared.turns.Run.Run}
+use Rattle.bac_run.proofs.{Counts.datagram_open, Parts.{went_came, went_ok, went_passed}}
+use Rattle.bac_run.proofs.turns.Run.hear.Goals as goal
+
+pub returns-in-Ok-None-clause-went : goal.returns-in-Ok-None-clause-went
+returns-in-Ok-None-clause-went g c =
+    went_passed _ _ _ c.longest_wait-wait_ms.result Silence refl refl (λ (time, aims). (c.longest_wait-wait_ms.ensures, tt))
+    (λ (time, aims). refl) (λ gained is. is) (rw c.in-Ok-None.field-0-is at c.in-Ok-None.ensures.told)
+
+pub returns-in-Err-clause-went : goal.returns-in-Err-clause-went
+returns-in-Err-clause-went g c =
+    went_passed _ _ _ c.longest_wait-wait_ms.result Failure refl refl (λ (time, aims). (c.longest_wait-wait_ms.ensures, tt))
+    (λ (time, aims). refl) (λ gained is. is) c.in-Err.ensures.told
+
+pub returns-then-not-has_line-clause-went : goal.returns-then-not-has_line-clause-went
+returns-then-not-has_line-clause-went g c =
+    let unsaid : has_line (length c.receive.new.datagram) ≡ false = grind (arith, c.has_line.ensures, c.if-not-has_line.true, c.as_slice-octets.ensures.value) in
+    went_passed _ _ _ c.longest_wait-wait_ms.result (Arrived (station c.in-Ok-Some.from) c.receive.new.datagram)
+    (ap (λ (run : Run). run.session) c.defers.ensures.same) (ap (λ (run : Run). run.client) c.defers.ensures.same)
+    (λ (time, aims). (c.longest_wait-wait_ms.ensures, unsaid)) (λ (time, aims). c.defers.ensures.defers time aims)
+    (λ gained is. is) (rw c.in-Ok-Some.field-0-is at c.in-Ok-Some.ensures.told)
+
+pub returns-then-not-has_line-clause-kept : goal.returns-then-not-has_line-clause-kept
+returns-then-not-has_line-clause-kept g c =
+    omega (arith, ap (λ (run : Run). length run.client.state.waiting) c.defers.ensures.same)
+
+pub returns-clause-went : goal.returns-clause-went
+returns-clause-went g c =
+    let said : has_line (length c.as_slice-octets.result.now) ≡ true = grind (arith, c.has_line.ensures, c.if-not-has_line.false) in
+    went_ok c.defers-2.result
+    (went_came c.longest_wait-wait_ms.result (station c.in-Ok-Some.from) c.as_slice-octets.result.now _
+    (ap (λ (run : Run). run.session) c.defers-2.ensures.same) c.datagram.ensures.answer
+    (ap (λ (run : Run). run.client) c.defers-2.ensures.same ∙ c.datagram.ensures.left)
+    (λ (time, aims). (c.longest_wait-wait_ms.ensures, said))
+    (λ (time, aims). ap (λ (client : Client).
+    settled (heard_at (record { client = client; behind = c.args.self.now.behind; phase = Outside; aims = aims }) time))
+    (sym c.datagram.ensures.left) ∙ c.defers-2.ensures.defers time aims)
+    c.print_arrival.ensures c.remark_end.ensures
+    (rw c.as_slice-octets.ensures.value (rw c.in-Ok-Some.field-0-is at c.in-Ok-Some.ensures.told)))
+
+pub returns-clause-kept : goal.returns-clause-kept
+returns-clause-kept g c =
+    omega (
+      arith,
+      ap (λ (run : Run). length run.client.state.waiting) c.defers-2.ensures.same,
+      ap (λ (client : Client). length client.state.waiting) c.datagram.ensures.left,
+      datagram_open c.args.self.now.client (station c.in-Ok-Some.from) c.as_slice-octets.result.now,
+    )

@@ -1,0 +1,18 @@
+-- One turn after another.
+use Rattle.std.proofs.Common.{◌≡◌, ◌≤◌, ◌∷◌, false, []}
+use Rattle.bac_links.specs.Limits.{most_turns}
+use Rattle.bac_run.specs.{Course.{Turns, open_in}, Went.{Went, started}}
+use Rattle.bac_run.proofs.Acts.{done}
+use Rattle.bac_run.proofs.turns.Run.wait.Given as goal
+
+abbrev pub invariant-turns : goal.invariant-turns
+invariant-turns g l = record {
+  sound : g.L.Link.has_failed l.link ≡ false;
+  kept : open_in l.self.client ≤ open_in l.fn.self.client;
+  went : Went g.W.Write.contents l.fn.self l.self l.fn.page l.page (g.L.Link.seen l.fn.link) (g.L.Link.seen l.link)
+      (λ later. started l.fn.self (Turns l.until most_turns ∷ later)) (λ later. started l.self (Turns l.until l.left ∷ later))
+      done [];
+}
+
+abbrev pub decreases-turns : goal.decreases-turns
+decreases-turns g l = l.left
