@@ -1,5 +1,10 @@
 -- The lines of a journal, folded.
-use Rattle.std.proofs.{Common.{◌≡◌, ℕ, ◌+◌, ◌-◌, ◌≤◌, Bool, true, false, List, [], ◌∷◌, ◌++◌, length, take, Some, Result, Ok, Err}, Common.{refl, subst, sym, ◌∙◌, ap, append_assoc, arith, length-append, inl, inr, nat_lt, ◌==◌, ne_eqb, suc}, lemmas.{Bool.{cases_Bool, Decides.nat_tests}, Grind.common_steps, Str.{IsUtf8-from_ascii, is_utf8-from_IsUtf8}}, lemmas.Str.Ascii.{IsAscii-nil, IsAscii-cons}}
+use Rattle.std.proofs.{
+  Common.{◌≡◌, ℕ, suc, ◌+◌, ◌-◌, ◌≤◌, ◌==◌, nat_lt, Bool, true, false, List, [], ◌∷◌, ◌++◌, length, take, Some},
+  Common.{Result, Ok, Err, refl, subst, sym, ◌∙◌, ap, append_assoc, arith, length-append, inl, inr, ne_eqb},
+  lemmas.{Bool.{cases_Bool, Decides.nat_tests}, Grind.common_steps, Str.{IsUtf8-from_ascii, is_utf8-from_IsUtf8}},
+  lemmas.Str.Ascii.{IsAscii-nil, IsAscii-cons},
+}
 use Rattle.std.specs.{Prelude.{codes, filter, slice_index}, List.{onto_first, slice_split}}
 use Rattle.std.specs.Str.{IsAscii, is_utf8, Lines.strip_carriage_return}
 use Rattle.bac_tsm.specs.Events.{Note}

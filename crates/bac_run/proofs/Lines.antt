@@ -1,5 +1,9 @@
 -- What is read of the lines of requests.
-use Rattle.std.proofs.{Common.{◌≡◌, ◌≢◌, ℕ, ◌≤◌, true, false, List, [], ◌∷◌, ◌++◌, length, Result, Ok, refl, sym, ◌∙◌}, Common.{ap, append_assoc, arith, length-append, ◌⊎◌, inl, inr, nat_lt, ◌==◌, ◌&&◌}, lemmas.{Bool.{cases_Bool, false≢true, Decides.nat_tests}, Grind.common_steps}}
+use Rattle.std.proofs.{
+  Common.{◌≡◌, ◌≢◌, ℕ, ◌≤◌, ◌==◌, ◌&&◌, nat_lt, true, false, List, [], ◌∷◌, ◌++◌, length, Result, Ok, refl, sym, ◌∙◌},
+  Common.{ap, append_assoc, arith, length-append, ◌⊎◌, inl, inr},
+  lemmas.{Bool.{cases_Bool, false≢true, Decides.nat_tests}, Grind.common_steps},
+}
 use Rattle.std.specs.Str.Lines.{strip_carriage_return}
 use Rattle.bac_text.specs.Limits.{longest_line}
 use Rattle.bac_script.specs.Line.{Said, Nothing, said, said_in, text_of_line}
@@ -71,8 +75,10 @@ read_back line what (inr none) says room =
           let same : whole_line line ≡ (line ++ 13 ∷ []) ++ 10 ∷ [] =
           rw (unfed, returned) (sym (append_assoc line (13 ∷ []) (10 ∷ []))) in
           let within = room returned in
-          let other : length line ≢ longest_line = λ same. absurd (false≢true (sym within ∙ same_so (length line) longest_line same)) in
-          let fits : length (line ++ 13 ∷ []) ≤ longest_line = omega (arith, length-append line (13 ∷ []), other, short) in
+          let other : length line ≢ longest_line =
+          λ same. absurd (false≢true (sym within ∙ same_so (length line) longest_line same)) in
+          let fits : length (line ++ 13 ∷ []) ≤ longest_line =
+          omega (arith, length-append line (13 ∷ []), other, short) in
           record {
             text = line ++ 13 ∷ [];
             no_feed = no_feed_push line none;

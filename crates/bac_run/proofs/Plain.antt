@@ -1,5 +1,9 @@
 -- What the client tells is ASCII, and each note is one line.
-use Rattle.std.proofs.{Common.{◌≡◌, ◌≢◌, ℕ, ◌+◌, ◌<◌, ◌≤◌, ◌/◌, ◌%◌, zero, suc, true, false, List, [], ◌∷◌, ◌++◌, length}, Common.{take, get_or, map, Option, Some, None, refl, append_assoc, arith, inl, inr, ◌==◌, ◌||◌}, lemmas.{Bool.{cases_Bool, Decides.nat_tests}}}
+use Rattle.std.proofs.{
+  Common.{◌≡◌, ◌≢◌, ℕ, ◌+◌, ◌<◌, ◌≤◌, ◌/◌, ◌%◌, ◌==◌, ◌||◌, zero, suc, true, false, List, [], ◌∷◌, ◌++◌, length, take},
+  Common.{get_or, map, Option, Some, None, refl, append_assoc, arith, inl, inr},
+  lemmas.Bool.{cases_Bool, Decides.nat_tests},
+}
 use Rattle.std.specs.{Prelude.{ℤ, pos, negsuc, codes, decimal}, Int.{bit_at, is_in_range, to_be_bytes, w32}}
 use Rattle.std.specs.List.{AllByRecursion, flat_map, join_with_byte}
 use Rattle.std.specs.{Fmt.{digit_glyph, digits, digits_onto, signed_decimal}, Option.option_map_or}
@@ -188,6 +192,10 @@ values_plain values =
       )
     ]
 
+-- A word.
+word_plain : (word : List ℕ) → IsVisible word → IsPlain word
+word_plain word is = plain_shown word (shown word is)
+
 -- A word, a space and a text.
 pub word_on : (word text : List ℕ) → IsVisible word → IsPlain text → IsPlain (word ++ 32 ∷ text)
 word_on word text is more =
@@ -204,7 +212,8 @@ ack_plain : (body : List ℕ) → IsPlain (ack_text body)
 ack_plain body = go (ack_of body)
   where
     go : (found : Option ReadAck)
-        → IsPlain (option_map_or (λ (answer : ReadAck). codes "value " ++ region_text answer.value) found (codes "bad-ack"))
+        → IsPlain (option_map_or (λ (answer : ReadAck). codes "value " ++ region_text answer.value) found
+        (codes "bad-ack"))
     go None = plain_shown (codes "bad-ack") (shown (codes "bad-ack") (visible_so (codes "bad-ack") refl))
     go (Some answer) =
         word_on (codes "value") (region_text answer.value) (visible_so (codes "value") refl) (region_plain answer.value)
@@ -212,12 +221,12 @@ ack_plain body = go (ack_of body)
 outcome_plain : (outcome : Outcome) → IsPlain (outcome_text outcome)
 outcome_plain Simple = plain_shown (codes "ok") (shown (codes "ok") (visible_so (codes "ok") refl))
 outcome_plain (Complex body) = ack_plain body
-outcome_plain Segmented = plain_shown (codes "segmented") (shown (codes "segmented") (visible_so (codes "segmented") refl))
+outcome_plain Segmented = word_plain (codes "segmented") (visible_so (codes "segmented") refl)
 outcome_plain (Failed class code) =
     word_on (codes "error") (decimal class ++ 32 ∷ decimal code) (visible_so (codes "error") refl)
     (plain_on (decimal class) (32 ∷ decimal code) (decimal_plain class)
     (octet_so 32 (omega arith) (omega arith), decimal_plain code))
-outcome_plain BadError = plain_shown (codes "bad-error") (shown (codes "bad-error") (visible_so (codes "bad-error") refl))
+outcome_plain BadError = word_plain (codes "bad-error") (visible_so (codes "bad-error") refl)
 outcome_plain (Rejected reason) =
     word_on (codes "reject") (decimal reason) (visible_so (codes "reject") refl) (decimal_plain reason)
 outcome_plain (Aborted reason) =

@@ -1,5 +1,9 @@
 -- The acts of a run are read back.
-use Rattle.std.proofs.{Common.{◌≡◌, ℕ, ◌<◌, ◌≤◌, false, List, [], ◌∷◌, ◌++◌, length, Option, Result, Ok, Err, refl}, Common.{subst, sym, ap, arith, ◌⊎◌, inl, inr, unwrap_or}, lemmas.Bool.{cases_Bool, Decides.nat_tests}}
+use Rattle.std.proofs.{
+  Common.{◌≡◌, ℕ, ◌<◌, ◌≤◌, false, List, [], ◌∷◌, ◌++◌, length, Option, Result, Ok, Err, unwrap_or},
+  Common.{refl, subst, sym, ap, arith, ◌⊎◌, inl, inr},
+  lemmas.Bool.{cases_Bool, Decides.nat_tests},
+}
 use Rattle.std.specs.{Prelude.{option_and_then}, List.{AllByRecursion, flat_map}, Result.result_ok}
 use Rattle.bac_pdu.specs.Peer.{Station}
 use Rattle.bac_tsm.specs.Events.{Ask, Data, Tick}
@@ -7,8 +11,8 @@ use Rattle.bac_print.specs.declared.checked.Checked.{Checked}
 use Rattle.bac_script.specs.{Line.{Said, Nothing, Settings, Happens, Asks}, declared.line.LineFault.LineFault}
 use Rattle.bac_script.specs.declared.tracing.TraceEnd.{TraceEnd}
 use Rattle.bac_run.specs.declared.fault.RunFault.{RunFault}
-use Rattle.bac_run.specs.Input.{acts_of_said, acts_or_none, inputs_in, is_remark, said_of, AreCut, EndsWithFeed, HasNoFeed}
-use Rattle.bac_run.specs.Input.{Takes}
+use Rattle.bac_run.specs.Input.{acts_of_said, acts_or_none, inputs_in, is_remark, said_of, AreCut, EndsWithFeed}
+use Rattle.bac_run.specs.Input.{HasNoFeed, Takes}
 use Rattle.bac_run.specs.Journal.{Act, Asked, Paused, Came, Passed, Told, Untold, FitsLine, arrival_line}
 use Rattle.bac_run.specs.Replay.{IsLineOf, IsReadBack}
 use Rattle.bac_run.proofs.{Lines.{empty_read_back, line_read_back}, ReadBack.{arrival_read_back, plain, time_read_back}}

@@ -104,7 +104,8 @@ event_well : {line : List ℕ} {what : Said} (notes : List Note) (rest : List �
 event_well {line} notes rest is well =
     subst Faultless
     (sym (ap lay (append_assoc line (remarks notes) rest) ∙ line_laid (remarks notes ++ rest) is))
-    (line_well (lay (remarks notes ++ rest)) is (remarks_skipped Faultless (λ line more. line_well more) notes rest well))
+    (line_well (lay (remarks notes ++ rest)) is
+    (remarks_skipped Faultless (λ line more. line_well more) notes rest well))
 
 act_well : (client : Client) (act : Act) (rest : List ℕ) → IsReadBack act → Faultless (lay rest)
     → Faultless (lay ((line_of act ++ remarks (turn_at client act).notes) ++ rest))

@@ -1,5 +1,6 @@
 -- The lines of the input, and what a run does of each.
-use Rattle.std.specs.Prelude.{◌≡◌, ◌≢◌, ℕ, Bool, false, ◌==◌, ◌||◌, ◌&&◌, List, [], ◌∷◌, ◌++◌, Option, Some, None, unwrap_or}
+use Rattle.std.specs.Prelude.{◌≡◌, ◌≢◌, ℕ, Bool, false, ◌==◌, ◌||◌, ◌&&◌, List, [], ◌∷◌, ◌++◌}
+use Rattle.std.specs.Prelude.{Option, Some, None, unwrap_or}
 use Rattle.std.specs.{Prelude.{option_and_then, length, Result, Ok, Err, if◌then◌else◌, ◌⊎◌}, Result.result_ok}
 use Rattle.std.specs.List.{AllByRecursion, concat, flat_map}
 use Rattle.bac_tsm.specs.Events.{Ask}

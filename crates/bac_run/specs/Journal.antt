@@ -1,5 +1,6 @@
 -- What a run does, one thing after another; and its journal, what it asks of its link, and what `bactrace` prints of it.
-use Rattle.std.specs.Prelude.{◌≡◌, ◌<◌, ◌^◌, true, None, ℕ, ◌-◌, ◌==◌, Bool, nat_lt, nat_le, ◌&&◌, List, [], ◌∷◌, ◌++◌, length, slice_index, codes, decimal, if◌then◌else◌}
+use Rattle.std.specs.Prelude.{◌≡◌, ◌<◌, ◌^◌, ◌-◌, ◌==◌, ◌&&◌, nat_lt, nat_le, ℕ, Bool, true, None, if◌then◌else◌}
+use Rattle.std.specs.Prelude.{List, [], ◌∷◌, ◌++◌, length, slice_index, codes, decimal}
 use Rattle.std.specs.List.{flat_map}
 use Rattle.hex.specs.Hex.{IsBytes, encode_lower}
 use Rattle.bac_pdu.specs.Peer.{Station}

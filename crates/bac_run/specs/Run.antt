@@ -3,7 +3,8 @@ use Rattle.std.specs.Prelude.{ℕ, List, [], ◌++◌, Option, Result}
 use Rattle.bac_print.specs.{declared.{checked.Checked.Checked, page.Page.Page}, Page.{folded, folded_line, Writes, Prints}}
 use Rattle.bac_script.specs.declared.tracing.TraceEnd.{TraceEnd}
 use Rattle.bac_links.specs.History.{Account}
-use Rattle.bac_run.specs.{Journal.{Act, FitsLine, client_after, new_client, settings_line, journal, history_of}, Went.{GainsDue, IsOver, IsWithin}}
+use Rattle.bac_run.specs.Journal.{Act, FitsLine, client_after, new_client, settings_line, journal, history_of}
+use Rattle.bac_run.specs.Went.{GainsDue, IsOver, IsWithin}
 use Rattle.std.specs.List.{AllByRecursion}
 use Rattle.bac_run.specs.{Input.Takes, Replay.AreSettings}
 use Rattle.bac_run.specs.declared.{session.Session.Session, fault.RunFault.RunFault}

@@ -34,16 +34,16 @@ pub fn a_run_sends_what_it_remarks<L: Link, R: Read, W: Write>()
         (flat_map posted_in gained) }
 {}
 
-/// The journal of a run is a script, and what `bactrace` prints of it is what the client told: its remarks without their
-/// marks.
+/// The journal of a run is a script, and what `bactrace` prints of it is what the client told: its remarks without
+/// their marks.
 pub fn a_journal_is_a_script<L: Link, R: Read, W: Write>()
-    ensures text { (session : Settings) (reader reader' : Checked R) (before after : Checked W) (seen left : Account L.Origin)
-        (result : Result TraceEnd Fault)
+    ensures text { (session : Settings) (reader reader' : Checked R) (before after : Checked W)
+        (seen left : Account L.Origin) (result : Result TraceEnd Fault)
         (runs : Runs R.remaining W.contents session reader reader' before after seen left result)
         → text (journal_of session runs.acts) AtEnd
         ≡ notes_text (notes_of (new_client session.config.timeout session.config.retries) runs.acts) }
-    ensures fault { (session : Settings) (reader reader' : Checked R) (before after : Checked W) (seen left : Account L.Origin)
-        (result : Result TraceEnd Fault)
+    ensures fault { (session : Settings) (reader reader' : Checked R) (before after : Checked W)
+        (seen left : Account L.Origin) (result : Result TraceEnd Fault)
         (runs : Runs R.remaining W.contents session reader reader' before after seen left result)
         → first_fault (lines (journal_of session runs.acts) AtEnd) ≡ None }
 {}
@@ -70,8 +70,8 @@ pub fn an_arrival_is_read_back()
         (Happens (Data (record { ip = ip; port = port; route = None }) octets)) }
 {}
 
-/// `bactrace` reads the line of a request, as it stands in the journal, as that request. (The last line of the input may
-/// lack its line feed.)
+/// `bactrace` reads the line of a request, as it stands in the journal, as that request. (The last line of the input
+/// may lack its line feed.)
 #[tactic(auto, using(crate::proofs::Lines::empty_read_back))]
 pub fn a_request_is_read_back()
     ensures asked { (line : List ℕ) (event : Event) → EndsWithFeed line ⊎ HasNoFeed line

@@ -8,12 +8,12 @@ returns-then-not-is_at_link-clause-runs g c =
     let settings = settings_read_back c.args.session.config.timeout c.args.session.config.retries (search rules)
     (search rules) (search rules) in
     cut_off
-    (goes_out (search rules) c.run_lines-answer.ensures.runs settings c.folding-page.ensures.writer c.folding-page.ensures.empty
-    c.folding-page.ensures.folds c.finish.ensures.printed) (search rules)
+    (goes_out (search rules) c.run_lines-answer.ensures.runs settings c.folding-page.ensures.writer
+    c.folding-page.ensures.empty c.folding-page.ensures.folds c.finish.ensures.printed) (search rules)
 
 pub returns-clause-runs : goal.returns-clause-runs
 returns-clause-runs g c =
     let settings = settings_read_back c.args.session.config.timeout c.args.session.config.retries (search rules)
     (search rules) (search rules) in
-    goes_out (search rules) c.run_lines-answer.ensures.runs settings c.folding-page.ensures.writer c.folding-page.ensures.empty
-    c.folding-page.ensures.folds c.finish.ensures.printed
+    goes_out (search rules) c.run_lines-answer.ensures.runs settings c.folding-page.ensures.writer
+    c.folding-page.ensures.empty c.folding-page.ensures.folds c.finish.ensures.printed

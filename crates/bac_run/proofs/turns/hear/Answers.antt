@@ -17,7 +17,8 @@ pub returns-then-has_line-clause-went : goal.returns-then-has_line-clause-went
 returns-then-has_line-clause-went g c =
     let plain = rw c.in-Ok-Some.field-0-is at c.in-Ok-Some.ensures.plain in
     let route : option_map network_address c.in-Ok-Some.from.route ≡ None = grind (arith, plain) in
-    let line : has_line (length c.as_slice-octets.result.now) ≡ true = grind (arith, c.has_line.ensures, c.if-has_line.true) in
+    let line : has_line (length c.as_slice-octets.result.now) ≡ true =
+    grind (arith, c.has_line.ensures, c.if-has_line.true) in
     went_ok true
     (went_came c.args.wait_ms (station c.in-Ok-Some.from) c.as_slice-octets.result.now _
     (search rules, search rules, route, search rules, line) c.datagram.ensures.answer
