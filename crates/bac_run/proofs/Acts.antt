@@ -14,7 +14,7 @@ use Rattle.bac_run.specs.declared.fault.RunFault.{RunFault, TheVariants.{Script,
 use Rattle.bac_script.specs.declared.tracing.TraceFault.{TraceFault}
 use Rattle.bac_run.specs.{Fault.send_failed, Input.{inputs_in, input_in}}
 use Rattle.bac_run.specs.{
-  Journal.{Act, Turn, remark, Asked, Paused, Came, Passed, Told, Read, whole_line, arrival_line, time_line, client_after, journal, history_of, turn_at, at_event, remarks, posts, line_of, asked_by},
+  Journal.{Act, FitsLine, Turn, remark, Asked, Paused, Came, Passed, Told, Read, whole_line, arrival_line, time_line, client_after, journal, history_of, turn_at, at_event, remarks, posts, line_of, asked_by},
   Went.{IsGained, GainsDue, IsWithin},
 }
 
@@ -181,3 +181,7 @@ pub tick_none : (client : Client) (time : ℕ) → length client.state.waiting �
     → length (tick (rules_of client) client.state time).after.waiting ≡ 0
 tick_none client time none = none_kept _ client.state.waiting none
 
+pub fit_append : (xs ys : List Act) → AllByRecursion FitsLine xs → AllByRecursion FitsLine ys
+    → AllByRecursion FitsLine (xs ++ ys)
+fit_append [] ys here later = later
+fit_append (x ∷ xs) ys (first, here) later = (first, fit_append xs ys here later)

@@ -1,6 +1,6 @@
 -- Parts of a run, one after another.
 use Rattle.std.specs.List.{AllByRecursion, flat_map}
-use Rattle.std.proofs.Common.{◌≡◌, ◌∙◌, ◌-◌, ◌<◌, ◌≤◌, ℕ, zero, suc, Bool, false, true, List, [], ◌∷◌, ◌++◌, Option, Some, None}
+use Rattle.std.proofs.Common.{◌≡◌, ◌∙◌, ◌-◌, ◌<◌, ◌≤◌, ◌^◌, ℕ, zero, suc, Bool, false, true, List, [], ◌∷◌, ◌++◌, Option, Some, None}
 use Rattle.std.proofs.Common.{Result, Ok, Err, IfErr, refl, subst, sym, ap, arith, unwrap_or, length}
 use Rattle.std.proofs.lemmas.List.{append-nil}
 use Rattle.bac_pdu.specs.{Apdu.longest_body, Peer.Station}
@@ -17,10 +17,10 @@ use Rattle.bac_script.specs.declared.tracing.TraceFault.{TraceFault, TheVariants
 use Rattle.bac_run.{
   specs.{declared.{fault.RunFault.{RunFault, TheVariants.{Script, Link}}, turns.{Run.Run, Until.{Until, TheVariants.{FewOpen, TimeTold}}}}, Fault.send_failed},
   specs.{Course.{Aim, Does, Fresh, Goes, IsDue, Stage, Turns, aims_for, is_reached, moved, open_in, ready, stage_after}, Input.{inputs_in, input_in}},
-  specs.Journal.{Act, Turn, remark, Asked, Came, Passed, Told, Read, whole_line, arrival_line, time_line, client_after},
+  specs.Journal.{Act, FitsLine, Turn, remark, Asked, Came, Passed, Told, Read, whole_line, arrival_line, time_line, client_after},
   specs.Journal.{journal, turn_at, remarks, posts, line_of, asked_by},
   specs.Went.{ComesTo, GainsDue, IsGained, IsOfWait, IsSpent, IsWithin, Went, WentFor, Opened, begins_turn, outside, started},
-  proofs.Acts.{client_after-append, done, due_more, due_nothing, due_stopped, failed, gained_err, history-append},
+  proofs.Acts.{client_after-append, done, due_more, due_nothing, due_stopped, failed, fit_append, gained_err, history-append},
   proofs.Acts.{inputs-append, journal-append, posts-answer, quiet_within, refused_long, within_more, IsQuiet},
 }
 
@@ -141,6 +141,7 @@ module _ {Origin W : Type 0} {contents : W → Option (List ℕ)} where
         client_is = grind (arith, moved', first.client_is, second.client_is);
         prints = printed_as (first.prints ⨾ second.prints) (grind (arith, printed, first.client_is));
         asks = grind (arith, asked, first.client_is, due_more first.asks second.asks);
+        fit = fit_append first.acts second.acts first.fit second.fit;
       }
 
   -- Nothing was done, and the stage is the same.
@@ -156,6 +157,7 @@ module _ {Origin W : Type 0} {contents : W → Option (List ℕ)} where
     client_is = client;
     prints = prints_nothing p;
     asks = due_nothing s;
+    fit = tt;
   }
 
   pub went_nothing : {I : Type 0} (c : Run) (p : Page W) (s : Account Origin) (from : I → Stage)
@@ -175,6 +177,7 @@ module _ {Origin W : Type 0} {contents : W → Option (List ℕ)} where
     client_is = then.client_is;
     prints = first ⨾ then.prints;
     asks = then.asks;
+    fit = then.fit;
   }
 
   -- The same, from other stages to others.
@@ -190,6 +193,7 @@ module _ {Origin W : Type 0} {contents : W → Option (List ℕ)} where
     client_is = went.client_is;
     prints = went.prints;
     asks = went.asks;
+    fit = went.fit;
   }
 
   pub went_from : {A I : Type 0} {result : Result A RunFault} {c d : Run} {p q : Page W} {s t : Account Origin}
@@ -204,6 +208,7 @@ module _ {Origin W : Type 0} {contents : W → Option (List ℕ)} where
     client_is = went.client_is;
     prints = went.prints;
     asks = went.asks;
+    fit = went.fit;
   }
 
   pub went_to : {A I : Type 0} {x : A} {c d : Run} {p q : Page W} {s t : Account Origin}
@@ -218,6 +223,7 @@ module _ {Origin W : Type 0} {contents : W → Option (List ℕ)} where
     client_is = went.client_is;
     prints = went.prints;
     asks = record { gained = went.asks.gained; gains = went.asks.gains; as_due = went.asks.as_due };
+    fit = went.fit;
   }
 
   -- It began with another count of datagrams.
@@ -233,17 +239,18 @@ module _ {Origin W : Type 0} {contents : W → Option (List ℕ)} where
     client_is = rw (sym client) went.client_is;
     prints = rw (sym client) went.prints;
     asks = rw (sym client) went.asks;
+    fit = went.fit;
   }
 
   -- One act.
   pub went_one : {A I : Type 0} {result : Result A RunFault} {c d : Run} {p q : Page W} {s t : Account Origin}
-      {from to : I → Stage} (act : Act) → d.session ≡ c.session → d.client ≡ (turn_at c.client act).after
+      {from to : I → Stage} (act : Act) → FitsLine act → d.session ≡ c.session → d.client ≡ (turn_at c.client act).after
       → ((i : I) → IsDue c.session.config.timeout (from i) act)
       → ((i : I) → ComesTo result (to i) (moved c.session.config.timeout (from i) act))
       → Prints contents p q (line_of act ++ remarks (turn_at c.client act).notes)
       → GainsDue result (asked_by act ++ posts (turn_at c.client act).notes) s t
       → Went contents c d p q s t from to result (input_in act)
-  went_one act same moved' due comes printed asked = record {
+  went_one act fits same moved' due comes printed asked = record {
     acts = act ∷ [];
     of_input = append-nil _;
     same = same;
@@ -252,6 +259,7 @@ module _ {Origin W : Type 0} {contents : W → Option (List ℕ)} where
     client_is = moved';
     prints = printed_as printed (sym (append-nil _));
     asks = grind (arith, append-nil, asked);
+    fit = (fits, tt);
   }
 
   -- A wait in which nothing came that is handed on, or that failed.
@@ -262,7 +270,7 @@ module _ {Origin W : Type 0} {contents : W → Option (List ℕ)} where
       → ((gained : List Entry) → gained ≡ Waited wait heard ∷ [] → IsGained result (Waited wait heard ∷ []) gained)
       → Gains (Waited wait heard) s t → Went contents c d p p s t from to result []
   went_passed c d p wait heard same client due comes fits gains =
-      went_one (Passed wait heard) same client due comes (prints_nothing p)
+      went_one (Passed wait heard) tt same client due comes (prints_nothing p)
       (record { gained = Waited wait heard ∷ []; gains = gains; as_due = fits _ refl })
 
   -- The time was read.
@@ -272,21 +280,21 @@ module _ {Origin W : Type 0} {contents : W → Option (List ℕ)} where
       → ((i : I) → moved c.session.config.timeout (from i) (Read time) ≡ to i)
       → Gains (Timed time) s t → Went contents c d p p s t from to done []
   went_read c d p time same client due comes gains =
-      went_one (Read time) same client due comes (prints_nothing p)
+      went_one (Read time) tt same client due comes (prints_nothing p)
       (record { gained = Timed time ∷ []; gains = gains; as_due = refl })
 
   -- A datagram was handed on.
   pub went_came : {I : Type 0} {c d : Run} {p q r : Page W} {s t : Account Origin} {from to : I → Stage} (wait : ℕ)
-      (peer : Station) (octets : List ℕ) (answer : Option (ℕ × Outcome)) → d.session ≡ c.session
+      (peer : Station) (octets : List ℕ) (answer : Option (ℕ × Outcome)) → FitsLine (Came wait peer octets) → d.session ≡ c.session
       → answer ≡ (datagram (rules_of c.client) c.client.state peer octets).answer
       → d.client ≡ keeping c.client (datagram (rules_of c.client) c.client.state peer octets).after
       → ((i : I) → IsDue c.session.config.timeout (from i) (Came wait peer octets))
       → ((i : I) → moved c.session.config.timeout (from i) (Came wait peer octets) ≡ to i)
       → Prints contents p q (arrival_line peer octets) → Prints contents q r (remarks (datagram_notes answer))
       → Gains (Waited wait (Arrived peer octets)) s t → Went contents c d p r s t from to done []
-  went_came {c} wait peer octets answer same is left due comes line notes gains =
+  went_came {c} wait peer octets answer fits same is left due comes line notes gains =
       let none = posts-answer answer in
-      went_one (Came wait peer octets) same left due comes
+      went_one (Came wait peer octets) fits same left due comes
       (printed_as (line ⨾ notes) (ap (λ (a : Option (ℕ × Outcome)). arrival_line peer octets ++ remarks (datagram_notes a)) is))
       (record {
         gained = Waited wait (Arrived peer octets) ∷ [];
@@ -296,7 +304,7 @@ module _ {Origin W : Type 0} {contents : W → Option (List ℕ)} where
 
   -- The time was told.
   pub went_told : {A I : Type 0} {result : Result A RunFault} {c d : Run} {p q r : Page W} {s t : Account Origin}
-      {from to : I → Stage} (time : ℕ) (due : List DueEntry) → d.session ≡ c.session
+      {from to : I → Stage} (time : ℕ) (due : List DueEntry) → time < 2 ^ 64 → d.session ≡ c.session
       → due ≡ (tick (rules_of c.client) c.client.state time).answer
       → d.client ≡ keeping c.client (tick (rules_of c.client) c.client.state time).after
       → ((i : I) → IsDue c.session.config.timeout (from i) (Told time))
@@ -304,9 +312,9 @@ module _ {Origin W : Type 0} {contents : W → Option (List ℕ)} where
       → Prints contents p q (time_line time) → Prints contents q r (remarks (flat_map (due_notes d.client.state) due))
       → GainsDue result (posts (flat_map (due_notes d.client.state) due)) s t
       → Went contents c d p r s t from to result []
-  went_told {c} {d} time due same is left is_due comes line notes sends =
+  went_told {c} {d} time due fits same is left is_due comes line notes sends =
       let alike : flat_map (due_notes d.client.state) due ≡ (turn_at c.client (Told time)).notes = grind (arith, is, left) in
-      went_one (Told time) same left is_due comes
+      went_one (Told time) fits same left is_due comes
       (printed_as (line ⨾ notes) (ap (λ (ns : List Note). time_line time ++ remarks ns) alike))
       (rw (sym alike) sends)
 
@@ -318,7 +326,7 @@ module _ {Origin W : Type 0} {contents : W → Option (List ℕ)} where
       → Prints contents p q (whole_line line) → Opened contents c.client d.client q r s t result event
       → Went contents c d p r s t from to result (Asked line event ∷ [])
   went_asked line event same due comes printed opened =
-      went_one (Asked line event) same opened.client_is due comes (printed ⨾ opened.prints) opened.asks
+      went_one (Asked line event) tt same opened.client_is due comes (printed ⨾ opened.prints) opened.asks
 
   -- A fault of one part is that of the whole.
   pub went_err : {A I : Type 0} (B : Type 0) {c d : Run} {p q : Page W} {s t : Account Origin} {from : I → Stage}
@@ -338,6 +346,7 @@ module _ {Origin W : Type 0} {contents : W → Option (List ℕ)} where
       gains = went.asks.gains;
       as_due = gained_err A B fault _ _ went.asks.as_due;
     };
+    fit = went.fit;
   }
 
   pub went_fault : {A I : Type 0} (B : Type 0) {c d : Run} {p q : Page W} {s t : Account Origin}
@@ -363,6 +372,7 @@ module _ {Origin W : Type 0} {contents : W → Option (List ℕ)} where
       gains = went.asks.gains;
       as_due = gained_err A B fault _ _ went.asks.as_due;
     };
+    fit = went.fit;
   }
 
   -- All was done, whatever it answers.
@@ -378,6 +388,7 @@ module _ {Origin W : Type 0} {contents : W → Option (List ℕ)} where
     client_is = went.client_is;
     prints = went.prints;
     asks = record { gained = went.asks.gained; gains = went.asks.gains; as_due = went.asks.as_due };
+    fit = went.fit;
   }
 
   -- The run stops where it stands.
@@ -392,6 +403,7 @@ module _ {Origin W : Type 0} {contents : W → Option (List ℕ)} where
     client_is = refl;
     prints = prints_nothing p;
     asks = due_stopped A fault s;
+    fit = tt;
   }
 
   -- All turns are taken.
@@ -408,6 +420,7 @@ module _ {Origin W : Type 0} {contents : W → Option (List ℕ)} where
     client_is = went.client_is;
     prints = went.prints;
     asks = record { gained = went.asks.gained; gains = went.asks.gains; as_due = went.asks.as_due };
+    fit = went.fit;
   }
 
   -- ---- how many are open

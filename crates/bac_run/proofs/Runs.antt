@@ -1,26 +1,27 @@
 -- A run so far, and where it stops.
-use Rattle.std.proofs.{Common.{◌≡◌, ◌≢◌, ◌⊎◌, ℕ, ◌+◌, false, List, [], ◌∷◌, ◌++◌, length, take, drop, suc, ◌≤◌, Bool, true, Option, Some, None, Result, Ok, Err}, Common.{refl, subst, sym, ◌∙◌, ap, inl, inr, append_assoc, arith, length-append, take-append-drop, unwrap_or, is_some, IfErr, IfOk}, lemmas.{Bool.false≢true, List.{append-nil, Concat.flat_map-append}}}
+use Rattle.std.proofs.{Common.{◌≡◌, ◌≢◌, ◌⊎◌, ℕ, ◌+◌, false, List, [], ◌∷◌, ◌++◌, ◌==◌, ◌&&◌, length, take, drop, suc, ◌≤◌, Bool, true, Option, Some, None, Result, Ok, Err}, Common.{refl, subst, sym, ◌∙◌, ap, inl, inr, append_assoc, arith, length-append, take-append-drop, unwrap_or, is_some, IfErr, IfOk}, lemmas.{Bool.{cases_Bool, false≢true}, List.{append-nil, Concat.flat_map-append}}}
 use Rattle.std.specs.{Prelude.option_and_then, Result.result_ok, List.{AllByRecursion, concat, flat_map}}
 use Rattle.bac_tsm.specs.Client.{Client}
 use Rattle.bac_print.specs.{declared.{checked.Checked.Checked, page.Page.Page}, Checked.{has_failed, octets_of, Gave}}
-use Rattle.bac_print.specs.Page.{held, writer_of, Prints, Writes}
-use Rattle.bac_print.proofs.{Printed.{◌⨾◌, prints_nothing}, Shown.finished, Known.Gave-none}
+use Rattle.bac_print.specs.Page.{folded_line, held, room_of, writer_of, Prints, Writes}
+use Rattle.bac_print.proofs.{Printed.{◌⨾◌, prints_nothing}, Shown.folded_out, Known.Gave-none}
 use Rattle.bac_script.specs.{Input.ReaderStands, Line.{Said}, Inner.{Input.{TakesAndKeeps, IsLineCut}, Limits.line_room}, declared.line.LineFault.LineFault, declared.input.Reading.{Reading, TheVariants.{Open, AtEnd, Failed}}}
 use Rattle.bac_script.specs.declared.tracing.{TraceEnd.TraceEnd, TraceFault.{TraceFault, TheVariants.{BadLine, LineTooLong, ReadFailed, WriteFailed}}}
+use Rattle.bac_text.specs.Limits.{longest_line}
 use Rattle.bac_links.specs.History.{Account, Entry}
 use Rattle.bac_links.specs.declared.datagram.Datagram.{Datagram}
 use Rattle.bac_run.specs.declared.{session.Session.Session, fault.RunFault.{RunFault, TheVariants.{Script, Link}}, turns.Run.Run}
 use Rattle.bac_run.specs.Course.{Aim, Goes, Stage, Turns, aims_behind, aims_of, aims_for, aims_in_room, aims_of_lines, last_aims, room_for, stage_after}
 use Rattle.bac_script.specs.{Input.CanReadOn, Line.said, Script.lines, declared.line.LineFault.TheVariants.{Bad, TooLong}}
 use Rattle.bac_script.proofs.Pieces.{lines-ended, lines-last, lines-rest, next_long}
-use Rattle.bac_run.specs.{Journal.{Act, client_after, new_client, settings_line}, Went.{ComesTo, IsGained, IsNamed, IsOfWait, IsOver, IsOverAt, IsWithin, Went, WentFor, started}, Run.{EndsAt, IsAtRest, Runs, RunsOn, first_stage}}
+use Rattle.bac_run.specs.{Journal.{Act, ends_with_return, new_client, settings_line}, Went.{ComesTo, IsGained, IsNamed, IsOfWait, IsOver, IsOverAt, IsWithin, Went, WentFor, started}, Replay.AreSettings, Run.{EndsAt, IsAtRest, Runs, RunsOn, first_stage}}
 use Rattle.bac_run.specs.Fault.{is_at_link, is_of_link, stopped, write_failed}
 use Rattle.bac_run.proofs.Acts.{done, failed}
 use Rattle.bac_run.proofs.Parts.{quiet_went, within_at, within_both, within_fault, within_from, within_turned, went_at, went_err, went_failed, went_fault, went_from, went_more, went_still, went_stopped, went_turned}
 use Rattle.bac_links.specs.{Limits.most_turns, declared.fault.ToolFault.TheVariants.{SendFailed, ReceiveFailed, TurnsSpent, WriteFailed as LinkNotWritten}}
 use Rattle.bac_run.specs.declared.turns.Until.TheVariants.{FewOpen}
 use Rattle.bac_script.proofs.{Pieces.said-whole_long, Taken.{Takes-more, Takes-front}}
-use Rattle.bac_run.specs.Input.{acts_of_line, acts_or_none, fault_in, fault_of_line, inputs_in, is_full, AllDone, AreCut, EndsWithFeed, Takes}
+use Rattle.bac_run.specs.Input.{acts_of_line, acts_of_said, acts_or_none, fault_in, fault_of_line, fault_of_said, inputs_in, said_of, AllDone, AreCut, EndsWithFeed, Takes}
 use Rattle.bac_run.specs.Input.{HasNoFeed, IsGood}
 
 -- What a run is about for lines that were taken.
@@ -98,20 +99,19 @@ cut_so Open line (inr c) = inr c.no_feed
 cut_so AtEnd line c = inr c.no_feed
 cut_so Failed line c = inr c.no_feed
 
--- A line that says nothing is bad, and so is its fault.
-unsaid : (line : List ℕ) (fault : LineFault) → said false line ≡ Err fault → acts_of_line line ≡ None
-unsaid line fault is = here (is_full line) refl
-  where
-    here : (b : Bool) → is_full line ≡ b → acts_of_line line ≡ None
-    here true full = rw full refl
-    here false fits = rw (fits, is) refl
+-- A line that is too long is bad, and so is its fault.
+said_of_long : (line : List ℕ) → said false line ≡ Err TooLong → said_of line ≡ Err TooLong
+said_of_long line is =
+    elim (cases_Bool (length line == longest_line && ends_with_return line)) [
+      | inl long ↦ rw long refl
+      | inr short ↦ rw short is
+    ]
+
+unsaid : (line : List ℕ) → said false line ≡ Err TooLong → acts_of_line line ≡ None
+unsaid line is = ap (λ (r : Result Said LineFault). option_and_then (acts_of_said line) (result_ok r)) (said_of_long line is)
 
 long_fault : (n : ℕ) (line : List ℕ) → said false line ≡ Err TooLong → fault_of_line n line ≡ LineTooLong n
-long_fault n line is = here (is_full line) refl
-  where
-    here : (b : Bool) → is_full line ≡ b → fault_of_line n line ≡ LineTooLong n
-    here true full = rw full refl
-    here false fits = rw (fits, is) refl
+long_fault n line is = ap (λ (r : Result Said LineFault). fault_of_said n r) (said_of_long line is)
 
 -- The next line that was taken asks for what the first line of the octets from there on asks for.
 pub record IsCut (line now : List ℕ) (reading : Reading) : Type 0 where
@@ -131,7 +131,7 @@ cut_long line held reading none long =
       whole = next.whole;
       others = next.others;
       split = next.split;
-      same = unsaid next.whole TooLong there ∙ sym (unsaid line TooLong here);
+      same = unsaid next.whole there ∙ sym (unsaid line here);
       alike = λ n. long_fault n next.whole there ∙ sym (long_fault n line here);
     }
 
@@ -157,7 +157,7 @@ cut_next AtEnd now n sure some within c last =
 
 -- A line that is good is not too long, so it ends with a line feed, unless reading has ended.
 too_long_bad : (line : List ℕ) → HasNoFeed line → length line ≡ line_room → IsGood line → ⊥
-too_long_bad line none long good = good (unsaid line TooLong (said-whole_long false line none long))
+too_long_bad line none long good = good (unsaid line (said-whole_long false line none long))
 
 feed_so : (line : List ℕ) → IsLineCut Open line → IsGood line → EndsWithFeed line
 feed_so line (inl c) good = (c.text, c.no_feed, c.ended)
@@ -203,7 +203,7 @@ all_done_so (Ok end) taken acts lines is asked good count = (asked, good, refl, 
 all_done_so (Err fault) taken acts lines is asked good count = ([], sym asked ∙ sym (append-nil _))
 
 -- What is all done is done as far as a front of it.
-done_front : (result : Result TraceEnd RunFault) (taken : List (List ℕ)) (kept : List ℕ) (acts : List Act)
+pub done_front : (result : Result TraceEnd RunFault) (taken : List (List ℕ)) (kept : List ℕ) (acts : List Act)
     → AllDone result taken kept acts → (rest : List Act) × (flat_map acts_or_none taken ≡ inputs_in acts ++ rest)
 done_front (Ok end) taken kept acts (asked, _, _, _) = ([], sym asked ∙ sym (append-nil _))
 done_front (Err fault) taken kept acts is = is
@@ -393,13 +393,12 @@ ends_read fault ls left run (inr waits) comes none = ends_wait fault Failed ls (
 
 -- A line names its fault, which is none of reading.
 not_read : (n : ℕ) (line : List ℕ) → ReadFailed ≡ fault_of_line n line → ⊥
-not_read n line is = here (is_full line) refl (said false line) refl
+not_read n line is = here (said_of line) refl
   where
-    here : (b : Bool) → is_full line ≡ b → (r : Result Said LineFault) → said false line ≡ r → ⊥
-    here true full r said_is = absurd (let bad = rw full at is in cc)
-    here false fits (Ok one) said_is = absurd (let bad = rw (fits, said_is) at is in cc)
-    here false fits (Err TooLong) said_is = absurd (let bad = rw (fits, said_is) at is in cc)
-    here false fits (Err Bad) said_is = absurd (let bad = rw (fits, said_is) at is in cc)
+    here : (r : Result Said LineFault) → said_of line ≡ r → ⊥
+    here (Ok one) said_is = absurd (let bad = rw said_is at is in cc)
+    here (Err TooLong) said_is = absurd (let bad = rw said_is at is in cc)
+    here (Err Bad) said_is = absurd (let bad = rw said_is at is in cc)
 
 -- So does a line with a fault.
 ends_line : (fault : RunFault) (n : ℕ) (line : List ℕ) (reading : Reading) (ls : List (List ℕ)) (to left : Stage)
@@ -513,6 +512,7 @@ module _ {Origin R W : Type 0} {remaining : R → Option (List ℕ)} {contents :
             };
             prints = f.settings ⨾ all.prints;
             asks = all.asks;
+            fit = all.fit;
             over = subst (λ (client : Client). IsOver result client) all.client_is over;
             within = within;
           }
@@ -790,6 +790,7 @@ module _ {Origin R W : Type 0} {remaining : R → Option (List ℕ)} {contents :
           };
           prints = f.settings ⨾ all.prints;
           asks = all.asks;
+          fit = all.fit;
           over = subst (λ (client : Client). IsOver (failed TraceEnd fault) client) all.client_is (over_wait fault _ waits);
           within = within_both session.window (went_at room f.went) end (within_at session.window f.went room f.within)
               (quiet_went session.window end tt);
@@ -798,16 +799,19 @@ module _ {Origin R W : Type 0} {remaining : R → Option (List ℕ)} {contents :
     -- What is left on the page in the end goes out, or the writer fails.
     pub goes_out : {reader reader' : Checked R} {first last : Page W} {writer after back : Checked W} {s t : Account Origin}
         {result : Result TraceEnd RunFault} → after ≡ back → RunsOn remaining contents session reader reader' first last s t result
-        → writer_of first ≡ writer → held first ≡ [] → Writes contents (writer_of last) after (held last) [] []
+        → AreSettings session → writer_of first ≡ writer → held first ≡ [] → room_of first ≡ Some folded_line
+        → Writes contents (writer_of last) after (held last) [] []
         → Runs remaining contents session reader reader' writer back s t result
-    goes_out is runs same empty gone = record {
+    goes_out is runs settings same empty folds gone = record {
       acts = runs.acts;
       takes = runs.takes;
       course = runs.course;
-      printed = rw is at (finished same empty runs.prints gone);
+      printed = rw is at (folded_out same empty folds runs.prints gone);
       asks = runs.asks;
       over = runs.over;
       within = runs.within;
+      fit = runs.fit;
+      settings = settings;
     }
 
     -- It is told that the writer has failed.
@@ -839,4 +843,6 @@ module _ {Origin R W : Type 0} {remaining : R → Option (List ℕ)} {contents :
       };
       over = tt;
       within = runs.within;
+      fit = runs.fit;
+      settings = runs.settings;
     }

@@ -1,14 +1,14 @@
 -- The lines of the input, and what a run does of each.
 use Rattle.std.specs.Prelude.{◌≡◌, ◌≢◌, ℕ, Bool, false, ◌==◌, ◌||◌, List, [], ◌∷◌, ◌++◌, Option, Some, None, unwrap_or}
 use Rattle.std.specs.{Prelude.{option_and_then, length, Result, Ok, Err, if◌then◌else◌, ◌⊎◌}, Result.result_ok}
-use Rattle.std.specs.Prelude.{suc, not, ◌&&◌, nat_le, is_some}
+use Rattle.std.specs.Prelude.{suc, ◌&&◌, is_some}
 use Rattle.bac_text.specs.Limits.{longest_line}
 use Rattle.std.specs.List.{AllByRecursion, concat, flat_map}
 use Rattle.bac_tsm.specs.Events.{Ask}
 use Rattle.bac_print.specs.{declared.checked.Checked.Checked, Checked.Gave}
-use Rattle.bac_script.specs.{Line.{Said, Nothing, Happens, said, ends_with_feed}, Script.fault_at}
-use Rattle.bac_script.specs.declared.{line.LineFault.LineFault, tracing.TraceEnd.TraceEnd}
-use Rattle.bac_script.specs.declared.tracing.TraceFault.{TraceFault, TheVariants.{BadLine, LineTooLong}}
+use Rattle.bac_script.specs.{Line.{Said, Nothing, Happens, said}, Script.fault_at}
+use Rattle.bac_script.specs.declared.{line.LineFault.{LineFault, TheVariants.TooLong}, tracing.TraceEnd.TraceEnd}
+use Rattle.bac_script.specs.declared.tracing.TraceFault.{TraceFault, TheVariants.BadLine}
 use Rattle.bac_run.specs.declared.fault.RunFault.{RunFault}
 use Rattle.bac_run.specs.Journal.{Act, Asked, Paused, ends_with_return}
 
@@ -27,13 +27,15 @@ acts_of_said line Nothing = Some (skipped line)
 acts_of_said line (Happens (Ask peer service body)) = Some (Asked line (Ask peer service body) ∷ [])
 acts_of_said line _ = None
 
--- A last line without a line feed that ends in a carriage return has one more in the journal: there has to be room.
-abbrev pub is_full : List ℕ → Bool
-is_full line = not (ends_with_feed line) && (ends_with_return line && nat_le longest_line (length line))
+-- What a line says. No line says settings. Where it has 4,096 octets and lacks its line feed, and ends with a carriage
+-- return, it is too long: the journal would have one more.
+abbrev pub said_of : List ℕ → Result Said LineFault
+said_of line =
+    if length line == longest_line && ends_with_return line then Err TooLong else said false line
 
--- What is done of a line, where it is not bad. No line says settings.
+-- What is done of a line, where it is not bad.
 abbrev pub acts_of_line : List ℕ → Option (List Act)
-acts_of_line line = if is_full line then None else option_and_then (acts_of_said line) (result_ok (said false line))
+acts_of_line line = option_and_then (acts_of_said line) (result_ok (said_of line))
 
 -- The fault of a line that is bad or too long, by its number.
 abbrev pub fault_of_said : ℕ → Result Said LineFault → TraceFault
@@ -41,7 +43,7 @@ fault_of_said n (Ok one) = BadLine n
 fault_of_said n (Err fault) = fault_at n fault
 
 abbrev pub fault_of_line : ℕ → List ℕ → TraceFault
-fault_of_line n line = if is_full line then LineTooLong n else fault_of_said n (said false line)
+fault_of_line n line = fault_of_said n (said_of line)
 
 -- The fault of the first of these lines that has one; the first line has this number.
 abbrev pub fault_in : ℕ → List (List ℕ) → Option TraceFault

@@ -1,19 +1,24 @@
 -- A whole run: its journal, and what it asked of its link.
 use Rattle.std.specs.Prelude.{◌≡◌, ℕ, List, [], ◌++◌, length, Option, Some, None, Result, Ok, Err, ⊤}
-use Rattle.bac_print.specs.{declared.{checked.Checked.Checked, page.Page.Page}, Page.{Writes, Prints}}
+use Rattle.bac_print.specs.{declared.{checked.Checked.Checked, page.Page.Page}, Page.{folded, folded_line, Writes, Prints}}
 use Rattle.bac_print.specs.Checked.{octets_of}
 use Rattle.bac_script.specs.{Input.ReaderStands, Script.lines, declared.input.Reading.{Reading, TheVariants.{AtEnd, Failed}}}
 use Rattle.bac_script.specs.declared.tracing.{TraceEnd.TraceEnd, TraceFault.TheVariants.{ReadFailed, WriteFailed}}
 use Rattle.bac_links.specs.History.{Account}
-use Rattle.bac_run.specs.{Journal.{Act, client_after, new_client, settings_line, journal, history_of}, Went.{ComesTo, GainsDue, IsOver, IsWithin}}
+use Rattle.bac_run.specs.{Journal.{Act, FitsLine, client_after, new_client, settings_line, journal, history_of}, Went.{ComesTo, GainsDue, IsOver, IsWithin}}
 use Rattle.bac_run.specs.Course.{Aim, Goes, Outside, Stage, aims_of_lines, ready, stage_after}
-use Rattle.bac_run.specs.Input.{Takes, fault_in}
+use Rattle.std.specs.List.{AllByRecursion}
+use Rattle.bac_run.specs.{Input.{Takes, fault_in}, Replay.AreSettings}
 use Rattle.bac_run.specs.declared.{session.Session.Session, fault.RunFault.{RunFault, TheVariants.{Script, Link}}}
 
--- The journal of a session: its settings, and what it does.
-abbrev pub journal_of : Session → List Act → List ℕ
-journal_of session acts = settings_line session.config.timeout session.config.retries
+-- The lines of a session's journal: its settings, and what it does.
+abbrev pub journal_lines : Session → List Act → List ℕ
+journal_lines session acts = settings_line session.config.timeout session.config.retries
     ++ journal (new_client session.config.timeout session.config.retries) acts
+
+-- The journal of a session: these lines, folded.
+abbrev pub journal_of : Session → List Act → List ℕ
+journal_of session acts = folded folded_line (journal_lines session acts)
 
 -- A writer took the text, or, where it has failed then, a front of it.
 abbrev pub IsPrinted : {W : Type 0} → (W → Option (List ℕ)) → Checked W → Checked W → List ℕ → Type 0
@@ -54,6 +59,7 @@ pub record IsCourse {R : Type 0} (remaining : R → Option (List ℕ)) (session 
 -- A run did some acts, each where it was due; among them are those that its input asks for. Their journal was printed,
 -- and the link was asked what they ask. Fewer requests than the window were open wherever one was asked for. In the end
 -- no request is open, also after a line that is bad; but some may be where the link, the turns or the writer gave out.
+-- The settings are such as a script says, and so is what the link answered.
 pub record Runs {Origin R W : Type 0} (remaining : R → Option (List ℕ)) (contents : W → Option (List ℕ))
     (session : Session) (reader reader' : Checked R) (before after : Checked W)
     (seen left : Account Origin) (result : Result TraceEnd RunFault) : Type 0 where
@@ -64,6 +70,8 @@ pub record Runs {Origin R W : Type 0} (remaining : R → Option (List ℕ)) (con
   pub asks : GainsDue result (history_of (new_client session.config.timeout session.config.retries) acts) seen left
   pub over : IsOver result (client_after (new_client session.config.timeout session.config.retries) acts)
   pub within : IsWithin session.window (new_client session.config.timeout session.config.retries) acts
+  pub fit : AllByRecursion FitsLine acts
+  pub settings : AreSettings session
 
 -- The same, while some of the journal may still be on the page.
 pub record RunsOn {Origin R W : Type 0} (remaining : R → Option (List ℕ)) (contents : W → Option (List ℕ))
@@ -72,7 +80,8 @@ pub record RunsOn {Origin R W : Type 0} (remaining : R → Option (List ℕ)) (c
   pub acts : List Act
   pub takes : Takes remaining reader reader' acts result
   pub course : IsCourse remaining session reader reader' acts result
-  pub prints : Prints contents page page' (journal_of session acts)
+  pub prints : Prints contents page page' (journal_lines session acts)
   pub asks : GainsDue result (history_of (new_client session.config.timeout session.config.retries) acts) seen left
   pub over : IsOver result (client_after (new_client session.config.timeout session.config.retries) acts)
   pub within : IsWithin session.window (new_client session.config.timeout session.config.retries) acts
+  pub fit : AllByRecursion FitsLine acts

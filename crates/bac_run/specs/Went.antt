@@ -1,5 +1,6 @@
 -- What a part of a run did to its client, its page and its link.
 use Rattle.std.specs.Prelude.{◌≡◌, ◌<◌, ℕ, zero, suc, Bool, ⊤, List, [], ◌∷◌, ◌++◌, if◌then◌else◌, Option, None, Result, Ok, Err}
+use Rattle.std.specs.List.{AllByRecursion}
 use Rattle.bac_pdu.specs.Peer.{Station}
 use Rattle.bac_tsm.specs.{Client.Client, Events.Event}
 use Rattle.bac_print.specs.{declared.page.Page.Page, Page.Prints}
@@ -8,7 +9,7 @@ use Rattle.bac_links.specs.History.{Entry, Posted, Unposted, Account, GainsAll}
 use Rattle.bac_links.specs.declared.fault.ToolFault.TheVariants.{SendFailed, ReceiveFailed, TurnsSpent}
 use Rattle.bac_run.specs.declared.{fault.RunFault.{RunFault, TheVariants.{Link, Script}}, turns.{Run.Run, Until.Until}}
 use Rattle.bac_run.specs.Input.{acts_of_line, fault_of_line, inputs_in, IsDone}
-use Rattle.bac_run.specs.Journal.{Act, Asked, client_after, journal, history_of, turn_at, at_event, remarks, posts}
+use Rattle.bac_run.specs.Journal.{Act, Asked, FitsLine, client_after, journal, history_of, turn_at, at_event, remarks, posts}
 use Rattle.bac_run.specs.Course.{
   Aim, Broken, Goes, Looked, Outside, Phase, Stage, Turns, aims_for, open_in, settled, stage_after, telling,
 }
@@ -83,6 +84,7 @@ pub record Went {Origin W A I : Type 0} (contents : W → Option (List ℕ)) (ru
   pub client_is : run'.client ≡ client_after run.client acts
   pub prints : Prints contents page page' (journal run.client acts)
   pub asks : GainsDue result (history_of run.client acts) seen left
+  pub fit : AllByRecursion FitsLine acts
 
 -- The client made its step at this event, its notes were printed as remarks, and what it sends was sent.
 pub record Opened {Origin W A : Type 0} (contents : W → Option (List ℕ)) (client client' : Client) (page page' : Page W)

@@ -1,14 +1,16 @@
 //! A run of many requests over one link.
 
 ghost use Rattle.std.specs.Prelude.{◌≡◌, ◌≢◌, ◌⊎◌, ◌-◌, ◌<◌, [], ◌∷◌, Some, false, true, Err, IfErr, IfOk};
+ghost use Rattle.bac_wire.specs.Steps.{result_seen};
 ghost use Rattle.bac_pdu.specs.Peer.{station};
+ghost use Rattle.bac_script.specs.Inner.LineSeen.{line_seen};
 ghost use Rattle.bac_tsm.specs.Events.{Ask};
 ghost use Rattle.bac_print.specs.{Checked.has_failed, Page.{held, writer_of}};
 ghost use Rattle.bac_run.specs.{Fault.{is_at_link, is_of_link, send_failed, stopped, write_failed}};
 ghost use Rattle.bac_script.specs.declared.tracing.TraceFault.TheVariants.{WriteFailed};
 ghost use Rattle.bac_run.specs.{
   Course.{Turns, open_in},
-  Input.{acts_of_line, is_full, is_remark, skipped},
+  Input.{acts_of_line, is_remark, said_of, skipped},
   Journal.Asked,
   Run.{Runs, RunsOn},
   Went.{IsNamed, IsOfWait, IsOver, IsOverAt, Opened, Went, WentFor, started},
@@ -44,7 +46,7 @@ pub fn run_requests<L: Link, R: Read, W: Write>(
     ensures not_written { result ≡ Err write_failed → has_failed writer.new ≡ true }
     ensures unsaid { has_failed writer.new ≡ true → (result ≡ Err write_failed) ⊎ (is_at_link result ≡ true) }
 {
-    let mut page = Page::new(writer);
+    let mut page = Page::folding(writer);
     let answer = run_lines(session, link, reader, &mut page);
     if page.finish().is_err() && !is_at_link(&answer) {
         return Err(RunFault::Script(TraceFault::WriteFailed));
@@ -123,10 +125,7 @@ impl Run {
         ensures named { IfErr result (λ fault. IsNamed fault number line.now) }
     {
         let bad = TraceFault::BadLine(number);
-        if is_full(line) {
-            return Err(self.stop(TraceFault::LineTooLong(number), link, page));
-        }
-        match read_line(line, false, room) {
+        match read_short_line(line, room) {
             Ok(Line::Skipped) => self.pause(line, link, page),
             Ok(Line::Request(peer, service, body)) => {
                 self.ask(line, *peer, service, body, link, page)
@@ -283,11 +282,14 @@ fn submit<L: Link, W: Write>(
     }
 }
 
-// Whether a last line without a line feed has no room for one more carriage return.
-fn is_full(line: &[u8]) -> bool
-    ensures { result ≡ is_full line.now }
+// What a line says, where the journal has room for it.
+fn read_short_line<'a>(line: &'a [u8], room: &'a mut LineRoom) -> Result<Line<'a>, LineFault>
+    ensures { result_seen line_seen result ≡ said_of line.now }
 {
-    line.len() >= LONGEST_LINE && line.last() == Some(&b'\r')
+    if line.len() == LONGEST_LINE && line.last() == Some(&b'\r') {
+        return Err(LineFault::TooLong);
+    }
+    read_line(line, false, room)
 }
 
 // Whether the first octet of a line behind its blanks is that of a remark.

@@ -1,6 +1,6 @@
 -- What a wait brought.
-use Rattle.std.proofs.Common.{◌≡◌, ◌∙◌, ℕ, false, true, refl, sym, ap, arith, length}
-use Rattle.bac_pdu.specs.Peer.{station}
+use Rattle.std.proofs.Common.{◌≡◌, ◌∙◌, ℕ, None, false, true, refl, sym, ap, arith, length, option_map, rules}
+use Rattle.bac_pdu.specs.Peer.{network_address, station}
 use Rattle.bac_tsm.specs.Client.{Client}
 use Rattle.bac_links.specs.History.{Arrived, Failure, Silence}
 use Rattle.bac_run.specs.{Course.{Outside, heard_at, settled}, Journal.has_line, declared.turns.Run.Run}
@@ -31,9 +31,12 @@ returns-then-not-has_line-clause-kept g c =
 
 pub returns-clause-went : goal.returns-clause-went
 returns-clause-went g c =
+    let plain = rw c.in-Ok-Some.field-0-is at c.in-Ok-Some.ensures.plain in
+    let route : option_map network_address c.in-Ok-Some.from.route ≡ None = grind (arith, plain) in
     let said : has_line (length c.as_slice-octets.result.now) ≡ true = grind (arith, c.has_line.ensures, c.if-not-has_line.false) in
     went_ok c.defers-2.result
     (went_came c.longest_wait-wait_ms.result (station c.in-Ok-Some.from) c.as_slice-octets.result.now _
+    (search rules, search rules, route, search rules, said)
     (ap (λ (run : Run). run.session) c.defers-2.ensures.same) c.datagram.ensures.answer
     (ap (λ (run : Run). run.client) c.defers-2.ensures.same ∙ c.datagram.ensures.left)
     (λ (time, aims). (c.longest_wait-wait_ms.ensures, said))

@@ -3,9 +3,9 @@ use Rattle.std.proofs.Common.{ℕ, List, [], ◌<◌, length, Option, Some, None
 use Rattle.std.specs.{Prelude.option_and_then, Result.result_ok}
 use Rattle.std.proofs.lemmas.Result.{err_from_is_err_and}
 use Rattle.bac_tsm.specs.Events.{Ask}
-use Rattle.bac_script.specs.Line.{Said, Nothing, Happens, said}
+use Rattle.bac_script.specs.Line.{Said, Nothing, Happens}
 use Rattle.bac_script.specs.declared.line.LineFault.{LineFault}
-use Rattle.bac_run.specs.{Course.Does, Input.{acts_of_line, acts_of_said, is_full}, Journal.{Act, Asked}}
+use Rattle.bac_run.specs.{Course.Does, Input.{acts_of_line, acts_of_said, said_of}, Journal.{Act, Asked}}
 use Rattle.std.proofs.lemmas.Bool.Decides.{nat_tests}
 use Rattle.bac_wire.specs.Identifier.{identifier}
 use Rattle.bac_pdu.specs.{Apdu.longest_body, Peer.station}
@@ -18,35 +18,23 @@ past : (whole : Result (List ℕ) ℕ) → IsTrue (is_long whole) → longest_bo
 past (Err n) h = absurd (search rules)
 past (Ok body) h = grind (arith, nat_tests, h)
 
--- What is done of a line that has room for its end, and says this.
-wanted : (line : List ℕ) (what : Said) → is_full line ≡ false → Ok what ≡ said false line
-    → acts_of_line line ≡ acts_of_said line what
-wanted line what fits is =
-    rw fits (ap (λ (r : Result Said LineFault). option_and_then (acts_of_said line) (result_ok r)) (sym is))
+-- What is done of a line that says this, or that is bad.
+wanted : (line : List ℕ) (what : Said) → Ok what ≡ said_of line → acts_of_line line ≡ acts_of_said line what
+wanted line what is = ap (λ (r : Result Said LineFault). option_and_then (acts_of_said line) (result_ok r)) (sym is)
 
-unwanted : (line : List ℕ) (fault : LineFault) → is_full line ≡ false → Err fault ≡ said false line
-    → acts_of_line line ≡ None
-unwanted line fault fits is =
-    rw fits (ap (λ (r : Result Said LineFault). option_and_then (acts_of_said line) (result_ok r)) (sym is))
-
-full : (line : List ℕ) → is_full line ≡ true → acts_of_line line ≡ None
-full line is = rw is refl
-
-pub returns-then-is_full-clause-went : goal.returns-then-is_full-clause-went
-returns-then-is_full-clause-went g c =
-    for_same {other = None} (full c.args.line.now (grind (arith, c.is_full.ensures, c.if-is_full.true)))
-    (for_front None _ [] refl c.stop.ensures.went)
+unwanted : (line : List ℕ) (fault : LineFault) → Err fault ≡ said_of line → acts_of_line line ≡ None
+unwanted line fault is =
+    ap (λ (r : Result Said LineFault). option_and_then (acts_of_said line) (result_ok r)) (sym is)
 
 pub returns-in-Ok-Skipped-clause-went : goal.returns-in-Ok-Skipped-clause-went
 returns-in-Ok-Skipped-clause-went g c =
-    for_same (wanted c.args.line.now Nothing (grind (arith, c.is_full.ensures, c.if-is_full.false))
+    for_same (wanted c.args.line.now Nothing
     (rw c.in-Ok-Skipped.field-0-is at c.in-Ok-Skipped.ensures)) c.pause.ensures.went
 
 pub returns-in-Ok-Request-clause-went : goal.returns-in-Ok-Request-clause-went
 returns-in-Ok-Request-clause-went g c =
     let r = c.in-Ok-Request in
-    for_same (wanted c.args.line.now (Happens (Ask (station r.peer.now) r.service r.body.now))
-    (grind (arith, c.is_full.ensures, c.if-is_full.false)) (rw r.field-0-is at r.ensures)) c.ask.ensures.went
+    for_same (wanted c.args.line.now (Happens (Ask (station r.peer.now) r.service r.body.now))  (rw r.field-0-is at r.ensures)) c.ask.ensures.went
 
 pub returns-in_err-freshen-in-Ok-LongWrite-clause-went : goal.returns-in_err-freshen-in-Ok-LongWrite-clause-went
 returns-in_err-freshen-in-Ok-LongWrite-clause-went g c =
@@ -55,8 +43,7 @@ returns-in_err-freshen-in-Ok-LongWrite-clause-went g c =
     let asked = Asked c.args.line.now (Ask (station w.peer.now) 15 (long_body w)) in
     rw (was, same)
     (for_same {other = Some (asked ∷ [])}
-    (wanted c.args.line.now (Happens (Ask (station w.peer.now) 15 (long_body w)))
-    (grind (arith, c.is_full.ensures, c.if-is_full.false)) (rw c.in-Ok-LongWrite.field-0-is at c.in-Ok-LongWrite.ensures))
+    (wanted c.args.line.now (Happens (Ask (station w.peer.now) 15 (long_body w)))  (rw c.in-Ok-LongWrite.field-0-is at c.in-Ok-LongWrite.ensures))
     (for_front _ _ (asked ∷ []) refl
     (went_failed (Unit {0}) _ c.in_err-freshen-in-Ok-LongWrite.ensures.cause
     (went_at (λ later. Does asked ∷ later) c.in_err-freshen-in-Ok-LongWrite.ensures.went))))
@@ -66,8 +53,7 @@ returns-in_ok-freshen-in-Ok-LongWrite-clause-went g c =
     let w = c.in-Ok-LongWrite.field-0-0 in
     let asked = Asked c.args.line.now (Ask (station w.peer.now) 15 (long_body w)) in
     for_same
-    (wanted c.args.line.now (Happens (Ask (station w.peer.now) 15 (long_body w)))
-    (grind (arith, c.is_full.ensures, c.if-is_full.false)) (rw c.in-Ok-LongWrite.field-0-is at c.in-Ok-LongWrite.ensures))
+    (wanted c.args.line.now (Happens (Ask (station w.peer.now) 15 (long_body w)))  (rw c.in-Ok-LongWrite.field-0-is at c.in-Ok-LongWrite.ensures))
     (for_refused c.args.line.now (station w.peer.now) (long_body w)
     (past (whole_body_of (identifier w.object) w.property w.index w.priority w.words) w.long)
     (went_at (λ later. Does asked ∷ later) c.in_ok-freshen-in-Ok-LongWrite.ensures.went)
@@ -77,35 +63,35 @@ returns-in_ok-freshen-in-Ok-LongWrite-clause-went g c =
 pub returns-in-Err-TooLong-clause-went : goal.returns-in-Err-TooLong-clause-went
 returns-in-Err-TooLong-clause-went g c =
     for_same {other = None}
-    (unwanted c.args.line.now _ (grind (arith, c.is_full.ensures, c.if-is_full.false)) (rw c.in-Err-TooLong.field-0-is at c.in-Err-TooLong.ensures))
+    (unwanted c.args.line.now _ (rw c.in-Err-TooLong.field-0-is at c.in-Err-TooLong.ensures))
     (for_front None _ [] refl c.stop-in-Err-TooLong.ensures.went)
 
 pub returns-in-Ok-Client-clause-went : goal.returns-in-Ok-Client-clause-went
 returns-in-Ok-Client-clause-went g c =
     for_same {other = None}
-    (wanted c.args.line.now _ (grind (arith, c.is_full.ensures, c.if-is_full.false))
-    (rw c.in-Ok-Client.field-0-is at c.in-Ok-Client.ensures)) (for_front None _ [] refl c.stop-in-Ok-Client.ensures.went)
+    (wanted c.args.line.now _
+    (rw c.in-Ok-Client.field-0-is at c.in-Ok-Client.ensures)) (for_front None _ [] refl c.stop.ensures.went)
 
 pub returns-in-Ok-Data-clause-went : goal.returns-in-Ok-Data-clause-went
 returns-in-Ok-Data-clause-went g c =
     for_same {other = None}
-    (wanted c.args.line.now _ (grind (arith, c.is_full.ensures, c.if-is_full.false))
+    (wanted c.args.line.now _
     (rw c.in-Ok-Data.field-0-is at c.in-Ok-Data.ensures)) (for_front None _ [] refl c.stop-in-Ok-Data.ensures.went)
 
 pub returns-in-Ok-Tick-clause-went : goal.returns-in-Ok-Tick-clause-went
 returns-in-Ok-Tick-clause-went g c =
     for_same {other = None}
-    (wanted c.args.line.now _ (grind (arith, c.is_full.ensures, c.if-is_full.false))
+    (wanted c.args.line.now _
     (rw c.in-Ok-Tick.field-0-is at c.in-Ok-Tick.ensures)) (for_front None _ [] refl c.stop-in-Ok-Tick.ensures.went)
 
 pub returns-in-Ok-Ask-clause-went : goal.returns-in-Ok-Ask-clause-went
 returns-in-Ok-Ask-clause-went g c =
     for_same {other = None}
-    (wanted c.args.line.now _ (grind (arith, c.is_full.ensures, c.if-is_full.false))
+    (wanted c.args.line.now _
     (rw c.in-Ok-Ask.field-0-is at c.in-Ok-Ask.ensures)) (for_front None _ [] refl c.stop-in-Ok-Ask.ensures.went)
 
 pub returns-in-Err-Bad-clause-went : goal.returns-in-Err-Bad-clause-went
 returns-in-Err-Bad-clause-went g c =
     for_same {other = None}
-    (unwanted c.args.line.now _ (grind (arith, c.is_full.ensures, c.if-is_full.false))
+    (unwanted c.args.line.now _
     (rw c.in-Err-Bad.field-0-is at c.in-Err-Bad.ensures)) (for_front None _ [] refl c.stop-in-Err-Bad.ensures.went)

@@ -1,5 +1,5 @@
 -- What is told at a time.
-use Rattle.std.proofs.Common.{◌∙◌, ap, refl, sym, arith, length, nat_lt, false, true, ◌≡◌}
+use Rattle.std.proofs.Common.{◌∙◌, ap, refl, rules, sym, arith, length, nat_lt, false, true, ◌≡◌}
 use Rattle.std.proofs.lemmas.Bool.Decides.{nat_tests}
 use Rattle.bac_run.proofs.Parts.{comes_sent, went_still, went_told}
 use Rattle.bac_tsm.specs.Client.{Client}
@@ -15,7 +15,7 @@ returns-then-now-clock-clause-went g c =
 pub returns-clause-went : goal.returns-clause-went
 returns-clause-went g c =
     let later : nat_lt c.args.self.now.client.state.clock c.args.now ≡ true = grind (arith, nat_tests, c.if-now-clock.false, c.clock.ensures) in
-    went_told c.args.now c.as_slice.result.now refl (c.as_slice.ensures.value ∙ c.tick-due.ensures.answer)
+    went_told c.args.now c.as_slice.result.now (search rules) refl (c.as_slice.ensures.value ∙ c.tick-due.ensures.answer)
     c.tick-due.ensures.left (λ aims. rw later refl) (λ aims. rw later (comes_sent _ c.send_due.ensures.cause
     (ap (λ (client : Client). ready client 0 aims) (sym c.tick-due.ensures.left)))) c.print_time.ensures c.remark_due.ensures
     (rw (c.as_slice.ensures.value ∙ sym c.as_slice-2.ensures.value) c.send_due.ensures.sent)
