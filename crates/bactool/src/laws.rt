@@ -5,7 +5,7 @@ ghost use Rattle.bac_links.specs.{Socket.OverSocket, declared.socket.NoSocket.No
 ghost use Rattle.bac_words.specs.Called.{words_called};
 ghost use Rattle.bac_tools.specs.{Calls.{RunsAsCalls, RunsWithout}, Program.IsRun};
 
-use crate::Sockets;
+use crate::sockets::Sockets;
 use bac_tools::{Link, Network, Ran, SystemSocket, UdpLink};
 use std::io::{Read, Write};
 use std::net::Net;
@@ -17,13 +17,13 @@ use std::time::Clock;
 /// asked of the link, one thing after another; and for nothing else. Where there was none to be had, nothing was read or printed,
 /// and the system was asked for one socket at most, and for nothing else.
 pub fn the_program_is_its_calls<H: Net + Clock + Clone + Drop, R: Read, W: Write, E: Write>(
-    network: &Sockets<'static, H>,
-    ran: &Ran<Sockets<'static, H>, UdpLink<SystemSocket<H>>>,
+    network: &Sockets<H>,
+    ran: &Ran<Sockets<H>, UdpLink<SystemSocket<H>>>,
     link: &UdpLink<SystemSocket<H>>,
 )
     ensures had { (reader reader' : Checked R) (writer writer' : Checked W) (errors errors' : Checked E)
         (typed : List (List ℕ))
-        → IsRun ⟦<Sockets<'static, H> as Network>⟧.gives
+        → IsRun ⟦<Sockets<H> as Network>⟧.gives
         record {
           seen = ⟦<UdpLink<SystemSocket<H>> as Link>⟧.seen;
           failed = ⟦<UdpLink<SystemSocket<H>> as Link>⟧.has_failed;
@@ -36,7 +36,7 @@ pub fn the_program_is_its_calls<H: Net + Clock + Clone + Drop, R: Read, W: Write
         (words_called typed) link.now.socket.log.items }
     ensures none { (reader reader' : Checked R) (writer writer' : Checked W) (errors errors' : Checked E)
         (typed : List (List ℕ)) (none : NoSocket)
-        → IsRun ⟦<Sockets<'static, H> as Network>⟧.gives
+        → IsRun ⟦<Sockets<H> as Network>⟧.gives
         record {
           seen = ⟦<UdpLink<SystemSocket<H>> as Link>⟧.seen;
           failed = ⟦<UdpLink<SystemSocket<H>> as Link>⟧.has_failed;
