@@ -1,13 +1,13 @@
 //! What holds of the definitions that the contracts cite, and of the public types: the clause of a function with an
 //! empty body is the law.
-ghost use Rattle.std.specs.{Prelude.{◌≡◌, List, Some, Result, Ok, Err}, declared.io.ErrorKind.ErrorKind};
+ghost use Rattle.std.specs.{Prelude.{◌≡◌, List, Some, None, Result, Ok, Err}, declared.io.ErrorKind.ErrorKind};
 ghost use Rattle.clap.specs.Words.{Text};
 ghost use Rattle.bac_wire.specs.Copies.{MakesCopies};
 ghost use Rattle.bac_print.specs.{Checked.has_failed, declared.checked.Checked.Checked};
 ghost use Rattle.bac_links.specs.{History.Entry, SystemCall.SystemCall, declared.socket.NoSocket.NoSocket};
 ghost use Rattle.bac_words.specs.Called.{words_called};
 ghost use Rattle.bac_tools.specs.Alike.{ProgramRun, CalledRun, AreGivenAlike, AreAlike};
-ghost use Rattle.bac_tools.specs.Calls.{AsksAtMostOnce, GivesSockets, RunsAsCalls, RunsWithout};
+ghost use Rattle.bac_tools.specs.Calls.{AsksAtMostOnce, GivesSockets, RunsAsCalls, RunsUnasked, RunsWithout};
 ghost use Rattle.bac_tools.specs.{Program.{IsRun, Program}, Report.IsStatusOf, declared.program.Ran.Ran};
 
 use crate::program::Network;
@@ -74,8 +74,9 @@ pub fn the_status_is_that_of_the_fault<N: Network, R: Read, W: Write, E: Write>(
 /// From the words to the calls of the system, over any network that gives sockets. Where the program had one, its words
 /// asked for a tool or for many requests, and what its definition says was printed, told on `errors` and reported; for a
 /// tool the reader was not read. The system was asked for one socket, at the address that is wanted; then for what was
-/// asked of the link, one thing after another; and for nothing else. Where there was none to be had, nothing was read or printed,
-/// and the system was asked for one socket at most, and for nothing else.
+/// asked of the link, one thing after another; and for nothing else. Where there was none to be had, nothing was read or
+/// printed, and the system was asked for one socket at most, and for nothing else. Where no socket was asked for, the
+/// network is handed back as it was: a script was run, or nothing was done but to report why the words give no job.
 pub fn a_run_is_its_calls<N: Network, R: Read, W: Write, E: Write>()
     ensures had { (log : N.Socket → List SystemCall) (network : N) (reader reader' : Checked R)
         (writer writer' : Checked W) (errors errors' : Checked E) (ran : Ran N N.Socket) (typed : List Text)
@@ -94,6 +95,12 @@ pub fn a_run_is_its_calls<N: Network, R: Read, W: Write, E: Write>()
         E.contents network reader reader' writer writer' errors errors' ran (Ok typed) → ran.socket ≡ Some (Err none)
         → RunsWithout E.contents reader reader' writer writer' errors errors' ran.report (words_called typed)
         none.log.items }
+    ensures unasked { (network : N) (reader reader' : Checked R) (writer writer' : Checked W)
+        (errors errors' : Checked E) (ran : Ran N N.Socket) (typed : Result (List Text) ErrorKind)
+        → IsRun N.gives
+        record { seen = N.Socket.seen; failed = N.Socket.has_failed; remaining = R.remaining; contents = W.contents }
+        E.contents network reader reader' writer writer' errors errors' ran typed → ran.socket ≡ None
+        → RunsUnasked R.remaining W.contents E.contents network reader reader' writer writer' errors errors' ran typed }
 {}
 
 /// A clone is what it was cloned from, and takes no memory.
