@@ -207,9 +207,9 @@ module _ {N Origin L R W E : Type 0} {gives : N → Binding → Result L NoSocke
     run_without had =
         let it = had_job had in without_so it.job it.answered it.binding it.wanted it.given it.gave it.did
 
-module _ {N Origin L R W E : Type 0} {gives : N → Binding → Result L NoSocket → Type 0} {out : Outside Origin L R W}
-    {error_contents : E → Option (List ℕ)} {network : N} {reader reader' : Checked R} {writer writer' : Checked W}
-    {errors errors' : Checked E} {ran : Ran N L} where
+module _ {N Origin L R W E : Type 0} (gives : N → Binding → Result L NoSocket → Type 0) (out : Outside Origin L R W)
+    (error_contents : E → Option (List ℕ)) (network : N) (reader reader' : Checked R) (writer writer' : Checked W)
+    (errors errors' : Checked E) (ran : Ran N L) where
   -- What a run does that asks for no socket.
   abbrev Unasked : Result (List Text) ErrorKind → Type 0
   Unasked typed =
@@ -228,7 +228,7 @@ module _ {N Origin L R W E : Type 0} {gives : N → Binding → Result L NoSocke
         did = inr (
           reports,
           gives,
-          record { unread = unread; helped = simp (unprinted, is) run.help; reported = simp is run.reported },
+          record { unread = unread; helped = simp (← unprinted, ← is) run.help; reported = simp (← is) run.reported },
         );
         told = run.fault;
       }

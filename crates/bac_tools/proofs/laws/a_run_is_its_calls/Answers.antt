@@ -12,4 +12,4 @@ returns-clause-none g c = λ network reader reader' writer writer' errors errors
 
 pub returns-clause-unasked : goal.returns-clause-unasked
 returns-clause-unasked g c = λ network reader reader' writer writer' errors errors' ran typed run none.
-    run_unasked typed run none
+    run_unasked _ _ _ _ _ _ _ _ _ _ _ typed run none
