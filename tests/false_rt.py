@@ -85,8 +85,8 @@ ROWS = [
     (GATE, "rt ci: echo '0 passed, 0 failed'", 1, r"failed: rt ci\n"),
     (GATE, "rt ci: echo '20 passed, 0 failed'", 1, r"failed: program\n"),
     (GATE, says(SELF_TEST, "6 bodies, 1 not told as they are to be"), 1, r"failed: self test\n"),
-    (GATE, says(DROPS, "10 drops by hand, 1 not refused", 1), 1, r"failed: drops\n\d+ passed, 1 " + GOOD),
-    (GATE, says(DROPS, "0 drops by hand, 0 not refused"), 1, r"failed: drops\n"),
+    (GATE, says(DROPS, "10 drops and calls, 1 not refused", 1), 1, r"failed: drops\n\d+ passed, 1 " + GOOD),
+    (GATE, says(DROPS, "0 drops and calls, 0 not refused"), 1, r"failed: drops\n"),
 ]
 
 

@@ -52,7 +52,7 @@ TYPES = [
 ]
 # Of each call out of reach: its crate and file, the text that it is put before, the call, and the errors.
 REACHES = [
-    ("bactool", "main", "    run_program(", "std::net::UdpSocket::bind(&sockets.rt, (std::net::Ipv4Addr::LOCALHOST, 9))", HIDDEN),
+    ("bactool", "main", "    run_program(", f"std::net::UdpSocket::bind(&sockets.rt, {ADDRESS})", HIDDEN),
     ("bactool", "main", "    run_program(", "std::time::Instant::now(&sockets.rt)", HIDDEN),
     ("bac_links", "socket", "        self.log\n", "self.socket.recv_from(&mut [0])", UNKNOWN),
     ("bac_links", "socket", "        self.log\n", "self.made.elapsed(&self.rt)", UNBOUND),

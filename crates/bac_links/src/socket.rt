@@ -53,9 +53,9 @@ impl fmt::Debug for NoSocket {
 
 /// A UDP socket of the system, and its clock.
 ///
-/// This is what is trusted of a socket: that `bind` binds one, copies its descriptor and the runtime, and reads the clock,
-/// each once; that each of the four calls of [`Socket`] makes the one call of `std` which has its name, with its own
-/// arguments; and that they note that, and answer what it answered.
+/// This is what is trusted of a socket: that `bind` binds one, copies its descriptor and the runtime, and reads the
+/// clock, each once; that each of the four calls of [`Socket`] makes the one call of `std` which has its name, with its
+/// own arguments; and that they note that, and answer what it answered.
 #[derive(Drop)]
 pub struct SystemSocket<R: Drop, S: Drop = UdpSocket> {
     rt: R,

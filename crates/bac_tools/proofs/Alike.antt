@@ -21,7 +21,7 @@ use Rattle.bac_words.{
 }
 use Rattle.bac_tools.{
   specs.{Program.{RunsAsRead, IsGiven}, Binding.asked_by, declared.{running.Binding.Binding, report.Report.Report}},
-  specs.{Outside.Outside, Report.{report_of, tool_report}, Runs.{Runs, RunsOpened, RunsOver, RunsScript, ToolRuns}},
+  specs.{Outside.Outside, Report.{report_of, tool_report}, Runs.{Runs, RunsOver, RunsScript, ToolRuns}},
   specs.Alike.{AreAlike, AreGivenAlike, EndAlike, Gained, IsCutOff, IsPrinted, PrintAlike, ProgramRun, is_socket},
 }
 use Rattle.bac_tools.specs.declared.report.Fault.TheVariants as faults

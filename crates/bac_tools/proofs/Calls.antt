@@ -1,5 +1,5 @@
 -- A run over a socket is the calls of the system for it.
-use Rattle.std.proofs.Common.{◌≡◌, ◌⊎◌, ℕ, Bool, ap, refl, sym, inl, inr, List, [], Option, Some, None, IfNone}
+use Rattle.std.proofs.Common.{◌≡◌, ◌⊎◌, ℕ, Bool, ap, refl, inl, inr, List, [], Option, Some, None, IfNone}
 use Rattle.std.{proofs.Common.{Result, Ok, Err, arith, subst, IsErrAnd, option_and_then}, specs.Result.result_ok}
 use Rattle.std.specs.declared.io.ErrorKind.{ErrorKind}
 use Rattle.clap.specs.Words.{Text}
@@ -12,13 +12,12 @@ use Rattle.bac_words.specs.{Called.words_called, Line.{Answers, IsRefusal}}
 use Rattle.bac_words.specs.declared.faults.UsageFault.{UsageFault, TheVariants.Memory}
 use Rattle.bac_words.specs.declared.job.{Batch.Batch, Job.{Job, TheVariants.{Over, Run, Trace}}, Tool.Tool}
 use Rattle.bac_tools.{
-  specs.Calls.{AsksAtMostOnce, GiveNoJob, GivesSockets, JobCalled, OnlyReported, RunsAsCalls, RunsUnasked, RunsWithout},
+  specs.Calls.{AsksAtMostOnce, GiveNoJob, GivesSockets, JobCalled, RunsAsCalls, RunsUnasked, RunsWithout},
   specs.Program.{Only, RunsAsRead, IsGiven, IsRun},
   specs.{declared.{running.Binding.Binding, report.Report.Report, program.Ran.Ran}, Binding.{asked_by}},
-  specs.{Outside.Outside, Report.{report_of, run_report, tool_report, trace_report, unread_report}},
+  specs.{Outside.Outside, Report.{run_report, tool_report, trace_report}},
   specs.{Runs.{BatchRuns, Runs, ToolRuns}, Telling.{IsTold, on_output, once_given}},
 }
-use Rattle.bac_tools.specs.declared.report.Fault.TheVariants as faults
 
 -- What a job leaves of a link was made of the same.
 made_same : {Origin W : Type 0} (contents : W → Option (List ℕ)) (writer writer' : Checked W)
@@ -213,7 +212,8 @@ module _ {N Origin L R W E : Type 0} (gives : N → Binding → Result L NoSocke
   -- What a run does that asks for no socket.
   abbrev Unasked : Result (List Text) ErrorKind → Type 0
   Unasked typed =
-      RunsUnasked out.remaining out.contents error_contents network reader reader' writer writer' errors errors' ran typed
+      RunsUnasked out.remaining out.contents error_contents network reader reader' writer writer' errors errors' ran
+      typed
 
   abbrev Ends : Result (List Text) ErrorKind → Type 0
   Ends typed = IsRun gives out error_contents network reader reader' writer writer' errors errors' ran typed

@@ -13,8 +13,10 @@ use Rattle.bac_run.specs.declared.fault.RunFault.{RunFault}
 use Rattle.bac_words.specs.{Called.words_called, Line.{Answers, IsRefusal}, declared.faults.UsageFault.UsageFault}
 use Rattle.bac_words.specs.declared.job.{Batch.Batch, Job.{Job, TheVariants.{Over, Run, Trace}}, Tool.Tool}
 use Rattle.bac_tools.specs.{
-  Binding.asked_by, Report.{report_of, run_report, tool_report, trace_report, unread_report},
-  Runs.{BatchRuns, ToolRuns}, Telling.{IsTold, on_error, on_output, once_given},
+  Binding.asked_by,
+  Report.{report_of, run_report, tool_report, trace_report, unread_report},
+  Runs.{BatchRuns, ToolRuns},
+  Telling.{IsTold, on_error, on_output, once_given},
   declared.{program.Ran.Ran, running.Binding.Binding, report.Report.Report},
 }
 use Rattle.bac_tools.specs.declared.report.Fault.TheVariants as faults
@@ -56,9 +58,9 @@ module _ {Origin R W : Type 0} (remaining : R → Option (List ℕ)) (contents :
   JobCalled (Run batch) = BatchCalled batch
   JobCalled (Over tool) = ToolCalled tool
 
--- These words asked for a job that has a socket, which ran over a link. Its writer was given its lines, `errors` what is
--- told of its fault, and the report says how it ended. The system was asked for one socket, at the address that the job
--- wants; then for what the job asked of its link, one thing after another; and for nothing else.
+-- These words asked for a job that has a socket, which ran over a link. Its writer was given its lines, `errors` what
+-- is told of its fault, and the report says how it ended. The system was asked for one socket, at the address that the
+-- job wants; then for what the job asked of its link, one thing after another; and for nothing else.
 pub record RunsAsCalls (Origin : Type 0) {R W E : Type 0} (remaining : R → Option (List ℕ))
     (contents : W → Option (List ℕ)) (error_contents : E → Option (List ℕ)) (reader reader' : Checked R)
     (writer writer' : Checked W) (errors errors' : Checked E) (report : Report) (words : List Text)
@@ -113,16 +115,16 @@ module _ {R W : Type 0} (remaining : R → Option (List ℕ)) (contents : W → 
     pub script : Traces remaining contents reader reader' writer writer' answer
     pub reported : report ≡ trace_report answer
 
-  -- Nothing was read, and nothing printed but help that was asked for. This was to report, and is, where such help could
-  -- be written.
+  -- Nothing was read, and nothing printed but help that was asked for. This was to report, and is, where such help
+  -- could be written.
   pub record OnlyReported (reports : Report) : Type 0 where
     pub unread : reader' ≡ reader
     pub helped : IsTold contents writer writer' (on_output reports.fault)
     pub reported : report ≡ once_given reports.fault (has_failed writer') reports
 
--- These words asked for no socket: the network is there as it was, so the system was asked for none, and for nothing by
--- it. Either they asked for a script, which was run; or they gave no job, and nothing was done but to report it. `errors`
--- was given what is told of the fault.
+-- These words asked for no socket: the network is there as it was, so the system was asked for nothing by it. Either
+-- they asked for a script, which was run; or they gave no job, and nothing was done but to report it. `errors` was given
+-- what is told of the fault.
 pub record RunsUnasked {N L R W E : Type 0} (remaining : R → Option (List ℕ)) (contents : W → Option (List ℕ))
     (error_contents : E → Option (List ℕ)) (network : N) (reader reader' : Checked R) (writer writer' : Checked W)
     (errors errors' : Checked E) (ran : Ran N L) (typed : Result (List Text) ErrorKind) : Type 0 where

@@ -15,8 +15,8 @@ use crate::running::Binding;
 use std::io::{Read, Write};
 
 /// The program is a function of its words, of what its socket answers and of what it reads; but for many requests
-/// (`bacrun`), of which it is not said when they ask what. Take two runs with the same words, which do not ask for those;
-/// where both asked for a socket, both had one or neither; and the readers gave the same octets, and met their
+/// (`bacrun`), of which it is not said when they ask what. Take two runs with the same words, which do not ask for
+/// those; where both asked for a socket, both had one or neither; and the readers gave the same octets, and met their
 /// end as often, or where one run was cut off, its reader gave a front of what the other's gave and did not meet its
 /// end. As far as the sockets were answered alike, the runs asked and sent the same. Then they ask the same next; or
 /// both are over with the same report; or one was cut off, since there was no memory for its words, or its writer
@@ -72,11 +72,12 @@ pub fn the_status_is_that_of_the_fault<N: Network, R: Read, W: Write, E: Write>(
 {}
 
 /// From the words to the calls of the system, over any network that gives sockets. Where the program had one, its words
-/// asked for a tool or for many requests, and what its definition says was printed, told on `errors` and reported; for a
-/// tool the reader was not read. The system was asked for one socket, at the address that is wanted; then for what was
-/// asked of the link, one thing after another; and for nothing else. Where there was none to be had, nothing was read or
-/// printed, and the system was asked for one socket at most, and for nothing else. Where no socket was asked for, the
-/// network is handed back as it was: a script was run, or nothing was done but to report why the words give no job.
+/// asked for a tool or for many requests, and what its definition says was printed, told on `errors` and reported; for
+/// a tool the reader was not read. The system was asked for one socket, at the address that is wanted; then for what
+/// was asked of the link, one thing after another; and for nothing else. Where there was none to be had, nothing was
+/// read or printed, and the system was asked for one socket at most, and for nothing else. Where no socket was asked
+/// for, the network is handed back as it was: a script was run, or nothing was done but to report why the words give no
+/// job.
 pub fn a_run_is_its_calls<N: Network, R: Read, W: Write, E: Write>()
     ensures had { (log : N.Socket → List SystemCall) (network : N) (reader reader' : Checked R)
         (writer writer' : Checked W) (errors errors' : Checked E) (ran : Ran N N.Socket) (typed : List Text)
@@ -85,8 +86,8 @@ pub fn a_run_is_its_calls<N: Network, R: Read, W: Write, E: Write>()
         → IsRun N.gives
         record { seen = N.Socket.seen; failed = N.Socket.has_failed; remaining = R.remaining; contents = W.contents }
         E.contents network reader reader' writer writer' errors errors' ran (Ok typed) → ran.socket ≡ Some (Ok link)
-        → RunsAsCalls N.Socket.Origin R.remaining W.contents E.contents reader reader' writer writer' errors errors' ran.report
-        (words_called typed) (log link) }
+        → RunsAsCalls N.Socket.Origin R.remaining W.contents E.contents reader reader' writer writer' errors errors'
+        ran.report (words_called typed) (log link) }
     ensures none { (network : N) (reader reader' : Checked R) (writer writer' : Checked W) (errors errors' : Checked E)
         (ran : Ran N N.Socket) (typed : List Text) (none : NoSocket)
         → AsksAtMostOnce N.gives

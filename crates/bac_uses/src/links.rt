@@ -5,8 +5,8 @@ ghost use Rattle.bac_tsm.specs.Events.{Outcome};
 ghost use Rattle.bac_print.specs.Checked.{has_failed, Took};
 ghost use Rattle.bac_links.{
   specs.{Call.Tells, Ending.{ending_line, exit_of, status_of}, Socket.{BindsAtMost, Binds, account_over}},
-  specs.{SystemCall.SystemCall, declared.{ending.Purpose.TheVariants.Reading, exit.Exit.Exit, fault.ToolFault.ToolFault}},
-  specs.declared.udp.OnRefusal.TheVariants.{Fails},
+  specs.{SystemCall.SystemCall, declared.ending.Purpose.TheVariants.Reading},
+  specs.declared.{exit.Exit.Exit, fault.ToolFault.ToolFault, udp.OnRefusal.TheVariants.Fails},
 };
 ghost use Rattle.bac_uses.specs.Anywhere.{anywhere};
 
@@ -28,8 +28,8 @@ pub fn read_over_udp<R: Net + Clock + Clone + Drop, W: Write>(
 ) -> (u8, Result<UdpLink<SystemSocket<R>>, NoSocket>)
     requires writer { has_failed writer.old ≡ false }
     requires timeout { 0 < call.now.timeout }
-    // With a status below 3 the line of how it ended was printed, and the status is that of this end: 0 where a value was
-    // read, 1 where another answer or none came.
+    // With a status below 3 the line of how it ended was printed, and the status is that of this end: 0 where a value
+    // was read, 1 where another answer or none came.
     ensures line { result.0 < 3 → (ending : Option Outcome) × (result.0 ≡ status_of (Ok (exit_of Reading ending)))
         × Took W.contents writer.old writer.new (ending_line Reading ending) }
     // The read was made over a link that had been asked for nothing, and for nothing else than its call asks for.

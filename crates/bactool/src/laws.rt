@@ -12,11 +12,11 @@ use std::net::Net;
 use std::time::Clock;
 
 /// From the words to all that the streams and the system are given, where the program had a socket: its words asked for
-/// a tool or for many requests, and what its definition says was printed, told on standard error and reported; for a tool
-/// standard input was not read. The system was asked for one socket, at the address that is wanted; then for what was
-/// asked of the link, one thing after another; and for nothing else. Where there was none to be had, nothing was read or
-/// printed, and the system was asked for one socket at most, and for nothing else. Where no socket was asked for, the
-/// runtime is there as it was: a script was run, or nothing was done but to report why the words give no job.
+/// a tool or for many requests, and what its definition says was printed, told on standard error and reported; for a
+/// tool standard input was not read. The system was asked for one socket, at the address that is wanted; then for what
+/// was asked of the link, one thing after another; and for nothing else. Where there was none to be had, nothing was
+/// read or printed, and the system was asked for one socket at most, and for nothing else. Where no socket was asked
+/// for, the runtime is there as it was: a script was run, or nothing was done but to report why the words give no job.
 pub fn the_program_is_its_calls<H: Net + Clock + Clone + Drop, R: Read, W: Write, E: Write>(
     network: &Sockets<H>,
     ran: &Ran<Sockets<H>, UdpLink<SystemSocket<H>>>,
@@ -33,8 +33,8 @@ pub fn the_program_is_its_calls<H: Net + Clock + Clone + Drop, R: Read, W: Write
         }
         E.contents network.now reader reader' writer writer' errors errors' ran.now (Ok typed)
         → ran.now.socket ≡ Some (Ok link.now)
-        → RunsAsCalls OverSocket R.remaining W.contents E.contents reader reader' writer writer' errors errors' ran.now.report
-        (words_called typed) link.now.socket.log.items }
+        → RunsAsCalls OverSocket R.remaining W.contents E.contents reader reader' writer writer' errors errors'
+        ran.now.report (words_called typed) link.now.socket.log.items }
     ensures none { (reader reader' : Checked R) (writer writer' : Checked W) (errors errors' : Checked E)
         (typed : List (List ℕ)) (none : NoSocket)
         → IsRun ⟦<Sockets<H> as Network>⟧.gives

@@ -20,4 +20,5 @@ returns-clause-none g c = λ reader reader' writer writer' errors errors' typed 
     run_without run (λ network binding none (_, asked). asked) had
 
 pub returns-clause-unasked : goal.returns-clause-unasked
-returns-clause-unasked g c = λ reader reader' writer writer' errors errors' typed run none. run_unasked _ _ _ _ _ _ _ _ _ _ _ typed run none
+returns-clause-unasked g c = λ reader reader' writer writer' errors errors' typed run none.
+    run_unasked _ _ _ _ _ _ _ _ _ _ _ typed run none
