@@ -123,8 +123,8 @@ module _ {R W : Type 0} (remaining : R → Option (List ℕ)) (contents : W → 
     pub reported : report ≡ once_given reports.fault (has_failed writer') reports
 
 -- These words asked for no socket: the network is there as it was, so the system was asked for nothing by it. Either
--- they asked for a script, which was run; or they gave no job, and nothing was done but to report it. `errors` was given
--- what is told of the fault.
+-- they asked for a script, which was run; or they gave no job, and nothing was done but to report it. `errors` was
+-- given what is told of the fault.
 pub record RunsUnasked {N L R W E : Type 0} (remaining : R → Option (List ℕ)) (contents : W → Option (List ℕ))
     (error_contents : E → Option (List ℕ)) (network : N) (reader reader' : Checked R) (writer writer' : Checked W)
     (errors errors' : Checked E) (ran : Ran N L) (typed : Result (List Text) ErrorKind) : Type 0 where
