@@ -7,8 +7,8 @@
 //!
 //! Whole runs over links in memory, with what they send and print, are tests of `tool_trials` (`src/tests/links`).
 //!
-//! A call, of `bac_uses` (`src/links.rt`), where it is proved that the read was made and nothing else, that with a status
-//! below 3 the writer took the line of how it ended, and that this is the status of that end:
+//! A call, of `bac_uses` (`src/links.rt`), where it is proved that the read was made and nothing else, that with a
+//! status below 3 the writer took the line of how it ended, and that this is the status of that end:
 //!
 //! ```rust
 //! match UdpLink::bind_with(rt, alloc, anywhere, OnRefusal::Fails) {
