@@ -1,0 +1,13 @@
+-- What a reader finds in octets that stand alone is what they spell, and nothing else; for examples.
+use Rattle.std.proofs.Common.{◌≡◌, ℕ, List, [], Option, Some, arith}
+use Rattle.bac_wire.specs.Front.{IsReader}
+
+-- what is read of all the octets is spelled by them
+pub is_spelled : {A : Type 0} {Spells : List ℕ → A → Type 0} {at : List ℕ → Option (A × List ℕ)} → IsReader Spells at
+    → (octets : List ℕ) (x : A) → at octets ≡ Some (x, []) → Spells octets x
+is_spelled reader octets x e = let begins = reader.takes octets x [] e in grind arith
+
+-- what the octets spell is read of them
+pub is_read : {A : Type 0} {Spells : List ℕ → A → Type 0} {at : List ℕ → Option (A × List ℕ)} → IsReader Spells at
+    → (octets : List ℕ) (x : A) → Spells octets x → at octets ≡ Some (x, [])
+is_read reader octets x s = let again = reader.again octets x [] s in grind arith
