@@ -26,7 +26,7 @@ unfolding plain_tag tag_number_at long_length_at length_at shape_at tag_at conte
     reference_at read_of write_of ack_of who_is_of introduction_of error_of null release_octets
 returns c = record {
   read = ((read_is present_octets (Ok present_value)).0 refl).whole;
-  read_more = λ s. let e = ((read_is (present_octets ++ 0x00 ∷ []) (Err TooMany)).0 refl).all _ s in grind arith;
+  read_more = λ s. let e = ((read_is (present_octets ++ 0x00 ∷ []) (Err TooMany)).0 refl).all present_value s in grind arith;
   ack = (ack_is (present_octets ++ null) _).0 refl;
   other_ack = λ s. let e = (ack_is (present_octets ++ null) (record { reference = present_value; value = [] })).1 s in grind arith;
   write = ((write_is (release_octets 16) (Ok (release 16))).0 refl).whole;

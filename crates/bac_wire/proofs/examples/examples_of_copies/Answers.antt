@@ -9,8 +9,8 @@ returns c = record {
   changed = λ h. let e = h.0 0 1 tt in grind arith;
   costly = λ h. h.1 0;
   compared = λ x y. grind (arith, eqb-true, eq-eqb);
-  always_equal = λ h. let e = (h 0 1).0 tt in grind arith;
-  never_equal = λ h. (h 0 0).1 refl;
+  always_equal = λ h. let e = (h 0 1).0 refl in grind arith;
+  never_equal = λ h. let e = (h 0 0).1 refl in grind arith;
   seen = refl;
   room = refl;
   depth = refl;

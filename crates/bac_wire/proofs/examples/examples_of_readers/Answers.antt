@@ -1,7 +1,7 @@
 -- Each is shown by what it says of one list of octets.
-use Rattle.std.proofs.Common.{◌≡◌, ℕ, ◌<◌, zero, suc, List, [], ◌∷◌, ◌++◌, Option, Some, None, refl, arith, slice_index}
+use Rattle.std.proofs.Common.{◌≡◌, ℕ, ◌<◌, List, [], ◌∷◌, Some, refl, arith}
 use Rattle.bac_wire.specs.TagReading.{tag_number_at, long_length_at, length_at, shape_at, tag_at}
-use Rattle.bac_wire.specs.{Tag.plain_tag, Front.{AreOctets, IsReader}, Inner.Examples.{SpellsOne, first_at, unsigned_tag}}
+use Rattle.bac_wire.specs.{Tag.plain_tag, Front.{AreOctets}, Inner.Examples.{first_at, unsigned_tag}}
 use Rattle.bac_wire.proofs.{Spelled.is_spelled, Readers.spelled_back, TagLaws.{tag_reader, plain_tag_shortest}}
 use Rattle.bac_wire.proofs.examples.examples_of_readers.Goals as goal
 
@@ -29,8 +29,12 @@ returns c = record {
   other_found = λ h. grind arith;
   more_found = λ h. grind arith;
   passed = λ h. let e = h.all (7 ∷ []) (8 ∷ []) 7 refl refl in grind arith;
-  all = grind arith;
-  left = grind arith;
+  all = (
+    8 ∷ [],
+    record { front = 7 ∷ []; spelled = refl; whole = refl },
+    ([], record { front = 8 ∷ []; spelled = refl; whole = refl }, refl),
+  );
+  left = λ s. grind arith;
   shortest = plain_tag_shortest (unsigned_tag 1) (grind arith);
   longer = λ h. let short = h.shortest (0x21 ∷ []) (one_octet _ (grind arith)) (is_spelled tag_reader _ _ refl) in grind arith;
   read_back = spelled_back _ _ _ refl;

@@ -1,5 +1,5 @@
 -- What is spelled is what a reader finds, which computes once the definitions that read are opened.
-use Rattle.std.proofs.Common.{ℕ, ◌≤◌, List, [], ◌∷◌, inl, inr, refl, arith}
+use Rattle.std.proofs.Common.{ℕ, ◌≤◌, List, [], ◌∷◌, inl, inr, refl, subst, append-nil, arith}
 use Rattle.bac_wire.specs.{Tag.plain_tag, TagReading.{tag_number_at, long_length_at, length_at, shape_at, tag_at}}
 use Rattle.bac_wire.specs.ItemReading.{behind_closing, behind_items, region_at}
 use Rattle.bac_wire.specs.ParameterReading.{context_at, number_at, object_at, behind_opening, enclosed_at}
@@ -22,7 +22,7 @@ five = record {
 
 -- an item by itself is a region
 alone : (depth : ℕ) (item : List ℕ) → IsItem depth item → IsRegion depth item
-alone depth item i = let region = more {first = item} i none in grind arith
+alone depth item i = subst (IsRegion depth) (append-nil item) (more {first = item} i none)
 
 -- the number 5, and the closing tag 3 or 1 behind it
 ended : (rest : List ℕ) → IsClosedRegion 32 3 (0x21 ∷ 0x05 ∷ 0x3f ∷ rest) (0x21 ∷ 0x05 ∷ [])
@@ -50,12 +50,16 @@ unfolding plain_tag tag_number_at long_length_at length_at shape_at tag_at behin
     context_at number_at object_at behind_opening enclosed_at
 returns c = record {
   item = five;
-  bracketed = inr (1, 0x21 ∷ 0x05 ∷ [], record {
-    closing = 0x1f ∷ [];
-    opened = tag_reader.takes _ _ _ refl;
-    parts = more {first = 0x21 ∷ 0x05 ∷ []} five none;
-    closed = is_spelled tag_reader _ _ refl;
-  });
+  bracketed = inr (
+    1,
+    0x21 ∷ 0x05 ∷ [],
+    record {
+      closing = 0x1f ∷ [];
+      opened = tag_reader.takes _ _ _ refl;
+      parts = more {first = 0x21 ∷ 0x05 ∷ []} five none;
+      closed = is_spelled tag_reader _ _ refl;
+    },
+  );
   too_short = λ i. let e = (whole_is 0 _).1 (alone 0 _ i) in grind arith;
   too_deep = λ i. let e = (whole_is 0 _).1 (alone 0 _ i) in grind arith;
   region = (whole_is 1 _).0 refl;
@@ -74,7 +78,7 @@ returns c = record {
   };
   no_size = λ f. let e = f.all _ (ended []) in grind arith;
   other_size = λ f. let e = f.all _ (ended []) in grind arith;
-  opens = into {rest = 0x21 ∷ 0x05 ∷ []} 1 (is_spelled tag_reader _ _ refl) (past {rest = []} 0 (0x21 ∷ 0x05 ∷ []) five here);
+  opens = into {opening = 0x1e ∷ []} {rest = 0x21 ∷ 0x05 ∷ []} 1 (is_spelled tag_reader _ _ refl) (past {rest = []} 0 (0x21 ∷ 0x05 ∷ []) five here);
   opens_more = λ o. let deep : 2 ≤ 1 = nesting 1 2 (0x1e ∷ 0x21 ∷ 0x05 ∷ 0x1f ∷ []) _ (0x1f ∷ []) ((whole_is 1 _).0 refl) o refl in grind arith;
   context = is_spelled (context_reader 1) _ _ refl;
   other_context = λ s. let e = is_read (context_reader 2) _ _ s in grind arith;
