@@ -118,9 +118,16 @@ fn examples_of_devices()
     ensures long { IsInfo (record small { name = replicate 65 0x61 }) → ⊥ }
 
     // Why a point can't be added.
-    ensures added { add_point empty (given_as valve_id (codes "valve")) ≡ Ok (record empty { standings =
-        standing_after [] (record { kind = record { family = Analog; role = Output }; object = valve_id;
-          name = codes "valve"; start = 0; extra = 98 }) ∷ [] }) }
+    ensures added { add_point empty (given_as valve_id (codes "valve")) ≡ Ok (record empty {
+      standings =
+          standing_after [] (record {
+            kind = record { family = Analog; role = Output };
+            object = valve_id;
+            name = codes "valve";
+            start = 0;
+            extra = 98;
+          }) ∷ [];
+    }) }
     ensures twice { add_point (after []) (given_as valve_id (codes "other")) ≡ Err Twice }
     ensures name_twice { add_point empty (given_as valve_id (codes "Small device")) ≡ Err NameTwice }
     ensures unnamed { add_point empty (given_as valve_id []) ≡ Err BadPoint }

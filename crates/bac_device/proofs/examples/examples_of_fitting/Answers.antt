@@ -1,5 +1,6 @@
 -- A reply that fits holds the one APDU that it takes to the desk; what is too long for it does not.
 use Rattle.std.proofs.Common.{◌≡◌, ℕ, ◌≤◌, List, [], ◌∷◌, length, Some, None, false, inl, inr, refl, sym, subst, arith}
+use Rattle.std.proofs.lemmas.Option.{same_Some}
 use Rattle.bac_pdu.specs.{Datagram.{Carries, Delivery, Takes}, Apdu.{Message, IsLaidOut, confirmed}}
 use Rattle.bac_pdu.proofs.{DatagramLaws.{carried_is, wrapped_takes, one_taken}, ApduLaws.apdu_is}
 use Rattle.bac_device.specs.Size.{FitsRequest, ReplyFits}
@@ -20,7 +21,7 @@ is_arrived = (carried_is _ _ _).0 refl
 
 is_request : IsLaidOut arrived.apdu request
 unfolding computed arrived request
-is_request = (apdu_is _ _).0 refl
+is_request = (apdu_is arrived.apdu request).0 refl
 
 -- no other request arrived
 one_request : (delivery : Delivery) (other : Message) → Carries desk asked.datagram delivery
@@ -28,7 +29,7 @@ one_request : (delivery : Delivery) (other : Message) → Carries desk asked.dat
 unfolding computed arrived request
 one_request delivery other carries laid =
     let there : Some arrived ≡ Some delivery = (carried_is _ _ _).1 carries in
-    let read = (apdu_is _ _).1 laid in
+    let read = (apdu_is delivery.apdu other).1 laid in
     grind arith
 
 fits_as : (apdu : List ℕ) → Takes None false apdu (datagram 0x00 apdu) → FitsRequest request apdu
@@ -57,8 +58,8 @@ returns c = record {
   aborted = fits_as aborted (wrapped_takes None false aborted tt (grind arith)) (inr refl);
   too_long = fifty_one_fit;
   no_datagram = λ h. let (taken, t, fits) = h arrived request is_arrived is_request in grind arith;
-  each = (fifty_fit, refl);
-  each_too_long = λ h. fifty_one_fit h.0;
+  each = (λ reply e. subst (ReplyFits desk asked.datagram) (same_Some _ _ e) fifty_fit, refl);
+  each_too_long = λ h. fifty_one_fit (h.0 _ refl);
   too_few = λ h. h;
   none = grind arith;
   one = λ h. grind arith;
