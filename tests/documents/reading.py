@@ -26,7 +26,13 @@ FOLDER = "docs/reading"
 TRIALS = {"bac_trials", "tool_trials", "bac_uses"}  # no crate rests on their clauses
 SIZE = r"\[([\d,]+) lines\]\(docs/reading/(\w+)\.md\)"  # as README.md tells it
 TOLD = {"client", "device", "program"}  # the pages whose sizes it tells
-NOT_YET = {"bac_text", "bac_print", "bac_script", "bac_links", "clap_laws", "bac_words", "bac_tools", "bactool", "bac_run"}
+# Crates, and definitions, that no example holds yet: docs/PROOFS.md says so. Of any words there is a run, as one that
+# lacks memory.
+NOT_YET = {"bac_run", "bac_script", "bac_text", "bac_print", "bac_words", "clap_laws", "AskAlike", "OneText", "Tells"}
+NOT_YET |= {"IsAccepted", "events_of", "Searched", "who_is_to", "Serves", "replies_of", "sent_at", "sends_of_call"}
+NOT_YET |= {"LogsHistory", "account_with", "Program", "ProgramRun", "IsRun", "CalledRun", "RunsAsCalls", "RunsWithout"}
+NOT_YET |= {"BatchRuns", "IsTold", "texts_of", "Binds", "BindsAtMost", "Sends", "Waits", "GivesSockets", "AsksAtMostOnce"}
+NOT_YET |= {"ToolRuns"}
 PROBLEMS = []
 
 
@@ -159,14 +165,15 @@ def unheld():
     computed = {*closed(holds)}
     for item in sorted(set().union(*(said for _, said in said_by(named))), key=lambda it: (it.file.path, it.place)):
         kind = re.split(r":(?=\s)", item.head)[-1].replace("where", "").strip()
-        is_view = isinstance(next(iter(item.file.said(item.file.names, item.head)[0]), None), Declared)
-        is_plain = kind == "Type 0" and not re.search(r"[({→]", " ".join([*item.around, item.head]))
-        if item.file.crate in NOT_YET or is_view or is_plain:
+        of = item.file.said(item.file.names, item.head)[0]
+        is_relation = kind.endswith("Type 0") and re.search(r"[({→]", " ".join([*item.around, item.head]))
+        is_view = not is_relation and (kind == "Type 0" or of and isinstance(of[0], Declared))
+        if {item.file.crate, item.name} & NOT_YET or is_view:
             continue
-        if item not in (holds if kind == "ℕ" or kind.endswith("Type 0") else computed):
+        if item not in (holds if kind == "ℕ" or is_relation else computed):
             yield f"{item.file.path}: no example says {item.name}"
         as_premise = re.compile(rf"→ ⊥$|→ {item.name}\b[^→]*→")
-        if kind.endswith("Type 0") and not any(item in said and as_premise.search(text) for text, said in clauses):
+        if is_relation and not any(item in said and as_premise.search(text) for text, said in clauses):
             yield f"{item.file.path}: no example refuses anything by {item.name}"
 
 

@@ -9,4 +9,7 @@ returns c = record {
   no_fault = λ h. grind arith;
   no_text = refl;
   other_status = λ h. grind arith;
+  unprinted = refl;
+  told = refl;
+  kept = refl;
 }
