@@ -1,6 +1,6 @@
 #!/usr/bin/env python3
-"""Sees that the worked examples refuse definitions that were emptied or weakened, as definitions.edits has them: with the
-edit in it the example that stands beside it is not proved, and nothing but what stands in its answers is refused.
+"""Sees that the worked examples refuse definitions that were emptied or weakened, as definitions.edits has them: with
+the edit in it the example that stands beside it is not proved, and nothing but what stands in its answers is refused.
 
 Usage: tests/bodies/definitions.py [--over TREE] [NAME..]: all of them, or these, over the libraries that this tree, or
 another, has of the crates below. Each takes some 10 seconds of processor time. The code does not follow an edit, since

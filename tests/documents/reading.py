@@ -26,13 +26,11 @@ FOLDER = "docs/reading"
 TRIALS = {"bac_trials", "tool_trials", "bac_uses"}  # no crate rests on their clauses
 SIZE = r"\[([\d,]+) lines\]\(docs/reading/(\w+)\.md\)"  # as README.md tells it
 TOLD = {"client", "device", "program"}  # the pages whose sizes it tells
-# Crates, and definitions, that no example holds yet: docs/PROOFS.md says so. Of any words there is a run, as one that
-# lacks memory.
-NOT_YET = {"bac_run", "bac_script", "bac_text", "bac_print", "bac_words", "clap_laws", "AskAlike", "OneText", "Tells"}
-NOT_YET |= {"IsAccepted", "events_of", "Searched", "who_is_to", "Serves", "replies_of", "sent_at", "sends_of_call"}
-NOT_YET |= {"LogsHistory", "account_with", "Program", "ProgramRun", "IsRun", "CalledRun", "RunsAsCalls", "RunsWithout"}
-NOT_YET |= {"BatchRuns", "IsTold", "texts_of", "Binds", "BindsAtMost", "Sends", "Waits", "GivesSockets", "AsksAtMostOnce"}
-NOT_YET |= {"ToolRuns"}
+# Crates and definitions that no example holds yet, as docs/PROOFS.md says.
+NOT_YET = set("""bac_run clap_laws AskAlike OneText Tells IsAccepted events_of Searched who_is_to Serves replies_of
+    sent_at sends_of_call LogsHistory account_with Binds BindsAtMost Sends Waits Prints GaveSame GaveFront
+    TakesAndKeeps ReadForLine IsNext ReadsNoMore ReaderStands requests_in Traces IsWritten Program ProgramRun IsRun
+    CalledRun RunsAsCalls RunsWithout BatchRuns IsTold texts_of GivesSockets AsksAtMostOnce ToolRuns""".split())
 PROBLEMS = []
 
 
@@ -154,9 +152,9 @@ def said_by(calls):
 
 
 def unheld():
-    """The definitions that laws and public clauses name and that no example holds: of a relation one clause says that it
-    holds, and one that it does not, or what follows from it; of a number one says it; anything else stands in what one
-    computes. What is seen of a value of the code, a law on its `==` holds."""
+    """The definitions that laws and public clauses name and that no example holds: of a relation one clause says that
+    it holds, and one that it does not, or what follows from it; of a number one says it; anything else stands in what
+    one computes. What is seen of a value of the code, a law on its `==` holds."""
     of_files = lambda name: [it for path, file in SOURCES.items() if name in path for it in file.items.values()]
     named = [call for crate in CRATES if crate not in TRIALS for call in public_calls(crate)[0].values()]
     named += [it for name in ("/laws.rt", "/theorems.rt", "/comparing.rt") for it in of_files(name)]

@@ -5,10 +5,13 @@ ghost use Rattle.bac_links.specs.{Asking.waits_in, Ending.status_of, Limits.{lon
 ghost use Rattle.bac_links.specs.Fault.{is_link_fault, is_write_fault, link_fault_text, tool_fault_text};
 ghost use Rattle.bac_links.specs.History.{Arrived, Failure, Gains, Posted, Silence, Timed, Unposted, Waited};
 ghost use Rattle.bac_links.specs.History.{heard_by, posted};
-ghost use Rattle.bac_links.specs.{Memory.{PlaysItsScenes, sent_by}, Progress.{AreTold, ArePrompt}, Sent.{AllSent, sent_in}};
+ghost use Rattle.bac_links.specs.{Memory.{PlaysItsScenes, sent_by}, Progress.{AreTold, ArePrompt}};
+ghost use Rattle.bac_links.specs.Sent.{AllSent, sent_in};
 ghost use Rattle.bac_links.specs.{Serve.arrivals_in, Socket.{Logs, Times}, SystemCall.Elapsed};
-ghost use Rattle.bac_links.specs.declared.fault.ToolFault.TheVariants.{SendFailed, ReceiveFailed, TurnsSpent, WriteFailed};
-ghost use Rattle.bac_links.specs.Inner.Examples.{bad, broken, desk, good, nobody, quiet_link, steady, unsent, unwritten};
+ghost use Rattle.bac_links.specs.declared.fault.ToolFault.TheVariants.{SendFailed, ReceiveFailed, TurnsSpent};
+ghost use Rattle.bac_links.specs.declared.fault.ToolFault.TheVariants.{WriteFailed};
+ghost use Rattle.bac_links.specs.Inner.Examples.{bad, broken, desk, good, nobody, quiet_link, steady, unsent};
+ghost use Rattle.bac_links.specs.Inner.Examples.{unwritten};
 ghost use Rattle.bac_links.specs.Inner.Examples.{IsNothing};
 
 // What a clock tells, and how long waits take by it.

@@ -5,12 +5,14 @@ ghost use Rattle.bac_pdu.specs.declared.discovery.WhoIs.TheVariants.{All, Range}
 ghost use Rattle.bac_pdu.specs.declared.reject.RejectReason.TheVariants.{InvalidTag, MissingParameter, OutOfRange};
 ghost use Rattle.bac_pdu.specs.declared.reject.RejectReason.TheVariants.{TooMany};
 ghost use Rattle.bac_pdu.specs.declared.apdu.Apdu.TheVariants.{SimpleAck};
-ghost use Rattle.bac_pdu.specs.Apdu.{confirmed, unconfirmed, simple_ack, complex_ack, error, reject, abort, segment_ack};
+ghost use Rattle.bac_pdu.specs.Apdu.{confirmed, unconfirmed, simple_ack, complex_ack, error, reject, abort};
+ghost use Rattle.bac_pdu.specs.Apdu.{segment_ack};
 ghost use Rattle.bac_pdu.specs.Apdu.{IsLaidOut, IsWritable, announced_size, longest_body, message};
 ghost use Rattle.bac_pdu.specs.{Datagram.{Carries, Takes, wrapped, front_count}, DatagramReading.carried};
 ghost use Rattle.bac_pdu.specs.{Discovery.{IsIAmBody, IsWhoIsBody, i_am_octets, who_is_octets}, Peer.IsRoutable};
 ghost use Rattle.bac_pdu.specs.{Failure.{IsErrorBody, error_octets}, Parameter.{IsParameter, numbered, value}};
-ghost use Rattle.bac_pdu.specs.Property.{IsAckBody, IsPriority, IsReadBody, IsWriteBody, read_octets, ack_front, ack_end};
+ghost use Rattle.bac_pdu.specs.Property.{IsAckBody, IsPriority, IsReadBody, IsWriteBody, read_octets, ack_front};
+ghost use Rattle.bac_pdu.specs.Property.{ack_end};
 ghost use Rattle.bac_pdu.specs.Reject.{IsOutcome, ReadFault, WriteFault};
 ghost use Rattle.bac_pdu.specs.{PropertyReading.{ack_of, read_of, write_of}, ValueReading.{introduction_of, who_is_of}};
 ghost use Rattle.bac_pdu.specs.Inner.Examples.{WritesApdu, desk, far, from_desk, present_value, small_device, to_all};
@@ -100,7 +102,7 @@ fn examples_of_carrying()
     ensures not_to_all { Carries desk (0x81 ∷ 0x0a ∷ 0x00 ∷ 0x09 ∷ 0x01 ∷ 0x00 ∷ ack_octets_of_1)
         (to_all ack_octets_of_1) → ⊥ }
 
-    // A destination is all networks, perhaps with an address there, which is not looked at; nor is the hop count, here 0.
+    // A destination is all networks, perhaps with an address there. That and the hop count are not looked at.
     ensures all_networks { Carries desk
         (0x81 ∷ 0x0a ∷ 0x00 ∷ 0x0d ∷ 0x01 ∷ 0x20 ∷ 0xff ∷ 0xff ∷ 0x00 ∷ 0x00 ∷ ack_octets_of_1)
         (to_all ack_octets_of_1) }
@@ -138,7 +140,8 @@ fn examples_of_layouts()
     // Bit 3 says that this is a part, and bit 2 that more follow.
     ensures part { IsLaidOut (0x3c ∷ 0x01 ∷ 0x01 ∷ 0x04 ∷ 0x0c ∷ []) (complex_ack (Some second_part) 1 12 []) }
     ensures last { IsLaidOut (0x38 ∷ 0x01 ∷ 0x01 ∷ 0x04 ∷ 0x0c ∷ []) (complex_ack (Some last_part) 1 12 []) }
-    ensures other_part { IsLaidOut (0x38 ∷ 0x01 ∷ 0x01 ∷ 0x04 ∷ 0x0c ∷ []) (complex_ack (Some second_part) 1 12 []) → ⊥ }
+    ensures other_part { IsLaidOut (0x38 ∷ 0x01 ∷ 0x01 ∷ 0x04 ∷ 0x0c ∷ []) (complex_ack (Some second_part) 1 12 [])
+        → ⊥ }
     ensures from_client { IsLaidOut (0x70 ∷ 0x01 ∷ 0x04 ∷ []) (abort true 1 4) → ⊥ }
     ensures code { IsWritable (confirmed None 15 1 12 []) }
     ensures no_code { IsWritable (confirmed None 16 1 12 []) → ⊥ }

@@ -45,7 +45,7 @@ fn examples_of_peers()
     ensures routed { peer_text far_device ≡ codes "127.0.0.1:47808/5/07" }
 {}
 
-// A writer took a text where it has it now; where it failed it took a front of it. A page holds what was not written yet.
+// A writer took a text where it has it now, or a front of it where it failed. A page holds what was not written yet.
 #[tactic(none)]
 fn examples_of_writers()
     ensures took { TookOrFailed unknown (fresh 0) (fresh 0) [] written }

@@ -10,7 +10,8 @@ ghost use Rattle.bac_wire.specs.Parameter.{enclosed_octets, number_octets, objec
 ghost use Rattle.bac_wire.specs.Parameter.{SpellsContext, SpellsIn, SpellsEnclosed};
 ghost use Rattle.bac_wire.specs.ParameterReading.{enclosed_at, number_at, object_at};
 ghost use Rattle.bac_wire.specs.{Tag.{SpellsTag, IsTag}, Writing.Appends, Copies.{MakesCopies, EqualsBy}};
-ghost use Rattle.bac_wire.specs.Front.{IsPrefixFree, IsReader, FindsFront, SpellsAll, IsShortest, IsReadBack, AreOctets};
+ghost use Rattle.bac_wire.specs.Front.{IsPrefixFree, IsReader, FindsFront, SpellsAll, IsShortest, IsReadBack};
+ghost use Rattle.bac_wire.specs.Front.{AreOctets};
 ghost use Rattle.bac_wire.specs.Region.{IsItem, IsRegion, IsClosedRegion, FindsRegion, LeavesRest, SpellsClosed, Opens};
 ghost use Rattle.bac_wire.specs.Inner.Examples.{WritesValue, input, device, unsigned_tag, SpellsOne, SpellsAny};
 ghost use Rattle.bac_wire.specs.Inner.Examples.{first_at, nothing_at, zero_at, always, never, Same, Any, Free, Costly};

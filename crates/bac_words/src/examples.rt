@@ -1,7 +1,8 @@
 //! Examples of what command lines order, worked out by computation. They show what the definitions mean.
 
 ghost use Rattle.std.specs.Prelude.{◌≡◌, ℕ, List, [], ◌∷◌, codes, Some, None, Ok, Err};
-ghost use Rattle.bac_words.specs.{Called.{tool_named, words_called}, Job.{CanOpen, CanRun, IsReady}, Line.{Answers, IsRefusal}};
+ghost use Rattle.bac_words.specs.{Called.{tool_named, words_called}, Job.{CanOpen, CanRun, IsReady}};
+ghost use Rattle.bac_words.specs.Line.{Answers, IsRefusal};
 ghost use Rattle.bac_words.specs.declared.{faults.UsageFault.TheVariants.Memory, job.{Batch.Batch, Serve.Serve}};
 ghost use Rattle.bac_pdu.specs.declared.discovery.WhoIs.TheVariants.{All, Range};
 ghost use Rattle.bac_words.{

@@ -10,7 +10,8 @@ use Rattle.bac_pdu.specs.declared.discovery.WhoIs.TheVariants.{Range}
 use Rattle.bac_pdu.specs.declared.reject.RejectReason.TheVariants.{TooMany, OutOfRange}
 use Rattle.bac_pdu.specs.Inner.Examples.{present_octets, present_value, release}
 use Rattle.bac_pdu.specs.ValueReading.{who_is_of, introduction_of, error_of}
-use Rattle.bac_pdu.proofs.{PropertyLaws.{read_is, write_is, ack_is}, DiscoveryLaws.{who_is_is, introduction_is, error_is}}
+use Rattle.bac_pdu.proofs.PropertyLaws.{read_is, write_is, ack_is}
+use Rattle.bac_pdu.proofs.DiscoveryLaws.{who_is_is, introduction_is, error_is}
 use Rattle.bac_pdu.proofs.examples.examples_of_bodies.Goals as goal
 
 -- the value NULL in a body, and a write of it
@@ -26,11 +27,14 @@ unfolding plain_tag tag_number_at long_length_at length_at shape_at tag_at conte
     reference_at read_of write_of ack_of who_is_of introduction_of error_of null release_octets
 returns c = record {
   read = ((read_is present_octets (Ok present_value)).0 refl).whole;
-  read_more = λ s. let e = ((read_is (present_octets ++ 0x00 ∷ []) (Err TooMany)).0 refl).all present_value s in grind arith;
+  read_more = λ s.
+      let e = ((read_is (present_octets ++ 0x00 ∷ []) (Err TooMany)).0 refl).all present_value s in grind arith;
   ack = (ack_is (present_octets ++ null) _).0 refl;
-  other_ack = λ s. let e = (ack_is (present_octets ++ null) (record { reference = present_value; value = [] })).1 s in grind arith;
+  other_ack = λ s.
+      let e = (ack_is (present_octets ++ null) (record { reference = present_value; value = [] })).1 s in grind arith;
   write = ((write_is (release_octets 16) (Ok (release 16))).0 refl).whole;
-  other_write = λ s. let e = ((write_is (release_octets 16) (Ok (release 16))).0 refl).all (release 15) s in grind arith;
+  other_write = λ s.
+      let e = ((write_is (release_octets 16) (Ok (release 16))).0 refl).all (release 15) s in grind arith;
   no_write = λ s. let e = ((write_is (release_octets 17) (Err OutOfRange)).0 refl).all (release 17) s in grind arith;
   first = grind arith;
   sixteenth = grind arith;

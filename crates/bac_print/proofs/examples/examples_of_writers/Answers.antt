@@ -1,5 +1,5 @@
 -- A writer that was asked for nothing took nothing.
-use Rattle.std.proofs.Common.{ℕ, [], ◌∷◌, refl, arith}
+use Rattle.std.proofs.Common.{[], ◌∷◌, refl, arith}
 use Rattle.bac_print.specs.{Checked.{Took, fresh}, Inner.Examples.unknown}
 use Rattle.bac_print.proofs.examples.examples_of_writers.Goals as goal
 

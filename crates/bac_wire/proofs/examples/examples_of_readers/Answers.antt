@@ -36,7 +36,8 @@ returns c = record {
   );
   left = λ s. grind arith;
   shortest = plain_tag_shortest (unsigned_tag 1) (grind arith);
-  longer = λ h. let short = h.shortest (0x21 ∷ []) (one_octet _ (grind arith)) (is_spelled tag_reader _ _ refl) in grind arith;
+  longer = λ h.
+      let short = h.shortest (0x21 ∷ []) (one_octet _ (grind arith)) (is_spelled tag_reader _ _ refl) in grind arith;
   read_back = spelled_back _ _ _ refl;
   other_back = λ h. let e = h [] (Some (7, 1)) (grind arith) in grind arith;
   octets = two_octets 0 255 (grind arith) (grind arith);

@@ -78,8 +78,11 @@ returns c = record {
   };
   no_size = λ f. let e = f.all _ (ended []) in grind arith;
   other_size = λ f. let e = f.all _ (ended []) in grind arith;
-  opens = into {opening = 0x1e ∷ []} {rest = 0x21 ∷ 0x05 ∷ []} 1 (is_spelled tag_reader _ _ refl) (past {rest = []} 0 (0x21 ∷ 0x05 ∷ []) five here);
-  opens_more = λ o. let deep : 2 ≤ 1 = nesting 1 2 (0x1e ∷ 0x21 ∷ 0x05 ∷ 0x1f ∷ []) _ (0x1f ∷ []) ((whole_is 1 _).0 refl) o refl in grind arith;
+  opens = into {opening = 0x1e ∷ []} {rest = 0x21 ∷ 0x05 ∷ []} 1 (is_spelled tag_reader _ _ refl)
+      (past {rest = []} 0 (0x21 ∷ 0x05 ∷ []) five here);
+  opens_more = λ o.
+      let region = (whole_is 1 (0x1e ∷ 0x21 ∷ 0x05 ∷ 0x1f ∷ [])).0 refl in
+      let deep : 2 ≤ 1 = nesting 1 2 _ _ (0x1f ∷ []) region o refl in grind arith;
   context = is_spelled (context_reader 1) _ _ refl;
   other_context = λ s. let e = is_read (context_reader 2) _ _ s in grind arith;
   number = is_spelled (number_reader 1) _ _ refl;
