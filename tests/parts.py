@@ -175,8 +175,9 @@ def gate(room):
     tried = [gently("self test", "tests/bodies/self_test.py"), gently("wrong bodies", wrong, "--over", tree)]
     yield beside([whole_proof(room)], tried)
     drops = Part("drops", ["tests/bodies/let_go.py", "--over", tree])
+    emptied = Part("definitions", ["tests/bodies/definitions.py", "--over", tree])
     program = Part("program", ["install", "-D", f"{tree}/{PROGRAM}", PROGRAM], tried="")
-    yield [[drops, program, target("examples"), target("lint")]]
+    yield [[drops, emptied, program, target("examples"), target("lint")]]
 
 
 def main(words):

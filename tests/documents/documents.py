@@ -16,7 +16,9 @@ where they differ, and says in what.
   words.
 - docs/PROTOCOL.md: the texts of faults are those of the code. Each row of a table is read back from outside: named in
   pins.txt, once, with the worked row or example that would fail were it wrong in a definition and in the code at once.
-  What is named there stands in the document, and the text which is named for it in its file.
+  What is named there stands in the document, and the text which is named for it in its file; a number of three digits
+  or more, or one beside it, stands in these texts too, in decimal or as octets. The device has the properties of
+  its table, and no others.
 - No type has a `Drop` that is written by hand, which could do anything when a value is let go. bac_pdu has no loop, and
   no crate from there to bac_device can begin a count of work. Each public constant, and the clone and the `==` of each
   public type, is said by a law.
@@ -32,6 +34,7 @@ import sys
 import textwrap
 
 sys.path.insert(0, os.path.dirname(__file__) + "/..")
+from program.rows import LETTERS
 from tree import TOP, all_crates, crates_below, text_of
 
 SOURCES = ["crates/*/src/**/*.rt", "crates/*/specs/**/*.antt", "crates/*/proofs/**/*.antt"]
@@ -264,6 +267,25 @@ def rows_of_rules(parts):
     return [(heading, " | ".join(row.values())) for heading, section in parts.items() for row in tables(section)]
 
 
+def properties_of_the_device(section):
+    """The table has the properties that the definition has, each with its number, and its value where that is fixed."""
+    numbers = dict(re.findall(r"(?m)^(\w+) = (\d+)$", text_of("crates/bac_device/specs/Limits.antt")))
+    rows = re.findall(r"\((\d+), (.*?)\) +-- ([\w-]+)", text_of("crates/bac_device/specs/Device.antt"))
+    there = {f"{name} ({number})": value.partition(" ")[2] for number, value, name in rows}
+    told = {}
+    for row in tables(section):
+        if "Property" in row:
+            properties, values = row["Property"].split(", "), row["Value"].split("; ")
+            values = values if len(values) == len(properties) else row["Value"].split(", ")
+            told.update(zip(properties, values))
+    yield from (f"docs/PROTOCOL.md: {name} is told or defined alone" for name in sorted({*told} ^ {*there}))
+    for name in {*told} & {*there}:
+        value = there[name].removeprefix('0 (codes "').removesuffix('")')
+        fixed = value != there[name] or numbers.get(value, value).isdecimal()
+        if fixed and numbers.get(value, value) != re.sub(r"`(.*)`|(\d+).*", r"\1\2", told[name]):
+            yield f"docs/PROTOCOL.md: {name} is {value}, not {told[name]}"
+
+
 def rows_are_read_back(parts):
     rows, named = rows_of_rules(parts), set()
     for heading, key, places in pins():
@@ -273,6 +295,11 @@ def rows_are_read_back(parts):
         if not places:
             yield f"{heading}: {key}: nothing is named that reads it back"
         named.add((heading, key))
+        texts = re.sub(r"(?<=\d)[,_](?=\d)", "", " ".join(text for _, text in places)).lower()
+        texts = re.sub(r"\b[pqmva]\b", lambda letter: LETTERS[letter[0].upper()], texts)
+        for number in map(int, re.findall(r"(?<![\d.])\d{3,20}(?!\d)", re.sub(r"(?<=\d),(?=\d)", "", key))):
+            if not any(form in texts for n in (number - 1, number, number + 1) for form in (str(n), f"{n:02x}")):
+                yield f"{heading}: {key}: nothing that is named has the number {number}"
         for file, text in places:
             file = file if "/" in file else f"tests/program/rows/{file}"
             if not os.path.isfile(file) or on_one_line(text) not in on_one_line(text_of(file)):
@@ -328,6 +355,7 @@ def main():
         *drops_by_hand(),
         *uncounted_work(),
         *public_names_without_a_law(),
+        *properties_of_the_device(rules["The device"]),
         *rows_are_read_back(rules),
         *links_and_lines(),
         *wide_lines(),

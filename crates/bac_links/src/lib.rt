@@ -21,6 +21,7 @@
 mod call;
 mod datagram;
 mod ending;
+mod examples;
 mod exit;
 mod fault;
 mod history;
