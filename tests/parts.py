@@ -176,7 +176,8 @@ def gate(room):
     yield beside([whole_proof(room)], tried)
     drops = Part("drops", ["tests/bodies/let_go.py", "--over", tree])
     program = Part("program", ["install", "-D", f"{tree}/{PROGRAM}", PROGRAM], tried="")
-    yield [[drops, program, target("examples"), target("lint")]]
+    false = Part("false checks", ["tests/false_checks.py", PROGRAM])
+    yield [[drops, program, false, target("examples"), target("lint")]]
 
 
 def main(words):
