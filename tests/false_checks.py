@@ -17,34 +17,27 @@ from tree import TOP, end_by_signals, processors, sections_of, text_of, write
 NOT_COPIED = shutil.ignore_patterns(".git", "out", "__pycache__", "*_cache")
 
 
-def edited(text, old, new):
-    """The text with a fault: in its first place, at its end where no place is named, or alone where that is `*`."""
-    return new if old == "*" else text.replace(old, new, 1) if old else text + new
-
-
-def put(path, text):
-    """Puts a file in the place of one that other copies of the tree have too."""
-    mode = os.stat(path).st_mode if os.path.exists(path) else 0o644
+def plant(tree, path, old, new):
+    """Plants a fault in a copy of the tree, whose files are those of the tree itself until they are written anew. What
+    is not there for it is answered."""
+    text = text_of(f"{tree}/{path}") if os.path.exists(f"{tree}/{path}") else ""
+    mode = os.stat(f"{tree}/{path}").st_mode if text else 0o644
     with contextlib.suppress(FileNotFoundError):
-        os.remove(path)
-    write(path, text)
-    os.chmod(path, mode)
+        os.remove(f"{tree}/{path}")
+    write(f"{tree}/{path}", new if old == "*" else text.replace(old, new, 1) if old else text + new)
+    os.chmod(f"{tree}/{path}", mode)
+    return [] if old == "*" or old in text else [f"{path} has no {old}"]
 
 
 def missed(command, faults, check):
     """Which of the faults the command does not tell of in a copy of the tree, where this check passes always."""
     with tempfile.TemporaryDirectory(prefix="false-checks-", dir=f"{TOP}/out") as room:
-        shutil.copytree(TOP, f"{room}/tree", symlinks=True, ignore=NOT_COPIED, copy_function=os.link)
-        for path, old, new, _ in faults:
-            text = text_of(f"{room}/tree/{path}") if os.path.exists(f"{room}/tree/{path}") else ""
-            if old != "*" and old not in text:
-                return [f"{path} has no {old}"]
-            put(f"{room}/tree/{path}", edited(text, old, new))
-        for path, text in check.items():
-            put(f"{room}/tree/{path}", text)
-        how = {"stdout": subprocess.PIPE, "stderr": subprocess.STDOUT, "errors": "replace", "timeout": 170}
-        done = subprocess.run([f"{room}/tree/{command[0]}", *command[1:]], cwd=f"{room}/tree", check=False, **how)
-    lost = [message for *_, message in faults if message not in done.stdout]
+        tree = f"{room}/tree"
+        shutil.copytree(TOP, tree, symlinks=True, ignore=NOT_COPIED, copy_function=os.link)
+        lost = [it for row in [*faults, *check] for it in plant(tree, *row[:3])]
+        how = {"stdout": subprocess.PIPE, "stderr": subprocess.STDOUT, "errors": "replace", "timeout": 300}
+        done = subprocess.run([sys.executable, *command], cwd=tree, check=False, **how)
+    lost += [message for *_, message in faults if message not in done.stdout]
     return lost if done.returncode else [*lost, "status 0"]
 
 
@@ -54,16 +47,15 @@ def tries(program, only):
         script, needed, words = re.fullmatch(r"(\S+)(?: if (\w+))?(.*)", head).groups()
         if needed and not shutil.which(needed):
             print(f"tests/false_checks.py: {needed}: not installed, left out")
-        elif only in script:
+        elif only in head:
             command = [script, *words.replace("PROGRAM", program).split()]
             rows = [line.split(" || ") for line in lines]
             faults = [[cell.replace("\\n", "\n") for cell in row] for row in rows if len(row) == 4]
-            yield f"{script}: faults", command, faults, {}
+            yield f"{head}: faults", command, faults, []
             for path, old, new in (row for row in rows if len(row) == 3):
-                text = text_of(path)
-                for at in re.finditer(old, text, re.M):
-                    check = {path: text[: at.start()] + at.expand(new) + text[at.end() :]}
-                    yield f"{script}, where {at[0].strip()} passes always", command, faults, check
+                for at in re.finditer(old, text_of(path), re.M):
+                    check = [(path, at[0], at.expand(new))]
+                    yield f"{head}, where {at[0].strip()} passes always", command, faults, check
 
 
 def main(words):
