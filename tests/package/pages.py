@@ -249,16 +249,6 @@ def request():
     return {"number": octets[8], "octets": len(octets)}
 
 
-def values():
-    """Of a number that is written, the least and the greatest on the page are taken, and what is past them is not."""
-    status = lambda tag, value: run(f"bacwp 1 1 1 85 0 -1 {tag} $SILENT -- {value}")[0]
-    page = plain(text_of("man/bacwp.1")).replace("\\", "")
-    for tag, kind in [("2", "Unsigned"), ("3", "Signed"), ("9", "Enumerated")]:
-        least, most = map(int, re.search(rf"\b{tag} {kind} (-?\d+) to (\d+)", page).groups())
-        ends = [status(tag, value) for value in (least - 1, least, most, most + 1)]
-        same(f"man/bacwp.1: {kind} from {least} to {most}", ends, [2, 1, 1, 2])
-
-
 def tables_of_the_guide(on):
     """The status beside each line and each message."""
     lines, messages = text_of("docs/GUIDE.md").split("\n### What a message can mean\n")
@@ -269,16 +259,6 @@ def tables_of_the_guide(on):
     for message, status in re.findall(row, messages.split("\n## ")[0]):
         is_late = re.search(r" failed|turns spent", message)
         same(f"the status beside {message}", status, str(on["bind"] if is_late else on["words"]))
-
-
-def ranges():
-    """What bacsite checks by a number alone, and that both ends belong to a range: by the valve at 0.5 and at -0.5."""
-    found = []
-    for octets, of_range in [("3f000000", "0.5"), ("3f000000", "0.5:2"), ("3f000000", "0:0.4"), ("bf000000", "0.5")]:
-        run(f"bacwp 1234 1 1 85 8 -1 4 {octets} --mac $DEV")
-        found.append(run(f"bacsite check $DEV 1 1 85 -c {of_range}")[0])
-    run("bacwp 1234 1 1 85 8 -1 0 null --mac $DEV")
-    same("checks of 0.5 and -0.5", found, [0, 0, 2, 2])
 
 
 def points():
@@ -353,13 +333,11 @@ def facts():
         measured = {"points": points(), **request(), **known(rows.pop("Numbers"))}
         properties()
         examples()
-        ranges()
         tools_of_readme()
         measured.update(seen(rows.pop("Statuses")))
     for document, sentences in rows.items():
         says(document, *(sentence.format_map(measured) for sentence in sentences))
     tables_of_the_guide(measured)
-    values()
 
 
 def main():
