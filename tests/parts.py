@@ -10,7 +10,8 @@ in out/parts, and the end of that is shown where it fails.
 
 The last line is `N passed, M failed, K skipped`: so much was left out, as for a tool that is not installed here. Above
 it stand what took longest, what was left out, how many wrong bodies are shown wrong, only refused, or holes, and the
-names of the parts that failed. A part that tried nothing has failed, and so has one of make a script of which says nothing.
+names of the parts that failed. A part that tried nothing has failed, and so has one of make a script of which says
+nothing.
 """
 import glob
 import os
