@@ -87,10 +87,10 @@ Status 2: a word is refused, and nothing was sent. The message shows which one, 
   bad value N       the N-th tag is past 12, or its value is missing or not spelled as above, as 4 20.0;
                     or the index was forgotten, so that the tag was taken for it
   body too long     object, property and values have more than 476 octets together
-After any status but 0, and after Ctrl-C, the write may have been made: read the property back. Only
-status 2 says that nothing was sent. An answer from another address than that of --mac is not taken,
-so it is a timeout; but one that says that it is forwarded from there is taken from anyone: see
-SECURITY.md.";
+Status 2, status 4 and bind failed alone say that nothing was sent. After any other status but 0, and
+after Ctrl-C, the write may have been made: read the property back. An answer from another address than
+that of --mac is not taken, so it is a timeout; but one that says that it is forwarded from there is
+taken from anyone: see SECURITY.md.";
 
 pub(crate) const SEARCH_LINES: &str = "Examples:
   bactool bacwi --mac 192.0.2.7
