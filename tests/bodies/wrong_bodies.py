@@ -381,11 +381,8 @@ def with_twins(edits):
 
 
 def sample_of(edits):
-    """The first of these bodies that one check holds, without what is tried beside them."""
-    found = [it for it in edits if it.copy and not it.part][:SAMPLE]
-    for it in found:
-        it.beside = {}
-    return found
+    """The first of these bodies that one check holds, and that values show wrong: nothing stands beside them."""
+    return [it for it in edits if it.copy and not (it.part or it.beside or it.hole)][:SAMPLE]
 
 
 def build(crates):
@@ -420,7 +417,7 @@ def options_of():
     flag("--goals", help="print each refusal, and by what it is shown")
     flag("--shown", help="print the bodies that are refused and not shown wrong")
     flag("--clauses", help="print the clauses of public functions that no body leaves open")
-    flag("--sample", help=f"take {SAMPLE} of each crate that one check holds, those of must-fail first, without twins")
+    flag("--sample", help=f"take {SAMPLE} of each crate that values show wrong, in one check, those of must-fail first")
     word("--only", default="", metavar="PATTERN", help="take the bodies whose CRATE/NAME the pattern is found in")
     word("--over", metavar="TREE", help="take the crates below from this tree, each once `rt ci` has put it there")
     jobs = max(1, min(processors(), free_memory() // CHECK_MEMORY))
@@ -429,13 +426,13 @@ def options_of():
     return parser.parse_args()
 
 
-def failed_of(crates, options):
+def failed_of(crates):
     """What is not as it is to be of these crates, all of which are tried."""
     failed = [line for it in crates for line in it.strange]
     for it in (it for crate in crates for it in crate.edits):
         if not it.is_well():
             failed.append(f"{it.name}: {it.kind}: {'; '.join(it.why)}{' (a known hole)' * bool(it.hole)}")
-        elif it.part == WRONG and it.shown() == REFUSED_ONLY and not options.sample:
+        elif it.part == WRONG and it.shown() == REFUSED_ONLY:
             failed.append(f"{it.name}: {REFUSED_ONLY} {it.idle() and f'({it.idle()})'}")
     return failed
 
@@ -458,7 +455,7 @@ def main():
     crates = [Bodies(crate, group, options.over or ROOT) for crate, group in tried.items()]
     try_all(crates, options.jobs)
     print("\n".join(it.told(options) for it in crates))
-    failed = failed_of(crates, options)
+    failed = failed_of(crates)
     print("".join(f"FAILED {it}\n" for it in failed), end="")
     used = resource.getrusage(resource.RUSAGE_CHILDREN)
     seconds = f"{used.ru_utime + used.ru_stime:.0f} processor seconds"
