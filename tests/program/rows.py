@@ -67,8 +67,13 @@ def repeated(found):
     return "".join(text.replace("##", f"{it % 256:02x}").replace("#", str(it)) for it in numbers)
 
 
+def braced(text):
+    """The text with what stands in braces in their place."""
+    return re.sub(r"\{(?:(\d+)(?:\.\.(\d+))?|cut (\w+))\*(.*?)\}", repeated, text)
+
+
 def spelled(text):
-    text = re.sub(r"\{(?:(\d+)(?:\.\.(\d+))?|cut (\w+))\*(.*?)\}", repeated, text)
+    text = braced(text)
     text = re.sub(r"\b[PQMVAS]\b", lambda found: LETTERS[found[0]], text)
     text = re.sub(r"\[(01[0-9a-f]+)\]", lambda found: "810a%04x%s" % (4 + len(found[1]) // 2, found[1]), text)
     return text.encode("ascii").decode("unicode_escape")
