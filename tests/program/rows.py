@@ -23,9 +23,10 @@ Rows are parted by blank lines. The mark at the front of a line says what the re
     @   a redirection, as a shell has it: with several the row is run with each alone
 
 In a line, P, Q, M, V and A as whole words stand for the texts below, Z for an address where nobody answers, S for
-options by which a tool asks there, {93*x} for 93 times x, [0100..] for the datagram whose link header has these octets behind it, and \\n, \\r,
-\\t and \\xff for octets. {1..300*x} is x for each of these numbers, which stands for each # of it, and for each ## as
-one octet, the last of the number; and {cut 810a0017*x} is x for each front of these octets, which stands for each #.
+options by which a tool asks there, {93*x} for 93 times x, [0100..] for the datagram whose link header has these octets
+behind it, and \\n, \\r, \\t and \\xff for octets. {1..300*x} is x for each of these numbers, which stands for each # of
+it, and for each ## as one octet, the last of the number; and {cut 810a0017*x} is x for each front of these octets,
+which stands for each #.
 A backslash at the end of a line says that no line feed follows.
 """
 import glob

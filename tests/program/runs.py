@@ -66,7 +66,7 @@ def act(words, heard, peers, process):
 
 
 def play(process, peers, plan):
-    """What the peers hear until the process has ended, each with its peer and its sender; they do what the plan says."""
+    """What the peers hear until the process ends, each with its peer and its sender; they do what the plan says."""
     heard, flooded, has_ended = [], [], False
     while True:
         ready = select.select(peers, [], [], 0 if has_ended else 0.02)[0]
