@@ -25,7 +25,8 @@ from rows import blocks, braced
 from tree import TOP, local_socket, same, verdict
 
 LINE = 4096  # the most octets of a line
-STRAY = bytes.fromhex("810a00090100606309")  # a Reject of a request that nobody made
+# A Reject of a request that nobody made, so long that a run reads it no faster than it comes.
+STRAY = bytes.fromhex("810a03e80100606309") + bytes(991)
 SLOW = "--apdu-timeout 2000 --apdu-retries 1"
 Run = namedtuple("Run", "status fault journal heard seconds")
 
@@ -69,7 +70,7 @@ def play(process, peers, plan):
     """What the peers hear until the process ends, each with its peer and its sender; they do what the plan says."""
     heard, flooded, has_ended = [], [], False
     while True:
-        ready = select.select(peers, [], [], 0 if has_ended else 0.02)[0]
+        ready = select.select(peers, [], [], 0 if has_ended or flooded else 0.02)[0]
         for peer in ready:  # what came to A came before what is still to come to B
             with contextlib.suppress(BlockingIOError):
                 while True:
@@ -77,7 +78,7 @@ def play(process, peers, plan):
                     flooded += act(next(plan, []), heard, peers, process)
         if has_ended and not ready:
             return heard
-        for place, desk in flooded * 2000:
+        for place, desk in flooded * 200:
             place.sendto(STRAY, desk)
         has_ended = process.poll() is not None
 
