@@ -291,6 +291,7 @@ def soak_runs(dice, count):
     """Makes so many runs, and counts what their remarks say."""
     counts, (asks, datagrams) = Counter(), known()
     answers = answers_among(datagrams)
+    asks += [f"read P 2 {dice.randrange(17000)} 85" for _ in range(len(asks) // 10)]  # bits of many lines
     asks = [re.sub("(?<=[de]) [^/ ]+", f" {peer}", ask, count=1) for ask in asks if len(ask) < 4000 for peer in "AB"]
     for _ in range(count):
         timeout, retries, window = dice.choice([5, 20, 60]), dice.randint(0, 2), dice.choice([1, 2, 8, 64])

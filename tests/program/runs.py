@@ -39,6 +39,7 @@ def answer_to(octets, has_route):
     kind, instance = divmod(int.from_bytes(apdu[5:9], "big"), 1 << 22)
     value = b"\x24" + instance.to_bytes(4, "big")
     if kind == 2:
+        instance %= 17000  # no datagram would have room for the most of them
         bits = bytes([-instance % 8]) + bytes(-(-instance // 8))
         value = b"\x85\xfe" + len(bits).to_bytes(2, "big") + bits
     reply = b"\x30" + apdu[2:] + b"\x3e" + value + b"\x3f"
@@ -102,14 +103,10 @@ def run(program, options, text, plan):
         return text, Run(process.returncode, fault, journal, heard, seconds)
 
 
-def remarks_of(journal):
-    """The remarks of a journal, whole, without their marks."""
-    return [line[2:] for line in journal.replace("\n#+", "").split("\n") if line.startswith("# ")]
-
-
 def check(name, program, options, text, it):
-    """What holds of every run."""
-    remarks, lines = remarks_of(it.journal), it.journal.split("\n")
+    """What holds of every run. Answers its remarks, whole, without their marks."""
+    lines = it.journal.split("\n")
+    remarks = [line[2:] for line in it.journal.replace("\n#+", "").split("\n") if line.startswith("# ")]
     replay = subprocess.run([program, "bactrace"], input=it.journal.encode(), capture_output=True, check=False)
     printed = "".join(f"{remark}\n" for remark in remarks).encode()
     same(f"{name}: what bactrace prints", (replay.returncode, replay.stdout), (0, printed))
