@@ -62,7 +62,7 @@ def act(words, heard, peers, process):
             sender = peers[1 - peers.index(here)] if how == "other" else here
             sender.sendto(answer_to(octets, how != "plain"), there)
     if "stop" in words:
-        time.sleep(0.7)
+        time.sleep(1)
         process.send_signal(signal.SIGCONT)
     return [(place, desk)] * ("flood" in words)
 
