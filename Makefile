@@ -48,6 +48,7 @@ examples: program
 	@echo "examples/demo.sh: as it is to be"
 	@tests/program/sockets.py $(PROGRAM)
 	@tests/program/rows.py $(PROGRAM)
+	@tests/program/runs.py $(PROGRAM)
 	@tests/program/failing.py $(PROGRAM)
 	@tests/site/run.py $(PROGRAM)
 

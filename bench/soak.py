@@ -2,7 +2,8 @@
 """Gives the built program random input, and follows what it answers and prints: the lines and datagrams of the rows
 that it is tried by, as they are and damaged.
 
-Usage: bench/soak.py device DATAGRAMS [SEED], or script LINES [SEED]; BACTOOL names another program than the tree's.
+Usage: bench/soak.py device DATAGRAMS [SEED], script LINES [SEED], or runs RUNS [SEED]; BACTOOL names another program
+than the tree's.
 
 `device` sends datagrams to bacdev over 127.0.0.1, and reads every reply. What each must get is told from what bacsite
 reads of it, by the rules of docs/PROTOCOL.md: silence, an I-Am, or one reply to its confirmed request, to its own
@@ -12,6 +13,9 @@ invoke id and of no more octets than it announced. Everything stays on this mach
 `script` runs one long script through bactrace, and follows each request through what it prints. Each line but a tick
 prints one line. A request that is sent gets the next ticket, and is sent again three times at most; it ends once, and
 only while it is open; at most 64 are open, under different invoke numbers, and `full` comes only where 64 are.
+
+`runs` runs bacrun over random requests, against two peers that answer, lose, double, hold back and damage what they
+send, and looks at each run as tests/program/runs.py does: bactrace prints the remarks of its journal, octet for octet.
 
 It stops at the first that is not so, and shows it.
 """
@@ -32,7 +36,8 @@ from bacsite.bodies import parameters, read_ack
 from bacsite.frames import Datagram
 from bacsite.messages import CONFIRMED, DISTRIBUTE, UNCONFIRMED, UNICAST, message_of
 from rows import row_cases
-from tree import PROGRAM, TOP, device, local_socket, resident
+from runs import check, run
+from tree import PROGRAM, TOP, WRONG, device, local_socket, resident
 
 # ---- random datagrams ----
 
@@ -184,17 +189,25 @@ PRINTED = re.compile(
 )
 
 
+def answers_among(datagrams):
+    """The answers among these, each with the place of its invoke number."""
+    return [(it.datagram.octets, it.at + 1) for it in map(read, datagrams) if it.apdu and it.apdu.is_answer]
+
+
+def any_answer(dice, answers, number):
+    """The digits of one of the answers, with this invoke number; it may be damaged."""
+    octets, at = dice.choice(answers)
+    octets = octets[:at] + bytes([number]) + octets[at + 1 :]
+    return (damaged(dice, octets) if dice.random() < 0.2 else octets).hex()
+
+
 def pool(dice):
     """Lines to choose from, but for ticks, in the shares that they are to have. An answer has any invoke number."""
     asks, datagrams = known()
-    peers = [line.split()[1].split("/")[0] for line in asks]
-    answers = [(it.datagram.octets, it.at + 1) for it in map(read, datagrams) if it.apdu and it.apdu.is_answer]
+    peers, answers = [line.split()[1].split("/")[0] for line in asks], answers_among(datagrams)
     lines = dice.choices(asks, k=6000) + ["", "# a comment", "  \t"]
     for _ in range(24000):
-        octets, at = dice.choice(answers)
-        octets = octets[:at] + dice.randbytes(1) + octets[at + 1 :]
-        octets = damaged(dice, octets) if dice.random() < 0.2 else octets
-        lines.append(f"data {dice.choice(peers)} {octets.hex() or '81'}")
+        lines.append(f"data {dice.choice(peers)} {any_answer(dice, answers, dice.randrange(256)) or '81'}")
     for _ in range(6000):
         lines.append(f"ask {dice.choice(peers)} {any_datagram(dice, datagrams, 47808).hex() or '81'}")
     return lines
@@ -258,11 +271,47 @@ def soak_script(dice, lines):
     return seen.counts
 
 
+# ---- runs ----
+
+def plan(dice, answers):
+    """What the peers do with each datagram that they hear, as tests/program/runs.txt has it: mostly they answer it."""
+    for number in itertools.count():
+        words = [str(number)] * dice.choice([0, 1, 1, 1, 1, 2])
+        if dice.random() < 0.2:
+            words.append(dice.choice(["", "other:", "plain:"]) + str(dice.randint(0, number)))
+        if dice.random() < 0.3:
+            invoke_id = (number + dice.randint(-7, 2)) % 256
+            words.append("octets:" + dice.choice([any_answer(dice, answers, invoke_id), ""]))
+        if dice.random() < 0.004:
+            words.append("stop")
+        yield dice.sample(words, len(words))
+
+
+def soak_runs(dice, count):
+    """Makes so many runs, and counts what their remarks say."""
+    counts, (asks, datagrams) = Counter(), known()
+    answers = answers_among(datagrams)
+    asks += [f"read P 2 {dice.randrange(17000)} 85" for _ in range(len(asks) // 10)]  # bits of many lines
+    asks = [re.sub("(?<=[de]) [^/ ]+", f" {peer}", ask, count=1) for ask in asks if len(ask) < 4000 for peer in "AB"]
+    for _ in range(count):
+        timeout, retries, window = dice.choice([5, 20, 60]), dice.randint(0, 2), dice.choice([1, 2, 8, 64])
+        options = f"--apdu-timeout {timeout} --apdu-retries {retries} --window {window}"
+        lines = [dice.choice(asks if dice.random() < 0.9 else ["", "# a remark"]) for _ in range(dice.randint(1, 80))]
+        text, it = run(PROGRAM, options, "\n".join([*lines, ""]), plan(dice, answers))
+        remarks = check("a run", PROGRAM, options, text, it)
+        if WRONG or it.status != 0:
+            sys.exit("\n".join([*WRONG, options, it.fault, text, it.journal]))
+        counts.update(remark.split()[0] for remark in remarks)
+    return counts
+
+
 def main(what, count, seed=random.randrange(1 << 32)):
     print(f"seed {seed}", flush=True)
     begun = time.time()
-    counts = {"device": soak_device, "script": soak_script}[what](random.Random(int(seed)), int(count))
-    print(f"{count} {'datagrams' if what == 'device' else 'lines'} in {time.time() - begun:.0f} s")
+    kinds = {"device": (soak_device, "datagrams"), "script": (soak_script, "lines"), "runs": (soak_runs, "runs")}
+    soaked, unit = kinds[what]
+    counts = soaked(random.Random(int(seed)), int(count))
+    print(f"{count} {unit} in {time.time() - begun:.0f} s")
     for kind, number in sorted(counts.items()):
         print(f"{number:9}  {kind}")
 

@@ -143,9 +143,9 @@ def statuses():
 
 
 def what_is_said_twice():
-    for tool in TOOLS[:3]:  # what a fixed port may bring
+    for tool in [*TOOLS[:3], "bacrun"]:  # what a fixed port may bring
         told = " ".join(re.search(r"(?ms)^ *--port.*?(?=^$|\Z)", help_of(PROGRAM, tool))[0].split())
-        told = re.search(r"; (at a fixed.*?)(?: -h| --help|$)", told)
+        told = re.search(r"; (at a fixed.*?)(?: -h| --[a-z]|$)", told)
         says(f"man/{tool}.1", told[1] if told else "")
     doubt = "".join(re.findall(r"Status 2, status 4 .*? read the property back\.", plain(help_of(PROGRAM, "bacwp"))))
     for document in ("man/bacwp.1", "SECURITY.md"):
@@ -281,7 +281,7 @@ def tools_of_readme():
     """Each command of README's table prints the lines that stand beside it; `..` is any text."""
     table = text_of("README.md").partition("\n## The tools\n")[2].partition("\n## ")[0]
     for command, cell in re.findall(r"(?m)^\| `(?!bacdev).*?` \| [^|]* \| `([^`]*)` \| (.*) \|$", table):
-        status, said = run(command.replace("192.0.2.7", "$DEV"))
+        status, said = run(command.replace("192.0.2.7", "$DEV").replace("\\|", "|"))
         lines = re.findall("`([^`]*)`", cell.replace("192.0.2.7:47808", SETTINGS["DEV"]))
         there = [bool(re.search("(?m)^" + re.escape(it).replace(r"\.\.", ".*") + "$", said)) for it in lines]
         same(f"README.md: {command}: {said.strip()}", (status, there), (0, [True] * len(lines)))

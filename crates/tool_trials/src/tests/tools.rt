@@ -92,6 +92,14 @@ const SEARCH: &str = "bactool bacwi --mac 127.0.0.1";
 
 const SERVE: &str = "bactool bacdev 1234 --count 2";
 
+const RUN: &str = "bacrun --apdu-timeout 10 --apdu-retries 0";
+
+const RUN_AT_9: &str = "bactool bacrun --port 9";
+
+/// What the room takes of a journal.
+const FRONT: &str = "client 10 0 0\nread 127.0.0.1:47808 0 5 85\n\
+    # send 0 127.0.0.1:47808 810a001101040005010c0c0000000";
+
 const TRACE: &str = "bactool bactrace";
 
 const SCRIPT: &[u8] = b"read 127.0.0.1:47808 0 5 85\ntick x\n";
@@ -108,11 +116,13 @@ const UNBOUND: (&str, u8, &str) = ("", 3, "bind failed");
 type Row<'a> = (&'a str, (u16, OnRefusal), (&'a str, u8, &'a str));
 
 /// Lines over a network that answers a read.
-static ANSWERED: [Row<'static>; 5] = [
+static ANSWERED: [Row<'static>; 7] = [
     (READ, CLIENT, ("4290999a\n", 0, "")),
     (WRITE, CLIENT, ("timeout\n", 1, "")),
     (READ_AT_9, CLIENT, UNBOUND),
     (READ_NOWHERE, CLIENT, ("", 2, "bad mac")),
+    (RUN, CLIENT, (FRONT, 3, "writing failed")),
+    (RUN_AT_9, CLIENT, UNBOUND),
     (TRACE, CLIENT, (SENT, 2, "line 2: bad line")),
 ];
 
