@@ -159,8 +159,8 @@ def parameters(octets: bytes) -> Iterator[Tuple[int, bytes]]:
 
 
 def _parameter_ends(octets: bytes, tag: Tag) -> Optional[Tuple[int, int]]:
-    """Where the contents of a context tag end, and all of it. Only the tag 3 opens and closes."""
-    if tag.length >= 0:
+    """Where the contents of a context tag end, and all of it. The tag 3, and no other, opens."""
+    if tag.length >= 0 and tag.number != 3:
         end = tag.end + tag.length
         return (end, end) if end <= len(octets) else None
     inner = region_end(octets, tag.end) if (tag.length, tag.number) == (OPENING, 3) else None

@@ -103,6 +103,7 @@ class Values(unittest.TestCase):
             20010f ok
             30010c0c0000000519553e444290999a3f value 4290999a
             30010c0c bad-ack
+            30010c0c4b00000119553b0e393f bad-ack
             380100010c segmented
             50010c91029120 error 2 32
             50010c bad-error
