@@ -7,7 +7,7 @@ It asks by bactool, whose behaviour is proved; this package is not. The modules,
     decimals, values           what bacrp prints, in plain form
     addresses, points          the words that say what is asked
     processes, calls, workers  bactool is run, and many controllers are asked side by side
-    controller                 one controller is asked, one thing after another
+    session, controller        one controller is asked by one bacrun, one thing after another
     survey, report, page       what a controller has, and how that is printed
     read, poll, check, prometheus, convert    the other commands that change nothing
     encode, target, write      what bacwp takes, where it goes, and the command

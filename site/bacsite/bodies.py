@@ -29,6 +29,16 @@ class Element(NamedTuple):
     kind: int
     octets: bytes
 
+    @property
+    def number(self) -> int:
+        """The contents as a number."""
+        return int.from_bytes(self.octets, "big", signed=self.kind == names.SIGNED)
+
+    @property
+    def of_object(self) -> Tuple[int, int]:
+        """The type and the instance of an object."""
+        return self.number >> 22, self.number & names.THIS_DEVICE
+
 
 class Body(NamedTuple):
     """What a read or a write is about: type, instance, property, perhaps index; and its value."""
@@ -85,13 +95,21 @@ def elements_of(region: bytes) -> Optional[List[Element]]:
     """The values of a region, where it has nothing else."""
     found, at = [], 0
     while at < len(region):
-        tag = tag_at(region, at)
-        element = _element_of(region, tag) if tag else None
-        if not tag or not element:
+        element = element_at(region, at)
+        if not element:
             return None
-        found.append(element)
-        at = tag.end + (0 if tag.number == names.BOOLEAN else tag.length)
+        found.append(element[0])
+        at = element[1]
     return found
+
+
+def element_at(region: bytes, at: int) -> Optional[Tuple[Element, int]]:
+    """The value that begins at a place, if one does, and where it ends."""
+    tag = tag_at(region, at)
+    element = _element_of(region, tag) if tag else None
+    if not tag or not element:
+        return None
+    return element, tag.end + (0 if tag.number == names.BOOLEAN else tag.length)
 
 
 def _element_of(octets: bytes, tag: Tag) -> Optional[Element]:
@@ -132,8 +150,7 @@ def element_text(element: Element) -> str:
         return f"{QUOTES[kind]}'{octets.hex()}'"
     if kind in (names.REAL, names.DOUBLE):
         return octets.hex()
-    number = int.from_bytes(octets, "big", signed=kind == names.SIGNED)
-    return f"{number >> 22}:{number & 4194303}" if kind == names.OBJECT else str(number)
+    return ":".join(map(str, element.of_object if kind == names.OBJECT else [element.number]))
 
 
 def region_text(region: bytes) -> str:
@@ -203,10 +220,9 @@ def error_body(octets: bytes) -> Optional[Tuple[int, int]]:
     """Class and code of an Error, whatever follows them."""
     numbers, at = [], 0
     for _ in range(2):
-        tag = tag_at(octets, at)
-        element = _element_of(octets, tag) if tag else None
-        if not tag or not element or element.kind != names.ENUMERATED:
+        found = element_at(octets, at)
+        if not found or found[0].kind != names.ENUMERATED:
             return None
-        numbers.append(int.from_bytes(element.octets, "big"))
-        at = tag.end + tag.length
+        numbers.append(found[0].number)
+        at = found[1]
     return numbers[0], numbers[1]

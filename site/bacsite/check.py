@@ -10,12 +10,13 @@ from typing import NamedTuple, Tuple
 from . import names
 from .calls import Calls
 from .command import Command, deadline_of, within
-from .controller import NOT_ASKED, TIMEOUT, Controller
+from .controller import NOT_ASKED, Controller
 from .failures import wrong
 from .output import put
 from .points import POINT, Point, point_of
 from .poll import Reading, reading_of
 from .processes import TOO_LATE
+from .session import TIMEOUT
 from .workers import alone
 
 OK, WARNING, CRITICAL, UNKNOWN = range(4)
@@ -133,14 +134,14 @@ def work(words: argparse.Namespace) -> int:
     given = ([words.hostname] if words.hostname else []) + words.words
     point = point_of("", given)
     calls = Calls.of(words)
-    controller = Controller(calls, point.address, deadline)
 
     def asked() -> Tuple[Reading, str]:
         reading = reading_of(controller, point, with_flags=not words.no_flags)
         has_fault = "fault" in reading.flags.text.split(", ") and not reading.flags.fault
         return reading, reliability_of(controller, point) if has_fault else ""
 
-    reading, reliability = alone(calls, asked)
+    with Controller(calls, point.address, deadline) as controller:
+        reading, reliability = alone(calls, asked)
     verdict = verdict_on(reading, warning, critical)
     if reliability:
         verdict = verdict._replace(text=f"{verdict.text}: {reliability}")

@@ -69,6 +69,8 @@ def asking(at_once: int) -> Parser:
     add_number(parser, "apdu-retries", 0, 9, 2, "how often it is sent again")
     told = "how many controllers are asked at the same time"
     add_number(parser, "at-once", 1, 256, at_once, told)
+    told = "a folder for scripts of all that is sent and comes, for bactrace"
+    parser.add_argument("--journal", metavar="FOLDER", help=told)
     return parser
 
 

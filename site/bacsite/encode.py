@@ -12,10 +12,6 @@ from .failures import wrong
 from .points import instance, object_type
 from .texts import clean
 
-# What a type is called in words, by its tag.
-TYPES = (
-    "null boolean unsigned signed real double octets text bits enumerated date time object"
-).split()
 LIMITS = {
     names.UNSIGNED: (0, 2**64 - 1),
     names.SIGNED: (-(2**63), 2**63 - 1),
@@ -43,13 +39,13 @@ States = Callable[[], Dict[str, int]]  # the numbers of names, which may have to
 def encode(word: str, tag: int, states: States) -> Encoded:
     """The value of a word as one of this tag; it fails where it is none."""
     if tag in names.INTEGERS:
-        return _integer(word.strip(), tag, states)
+        return _integer(word, tag, states)
     if tag in (names.REAL, names.DOUBLE):
-        octets = encoded(word.strip(), tag == names.DOUBLE)
+        octets = encoded(word, tag == names.DOUBLE)
         return Encoded(tag, octets, shortest(octets))
     if tag == names.STRING:
         return Encoded(tag, word, clean(word))
-    return OTHERS[tag](word.strip())
+    return OTHERS[tag](word)
 
 
 def _integer(word: str, tag: int, states: States) -> Encoded:

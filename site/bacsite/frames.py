@@ -5,8 +5,9 @@ from __future__ import annotations
 import struct
 from collections import Counter
 from dataclasses import dataclass, field
-from typing import Counter as Counts, Dict, Iterable, Iterator, NamedTuple, Tuple
+from typing import Counter as Counts, Dict, Iterable, Iterator, Tuple
 
+from .messages import Datagram
 from .pcap import SECOND, Packet
 
 IPV4, UDP, BVLL = 0x0800, 17, 0x81
@@ -20,15 +21,6 @@ MOST_SEEN = 4096
 
 class Passed(Exception):
     """Why a packet is passed over."""
-
-
-class Datagram(NamedTuple):
-    """A UDP datagram: nanoseconds since 1970, from and to whom as ADDRESS:PORT, its octets."""
-
-    nanos: int
-    sender: str
-    receiver: str
-    octets: bytes
 
 
 def _ip_packet(link: int, octets: bytes) -> bytes:

@@ -7,7 +7,7 @@ from contextlib import suppress
 
 from .failures import BROKEN, Failure
 from .output import put, show
-from .words import no_options, parser_of
+from .words import parsed
 
 UNKNOWN = 3  # to monitoring
 
@@ -19,7 +19,7 @@ def main() -> int:
     try:
         if sys.stdout is None:
             raise Failure("writing failed", BROKEN)
-        words = parser_of(given).parse_args(no_options(given))
+        words = parsed(given)
         status: int = words.work(words)
         return status
     except SystemExit:  # help or the version was asked for

@@ -4,13 +4,20 @@ from __future__ import annotations
 
 from typing import NamedTuple, Optional, Tuple
 
-from .frames import Datagram
-
 FORWARDED, DISTRIBUTE, UNICAST, BROADCAST = 4, 9, 10, 11
 NETWORK_AT = {FORWARDED: 10, DISTRIBUTE: 4, UNICAST: 4, BROADCAST: 4}
 CONFIRMED, UNCONFIRMED, SIMPLE, COMPLEX, SEGMENT, ERROR, REJECT, ABORT = range(8)
 ANSWERS = (SIMPLE, COMPLEX, ERROR, REJECT, ABORT)
 TARGET, SOURCE, NETWORK_MESSAGE = 0x20, 0x08, 0x80  # bits of the network header
+
+
+class Datagram(NamedTuple):
+    """A UDP datagram: nanoseconds since 1970, from and to whom as ADDRESS:PORT, its octets."""
+
+    nanos: int
+    sender: str
+    receiver: str
+    octets: bytes
 
 
 class Apdu(NamedTuple):

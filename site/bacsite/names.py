@@ -11,6 +11,9 @@ NULL, BOOLEAN, UNSIGNED, SIGNED, REAL, DOUBLE, OCTETS, STRING, BITS, ENUMERATED 
 DATE, TIME, OBJECT = 10, 11, 12
 INTEGERS = (UNSIGNED, SIGNED, ENUMERATED)
 LOOK_ALIKE = (*INTEGERS, REAL, DOUBLE)  # the tags whose values bacrp spells by digits alone
+TAGS = (  # what a type is called in words, by its tag
+    "null boolean unsigned signed real double octets text bits enumerated date time object"
+).split()
 
 BINARY, MULTI_STATE = (3, 4, 5), (13, 14, 19)
 COMMAND, DEVICE = 7, 8

@@ -35,9 +35,7 @@ def polled(
     for point in points:
         groups.setdefault(point.address, []).append(point)
     jobs = [
-        lambda group=group: _readings(
-            Controller(calls, group[0].address, deadline), group, with_flags
-        )
+        lambda group=group: _readings(calls, group, with_flags, deadline)
         for group in groups.values()
     ]
     return side_by_side(calls, jobs)
@@ -50,8 +48,11 @@ def in_order(points: Sequence[Point], groups: Iterator[List[Reading]]) -> List[R
     return sorted(readings, key=lambda reading: places[id(reading.point)])
 
 
-def _readings(controller: Controller, points: Sequence[Point], with_flags: bool) -> List[Reading]:
-    return [reading_of(controller, point, with_flags) for point in points]
+def _readings(
+    calls: Calls, points: Sequence[Point], with_flags: bool, deadline: float
+) -> List[Reading]:
+    with Controller(calls, points[0].address, deadline) as controller:
+        return [reading_of(controller, point, with_flags) for point in points]
 
 
 def reading_of(controller: Controller, point: Point, with_flags: bool) -> Reading:

@@ -2,18 +2,21 @@
 
 from __future__ import annotations
 
-import re
 from dataclasses import dataclass, field
-from typing import Dict, Iterator, List, Optional, Sequence
+from functools import partial
+from threading import Event
+from typing import Dict, Iterator, List, Optional, Sequence, Tuple
 
 from . import names
-from .addresses import Target
+from .addresses import Target, is_routed
+from .bodies import elements_of
 from .calls import Calls
 from .command import deadline_of
-from .controller import NO_SUCH_PROPERTY, TIMEOUT, TOO_LONG, Controller, Elements
-from .names import BINARY, DEVICE, LOOK_ALIKE, MULTI_STATE, PROPERTIES, TYPES
+from .controller import NO_SUCH_PROPERTY, TOO_LONG, Controller, Elements
+from .names import BINARY, DEVICE, LOOK_ALIKE, MULTI_STATE, OBJECT, PROPERTIES, TYPES
+from .session import TIMEOUT
 from .texts import stamp
-from .values import NOTHING, Kind, Value, flags_of, parts_of
+from .values import NOTHING, Kind, Value, flags_of, shown, told
 from .workers import side_by_side
 
 
@@ -88,7 +91,10 @@ def surveyed(
     calls: Calls, targets: Sequence[Target], bounds: Bounds, in_order: bool = False
 ) -> Iterator[Device]:
     """The devices at these addresses as they are ready. Two with one instance are remarked."""
-    jobs = [lambda target=target: devices_at(calls, target, bounds) for target in targets]
+    asked = {target.address: Event() for target in targets}
+    jobs = [partial(_devices_at, calls, it, bounds, asked[it.address]) for it in targets]
+    routers = [it for it in targets if it.may_be_router]
+    jobs += [partial(_stations_behind, calls, it, asked[it.address]) for it in routers]
     seen: Dict[int, str] = {}
     for devices in side_by_side(calls, jobs, in_order):
         for device in devices:
@@ -99,9 +105,26 @@ def surveyed(
             yield device
 
 
-def devices_at(calls: Calls, target: Target, bounds: Bounds) -> List[Device]:
+def _devices_at(calls: Calls, target: Target, bounds: Bounds, asked: Event) -> List[Device]:
+    try:
+        with Controller(calls, target.address, deadline_of(bounds.seconds)) as controller:
+            return devices_at(controller, target, bounds)
+    finally:
+        asked.set()
+
+
+def _stations_behind(calls: Calls, target: Target, asked: Event) -> List[Device]:
+    """Who answers a Who-Is from behind the router at an address: named, and asked for nothing.
+
+    A job of its own, since it takes as long as a Who-Is waits; begun once the device was asked.
+    """
+    asked.wait()
+    found = [it for it in Controller(calls, target.address).who_is() if is_routed(it[1])]
+    return [Device(address, instance, asked=stamp()) for instance, address in found]
+
+
+def devices_at(controller: Controller, target: Target, bounds: Bounds) -> List[Device]:
     """The device at an address, and a line for each other one that is looked for there."""
-    controller = Controller(calls, target.address, deadline_of(bounds.seconds))
     found: List[Device] = []
     asked = stamp()
     for wanted in target.wanted:
@@ -132,34 +155,36 @@ def device_of(controller: Controller, bounds: Bounds) -> Device:
 
 
 def _add_objects(device: Device, controller: Controller, bounds: Bounds) -> None:
-    listed = _object_list(controller, bounds)
-    device.reasons += ["object-list: " + reason for reason in _shortened(listed.reasons)]
-    objects = [it for it in dict.fromkeys(listed.found) if not it.startswith(f"{DEVICE}:")]
-    for word in objects[: bounds.objects]:
+    listed, reasons = _object_list(controller, bounds)
+    device.reasons += ["object-list: " + reason for reason in _shortened(reasons)]
+    objects = [it for it in dict.fromkeys(listed) if it[0] != DEVICE]
+    for object_type, instance in objects[: bounds.objects]:
         if controller.is_over:
             break
-        object_type, instance = map(int, word.split(":"))
         device.objects.append(object_of(controller, object_type, instance))
     left = len(objects) - len(device.objects)
     if left:
         device.reasons.append(f"{left} of {len(objects)} objects not asked")
 
 
-def _object_list(controller: Controller, bounds: Bounds) -> Elements:
-    """The objects that a device says it has, as TYPE:INSTANCE, but for those that were lost."""
+def _object_list(
+    controller: Controller, bounds: Bounds
+) -> Tuple[List[Tuple[int, int]], List[str]]:
+    """The objects that a device says it has, and why some are lost."""
     assert controller.instance is not None, "it was identified"
     what = (DEVICE, controller.instance, names.OBJECT_LIST)
-    good, text = controller.ask(*what)
-    if text in TOO_LONG:
+    answer = controller.ask(*what)
+    if answer.reason in TOO_LONG:
         listed = controller.elements(bounds.objects + 1, *what)  # the device itself is one of them
-    elif good:
-        listed = Elements(parts_of(text))
     else:
-        listed = Elements(reasons=[text])
-    strange = [it for it in listed.found if not re.fullmatch("[0-9]{1,4}:[0-9]{1,7}", it)]
-    listed.found = [it for it in listed.found if it not in strange]
-    listed.reasons += ["no object: " + it for it in strange]
-    return listed
+        listed = Elements([answer.region], reasons=[answer.reason] if answer.reason else [])
+    found, strange = [], []
+    for region in listed.found:
+        elements = elements_of(region)
+        found += [it.of_object for it in elements or [] if it.kind == OBJECT]
+        strange += [shown(region)] if elements is None else []
+        strange += [told(it) for it in elements or [] if it.kind != OBJECT]
+    return found, listed.reasons + ["no object: " + it for it in strange]
 
 
 def _shortened(reasons: Sequence[str]) -> List[str]:

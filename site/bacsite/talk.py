@@ -81,11 +81,7 @@ class Talk:
         if not self.outcome.startswith("value ") or answer.startswith(self.apdu.body + b"\x3e"):
             return ()
         asked, told = read_body(self.apdu.body), read_ack(answer)
-        if not asked or not told or asked.what == told.what:
-            return ()
-        own = (DEVICE, told.what[1], *asked.what[2:])  # THIS_DEVICE is whichever is asked
-        is_own = asked.what[:2] == (DEVICE, THIS_DEVICE) and told.what == own
-        return () if is_own else told.what
+        return () if not asked or not told or is_about(told.what, asked.what) else told.what
 
     def has_settled(self, now: int) -> bool:
         """Whether nothing more is awaited."""
@@ -94,6 +90,12 @@ class Talk:
 
 
 Entry = Union[Talk, Message]  # a message that is no part of a talk stands for itself
+
+
+def is_about(told: What, asked: What) -> bool:
+    """Whether an answer is about what was asked for: THIS_DEVICE is whichever is asked."""
+    is_own = asked[:2] == (DEVICE, THIS_DEVICE)
+    return told == ((DEVICE, told[1], *asked[2:]) if is_own else asked)
 
 
 def outcome_of(apdu: Apdu) -> str:

@@ -8,10 +8,10 @@ from typing import Dict, Optional
 
 from . import names
 from .controller import NO_SUCH_PROPERTY, Controller
-from .encode import NULL, TYPES, Encoded, encode
+from .encode import NULL, Encoded, encode
 from .failures import MISSING, Failure, wrong
 from .names import BINARY, MULTI_STATE, PROPERTIES, What, form_of
-from .values import NOTHING, Kind, Value, parts_of, value_of
+from .values import NOTHING, Kind, Value, values_of
 
 
 @dataclass(frozen=True)
@@ -63,13 +63,12 @@ def _needed(controller: Controller, *what: int) -> Value:
 def priorities(controller: Controller, place: Place) -> Dict[int, Value]:
     """The priority array by its numbers, from 1; empty where there is none."""
     what = (*place.what[:2], names.PRIORITY_ARRAY)
-    good, text = controller.read(*what)
-    if not good:
-        if NO_SUCH_PROPERTY.fullmatch(text):
-            return {}
-        raise Failure("priority-array: " + text, MISSING)
-    form = form_of((*what, 1))
-    return {at: value_of(part, form) for at, part in enumerate(parts_of(text), 1)}
+    answer = controller.read(*what)
+    if NO_SUCH_PROPERTY.fullmatch(answer.reason):
+        return {}
+    if answer.reason:
+        raise Failure("priority-array: " + answer.reason, MISSING)
+    return dict(enumerate(values_of(answer.region, form_of((*what, 1))), 1))
 
 
 def encoded_for(controller: Controller, place: Place, word: str, type_: Optional[str]) -> Encoded:
@@ -79,9 +78,9 @@ def encoded_for(controller: Controller, place: Place, word: str, type_: Optional
         return NULL
     if form.is_list or form.is_row:
         raise wrong(f"{_name_of(place.what[2])} has several values: name one by --index")
-    tag = TYPES.index(type_) if type_ else (form.tags[0] if form.tags else -1)
+    tag = names.TAGS.index(type_) if type_ else (form.tags[0] if form.tags else -1)
     if form.tags and tag not in form.tags:
-        raise wrong(f"{place.which()} is no {type_}, but {TYPES[form.tags[0]]}")
+        raise wrong(f"{place.which()} is no {type_}, but {names.TAGS[form.tags[0]]}")
     if tag < 0:
         raise wrong(f"the type of {place.which()} is not known: name it by --type")
     value = encode(word, tag, lambda: states_of(controller, place))
@@ -102,9 +101,9 @@ def states_of(controller: Controller, place: Place) -> Dict[str, int]:
             if text.kind is Kind.TEXT and text.text:
                 found[text.text.lower()] = state
     elif kind in MULTI_STATE:
-        good, listed = controller.read(kind, number, names.STATE_TEXT)
+        listed = controller.read(kind, number, names.STATE_TEXT).region
         form = form_of((kind, number, names.STATE_TEXT, 1))
-        texts = [value_of(part, form).text.lower() for part in parts_of(listed)] if good else []
+        texts = [it.text.lower() for it in values_of(listed, form)]
         found.update({text: at for at, text in enumerate(texts, 1) if texts.count(text) == 1})
     return found
 

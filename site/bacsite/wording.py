@@ -6,7 +6,7 @@ from functools import lru_cache
 from typing import Dict, List, NamedTuple, Optional
 
 from . import names
-from .bodies import Body, elements_of, parameters, read_ack, read_body, region_text, write_body
+from .bodies import Body, elements_of, parameters, read_ack, read_body, write_body
 from .messages import ABORT, SEGMENT, UNCONFIRMED, Apdu, Message
 from .names import MEANINGS, Form, What, form_of, numbered
 from .talk import GRACE, MILLI, READ, WRITE, Entry, Talk, outcome_of
@@ -81,16 +81,8 @@ def point(what: What) -> str:
 
 @lru_cache(4096)
 def shown(region: bytes, what: What) -> str:
-    """A property's value in plain form, by the types that its octets tell."""
-    text, elements = region_text(region), elements_of(region)
-    if elements is None:
-        return text
-    tags = tuple(it.kind for it in elements)
-    if len(set(tags)) == 1:
-        form = Form(tags[:1], len(tags) > 1, names=form_of(what).names)
-    else:
-        form = Form(tags, is_row=True)
-    return value_of(text, form).shown()
+    """A property's value in plain form, of whatever type it is."""
+    return value_of(region, Form(names=form_of(what).names)).shown()
 
 
 def ended(apdu: Apdu, body: Optional[Body]) -> str:
@@ -177,7 +169,7 @@ def _i_am(octets: bytes) -> str:
         names.UNSIGNED,
     ]:
         return ""
-    device, most, number, vendor = (int.from_bytes(it.octets, "big") for it in found)
+    device, most, number, vendor = (it.number for it in found)
     if device >> 22 != names.DEVICE:
         return ""
     parts = MEANINGS["segmentation-supported"].get(number, str(number))

@@ -5,7 +5,7 @@ from __future__ import annotations
 import argparse
 import re
 from importlib import import_module
-from typing import Dict, List, Optional, Sequence
+from typing import Dict, Optional, Sequence
 
 from . import VERSION
 from .command import Command, Parser, asking
@@ -30,10 +30,10 @@ DESCRIPTION = """\
 Surveys a site of BACnet/IP controllers, reads and writes points of them, and tells monitoring.
 
 It asks by bactool, which lies beside it, on PATH or in --tools FOLDER. An ADDRESS is 192.0.2.7,
-192.0.2.7:47809 or the name of a host. With an instance in front, as 1234@192.0.2.7, it is asked
-first which device it is, and for nothing more if that is another one. TYPE and PROPERTY are numbers
-or names, as 0 or analog-input. They tell which type a value has; for a vendor's own, real, double
-or integer behind the address tells it.
+192.0.2.7:47809, the name of a host, or of station 01 in network 5 behind a router 192.0.2.7/5/01.
+With an instance in front, as 1234@192.0.2.7, it is asked first which device it is, and for nothing
+more if that is another one. TYPE and PROPERTY are numbers or names, as 0 or analog-input. They tell
+which type a value has to have; real, double or integer behind the address demands one.
 
 The status is 0 where all that was asked for came, 1 where something is missing, 2 where the words
 are wrong, and 3 where a stream, a file or bactool fails. That of check is as monitoring plugins
@@ -82,6 +82,14 @@ def parser_of(given: Sequence[str]) -> Parser:
     return top
 
 
-def no_options(given: Sequence[str]) -> List[str]:
-    """The words, a space in front of those that begin as negative numbers: -10:5 is no option."""
-    return [" " + word if re.match(r"-\.?[0-9]", word) else word for word in given]
+def parsed(given: Sequence[str]) -> argparse.Namespace:
+    """The words, read; those that begin as negative numbers, as -10:5, are no options."""
+    kept = {" " + word: word for word in given if re.match(r"-\.?[0-9]", word)}
+    spaced = [" " + word if " " + word in kept else word for word in given]
+    words = parser_of(given).parse_args(spaced)
+    for name, it in vars(words).items():
+        if isinstance(it, list):
+            setattr(words, name, [kept.get(one, one) for one in it])
+        elif isinstance(it, str):
+            setattr(words, name, kept.get(it, it))
+    return words

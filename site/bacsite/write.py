@@ -3,18 +3,21 @@
 from __future__ import annotations
 
 import argparse
+import os
 from typing import NamedTuple, Optional, Tuple
 
 from . import addresses, names
+from .addresses import is_routed
 from .calls import BIND_FAILED, Calls
 from .command import Command, within
 from .controller import Controller
-from .encode import TYPES, Encoded
+from .encode import Encoded
 from .failures import BROKEN, MISSING, WRONG_WORDS, Failure, wrong
 from .names import PRESENT_VALUE
 from .output import put
 from .points import index, instance, object_type, property_number
 from .processes import Outcome
+from .script import WORD
 from .target import Place, encoded_for, looked_at, priorities
 from .values import Value
 from .workers import alone
@@ -103,16 +106,20 @@ def prepared(controller: Controller, order: Order) -> Tuple[Place, Encoded]:
     value = encoded_for(controller, place, order.word, order.type)
     if place.commandable and order.priority is None:
         raise wrong(f"{place.which()} is commanded by priorities: name one by --priority")
+    if is_routed(place.address) and not WORD.fullmatch(os.fsencode(value.word)):
+        raise wrong("no text with a space, and no empty one, can be sent behind a router")
     if value.tag == names.NULL and not place.commandable:
         raise wrong(f"null lets go of a priority: {place.which()} has no priority array")
     return place, value
 
 
 def _sent(controller: Controller, order: Order, value: Encoded) -> Outcome:
-    kind, number, prop, *element = order.place.what
-    where = [controller.instance or 0, kind, number, prop, order.priority or 0, *(element or [-1])]
-    what = ["--", str(value.tag), value.word]
-    return controller.calls.write([*controller.options(), *map(str, where), *what])
+    what, element = order.place.what[:3], order.place.what[3:] or (-1,)
+    where = [str(it) for it in (*what, order.priority or 0, *element)]
+    if is_routed(order.place.address):
+        return controller.write(" ".join([*where, str(value.tag), value.word]))
+    device, value_words = str(controller.instance or 0), ["--", str(value.tag), value.word]
+    return controller.calls.write([*controller.options(), device, *where, *value_words])
 
 
 def _read_back(controller: Controller, order: Order) -> Value:
@@ -145,7 +152,7 @@ def arguments(parser: argparse.ArgumentParser) -> None:
     parser.add_argument("--property", default="present-value", help="where not present-value")
     parser.add_argument("--index", metavar="N", help="the element of an array")
     parser.add_argument(
-        "--type", choices=TYPES[1:], help="where it is not known, as a vendor's own"
+        "--type", choices=names.TAGS[1:], help="where it is not known, as a vendor's own"
     )
     parser.add_argument("--dry-run", action="store_true", help="look at all, and send no write")
 
@@ -166,8 +173,8 @@ def order_of(words: argparse.Namespace) -> Order:
 def work(words: argparse.Namespace) -> int:
     """Writes a property, and reads it back."""
     order, calls = order_of(words), Calls.of(words)
-    controller = Controller(calls, order.place.address)
-    return alone(calls, lambda: written(controller, order), quiet=True)
+    with Controller(calls, order.place.address) as controller:
+        return alone(calls, lambda: written(controller, order), quiet=True)
 
 
 COMMAND = Command(

@@ -4,7 +4,7 @@ import struct
 from typing import Dict, Iterable, List, Optional, Tuple
 
 import harness  # noqa: F401  it makes bacsite known
-from bacsite.frames import Datagram
+from bacsite.messages import Datagram
 
 DEVICE, CLIENT = "127.0.0.1:47808", "127.0.0.1:50000"
 Step = Tuple[float, str, str, str]  # milliseconds, sender, receiver, octets in hexadecimal

@@ -45,7 +45,7 @@ class Poll(harness.SiteTest):
                     "name Outdoor temperature -",
                     "fan 0 -",
                     "boiler - error 1 31",
-                    "mode - no real: 1",
+                    "mode - no real: unsigned 1",
                     "attic - timeout",
                     "attic-fan - not asked",
                     "cellar - no address: 1.2.3.256",
@@ -67,7 +67,7 @@ class Poll(harness.SiteTest):
                     "c 0 -",
                     "d - another device: 8:1000",
                     "e - no number: NaN",
-                    "f untyped:40000000 -",
+                    "f 2 -",
                     "h - wanted: [INSTANCE@]ADDRESS [real|double|integer] TYPE INSTANCE PROPERTY [INDEX]",
                 ],
             ),
@@ -119,7 +119,7 @@ class Poll(harness.SiteTest):
                         'no real: "n/a"',
                         "no real: null",
                         "no real: {}",
-                        "no real: {1,1}",
+                        "no real: {1, 1}",
                         "no integer: D'12345678'",
                         "no state: 42480000",
                         "no state: 7",
@@ -235,9 +235,9 @@ class Check(harness.SiteTest):
             check DEAD 0 1 85 => 2 BACNET CRITICAL - timeout
             check DEV 0 99 85 => 3 BACNET UNKNOWN - error 1 31
             check HERE 0 3 85 => 3 BACNET UNKNOWN - abort 4
-            check ODD 1 3 85 => 3 BACNET UNKNOWN - no real: 1
+            check ODD 1 3 85 => 3 BACNET UNKNOWN - no real: unsigned 1
             check 78@HERE 0 1 85 => 3 BACNET UNKNOWN - another device: 8:77
-            check ODD 300 1 85 => 3 BACNET UNKNOWN - no number: untyped:40000000
+            check ODD 300 1 85 => 0 BACNET OK - 2 | value=2;~:;~:
             check ODD 300 1 77 => 3 BACNET UNKNOWN - no number: A/B
             check nobody.invalid 0 5 85 => 3 BACNET UNKNOWN - no address: nobody.invalid
             check 9 0 5 85 => 3 BACNET UNKNOWN - no address: 9
@@ -287,7 +287,7 @@ class Check(harness.SiteTest):
             check HERE 0 3 85 => 0 BACNET OK - 42.25, in-alarm, overridden | value=42.25;~:;~:
             check HERE 0 3 85 -w 1 => 1 BACNET WARNING - 42.25, in-alarm, overridden | value=42.25;1;~:
             check HERE 0 4 85 => 2 BACNET CRITICAL - 42.25, fault, overridden | value=42.25;~:;~:
-            check HERE 0 5 85 => 3 BACNET UNKNOWN - 42.25, status-flags: no bits: 15 | value=42.25;~:;~:
+            check HERE 0 5 85 => 3 BACNET UNKNOWN - 42.25, status-flags: no bits: unsigned 15 | value=42.25;~:;~:
             check HERE 0 6 85 => 0 BACNET OK - 42.25 | value=42.25;~:;~:
             check HERE 0 7 85 => 3 BACNET UNKNOWN - 42.25, status-flags: timeout | value=42.25;~:;~:
             check HERE real 300 1 85 => 2 BACNET CRITICAL - 42.25, fault | value=42.25;~:;~:

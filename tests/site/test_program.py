@@ -1,5 +1,6 @@
 """The program as such: its streams, signals and surroundings, and the one file that is built."""
 
+import glob
 import os
 import pty
 import re
@@ -175,6 +176,19 @@ class Signals(harness.SiteTest):
         self.assertEqual(
             (left, [name for name in os.listdir(folder) if "s.prom" in name]), ([], [])
         )
+
+    def test_those_of_a_terminal_reach_no_tool(self):
+        slow = self.stand_in({(0, 1, 85): real("42290000")}, delay=1)
+        words = ["read", slow.address, "0", "1", "85", "--apdu-timeout", "9000"]
+        with subprocess.Popen([*self.world.command, *words], stdout=subprocess.PIPE) as process:
+            while not slow.asked:
+                time.sleep(0.01)
+            tools = []
+            for path in glob.glob("/proc/%d/task/*/children" % process.pid):
+                with open(path, encoding="ascii") as file:
+                    tools += map(int, file.read().split())
+            self.assertEqual([os.getsid(it) for it in tools], tools)
+            self.assertEqual((len(tools), process.communicate()[0]), (1, b"42.25\n"))
 
     def test_one_that_is_ignored_stays_so(self):
         slow = self.stand_in({(0, 1, 85): real("42290000")}, delay=1)

@@ -87,7 +87,7 @@ class Survey(harness.SiteTest):
                 for row in (
                     r'0,1,analog-input,"Öl,\x1b[2J",,,degrees-celsius,fault,present-value: no number: NaN',
                     r"13,2,multi-state-input,\u202eMode,2,Away,,,",
-                    "300,1,,A|B,untyped:40000000,,,,units: error 1 27",
+                    "300,1,,A|B,2,,,,units: error 1 27",
                     "15,1,notification-class,,,,,,object-name: error 2 32",
                     "4,1,binary-output,'@Fan,1,Läuft,,,",
                 )
@@ -111,7 +111,7 @@ class Survey(harness.SiteTest):
                 r"""HERE;device 77;Dach "1", Süd;Maker;=M1
 ;0:1;analog-input;Öl,\x1b[2J;-;fault;present-value: no number: NaN
 ;13:2;multi-state-input;\u202eMode;2 (Away);-
-;300:1;-;A|B;untyped:40000000;-;units: error 1 27
+;300:1;-;A|B;2;-;units: error 1 27
 ;15:1;notification-class;-;-;-;object-name: error 2 32
 ;4:1;binary-output;@Fan;1 (Läuft);-
 DEAD;device -;timeout
@@ -132,7 +132,7 @@ DEAD;device -;timeout
         )
         self.assertEqual(
             [it["kind"] for it in device["objects"]],
-            ["other", "number", "untyped", "other", "number"],
+            ["other", "number", "number", "other", "number"],
         )
         self.assertEqual(device["objects"][1]["meaning"], "Away")
         self.assertEqual(
@@ -192,10 +192,10 @@ DEAD;device -;timeout
 
     def test_flags_that_cannot_be_read(self):
         for flags, told in (
-            (unsigned(15), "no bits: 15"),
-            (b"\x09\x01", "no bits: hex 0901"),
+            (unsigned(15), "no bits: unsigned 15"),
+            (b"\x09\x01", "no bits: [0]X'01'"),
             (b"", "no bits: {}"),
-            (bits("0000") * 2, "no bits: {B'0000',B'0000'}"),
+            (bits("0000") * 2, "no bits: {B'0000', B'0000'}"),
             (bits("000"), "no four bits: B'000'"),
         ):
             self.stand_in({**NAMED, **sensors(1), (0, 1, 111): flags})
@@ -250,6 +250,11 @@ DEAD;device -;timeout
         self.assertRegex(
             out, r"of 99999 elements not asked; \d+ of \d+ objects not asked; deadline\n"
         )
+
+    def test_a_number_of_objects_that_is_none(self):
+        self.stand_in({**NAMED, (8, 77, 76): ("abort", 4), (8, 77, 76, 0): string("x")})
+        out = self.run_site("survey", "HERE")[1]
+        self.assertIn('object-list: number of elements: "x"\n', out)
 
     def test_objects_that_are_none(self):
         self.stand_in(

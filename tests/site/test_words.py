@@ -21,6 +21,8 @@ class Addresses(unittest.TestCase):
             ("1234@192.0.2.7", (1234, "192.0.2.7:47808")),
             ("0@10.0.0.1:0", (0, "10.0.0.1:0")),
             ("010.0.0.1", (None, "10.0.0.1:47808")),
+            ("192.0.2.7/5/07", (None, "192.0.2.7:47808/5/07")),
+            ("9@192.0.2.7:9/065/0A0b0C", (9, "192.0.2.7:9/65/0a0b0c")),
         ):
             self.assertEqual(addresses.one(word), wanted)
         for word in (
@@ -32,7 +34,15 @@ class Addresses(unittest.TestCase):
             "12345678@1.2.3.4",
             "1.2.3.4:",
             "1.2.3.4 ",
-            "1.2.3.4/5/07",
+            "1.2.3.4/5",
+            "1.2.3.4/5/",
+            "1.2.3.4/0/07",
+            "1.2.3.4/65535/07",
+            "1.2.3.4/5/7",
+            "1.2.3.4/5/0102030405060708",
+            "/5/07",
+            "1.2.3.4/5/07:47808",
+            "1.2.3.4/5/07/1",
             "-1@1.2.3.4",
             "::1",
             "4194303@1.2.3.4",
@@ -45,6 +55,7 @@ class Addresses(unittest.TestCase):
         with mock.patch("socket.getaddrinfo", return_value=found) as lookup:
             self.assertEqual(addresses.one("7@ahu.example:47809"), (7, "192.0.2.9:47809"))
             self.assertEqual(addresses.one("ahu.example"), (None, "192.0.2.9:47808"))
+            self.assertEqual(addresses.one("ahu.example/5/01"), (None, "192.0.2.9:47808/5/01"))
             self.assertEqual(addresses.one("192.0.2.7"), (None, "192.0.2.7:47808"))
         self.assertEqual(lookup.call_count, 1)
         with mock.patch("socket.getaddrinfo", side_effect=OSError) as lookup:

@@ -157,7 +157,7 @@ class Write(harness.SiteTest):
         )
         self.stand_in({**VALVE, (1, 1, 85): unsigned(20)})
         self.rows(
-            "write HERE 1 1 20 --priority 8 => 1 !present-value: no real: 20; nothing was sent"
+            "write HERE 1 1 20 --priority 8 => 1 !present-value: no real: unsigned 20; nothing was sent"
         )
         self.stand_in({**VALVE, (1, 1, 69): "silent"})
         self.rows("write HERE 1 1 20 --priority 8 => 1 !min-pres-value: timeout; nothing was sent")
