@@ -2,7 +2,8 @@
 """Gives the built program random input, and follows what it answers and prints: the lines and datagrams of the rows
 that it is tried by, as they are and damaged.
 
-Usage: bench/soak.py device DATAGRAMS [SEED], or script LINES [SEED]; BACTOOL names another program than the tree's.
+Usage: bench/soak.py device DATAGRAMS [SEED], script LINES [SEED], or readers ANSWERS [SEED]; BACTOOL names another
+program than the tree's.
 
 `device` sends datagrams to bacdev over 127.0.0.1, and reads every reply. What each must get is told from what bacsite
 reads of it, by the rules of docs/PROTOCOL.md: silence, an I-Am, or one reply to its confirmed request, to its own
@@ -12,6 +13,8 @@ invoke id and of no more octets than it announced. Everything stays on this mach
 `script` runs one long script through bactrace, and follows each request through what it prints. Each line but a tick
 prints one line. A request that is sent gets the next ticket, and is sent again three times at most; it ends once, and
 only while it is open; at most 64 are open, under different invoke numbers, and `full` comes only where 64 are.
+
+`readers` has bactrace take odd answers to a read, and compares how each ended the request with what bacsite reads.
 
 It stops at the first that is not so, and shows it.
 """
@@ -31,6 +34,7 @@ sys.path[:0] = [HERE + "/../tests", HERE + "/../tests/program", HERE + "/../site
 from bacsite.bodies import parameters, read_ack
 from bacsite.frames import Datagram
 from bacsite.messages import CONFIRMED, DISTRIBUTE, UNCONFIRMED, UNICAST, message_of
+from bacsite.talk import outcome_of
 from rows import row_cases
 from tree import PROGRAM, TOP, device, local_socket, resident
 
@@ -258,11 +262,49 @@ def soak_script(dice, lines):
     return seen.counts
 
 
+# ---- the two readers ----
+
+ASKED, HEADS = "127.0.0.9:47808", ["0100"] * 4 + ["0103", "0120ffff00ff", "0157"]
+
+
+def odd_answer(dice, number, body=bytes.fromhex("0c4b00000119553e")):
+    """A datagram that answers a read of a vendor's value, perhaps damaged behind its invoke id."""
+    parts = [bytes([dice.randrange(256)]) + dice.randbytes(dice.randrange(9)) for _ in range(dice.randrange(3))]
+    for tag in dice.choices(range(13), k=dice.randrange(4)):
+        octets = dice.randbytes(dice.choice([1, 4, 4, 8, 20]))
+        parts.append(bytes([tag << 4 | min(len(octets), 5)]) + bytes([len(octets)] * (len(octets) > 4)) + octets)
+    dice.shuffle(parts)
+    whole = bytes([0x30, number, 12]) + body + b"".join(parts) + b"\x3f"
+    if dice.random() < 0.4:
+        whole = whole[:2] + damaged(dice, whole[2:])
+    if dice.random() < 0.1:
+        whole = bytes([dice.choice([0x20, 0x38, 0x50, 0x60, 0x71]), number]) + dice.randbytes(dice.randrange(9))
+    rest = bytes.fromhex(dice.choice(HEADS)) + whole
+    return b"\x81\x0a" + (4 + len(rest)).to_bytes(2, "big") + rest
+
+
+def soak_readers(dice, count):
+    """Each answer meets a request of its own, which a Reject ends where the answer does not."""
+    answers = [odd_answer(dice, (at + 1) % 256) for at in range(count)]
+    ends = ["810a0009010060%02x09" % ((at + 1) % 256) for at in range(count)]
+    lines = (f"read {ASKED} 300 1 85\ndata {ASKED} {it.hex()}\ndata {ASKED} {end}\n" for it, end in zip(answers, ends))
+    done = subprocess.run([PROGRAM, "bactrace"], input="".join(lines), stdout=subprocess.PIPE, text=True, check=True)
+    told, counts = done.stdout.splitlines(), Counter()
+    for at, (octets, line) in enumerate(zip(answers, told[1::3])):
+        apdu = read(octets).apdu
+        taken = bool(apdu and apdu.is_answer and apdu.invoke == (at + 1) % 256 and line != "drop")
+        if line != (f"done {at} {outcome_of(apdu)}" if taken else "drop"):
+            sys.exit(f"{octets.hex()}: bactrace prints {line!r}, bacsite reads {apdu and outcome_of(apdu)!r}")
+        counts[line.split(" ")[2] if taken else line] += 1
+    return counts
+
+
 def main(what, count, seed=random.randrange(1 << 32)):
     print(f"seed {seed}", flush=True)
     begun = time.time()
-    counts = {"device": soak_device, "script": soak_script}[what](random.Random(int(seed)), int(count))
-    print(f"{count} {'datagrams' if what == 'device' else 'lines'} in {time.time() - begun:.0f} s")
+    soaks = {"device": soak_device, "script": soak_script, "readers": soak_readers}
+    counts = soaks[what](random.Random(int(seed)), int(count))
+    print(f"{count} {dict(device='datagrams', script='lines', readers='answers')[what]} in {time.time() - begun:.0f} s")
     for kind, number in sorted(counts.items()):
         print(f"{number:9}  {kind}")
 

@@ -14,10 +14,31 @@ from typing import Dict, Iterator, List, Optional, Sequence
 
 from .failures import BROKEN, Failure
 from .output import show
-from .processes import FOREVER, NotBegun, Outcome, Process, Processes
+from .processes import FOREVER, Asks, NotBegun, Outcome, Processes
 
 SIGNALS = (signal.SIGINT, signal.SIGHUP, signal.SIGTERM)
+FIRST_PORT, PORTS = 49152, 16384  # those that nobody has for long, by RFC 6335
+FAR_APART = 6229  # process numbers within 700 of each other, times this, lie 8 ports or more apart
+MOST_TRIES = 100  # of other ports, where somebody has one
 BIND_FAILED = "bactool: bind failed"
+
+
+class Ports:
+    """Gives each tool a port of its own.
+
+    A tool takes the first answer that has the number of its request from the address that it asked:
+    also a late one to an earlier tool at the same port, and an Error names no object. So no port
+    comes again for 16,384 tools. The first one is by the number of this process: so programs that
+    run at nearly the same time don't begin where another one was just now.
+    """
+
+    def __init__(self) -> None:
+        self._count = os.getpid() * FAR_APART
+
+    def next(self) -> int:
+        """The next port."""
+        self._count += 1
+        return FIRST_PORT + self._count % PORTS
 
 
 class Calls:
@@ -25,34 +46,43 @@ class Calls:
 
     def __init__(self, tool: str, timeout: int, retries: int, at_once: int) -> None:
         self.tool, self.timeout, self.retries, self.at_once = tool, timeout, retries, at_once
+        self.window = 1  # how many requests one controller has at the same time
         self.journals = ""  # the folder for what each bacrun prints, where that is kept
         self.processes = Processes()
         self.count = 0  # of the requests
         self.writes = 0  # how many are under way, or were when all was ended
         self._lock = threading.RLock()  # a signal may come while the main thread has it
         self._lines: Dict[str, threading.Lock] = {}
+        self._ports = Ports()
 
     @classmethod
     def of(cls, words: argparse.Namespace) -> "Calls":
         """Those that the words ask for; signals end them from now on."""
         calls = cls(_found(words.tools), words.apdu_timeout, words.apdu_retries, words.at_once)
-        calls.journals = words.journal or ""
+        calls.window, calls.journals = words.window, words.journal or ""
         if calls.journals and not os.path.isdir(calls.journals):
             raise Failure("no folder: " + calls.journals, BROKEN)
         calls._heed_signals()
         return calls
 
-    def start(self, words: Sequence[str], until: float = FOREVER) -> Process:
-        """A tool that was begun."""
-        return self.processes.start([self.tool, *words], until)
+    def start(self, words: Sequence[str], until: float = FOREVER) -> Asks:
+        """A tool that was begun, with a port that none before it had."""
+        with self._lock:
+            port = self._ports.next()
+        command = [self.tool, words[0], "--port", str(port), *words[1:]]
+        return self.processes.start(command, until)
 
     def run(self, words: Sequence[str], until: float = FOREVER) -> Outcome:
         """How a tool ended that asks for one thing."""
         self.counted()
-        try:
-            return self.processes.over(self.start(words, until))
-        except NotBegun as why:
-            return Outcome(None, told=str(why))
+        for _ in range(MOST_TRIES):
+            try:
+                outcome = self.processes.over(self.start(words, until))
+            except NotBegun as why:
+                return Outcome(None, told=str(why))
+            if outcome.told != BIND_FAILED:
+                break
+        return outcome
 
     def line(self, address: str) -> threading.Lock:
         """What each has who asks there, since stations behind one router share its slow line."""
@@ -84,9 +114,10 @@ class Calls:
         """How and where bacwp is to send."""
         return ["--mac", address, "--apdu-timeout", str(patience), *self._retries()]
 
-    def session(self, patience: int, until: float) -> Process:
+    def session(self, patience: int, window: int, until: float) -> Asks:
         """A bacrun that was begun."""
-        return self.start(["bacrun", "--apdu-timeout", str(patience), *self._retries()], until)
+        times = ["--apdu-timeout", str(patience), *self._retries()]
+        return self.start(["bacrun", *times, "--window", str(window)], until)
 
     def _retries(self) -> List[str]:
         return ["--apdu-retries", str(self.retries)]
@@ -112,5 +143,6 @@ def _found(folder: Optional[str]) -> str:
         "bactool", path=folder or beside + os.pathsep + os.environ.get("PATH", os.defpath)
     )
     if not tool:
-        raise Failure("no bactool in " + (folder or "PATH"), BROKEN)
+        where = folder or "PATH: --tools FOLDER names where it is"
+        raise Failure("no bactool in " + where, BROKEN)
     return tool

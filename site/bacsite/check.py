@@ -9,19 +9,18 @@ from typing import NamedTuple, Tuple
 
 from . import names
 from .calls import Calls
-from .command import Command, deadline_of, within
-from .controller import NOT_ASKED, Controller
+from .command import Command, within
+from .controller import Controller
 from .failures import wrong
 from .output import put
 from .points import POINT, Point, point_of
 from .poll import Reading, reading_of
-from .processes import TOO_LATE
-from .session import TIMEOUT
-from .workers import alone
+from .processes import deadline_of
+from .reasons import TOO_LATE, Why
+from .workers import alone, in_time
 
 OK, WARNING, CRITICAL, UNKNOWN = range(4)
 STATUSES = ("OK", "WARNING", "CRITICAL", "UNKNOWN")
-GONE = (TIMEOUT, TOO_LATE, NOT_ASKED)  # the plant is, or its network
 EVERYTHING = "~:"
 NUMBER = r"-?(?:[0-9]+(?:\.[0-9]*)?|\.[0-9]+)"
 RANGE = re.compile(rf"(@?)(?:(~|{NUMBER})?:({NUMBER})?|({NUMBER}))")
@@ -69,7 +68,7 @@ def range_of(word: str) -> Range:
 def verdict_on(reading: Reading, warning: Range, critical: Range) -> Verdict:
     """What the value is to monitoring."""
     value = reading.value
-    if value.fault in GONE or value.fault.startswith("no number"):
+    if value.why.is_gone or value.why is Why.NO_NUMBER:
         return Verdict(CRITICAL, value.fault)
     if value.number is None:
         return Verdict(UNKNOWN, value.fault or "no number: " + value.shown())
@@ -89,9 +88,9 @@ def verdict_on_flags(reading: Reading) -> Tuple[int, str]:
     if flags.fault:
         return UNKNOWN, "status-flags: " + flags.fault
     told = flags.text if flags.text != "normal" else ""
-    if "fault" in flags.text.split(", "):
+    if "fault" in flags.bits:
         return CRITICAL, told
-    return WARNING if "out-of-service" in flags.text.split(", ") else OK, told
+    return WARNING if "out-of-service" in flags.bits else OK, told
 
 
 def _worse(one: int, other: int) -> int:
@@ -132,12 +131,15 @@ def work(words: argparse.Namespace) -> int:
     warning, critical = range_of(words.warning), range_of(words.critical)
     deadline = deadline_of(words.timeout)
     given = ([words.hostname] if words.hostname else []) + words.words
-    point = point_of("", given)
+    point = in_time(deadline, lambda: point_of("", given))  # a name server may be silent
+    if not point:
+        put(Verdict(CRITICAL, TOO_LATE).line())
+        return CRITICAL
     calls = Calls.of(words)
 
     def asked() -> Tuple[Reading, str]:
         reading = reading_of(controller, point, with_flags=not words.no_flags)
-        has_fault = "fault" in reading.flags.text.split(", ") and not reading.flags.fault
+        has_fault = "fault" in reading.flags.bits
         return reading, reliability_of(controller, point) if has_fault else ""
 
     with Controller(calls, point.address, deadline) as controller:

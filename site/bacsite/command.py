@@ -4,13 +4,11 @@ from __future__ import annotations
 
 import argparse
 import re
-import time
 from dataclasses import dataclass
-from typing import Callable, NoReturn, Optional
+from typing import Callable, NoReturn
 
 from .failures import wrong
 from .output import put
-from .processes import FOREVER
 
 CALLS_AT_ONCE = 32
 
@@ -69,11 +67,8 @@ def asking(at_once: int) -> Parser:
     add_number(parser, "apdu-retries", 0, 9, 2, "how often it is sent again")
     told = "how many controllers are asked at the same time"
     add_number(parser, "at-once", 1, 256, at_once, told)
+    told = "how many requests one controller has at the same time"
+    add_number(parser, "window", 1, 64, 1, told)
     told = "a folder for scripts of all that is sent and comes, for bactrace"
     parser.add_argument("--journal", metavar="FOLDER", help=told)
     return parser
-
-
-def deadline_of(seconds: Optional[int]) -> float:
-    """The time by the clock of `time.monotonic` which lies so many seconds ahead."""
-    return time.monotonic() + seconds if seconds else FOREVER

@@ -2,7 +2,9 @@
 
 from __future__ import annotations
 
+import os
 import sys
+import traceback
 from contextlib import suppress
 
 from .failures import BROKEN, Failure
@@ -28,6 +30,8 @@ def main() -> int:
         text, status = str(failure), failure.status
     except Exception as error:  # a fault of this program  pylint: disable=broad-except
         text, status = repr(error), BROKEN
+        if os.environ.get("BACSITE_DEBUG") == "1":
+            show(traceback.format_exc())
     if checks:
         with suppress(Failure):
             put("BACNET UNKNOWN - " + text.replace("|", "/") + "\n")

@@ -20,10 +20,22 @@ COMMAND, DEVICE = 7, 8
 THIS_DEVICE = 4194303  # the instance that whichever device is asked takes for its own
 
 ACTION, ACTIVE_TEXT, ALARM_VALUE, ALARM_VALUES, INACTIVE_TEXT = 2, 4, 6, 7, 46
+DATABASE_REVISION, DESCRIPTION, EVENT_STATE = 155, 28, 36
 MAX_VALUE, MIN_VALUE, MODEL_NAME, NUMBER_OF_STATES = 65, 69, 70, 74
 OBJECT_ID, OBJECT_LIST, OBJECT_NAME, OBJECT_TYPE = 75, 76, 77, 79
 PRESENT_VALUE, PRIORITY_ARRAY, RELIABILITY, RELINQUISH_DEFAULT = 85, 87, 103, 104
 STATE_TEXT, STATUS_FLAGS, UNITS, VENDOR_NAME, PROPERTY_LIST = 110, 111, 117, 121, 371
+
+# What the standard keeps each priority for; the others are free.
+PRIORITY_NAMES = {
+    1: "manual-life-safety",
+    2: "automatic-life-safety",
+    5: "critical-equipment-control",
+    6: "minimum-on-off",
+    8: "manual-operator",
+}
+BY_HAND = 8  # an entry of the priority array at this place, or before, stands above the program
+NOT_COMMANDED = (0, 3, 6, 7, 12, 13, 17, 21, 22, 23, 24, 28)  # types without a priority array
 
 What = Tuple[int, ...]  # an object type, an instance, a property, and perhaps an index
 
@@ -85,6 +97,11 @@ def tags_of(told: str) -> Tuple[int, ...]:
 def has_value(object_type: int) -> bool:
     """Whether an object of this type has a present value, as far as is known."""
     return TYPE_TELLS.get(object_type, "") != "-"
+
+
+def may_be_commanded(object_type: int) -> bool:
+    """Whether an object of this type may have a priority array."""
+    return has_value(object_type) and object_type not in NOT_COMMANDED
 
 
 def present_form(object_type: int) -> Form:

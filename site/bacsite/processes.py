@@ -9,14 +9,19 @@ import threading
 import time
 from contextlib import suppress
 from dataclasses import dataclass, field
-from typing import List, Optional, Sequence, Set
+from typing import List, Optional, Protocol, Sequence, Set
 
+from .reasons import TOO_LATE
 from .texts import clean
 
 FOREVER = float("inf")
 LONGEST_START = 1.0  # seconds
 MOST_OCTETS = 65536  # of one reading
-TOO_LATE = "not done in time"
+
+
+def deadline_of(seconds: Optional[int]) -> float:
+    """The time by the clock of `time.monotonic` which lies so many seconds ahead."""
+    return time.monotonic() + seconds if seconds else FOREVER
 
 
 @dataclass(frozen=True)
@@ -28,6 +33,22 @@ class Outcome:
     told: str = ""
 
 
+class Asks(Protocol):
+    """Whom lines ask, and whose lines answer: a process, or in tests what is quicker."""
+
+    def put(self, text: str) -> None:
+        """Hands it a text."""
+
+    def line(self) -> Optional[str]:
+        """The next line, once that has come; nothing where it has ended."""
+
+    def outcome(self) -> Outcome:
+        """Lets it end, and says how it did."""
+
+    def kill(self) -> None:
+        """Ends it at once."""
+
+
 class Process:
     """One that was begun: lines go in, and lines come out, until its time is up."""
 
@@ -35,7 +56,6 @@ class Process:
         self._popen, self._until = popen, until
         self._kept, self._is_late = b"", False
         self._waits = select.poll()
-        self.kill = popen.kill
         if popen.stdout:
             self._waits.register(popen.stdout, select.POLLIN)
 
@@ -72,6 +92,10 @@ class Process:
         told = _lines(err)
         return Outcome(self._popen.returncode, _lines(out), told[0] if told else "")
 
+    def kill(self) -> None:
+        """Ends it at once."""
+        self._popen.kill()
+
     def _left(self) -> Optional[float]:
         """The seconds that it has; None stands for ever."""
         return None if self._until == FOREVER else max(0.0, self._until - time.monotonic())
@@ -91,7 +115,7 @@ class Processes:
     def __init__(self) -> None:
         self.ended = threading.Event()
         self._lock = threading.RLock()  # a signal may come while the main thread has it
-        self._running: Set[Process] = set()
+        self._running: Set[Asks] = set()
         self._starting = 0
 
     def start(self, command: Sequence[str], until: float = FOREVER) -> Process:
@@ -117,7 +141,7 @@ class Processes:
             with self._lock:
                 self._starting -= 1
 
-    def over(self, process: Process) -> Outcome:
+    def over(self, process: Asks) -> Outcome:
         """How a process ended, which is waited for."""
         try:
             return process.outcome()

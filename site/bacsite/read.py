@@ -8,12 +8,13 @@ from typing import Dict, List, Sequence
 from .bodies import elements_of
 from .calls import Calls
 from .command import Command, add_number
-from .controller import NO_SUCH_PROPERTY, NOT_ASKED, Controller
+from .controller import Controller
 from .failures import MISSING
 from .names import INTEGERS, OBJECT_ID, OBJECT_NAME, OBJECT_TYPE, PROPERTIES, PROPERTY_LIST
 from .output import put
 from .points import MOST_INSTANCE, POINT, Point, point_of
 from .poll import reading_of
+from .reasons import Why
 from .values import Value, fault
 from .workers import alone
 
@@ -48,11 +49,11 @@ def properties(words: argparse.Namespace) -> int:
     shown = {
         number: value
         for number, value in values.items()
-        if not NO_SUCH_PROPERTY.fullmatch(value.fault) and value.fault != NOT_ASKED
+        if value.why not in (Why.NO_PROPERTY, Why.NOT_ASKED)
     }
     for number, value in shown.items():
         put(f'{number} {PROPERTIES.get(number, "-")} {value.shown()}\n')
-    left = sum(value.fault == NOT_ASKED for value in values.values())
+    left = sum(value.why is Why.NOT_ASKED for value in values.values())
     if left:
         put(f"{left} of {len(values)} properties not asked\n")
     return MISSING if left or not shown or any(it.fault for it in shown.values()) else 0
@@ -63,12 +64,12 @@ def _values(controller: Controller, point: Point, last: int) -> Dict[int, Value]
     what = point.what[:2]
     reason = "" if point.device is None else controller.identify(point.device)
     name = fault(reason) if reason else controller.value(*what, OBJECT_NAME)
-    if name.fault and not NO_SUCH_PROPERTY.fullmatch(name.fault):
+    if name.why not in (Why.NONE, Why.NO_PROPERTY):
         return {OBJECT_NAME: name}
     values = {OBJECT_NAME: name}
-    for number in _numbers(controller, what, last):
-        if number != OBJECT_NAME:
-            values[number] = controller.value(*what, number)
+    numbers = [it for it in _numbers(controller, what, last) if it != OBJECT_NAME]
+    for part in controller.parts(numbers):
+        values.update(zip(part, controller.values([(*what, number) for number in part])))
     return dict(sorted(values.items()))
 
 

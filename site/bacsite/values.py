@@ -4,7 +4,7 @@ from __future__ import annotations
 
 import enum
 from dataclasses import dataclass
-from typing import Dict, List, Optional, Sequence
+from typing import Dict, List, Optional, Sequence, Tuple
 
 from . import names
 from .bodies import (
@@ -19,6 +19,7 @@ from .bodies import (
 )
 from .decimals import NO_NUMBERS, shortest
 from .names import Form
+from .reasons import Why, why_of
 from .texts import clean
 
 
@@ -38,11 +39,17 @@ class Value:
     kind: Kind
     text: str
     meaning: str = ""  # the name of a number, or of the bits that are set
+    bits: Tuple[str, ...] = ()  # the names of those that are set
 
     @property
     def fault(self) -> str:
         """Why there is no value; empty where there is one."""
         return self.text if self.kind is Kind.FAULT else ""
+
+    @property
+    def why(self) -> Why:
+        """What the fault says."""
+        return why_of(self.fault)
 
     @property
     def number(self) -> Optional[float]:
@@ -139,9 +146,10 @@ def _plain(element: Element, meanings: Optional[Dict[int, str]] = None) -> Value
         return Value(Kind.TEXT, _decoded(octets, text))
     meaning = ""
     if kind == names.BITS:
-        bits = [at for at, bit in enumerate(bits_of(octets)) if bit == "1"] if known else []
-        meaning = ", ".join(known.get(at, f"bit {at}") for at in bits)
-    elif kind in (names.DATE, names.TIME):
+        places = [at for at, bit in enumerate(bits_of(octets)) if bit == "1"] if known else []
+        bits = tuple(known.get(at, f"bit {at}") for at in places)
+        return Value(Kind.OTHER, text, ", ".join(bits), bits)
+    if kind in (names.DATE, names.TIME):
         text = _moment_of(kind, octets) or text
     elif kind == names.OBJECT:
         meaning = names.TYPES.get(element.number >> 22, "")
@@ -195,4 +203,4 @@ def flags_of(value: Value) -> Value:
         return value
     if len(value.text) != len("B'0000'"):
         return fault("no four bits: " + value.text)
-    return Value(Kind.OTHER, value.meaning or "normal")
+    return Value(Kind.OTHER, value.meaning or "normal", bits=value.bits)

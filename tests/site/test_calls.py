@@ -149,6 +149,8 @@ class Calls(harness.SiteTest):
             )
             self.rows("read HERE 0 1 85 => 0 42.25")
             self.assertEqual(device.asked, [(0, 1, 85)] * 3)
+        device = self.stand_in({(0, 1, 85): [("error", 0, 3), real("42290000")]})
+        self.rows("read HERE 0 1 85 => 0 42.25")
         device = self.stand_in({(0, 1, 85): ("abort", 9)})
         self.rows("read HERE 0 1 85 --apdu-timeout 1500 --apdu-retries 1 => 1 abort 9")
         first, second = device.times
@@ -215,15 +217,15 @@ class Calls(harness.SiteTest):
             ("kill -9 $$", "no line of bacrun, status -9"),
             ("exit 0", "no line of bacrun, status 0"),
             ("echo 'bactool: sending failed' >&2; exit 3", "bactool: sending failed"),
+            ("echo 'bactool: no such thing' >&2; exit 3", "bactool: no such thing"),
             ("echo 1; echo 2", "no line of bacrun, status 0"),
             ("printf '\\377'", "no line of bacrun, status 0"),
             ("printf '# done 7 ok\\n# send x\\ndata x\\n\\n'", "no line of bacrun, status 0"),
         ):
             os.chmod(self.path("odd/bactool", "#!/bin/sh\n%s\n" % text), 0o755)
             self.rows("read --tools IN/odd DEV 0 5 85 => 1 " + wanted)
-            self.assertEqual(
-                self.run_site("check", "--tools", "IN/odd", "DEV", "0", "5", "85")[0], 3
-            )
+            status = self.run_site("check", "--tools", "IN/odd", "DEV", "0", "5", "85")[0]
+            self.assertEqual(status, 2 if "sending" in wanted else 3, "it can't be reached")
         self.path("odd/bactool", "#!/nowhere\n")
         self.rows(
             "read --tools IN/odd DEV 0 5 85 => 1 cannot run IN/odd/bactool: No such file or directory"

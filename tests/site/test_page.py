@@ -5,7 +5,7 @@ from html.parser import HTMLParser
 
 import harness  # noqa: F401  it makes bacsite known
 from bacsite.page import SCRIPT, STYLE, hash_of, page_of, safe
-from bacsite.survey import Device, SiteObject
+from bacsite.device import Device, SiteObject
 from bacsite.values import Kind, Value
 
 HERE = "192.0.2.7:47808"
@@ -64,15 +64,15 @@ def an_object(kind=0, text="1", **more):
 class Pages(unittest.TestCase):
     def test_hostile(self):
         """No text of a device becomes markup, and each stays legible."""
-        found = SiteObject(300, 1, "b", Value(Kind.TEXT, "c"), "d", "e", "f, g", ["h"])
-        _, wanted = read([Device(HERE, 1, "b", "c", "d", [found], ["e"], asked="f")])
+        found = SiteObject(300, 1, "b", Value(Kind.TEXT, "c"), "d", "e", ("f", "g"), reasons=["h"])
+        _, wanted = read([Device(HERE, 1, "b", "c", "d", objects=[found], reasons=["e"], asked="f")])
         for text in HOSTILE:
             with self.subTest(text=ascii(text)):
                 found = SiteObject(
-                    300, 1, text, Value(Kind.TEXT, text), text, text, "f, " + text, [text]
+                    300, 1, text, Value(Kind.TEXT, text), text, text, ("f", text), reasons=[text]
                 )
                 page, reader = read(
-                    [Device(HERE, 1, text, text, text, [found], [text], asked=text)]
+                    [Device(HERE, 1, text, text, text, objects=[found], reasons=[text], asked=text)]
                 )
                 self.assertEqual((reader.tags, reader.names), (wanted.tags, wanted.names))
                 self.assertEqual(page.encode("utf-8").decode(), page)
@@ -91,11 +91,11 @@ class Pages(unittest.TestCase):
         self.assertIsNone(re.search(r'(src|href)="(?!#)|url\(|style="| on[a-z]+="', page))
 
     def test_cells(self):
-        found = an_object(name="T", text="-72.3", unit="degrees-celsius", flags="in-alarm, strange")
+        found = an_object(name="T", text="-72.3", unit="degrees-celsius", flags=("in-alarm", "strange"))
         page, _ = read(
             [
                 Device(
-                    "192.0.2.7:47808", 1234, "Small", objects=[found, an_object(flags="normal")]
+                    "192.0.2.7:47808", 1234, "Small", objects=[found, an_object(flags=())]
                 ),
                 Device("192.0.2.8:47808", reasons=["timeout"]),
             ]

@@ -247,12 +247,18 @@ class OneFile(harness.SiteTest):
         )
         self.assertTrue(re.fullmatch(rb"bacsite [0-9.]+\n", done.stdout))
 
-    def test_modules_are_short(self):
-        folder = harness.TOP + "/site/bacsite/"
-        for name in os.listdir(folder):
-            if name.endswith(".py"):
-                with open(folder + name, encoding="utf-8") as file:
-                    self.assertLess(len(file.readlines()), 250, name)
+    def test_imports_go_one_way(self):
+        folder, needs = harness.TOP + "/site/bacsite/", {}
+        for name in (it[:-3] for it in os.listdir(folder) if it.endswith(".py")):
+            with open(folder + name + ".py", encoding="utf-8") as file:
+                text = file.read()
+            needs[name] = set(re.findall(r"(?m)^from \.(\w+) import", text))
+            for names in re.findall(r"(?m)^from \. import (.*)", text):
+                needs[name] |= set(names.split(", ")) - {"VERSION"}
+        while needs:
+            free = {name for name, wanted in needs.items() if not wanted & set(needs)}
+            self.assertTrue(free, "these import one another: %s" % sorted(needs))
+            needs = {name: wanted for name, wanted in needs.items() if name not in free}
 
 
 if __name__ == "__main__":

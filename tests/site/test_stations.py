@@ -90,11 +90,25 @@ class Stations(harness.SiteTest):
             """
         )
 
+    def test_a_survey_of_stations(self):
+        status, out, _ = self.run_site("survey", "HERE", "--stations")
+        lines = ["HERE  device 77  Router  V  M"]
+        for route, instance, value in (("5/01", 11, "42.25"), ("65534/0a0b0c", 12, "50")):
+            lines.append("HERE/%s  device %d  S  S  S" % (route, instance))
+            lines.append("  0:1  analog-input  T  %s  -" % value)
+        self.assertEqual((status, out), (0, self.spelled("\n".join(lines) + "\n")))
+        self.assertEqual(self.router.early, 0)
+        page = self.path("stations.html", "")
+        self.assertEqual(self.run_site("survey", "HERE", "--stations", "--html", page)[0], 0)
+        with open(page, encoding="utf-8") as file:
+            self.assertIn(self.spelled("HERE/5/01</a>"), file.read())
+
     def test_a_survey_of_a_router_that_is_no_device(self):
         self.router.values[8, 4194303, 75] = "silent"
         self.router.values[8, 77, 75] = "silent"
         found = self.run_site("survey", "HERE")
-        lines = ["HERE  device -  timeout", "HERE/5/01  device 11", "HERE/65534/0a0b0c  device 12"]
+        lines = ["HERE  device -  timeout; device 77 answers a Who-Is, and no read"]
+        lines += ["HERE/5/01  device 11", "HERE/65534/0a0b0c  device 12"]
         self.assertEqual(found[:2], (1, self.spelled("".join(it + "\n" for it in lines))))
 
     def test_an_old_station_is_asked_by_a_who_is(self):
