@@ -131,11 +131,11 @@ def work(words: argparse.Namespace) -> int:
     warning, critical = range_of(words.warning), range_of(words.critical)
     deadline = deadline_of(words.timeout)
     given = ([words.hostname] if words.hostname else []) + words.words
-    point = in_time(deadline, lambda: point_of("", given))  # a name server may be silent
-    if not point:
+    found = in_time(deadline, lambda: point_of("", given))  # a name server may be silent
+    if not found:
         put(Verdict(CRITICAL, TOO_LATE).line())
         return CRITICAL
-    calls = Calls.of(words)
+    point, calls = found, Calls.of(words)
 
     def asked() -> Tuple[Reading, str]:
         reading = reading_of(controller, point, with_flags=not words.no_flags)
