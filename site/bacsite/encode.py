@@ -18,6 +18,7 @@ LIMITS = {
     names.ENUMERATED: (0, 2**32 - 1),
 }
 NUMBER = re.compile("-?[0-9]+")
+WORD = re.compile(rb"[!-\xff]+")  # what can be a word of a line of a script
 LAST_YEAR = 2154  # the octet of the next one stands for any
 TIME = re.compile(r"([0-9]{1,2}):([0-9]{2})(?::([0-9]{2})(?:\.([0-9]{2}))?)?")
 

@@ -9,12 +9,12 @@ import time
 from contextlib import suppress
 from typing import NamedTuple, Optional
 
+from .answers import is_about, outcome_of
 from .bodies import read_ack
 from .failures import BROKEN, Failure
 from .messages import Datagram, message_of
 from .names import What
 from .processes import Process
-from .talk import is_about, outcome_of
 
 TIMEOUT, STRANGE = "timeout", "an answer about another point"
 FAULT = "a fault of bacsite: "

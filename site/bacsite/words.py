@@ -19,7 +19,7 @@ COMMANDS: Dict[str, str] = {
     "prometheus": "prometheus.COMMAND",
     "write": "write.COMMAND",
     "write-list": "write_list.COMMAND",
-    "capture": "capture.COMMAND",
+    "capture": "capture.command.COMMAND",
     "real": "convert.REAL",
     "octets": "convert.OCTETS",
 }
@@ -41,7 +41,7 @@ have it.
 
 def command_of(name: str) -> Command:
     """The command of this name."""
-    module, _, attribute = COMMANDS[name].partition(".")
+    module, _, attribute = COMMANDS[name].rpartition(".")
     command: Command = getattr(import_module("." + module, __package__), attribute)
     return command
 

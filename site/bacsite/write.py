@@ -12,13 +12,12 @@ from .bodies import elements_of
 from .calls import BIND_FAILED, Calls
 from .command import Command, within
 from .controller import Controller
-from .encode import Encoded
+from .encode import WORD, Encoded
 from .failures import BROKEN, MISSING, WRONG_WORDS, Failure, wrong
 from .names import DEVICE, OBJECT, OBJECT_ID, PRESENT_VALUE
 from .output import put
 from .points import index, instance, object_type, property_number
 from .processes import Outcome
-from .script import WORD
 from .target import Place, Priorities, encoded_for, looked_at, priorities
 from .values import Value
 from .workers import alone
