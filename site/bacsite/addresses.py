@@ -16,7 +16,10 @@ MOST_DEVICE = 4194302
 MOST_NETWORK = 65534
 INSTANCE_AT = re.compile(r"(?:([0-9]{1,7})@)?(.*)", re.S)
 ADDRESS = re.compile(r"([0-9]{1,3}(?:\.[0-9]{1,3}){3})(?::([0-9]{1,5}))?")
-HOST = re.compile(r"(?![0-9.]+(?::|\Z))([A-Za-z0-9._-]{1,253})(?::([0-9]{1,5}))?")
+# No host's name ends in a number: a resolver would take 0x7f.2.31 for an address, as it is written.
+HOST = re.compile(
+    r"(?!(?:.*\.)?(?:0[xX][0-9A-Fa-f]*|[0-9]+)\.?(?::|\Z))([A-Za-z0-9._-]{1,253})(?::([0-9]{1,5}))?"
+)
 ROUTE = re.compile(r"([^/]*)/([0-9]{1,5})/((?:[0-9A-Fa-f]{2}){1,7})")
 RANGE = re.compile(r"([0-9.]+)(?:/([0-9]{1,2})|-([0-9.]+))(?::([0-9]{1,5}))?")
 

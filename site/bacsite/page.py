@@ -154,8 +154,8 @@ def _flags(device: Device) -> str:
 
 
 def _address_number(address: str) -> int:
-    """An address as a number, by which it is sorted."""
-    host, _, port = address.partition(":")
+    """An address as a number, by which it is sorted; a station has that of its router."""
+    host, _, port = address.partition("/")[0].partition(":")
     return int(ipaddress.IPv4Address(host)) << 16 | int(port)
 
 

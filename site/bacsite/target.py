@@ -19,7 +19,7 @@ Limits = Tuple[Optional[Decimal], Optional[Decimal]]
 
 
 class Priorities(NamedTuple):
-    """The priority array by its numbers, from 1, empty where there is none; or why it is not read."""
+    """The priority array by its numbers, from 1, if there is one; or why it is not read."""
 
     values: Dict[int, Value] = {}
     fault: str = ""

@@ -253,6 +253,17 @@ class OneFile(harness.SiteTest):
         os.chmod(self.path("other/bactool", "#!/bin/sh\necho 42290000\n"), 0o755)
         words = [*self.world.command, "read", self.names["DEV"], "0", "5", "85"]
         env = {"PATH": self.world.folder + "/other:" + os.environ["PATH"]}
+        alone = shutil.copy(self.world.folder + "/bacsite", self.world.folder + "/other/alone")
+        none = [self.world.command[0], alone, "read", "DEV", "0", "5", "85", "--tools", "/nowhere"]
+        for given, told in (
+            (none, b"no bactool in /nowhere\n"),
+            (none[:-2], b"no bactool in PATH nor beside bacsite; --tools FOLDER says where it is\n"),
+        ):
+            os.rename(self.world.folder + "/other/bactool", self.world.folder + "/other/hidden")
+            given[3] = self.names["DEV"]
+            done = subprocess.run(given, stderr=subprocess.PIPE, env={"PATH": "/nowhere"})
+            self.assertEqual((done.returncode, done.stderr), (3, b"bacsite: " + told))
+            os.rename(self.world.folder + "/other/hidden", self.world.folder + "/other/bactool")
         done = subprocess.run(words, stdout=subprocess.PIPE, env=env)
         self.assertEqual(done.stdout, b"72.3\n", "the one beside it comes before those of PATH")
         done = subprocess.run(

@@ -161,12 +161,11 @@ def _end(talk: Talk, body: Optional[Body]) -> str:
     """How a talk ended."""
     if not talk.answers:
         return "no answer"
-    whole, first = talk.whole_answer, talk.answers[0].apdu
-    if first.part is None:
-        return ended(first, body)
-    if not whole:
+    first = talk.answers[0]
+    if not first.whole:
         return "answered in parts, of which some are missing"
-    return f"{ended(whole, body)}, in {times(len(talk.parts), 'part')}"
+    told = ended(first.whole, body)
+    return told if first.apdu.part is None else f"{told}, in {times(len(first.parts), 'part')}"
 
 
 def remarks(talk: Talk, body: Optional[Body]) -> List[str]:

@@ -43,7 +43,7 @@ class Pairing:
             event = self._answer(message, apdu)
         elif apdu and apdu.kind == SEGMENT and not apdu.flags & OF_SERVER:
             talk = self.latest.get((message.sender, apdu.invoke), {}).get(message.receiver)
-            event = Event("part", talk) if talk and talk.parts else None
+            event = Event("part", talk) if talk and talk.outcome == "segmented" else None
         if event is None:
             self.entries.append(message)
         return event or Event("other")
@@ -98,11 +98,11 @@ class Pairing:
             return None
         if apdu.kind not in (REJECT, ABORT) and apdu.service != talk.apdu.service:
             return None
-        if apdu.part is not None:
-            talk.add_part(apdu)
         if apdu.part and talk.answers:
+            talk.answers[0].add(apdu)
             return Event("part", talk)
-        talk.answers.append(Answer(message.nanos, apdu, outcome_of(apdu)))
+        parts = [apdu] if apdu.part == 0 else []
+        talk.answers.append(Answer(message.nanos, apdu, outcome_of(apdu), parts))
         if len(talk.answers) > 1:
             return Event("second", talk)
         talk.gap = self.gaps.get(talk.client, 0)

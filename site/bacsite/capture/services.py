@@ -1,4 +1,4 @@
-"""The services beside ReadProperty and WriteProperty that are read: several reads at once, and COV."""
+"""What other services ask and tell: several reads at once, and changes of values (COV)."""
 
 from __future__ import annotations
 

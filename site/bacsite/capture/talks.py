@@ -17,11 +17,28 @@ WINDOW = 60_000 * MILLI  # after that long nothing more is awaited
 
 
 class Answer(NamedTuple):
-    """An answer: when it came, what it is, and how it ends a request, as bactrace says it."""
+    """An answer: when it came, what it is, and how it ends a request, as bactrace says it; and its
+    parts, as far as they follow one another, where it came in parts."""
 
     nanos: int
     apdu: Apdu
     outcome: str
+    parts: List[Apdu]
+
+    @property
+    def whole(self) -> Optional[Apdu]:
+        """It, put together of its parts; nothing where some of them are missing."""
+        if self.apdu.part is None:
+            return self.apdu
+        is_whole = self.parts and not self.parts[-1].flags & MORE_FOLLOWS
+        if not is_whole or any(it.is_cut for it in self.parts):
+            return None
+        return self.apdu._replace(part=None, body=b"".join(it.body for it in self.parts))
+
+    def add(self, apdu: Apdu) -> None:
+        """Notes a part, unless it comes again, or another one is missing before it."""
+        if apdu.part == len(self.parts) % 256:
+            self.parts.append(apdu)
 
 
 @dataclass(eq=False)
@@ -35,7 +52,6 @@ class Talk:
     order: int  # how many requests the client had made before
     again: Optional[int] = None  # when the same request had been answered before
     answers: List[Answer] = field(default_factory=list)
-    parts: List[Apdu] = field(default_factory=list)  # of the answer, as far as they follow
     gap: int = 0  # how long the client had been seen to wait, when the first answer came
     is_over: bool = False
     cut_off: Optional[int] = None  # how long it was awaited when the capture ended
@@ -72,31 +88,15 @@ class Talk:
     @property
     def has_failed(self) -> bool:
         """Whether it ended otherwise than with what was asked for, or too late."""
-        whole = self.whole_answer
+        whole = self.answers[0].whole if self.answers else None
         if not self.answers or self.late or (whole and outcome_of(whole) == "bad-ack"):
             return True
         wanted = {READ: (COMPLEX,), WRITE: (SIMPLE,)}.get(self.apdu.service, (SIMPLE, COMPLEX))
         return self.answers[0].apdu.kind not in wanted or bool(self.other())
 
-    @property
-    def whole_answer(self) -> Optional[Apdu]:
-        """The answer, put together where it came in parts; nothing where not all of them came."""
-        first = self.answers[0].apdu if self.answers else None
-        if not first or first.part is None:
-            return first
-        is_whole = self.parts and not self.parts[-1].flags & MORE_FOLLOWS
-        if not is_whole or any(it.is_cut for it in self.parts):
-            return None
-        return first._replace(part=None, body=b"".join(it.body for it in self.parts))
-
-    def add_part(self, apdu: Apdu) -> None:
-        """Notes a part, where it follows: what came before comes again where an answer is lost."""
-        if apdu.part == len(self.parts) % 256:
-            self.parts.append(apdu)
-
     def other(self) -> What:
         """What the answer to a read is about, where that is not what was asked for."""
-        apdu = self.whole_answer
+        apdu = self.answers[0].whole if self.answers else None
         if not apdu or (apdu.kind, apdu.service) != (COMPLEX, READ) or apdu.is_cut:
             return ()
         if apdu.body.startswith(self.apdu.body + b"\x3e"):

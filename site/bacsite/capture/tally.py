@@ -106,7 +106,8 @@ class Tally:
             worst = sorted(self.devices, key=lambda it: (-self.devices[it].marks["failed"], it))
             yield from table([heads, *(self.devices[it].row(it) for it in worst)])
         if passing.cut:
-            yield f"cut by the capture: {times(passing.cut, 'datagram')}, told by their first octets"
+            cut = times(passing.cut, "datagram")
+            yield f"cut by the capture: {cut}, told by their first octets"
         for words, counts in (("also seen", self.others), ("passed over", passing.counts)):
             if counts:
                 yield f"{words}: " + ", ".join(f"{it} {counts[it]}" for it in sorted(counts))
