@@ -31,10 +31,9 @@ from collections import Counter
 
 HERE = os.path.dirname(__file__)
 sys.path[:0] = [HERE + "/../tests", HERE + "/../tests/program", HERE + "/../site"]
+from bacsite.answers import outcome_of
 from bacsite.bodies import parameters, read_ack
-from bacsite.frames import Datagram
-from bacsite.messages import CONFIRMED, DISTRIBUTE, UNCONFIRMED, UNICAST, message_of
-from bacsite.talk import outcome_of
+from bacsite.messages import CONFIRMED, DISTRIBUTE, UNCONFIRMED, UNICAST, Datagram, message_of
 from rows import row_cases
 from tree import PROGRAM, TOP, device, local_socket, resident
 

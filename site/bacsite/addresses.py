@@ -16,8 +16,10 @@ MOST_DEVICE = 4194302
 MOST_NETWORK = 65534
 INSTANCE_AT = re.compile(r"(?:([0-9]{1,7})@)?(.*)", re.S)
 ADDRESS = re.compile(r"([0-9]{1,3}(?:\.[0-9]{1,3}){3})(?::([0-9]{1,5}))?")
-HOST = re.compile(r"([A-Za-z0-9._-]{1,253})(?::([0-9]{1,5}))?")
-NUMBERS = re.compile(r"(.*\.)?([0-9]+|0[xX][0-9A-Fa-f]*)\.?")  # of old a way to write an address
+# No host's name ends in a number: a resolver would take 0x7f.2.31 for an address, as it is written.
+HOST = re.compile(
+    r"(?!(?:.*\.)?(?:0[xX][0-9A-Fa-f]*|[0-9]+)\.?(?::|\Z))([A-Za-z0-9._-]{1,253})(?::([0-9]{1,5}))?"
+)
 ROUTE = re.compile(r"([^/]*)/([0-9]{1,5})/((?:[0-9A-Fa-f]{2}){1,7})")
 RANGE = re.compile(r"([0-9.]+)(?:/([0-9]{1,2})|-([0-9.]+))(?::([0-9]{1,5}))?")
 
@@ -48,7 +50,7 @@ def one(word: str) -> Tuple[Optional[int], str]:
     found, name = ADDRESS.fullmatch(rest), HOST.fullmatch(rest)
     if found:
         return instance, _checked(found[1], found[2], word) + behind
-    host = _looked_up(name[1]) if name and not NUMBERS.fullmatch(name[1]) else ""
+    host = _looked_up(name[1]) if name else ""
     if not name or not host:
         raise wrong("no address: " + word)
     return instance, _checked(host, name[2], word) + behind

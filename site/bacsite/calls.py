@@ -143,6 +143,6 @@ def _found(folder: Optional[str]) -> str:
         "bactool", path=folder or beside + os.pathsep + os.environ.get("PATH", os.defpath)
     )
     if not tool:
-        where = folder or "PATH: --tools FOLDER names where it is"
-        raise Failure("no bactool in " + where, BROKEN)
+        hint = "" if folder else " nor beside bacsite; --tools FOLDER says where it is"
+        raise Failure("no bactool in " + (folder or "PATH") + hint, BROKEN)
     return tool

@@ -2,7 +2,6 @@
 
 from __future__ import annotations
 
-import re
 from dataclasses import dataclass, field
 from typing import Dict, List, Optional, Sequence, Tuple
 
@@ -15,7 +14,6 @@ from .reasons import NOT_ASKED, Why
 from .session import Answer
 from .values import Value, fault, shown, value_of
 
-NO_SUCH_PROPERTY = re.compile("error [0-9]+ 32")
 MOST_ELEMENTS = 100000  # of a list which is read element by element
 
 

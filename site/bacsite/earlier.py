@@ -39,7 +39,7 @@ class Earlier:
         if not known:
             return ["new"] if self._devices and device.instance is not None else []
         if device.instance != known.instance:
-            return [" ".join(filter(None, ["was device", str(known.instance), known.texts["name"]]))]
+            return [f"was device {known.instance} {known.texts['name']}".rstrip()]
         texts = {"name": device.name, "vendor": device.vendor, "model": device.model}
         found = [
             f"{what} was {known.texts[what] or 'none'}"
@@ -69,7 +69,7 @@ def _changed(which: Which, now: SiteObject, name: str, unit: str) -> Iterator[st
 
 
 def _told(which: Which, name: str) -> str:
-    return " ".join(filter(None, ["%d:%d" % which, name]))
+    return f"{which[0]}:{which[1]} {name}".rstrip()
 
 
 def earlier_of(path: str) -> Earlier:

@@ -12,12 +12,16 @@ TARGET, SOURCE, NETWORK_MESSAGE = 0x20, 0x08, 0x80  # bits of the network header
 
 
 class Datagram(NamedTuple):
-    """A UDP datagram: nanoseconds since 1970, from and to whom as ADDRESS:PORT, its octets."""
+    """A UDP datagram: nanoseconds since 1970, from and to whom as ADDRESS:PORT, its octets.
+
+    Of one that is cut a capture has kept the first octets alone.
+    """
 
     nanos: int
     sender: str
     receiver: str
     octets: bytes
+    is_cut: bool = False
 
 
 class Apdu(NamedTuple):
@@ -32,6 +36,7 @@ class Apdu(NamedTuple):
     part: Optional[int]
     service: int
     body: bytes
+    is_cut: bool = False
 
     @property
     def is_answer(self) -> bool:
@@ -87,9 +92,9 @@ def _network_message(plain: Message, at: int) -> Message:
         return routed._replace(words="network message " + kind)
     apdu = apdu_of(octets[start:])
     if not apdu:
-        words = "an APDU that can't be read: " + (octets[start:].hex() or "none")
-        return routed._replace(words=words)
-    return routed._replace(apdu=apdu, at=start)
+        why = "is cut" if plain.datagram.is_cut else "can't be read"
+        return routed._replace(words=f"an APDU that {why}: {octets[start:].hex() or 'none'}")
+    return routed._replace(apdu=apdu._replace(is_cut=plain.datagram.is_cut), at=start)
 
 
 def _network_of(octets: bytes, at: int) -> Optional[Tuple[str, str, int]]:

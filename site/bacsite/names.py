@@ -21,6 +21,7 @@ THIS_DEVICE = 4194303  # the instance that whichever device is asked takes for i
 
 ACTION, ACTIVE_TEXT, ALARM_VALUE, ALARM_VALUES, INACTIVE_TEXT = 2, 4, 6, 7, 46
 DATABASE_REVISION, DESCRIPTION, EVENT_STATE = 155, 28, 36
+COV_INCREMENT, DEADBAND = 22, 25
 MAX_VALUE, MIN_VALUE, MODEL_NAME, NUMBER_OF_STATES = 65, 69, 70, 74
 OBJECT_ID, OBJECT_LIST, OBJECT_NAME, OBJECT_TYPE = 75, 76, 77, 79
 PRESENT_VALUE, PRIORITY_ARRAY, RELIABILITY, RELINQUISH_DEFAULT = 85, 87, 103, 104
@@ -136,5 +137,7 @@ def _form(object_type: int, number: int, is_element: bool) -> Form:
         return present._replace(is_list=is_list)
     if tags == (REAL,) and (not present.tags or present.tags[0] in LOOK_ALIKE):
         tags = present.tags  # limits of an accumulator are integers
+    if tags == (SIGNED,) and number in (COV_INCREMENT, DEADBAND):
+        tags = (UNSIGNED,)  # no step is below 0
     names = MEANINGS.get(PROPERTIES.get(number, ""), {})
     return Form(tags, is_list, len(tags) > 1, names=names)

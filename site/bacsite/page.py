@@ -8,7 +8,7 @@ import html
 import ipaddress
 import pkgutil
 from collections import Counter
-from typing import Iterator, List, Optional, Sequence
+from typing import Iterator, Optional, Sequence
 
 from .device import Device, SiteObject
 from .texts import clean
@@ -157,7 +157,7 @@ def _flags(device: Device) -> str:
 
 
 def _address_number(address: str) -> int:
-    """An address as a number, by which it is sorted."""
+    """An address as a number, by which it is sorted; a station has that of its router."""
     host, _, port = address.partition("/")[0].partition(":")
     return int(ipaddress.IPv4Address(host)) << 16 | int(port)
 

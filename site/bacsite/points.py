@@ -82,7 +82,7 @@ def point_of(name: str, words: Sequence[str]) -> Point:
 def points_of(path: str) -> List[Point]:
     """The points of a list; of a line that is wrong one with a fault. `-` is standard input."""
     points = []
-    for line in _text_of(path).split("\n"):
+    for line in text_of(path).split("\n"):
         words = line.split()
         if words and not words[0].startswith("#"):
             points.append(_point_of_line(clean(words[0]), words[1:]))
@@ -98,7 +98,8 @@ def _point_of_line(name: str, words: Sequence[str]) -> Point:
         return Point(name, fault=str(failure))
 
 
-def _text_of(path: str) -> str:
+def text_of(path: str) -> str:
+    """What a file has, or standard input for `-`."""
     try:
         with opened(path) as file:
             octets = file.read()

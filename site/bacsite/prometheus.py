@@ -3,7 +3,7 @@
 from __future__ import annotations
 
 import argparse
-from typing import List, Sequence
+from typing import Sequence
 
 from .calls import Calls
 from .command import Command
@@ -80,7 +80,7 @@ def work(words: argparse.Namespace) -> int:
     _refuse(words.file, points)
     groups = polled(Calls.of(words), points, with_flags=not words.no_flags)
     readings = in_order(points, groups)
-    replace_file(words.file, [text_of(readings)])
+    replace_file(words.file, [text_of(readings)], for_all=True)
     return 0 if all(map(is_up, readings)) else MISSING
 
 

@@ -10,13 +10,13 @@ from contextlib import suppress
 from dataclasses import dataclass
 from typing import Dict, NamedTuple, Optional
 
+from .answers import is_about, outcome_of
 from .bodies import read_ack
 from .failures import BROKEN, Failure
 from .messages import Apdu, Datagram, message_of
 from .names import What
 from .processes import Asks
 from .reasons import STRANGE, TIMEOUT, Why, why_of
-from .talk import is_about, outcome_of
 
 FAULT = "a fault of bacsite: "
 ENDED = re.compile("# (done|timeout) ([0-9]+) ?(.*)")

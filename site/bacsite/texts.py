@@ -2,9 +2,12 @@
 
 from __future__ import annotations
 
+import re
 import time
 import unicodedata
 from typing import List, Optional, Sequence
+
+ESCAPE = re.compile(r"\\(?:[\\nrt]|x[0-9a-f]{2}|u[0-9a-f]{4}|U[0-9a-f]{8})")
 
 
 def clean(text: str) -> str:
@@ -14,6 +17,14 @@ def clean(text: str) -> str:
     return "".join(
         char if char.isprintable() else char.encode("unicode_escape").decode() for char in text
     )
+
+
+def escaped(text: str) -> str:
+    """A text that somebody else has made, as `clean`. Where it has something to escape, or reads as
+    if it had, each backslash is doubled: so no two texts look alike."""
+    if text.isprintable() and not ESCAPE.search(text):
+        return text
+    return clean(text.replace("\\", "\\\\"))
 
 
 def stamp(seconds: Optional[float] = None) -> str:

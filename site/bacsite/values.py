@@ -20,7 +20,7 @@ from .bodies import (
 from .decimals import NO_NUMBERS, shortest
 from .names import Form
 from .reasons import Why, why_of
-from .texts import clean
+from .texts import escaped
 
 
 class Kind(enum.Enum):
@@ -159,7 +159,7 @@ def _plain(element: Element, meanings: Optional[Dict[int, str]] = None) -> Value
 def _decoded(octets: bytes, text: str) -> str:
     """A text by its set; as bacrp prints it where that can't be read."""
     try:
-        return clean(octets[1:].decode(CHARACTER_SETS[octets[0]]))
+        return escaped(octets[1:].decode(CHARACTER_SETS[octets[0]]))
     except (KeyError, UnicodeDecodeError):
         return text
 

@@ -3,13 +3,10 @@
 from __future__ import annotations
 
 import argparse
-import re
 from importlib import import_module
-from typing import Dict, Optional, Sequence
+from typing import Dict, Sequence
 
-from . import VERSION
-from .command import Command, Parser, asking
-from .output import put
+from .command import Command, Parser, add_version, asking
 
 # Each command by its name, and where its Command is: a new one is a module, and a line here. Only
 # the module of the command that is asked for is loaded, since monitoring begins it again and again.
@@ -21,7 +18,8 @@ COMMANDS: Dict[str, str] = {
     "check": "check.COMMAND",
     "prometheus": "prometheus.COMMAND",
     "write": "write.COMMAND",
-    "capture": "capture.COMMAND",
+    "write-list": "write_list.COMMAND",
+    "capture": "capture.command.COMMAND",
     "real": "convert.REAL",
     "octets": "convert.OCTETS",
 }
@@ -41,23 +39,9 @@ have it.
 """
 
 
-class Version(argparse.Action):
-    """Prints the version, and ends the program."""
-
-    def __call__(
-        self,
-        parser: argparse.ArgumentParser,
-        namespace: argparse.Namespace,
-        values: object,
-        option_string: Optional[str] = None,
-    ) -> None:
-        put(f"bacsite {VERSION}\n")
-        parser.exit()
-
-
 def command_of(name: str) -> Command:
     """The command of this name."""
-    module, _, attribute = COMMANDS[name].partition(".")
+    module, _, attribute = COMMANDS[name].rpartition(".")
     command: Command = getattr(import_module("." + module, __package__), attribute)
     return command
 
@@ -66,7 +50,7 @@ def parser_of(given: Sequence[str]) -> Parser:
     """The parser of these words; that of all commands where they begin with none."""
     form = argparse.RawDescriptionHelpFormatter
     top = Parser(prog="bacsite", description=DESCRIPTION, formatter_class=form)
-    top.add_argument("-V", "--version", action=Version, nargs=0, help="print the version")
+    add_version(top)
     commands = top.add_subparsers(dest="command", required=True, metavar="COMMAND")
     for name in [given[0]] if given and given[0] in COMMANDS else COMMANDS:
         command = command_of(name)
@@ -83,13 +67,5 @@ def parser_of(given: Sequence[str]) -> Parser:
 
 
 def parsed(given: Sequence[str]) -> argparse.Namespace:
-    """The words, read; those that begin as negative numbers, as -10:5, are no options."""
-    kept = {" " + word: word for word in given if re.match(r"-\.?[0-9]", word)}
-    spaced = [" " + word if " " + word in kept else word for word in given]
-    words = parser_of(given).parse_args(spaced)
-    for name, it in vars(words).items():
-        if isinstance(it, list):
-            setattr(words, name, [kept.get(one, one) for one in it])
-        elif isinstance(it, str):
-            setattr(words, name, kept.get(it, it))
-    return words
+    """The words, read."""
+    return parser_of(given).parsed(given)

@@ -2,15 +2,12 @@
 
 from __future__ import annotations
 
-import time
 from concurrent.futures import Future, ThreadPoolExecutor, wait
 from queue import Empty, SimpleQueue
-from threading import Thread
-from typing import Callable, Iterator, Optional, Sequence, TypeVar
+from typing import Callable, Iterator, Sequence, TypeVar
 
 from .calls import Calls
 from .output import on_terminal, show
-from .processes import FOREVER
 
 Result = TypeVar("Result")
 LOOK_EVERY = 0.2  # seconds: a signal is heard at the latest then
@@ -38,21 +35,6 @@ def alone(calls: Calls, job: Callable[[], Result], quiet: bool = False) -> Resul
     """The result of one job, which a signal can end."""
     (result,) = side_by_side(calls, [job], quiet=quiet)
     return result
-
-
-def in_time(deadline: float, job: Callable[[], Result]) -> Optional[Result]:
-    """The result of a job that can't be ended; nothing where it is too late, and it goes on alone."""
-    future: "Future[Result]" = Future()
-    Thread(target=_run, args=(job, future), daemon=True).start()
-    left = None if deadline == FOREVER else max(0.0, deadline - time.monotonic())
-    return future.result() if wait([future], left).done else None
-
-
-def _run(job: Callable[[], Result], future: "Future[Result]") -> None:
-    try:
-        future.set_result(job())
-    except BaseException as error:  # told to whom waits for it  pylint: disable=broad-except
-        future.set_exception(error)
 
 
 class _Progress:

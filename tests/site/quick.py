@@ -3,10 +3,10 @@
 import threading
 
 import harness  # noqa: F401  it makes bacsite known
+from bacsite.answers import outcome_of
 from bacsite.calls import Calls
 from bacsite.messages import apdu_of
 from bacsite.processes import Outcome
-from bacsite.talk import outcome_of
 from building import wrapped
 from stand_ins import an_object, answer
 

@@ -12,7 +12,6 @@ from bacsite.device import Bounds
 from bacsite.earlier import Earlier
 from bacsite.reasons import Why
 from bacsite.report import Counts
-from bacsite.workers import in_time
 from quick import QuickCalls
 from stand_ins import LateStandIn, StandIn, an_object, bits, enumerated, real, string, unsigned
 from test_survey import sensors
@@ -136,16 +135,6 @@ class Order(unittest.TestCase):
                 found, after = controller.values([(0, 1, 28), (0, 1, 77)])
             self.assertEqual((found.text.count(r"\x01"), len(found.text)), (1400, 5604))
             self.assertEqual(after.text, "next")
-
-
-class Deadlines(unittest.TestCase):
-    def test_a_job_that_can_not_be_ended(self):
-        gate = threading.Event()
-        self.assertEqual(in_time(float("inf"), lambda: 5), 5)
-        self.assertIsNone(in_time(0.0, gate.wait))
-        with self.assertRaises(ValueError):
-            in_time(float("inf"), lambda: int("x"))
-        gate.set()
 
 
 class PortNumbers(unittest.TestCase):

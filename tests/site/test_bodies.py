@@ -4,7 +4,7 @@ import unittest
 from building import CLIENT, DEVICE, datagrams, wrapped
 from bacsite.bodies import error_body, read_ack, read_body, region_text, write_body
 from bacsite.messages import message_of
-from bacsite.talk import outcome_of
+from bacsite.answers import outcome_of
 
 VALUES = """
 00 null

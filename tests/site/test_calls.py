@@ -224,8 +224,8 @@ class Calls(harness.SiteTest):
         ):
             os.chmod(self.path("odd/bactool", "#!/bin/sh\n%s\n" % text), 0o755)
             self.rows("read --tools IN/odd DEV 0 5 85 => 1 " + wanted)
-            status = self.run_site("check", "--tools", "IN/odd", "DEV", "0", "5", "85")[0]
-            self.assertEqual(status, 2 if "sending" in wanted else 3, "it can't be reached")
+            status, _, _ = self.run_site("check", "--tools", "IN/odd", "DEV", "0", "5", "85")
+            self.assertEqual(status, 2 if "sending failed" in wanted else 3)
         self.path("odd/bactool", "#!/nowhere\n")
         self.rows(
             "read --tools IN/odd DEV 0 5 85 => 1 cannot run IN/odd/bactool: No such file or directory"

@@ -9,6 +9,7 @@ import time
 import unittest
 
 import harness
+import bacsite
 from bacsite.check import OK, CRITICAL, UNKNOWN, WARNING, range_of, verdict_on_flags
 from bacsite.failures import Failure
 from bacsite.poll import Reading
@@ -218,7 +219,9 @@ class Ranges(unittest.TestCase):
 
 class Check(harness.SiteTest):
     def test_rows(self):
-        self.stand_in({(0, 3, 85): ("abort", 4), (0, 4, 85): real("7f7fffff")})
+        count, tenth = unsigned(2**53 + 1), real("3dcccccd")
+        values = {(0, 3, 85): ("abort", 4), (0, 4, 85): real("7f7fffff"), (23, 1, 85): count}
+        self.stand_in({**values, (0, 5, 85): tenth})
         self.rows(
             """
             check -w 60:70 -c 50:90 DEV real 0 5 85 => 1 BACNET WARNING - 72.3 | value=72.3;60:70;50:90
@@ -247,11 +250,36 @@ class Check(harness.SiteTest):
             check -w :80 DEV 0 5 85 => 0 BACNET OK - 72.3 | value=72.3;:80;~:
             check -w 5:: DEV => 3 BACNET UNKNOWN - no range: 5::
             check --tools /nowhere DEV 0 5 85 => 3 BACNET UNKNOWN - no bactool in /nowhere
+            check -w 9007199254740992 HERE 23 1 85 => 1 BACNET WARNING - 9007199254740993 | value=9007199254740993;9007199254740992;~:
+            check -w 9007199254740993 HERE 23 1 85 => 0 BACNET OK - 9007199254740993 | value=9007199254740993;9007199254740993;~:
+            check -c 0.1 HERE 0 5 85 => 0 BACNET OK - 0.1 | value=0.1;~:;0.1
             """
         )
         self.assertEqual(
             [self.run_site("check", *it)[0] for it in (["--help"], [], ["-c"])], [3, 3, 3]
         )
+
+    def test_the_version(self):
+        found = self.run_site("check", "-V")
+        self.assertEqual(found, (3, "bacsite %s\n" % bacsite.VERSION, ""))
+        self.assertEqual(self.run_site("check", "--version"), found)
+
+    def test_a_name_server_that_is_silent(self):
+        code = (
+            "import socket, sys, time\n"
+            "sys.path.insert(0, %r)\n"
+            "socket.getaddrinfo = lambda *_: time.sleep(60)\n"
+            "sys.argv[1:] = ['check', '-t', '1', 'host.example', '0', '5', '85']\n"
+            "from bacsite.main import run\n"
+            "run()\n"
+        )
+        begun = time.monotonic()
+        done = subprocess.run(
+            [sys.executable, "-c", code % (harness.TOP + "/site")], stdout=subprocess.PIPE
+        )
+        wanted = (2, b"BACNET CRITICAL - not done in time\n")
+        self.assertEqual((done.returncode, done.stdout), wanted)
+        self.assertLess(time.monotonic() - begun, 20)
 
     def test_a_host_name(self):
         port = self.names["DEV"].split(":")[1]
@@ -326,6 +354,9 @@ class Prometheus(harness.SiteTest):
         )
         self.rows("prometheus IN/points IN/new.prom => 1 ", before=lambda: os.umask(0o077))
         self.assertEqual(oct(os.stat(self.world.folder + "/new.prom").st_mode), "0o100644")
+        os.chmod(self.world.folder + "/new.prom", 0o640)
+        self.rows("prometheus IN/points IN/new.prom => 1 ")
+        self.assertEqual(oct(os.stat(self.world.folder + "/new.prom").st_mode), "0o100640")
         self.assertEqual(
             self.file("new.prom"),
             self.spelled(

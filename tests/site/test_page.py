@@ -1,4 +1,5 @@
 """Tries the page of a survey; browser.py tries it in a browser."""
+import os
 import re
 import unittest
 from html.parser import HTMLParser
@@ -119,6 +120,9 @@ class Pages(unittest.TestCase):
         page, _ = read([Device("10.0.0.9:47808"), Device("10.0.0.10:1")])
         numbers = re.findall(r'<td class="id"( data-n="([0-9]+)")?><a', page)
         self.assertLess(int(numbers[0][1]), int(numbers[1][1]))
+        page, _ = read([Device("10.0.0.9:47808/5/07"), Device("10.0.0.9:47808")])
+        numbers = re.findall(r'<td class="id"( data-n="([0-9]+)")?><a', page)
+        self.assertEqual(numbers[0], numbers[1])
 
 
 class Survey(harness.SiteTest):
@@ -133,6 +137,16 @@ class Survey(harness.SiteTest):
         self.assertEqual(self.run_site("survey", "DEV", "--html", "IN")[:2], (2, ""))
         status, out, err = self.run_site("survey", "DEV", "--html", "IN/none/page")
         self.assertEqual((status, out, err[:24]), (3, "", "bacsite: writing failed:"))
+
+    def test_who_may_read_the_page(self):
+        """A new one whom the umask lets; one that is replaced the same as before."""
+        path = self.world.folder + "/own.html"
+        for mask, before, after in ((0o077, None, 0o600), (0o022, 0o604, 0o604), (0, 0o640, 0o640)):
+            if before:
+                os.chmod(path, before)
+            words = ["survey", "DEV", "--html", path]
+            self.run_site(*words, before=lambda mask=mask: os.umask(mask))
+            self.assertEqual(os.stat(path).st_mode & 0o777, after)
 
 
 if __name__ == "__main__":

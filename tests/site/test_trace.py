@@ -9,10 +9,11 @@ from harness import TOOL
 from simulated import World
 from bacsite.failures import Failure
 from bacsite.messages import message_of
-from bacsite.pairing import Pairing
-from bacsite.script import is_askable
-from bacsite.talk import GRACE, MILLI, outcome_of
-from bacsite.trace import Choice, traced
+from bacsite.capture.pairing import Pairing
+from bacsite.capture.requests import is_askable
+from bacsite.capture.talks import GRACE, MILLI
+from bacsite.answers import outcome_of
+from bacsite.capture.trace import Choice, traced
 
 SEEDS = int(os.environ.get("SEEDS", "20"))
 

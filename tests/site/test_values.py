@@ -239,6 +239,7 @@ class Devices(harness.SiteTest):
             read DEV 0 5 85 -x => 2 !unrecognized arguments: -x
             read --apdu-retries 10 DEV 0 5 85 => 2 !argument --apdu-retries: not 0 to 9: 10
             read --tools /nowhere DEV 0 5 85 => 3 !no bactool in /nowhere
+            read DEV 0 5 85 -x => 2 !unrecognized arguments: -x; see bacsite --help; a value as -x stands behind --
             bad => 2 !argument COMMAND
             --version => 0 bacsite 0.4.0
             -V => 0 bacsite 0.4.0

@@ -61,6 +61,9 @@ class Addresses(unittest.TestCase):
             self.assertEqual(addresses.one("ahu.example"), (None, "192.0.2.9:47808"))
             self.assertEqual(addresses.one("ahu.example/5/01"), (None, "192.0.2.9:47808/5/01"))
             self.assertEqual(addresses.one("192.0.2.7"), (None, "192.0.2.7:47808"))
+            for word in "0x7f.0.2.31 0x7f000001 1.2.3.0X4 a.0x 0177.1 127.1 a.9. 7:80".split():
+                with self.subTest(word=word), self.assertRaises(Failure):
+                    addresses.one(word)
         self.assertEqual(lookup.call_count, 1)
         with mock.patch("socket.getaddrinfo", side_effect=OSError) as lookup:
             for word in ("no.example", "8@no.example", "no.example:99999", "a b", "no/example"):
