@@ -204,14 +204,17 @@ class Ranges(unittest.TestCase):
                 range_of(word)
 
     def test_flags(self):
+        def flagged(*bits):
+            return Value(Kind.OTHER, ", ".join(bits), bits=bits)
+
         value = Value(Kind.NUMBER, "1")
         for flags, wanted in (
             (NOTHING, (OK, "")),
             (Value(Kind.OTHER, "normal"), (OK, "")),
-            (Value(Kind.OTHER, "in-alarm, overridden"), (OK, "in-alarm, overridden")),
-            (Value(Kind.OTHER, "fault"), (CRITICAL, "fault")),
-            (Value(Kind.OTHER, "fault, out-of-service"), (CRITICAL, "fault, out-of-service")),
-            (Value(Kind.OTHER, "out-of-service"), (WARNING, "out-of-service")),
+            (flagged("in-alarm", "overridden"), (OK, "in-alarm, overridden")),
+            (flagged("fault"), (CRITICAL, "fault")),
+            (flagged("fault", "out-of-service"), (CRITICAL, "fault, out-of-service")),
+            (flagged("out-of-service"), (WARNING, "out-of-service")),
             (fault("timeout"), (UNKNOWN, "status-flags: timeout")),
         ):
             self.assertEqual(verdict_on_flags(Reading(Point(""), value, "", flags)), wanted)
