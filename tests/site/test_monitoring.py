@@ -130,6 +130,22 @@ class Poll(harness.SiteTest):
             ),
         )
 
+    def test_a_line_ends_at_its_line_feed_alone(self):
+        for mark in ("\u2028", "\x0b", "\x1c", "\x85"):
+            status, rows = self.poll("a%sb DEV 0 5 85\nc DEV 0 5 85\n" % mark)
+            self.assertEqual((status, rows[0][:4], len(rows)), (1, "a - ", 2))
+
+    def test_words(self):
+        self.path("check", "a DEV 0 5 85\n")
+        self.rows(
+            """
+            read check 0 5 85 => 2 !no address: check
+            poll IN/check --sort => 2 !unrecognized arguments: --sort
+            poll --at-once 257 IN/check => 2 !argument --at-once: not 1 to 256: 257
+            poll IN/check IN/check => 2 !unrecognized arguments: IN/check
+            """
+        )
+
     def test_files(self):
         row = self.run_site("poll", "/dev/stdin", stdin=self.spelled("a DEV 0 5 85"))[1][20:]
         self.assertEqual(row, "\ta\t72.3\t-\n")
@@ -322,6 +338,10 @@ class Check(harness.SiteTest):
             check HERE 0 1 85 --no-flags => 0 BACNET OK - 42.25 | value=42.25;~:;~:
             """
         )
+        for reliability, told in ((enumerated(0), "fault"), (enumerated(999), "fault: 999")):
+            values[0, 1, 103] = reliability
+            self.stand_in(values)
+            self.rows("check HERE 0 1 85 => 2 BACNET CRITICAL - 42.25, %s | value=42.25;~:;~:" % told)
 
     def test_a_deadline(self):
         begun = time.monotonic()
