@@ -235,9 +235,8 @@ class Ranges(unittest.TestCase):
 
 class Check(harness.SiteTest):
     def test_rows(self):
-        count, tenth = unsigned(2**53 + 1), real("3dcccccd")
-        values = {(0, 3, 85): ("abort", 4), (0, 4, 85): real("7f7fffff"), (23, 1, 85): count}
-        self.stand_in({**values, (0, 5, 85): tenth})
+        values = {(0, 3, 85): ("abort", 4), (0, 4, 85): real("7f7fffff")}
+        self.stand_in({**values, (0, 5, 85): real("3dcccccd")})
         self.rows(
             """
             check -w 60:70 -c 50:90 DEV real 0 5 85 => 1 BACNET WARNING - 72.3 | value=72.3;60:70;50:90
@@ -266,14 +265,19 @@ class Check(harness.SiteTest):
             check -w :80 DEV 0 5 85 => 0 BACNET OK - 72.3 | value=72.3;:80;~:
             check -w 5:: DEV => 3 BACNET UNKNOWN - no range: 5::
             check --tools /nowhere DEV 0 5 85 => 3 BACNET UNKNOWN - no bactool in /nowhere
-            check -w 9007199254740992 HERE 23 1 85 => 1 BACNET WARNING - 9007199254740993 | value=9007199254740993;9007199254740992;~:
-            check -w 9007199254740993 HERE 23 1 85 => 0 BACNET OK - 9007199254740993 | value=9007199254740993;9007199254740993;~:
             check -c 0.1 HERE 0 5 85 => 0 BACNET OK - 0.1 | value=0.1;~:;0.1
             """
         )
         self.assertEqual(
             [self.run_site("check", *it)[0] for it in (["--help"], [], ["-c"])], [3, 3, 3]
         )
+
+    def test_numbers_past_those_of_a_double_are_exact(self):
+        self.stand_in({(23, 1, 85): unsigned(2**53 + 1)})
+        for limit, status in ((2**53, 2), (2**53 + 1, 0)):
+            found = self.run_site("check", "-c", str(limit), "HERE", "23", "1", "85")
+            self.assertEqual(found[0], status)
+            self.assertIn(" - 9007199254740993 | value=9007199254740993;", found[1])
 
     def test_the_version(self):
         found = self.run_site("check", "-V")
