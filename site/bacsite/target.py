@@ -188,4 +188,4 @@ def _limits(controller: Controller, place: Place) -> Limits:
 
 def _limit(controller: Controller, *what: int) -> Optional[Decimal]:
     limit = _needed(controller, *what)
-    return None if limit.fault or limit.kind is not Kind.NUMBER else Decimal(limit.text)
+    return Decimal(limit.text) if limit.kind is Kind.NUMBER else None

@@ -158,7 +158,7 @@ def _read_back(controller: Controller, order: Order, place: Place) -> Value:
     default = controller.value(*place.what[:2], names.RELINQUISH_DEFAULT)
     put(f"relinquish-default: {place.shown(default)}\n")
     least, written_at = min(standing, default=16), order.priority or 16
-    if least < written_at:
+    if least < written_at and written_at in standing:
         put(f"{_priority(least)} holds it: what is written at {written_at} waits\n")
     return array.values.get(written_at, now)
 

@@ -2,7 +2,8 @@
 """Plants the faults of planted.diff, one at a time, and says which of them the tests notice; by hand.
 
 Usage: tests/site/planted.py PROGRAM [NUMBER ..], where a NUMBER is that of a fault, from 1. Each copy
-of the tree runs those tests that are to notice its fault, as run.py does.
+of the tree runs those tests that are to notice its fault, as run.py does. With --stale in place of
+PROGRAM it says alone which faults stand no more where they say.
 """
 
 import os
@@ -24,7 +25,7 @@ def faults():
         blocks = file.read().split("\n\n")[1:]
     for block in blocks:
         place, tests = block.split("\n", 1)[0].split(": ")
-        path = place if "/" in place else f"site/bacsite/{place}.py"
+        path = place if place.endswith(".py") else f"site/bacsite/{place}.py"
         old, new = ("\n".join(re.findall(rf"(?m)^\{mark}(.*)$", block)) for mark in "-+")
         yield path, tests.split(), old, new
 
@@ -48,6 +49,15 @@ def noticed(program, fault):
     return "noticed by " + (failed or ["no test, it ends"])[0] if done.returncode else "NOT NOTICED"
 
 
+def stale():
+    """The faults that do not stand where they say, once."""
+    for at, (path, _, old, _) in enumerate(faults(), 1):
+        with open(f"{TOP}/{path}", encoding="utf-8") as file:
+            count = file.read().count(old)
+        if count != 1:
+            yield f"{at} {path}: stands there {count} times: {old}"
+
+
 def main(program, numbers):
     """Plants them, and counts."""
     chosen = [it for it in enumerate(faults(), 1) if not numbers or str(it[0]) in numbers]
@@ -63,4 +73,6 @@ def main(program, numbers):
 if __name__ == "__main__":
     if len(sys.argv) < 2:
         sys.exit(__doc__)
+    if sys.argv[1] == "--stale":
+        sys.exit("\n".join(stale()))
     sys.exit(main(os.path.realpath(sys.argv[1]), sys.argv[2:]))

@@ -138,8 +138,16 @@ device           requests  answered  refused  unanswered  sent again  slow  medi
             self.assertEqual(self.told(steps, *words)[1].split(" ")[0:1], [""])
             text = self.told(steps, *words, "--summary")[1]
             self.assertEqual(text[:9], "%d request" % count)
+        other = [(6, "127.0.0.3:47808", "127.0.0.1:50000", wrapped("1008"))]
+        for words, count in (
+            (["--client", "127.0.0.1"], 3),
+            (["--client", "127.0.0.1", "--device", "127.0.0.3"], 1),
+            (["--client", "127.0.0.1", "--device", "127.0.0.9"], 1),
+        ):
+            text = self.told(steps + other, *words)[1].split("\n\n")[0]
+            self.assertEqual(len(text.splitlines()), count, words)
         for words, told in (
-            (("--client", "127.0.0.3"), "127.0.0.3 and any"),
+            (("--client", "127.0.0.4"), "127.0.0.4 and any"),
             (("--client", "127.0.0.l", "--json"), "127.0.0.l and any"),
             (("--device", "127.0.0.1:4780"), "any and 127.0.0.1:4780"),
         ):

@@ -130,6 +130,22 @@ class Poll(harness.SiteTest):
             ),
         )
 
+    def test_a_line_ends_at_its_line_feed_alone(self):
+        for mark in ("\u2028", "\x0b", "\x1c", "\x85"):
+            status, rows = self.poll("a%sb DEV 0 5 85\nc DEV 0 5 85\n" % mark)
+            self.assertEqual((status, rows[0][:4], len(rows)), (1, "a - ", 2))
+
+    def test_words(self):
+        self.path("check", "a DEV 0 5 85\n")
+        self.rows(
+            """
+            read check 0 5 85 => 2 !no address: check
+            poll IN/check --sort => 2 !unrecognized arguments: --sort
+            poll --at-once 257 IN/check => 2 !argument --at-once: not 1 to 256: 257
+            poll IN/check IN/check => 2 !unrecognized arguments: IN/check
+            """
+        )
+
     def test_files(self):
         row = self.run_site("poll", "/dev/stdin", stdin=self.spelled("a DEV 0 5 85"))[1][20:]
         self.assertEqual(row, "\ta\t72.3\t-\n")
@@ -222,9 +238,8 @@ class Ranges(unittest.TestCase):
 
 class Check(harness.SiteTest):
     def test_rows(self):
-        count, tenth = unsigned(2**53 + 1), real("3dcccccd")
-        values = {(0, 3, 85): ("abort", 4), (0, 4, 85): real("7f7fffff"), (23, 1, 85): count}
-        self.stand_in({**values, (0, 5, 85): tenth})
+        values = {(0, 3, 85): ("abort", 4), (0, 4, 85): real("7f7fffff")}
+        self.stand_in({**values, (0, 5, 85): real("3dcccccd")})
         self.rows(
             """
             check -w 60:70 -c 50:90 DEV real 0 5 85 => 1 BACNET WARNING - 72.3 | value=72.3;60:70;50:90
@@ -253,14 +268,19 @@ class Check(harness.SiteTest):
             check -w :80 DEV 0 5 85 => 0 BACNET OK - 72.3 | value=72.3;:80;~:
             check -w 5:: DEV => 3 BACNET UNKNOWN - no range: 5::
             check --tools /nowhere DEV 0 5 85 => 3 BACNET UNKNOWN - no bactool in /nowhere
-            check -w 9007199254740992 HERE 23 1 85 => 1 BACNET WARNING - 9007199254740993 | value=9007199254740993;9007199254740992;~:
-            check -w 9007199254740993 HERE 23 1 85 => 0 BACNET OK - 9007199254740993 | value=9007199254740993;9007199254740993;~:
             check -c 0.1 HERE 0 5 85 => 0 BACNET OK - 0.1 | value=0.1;~:;0.1
             """
         )
         self.assertEqual(
             [self.run_site("check", *it)[0] for it in (["--help"], [], ["-c"])], [3, 3, 3]
         )
+
+    def test_numbers_past_those_of_a_double_are_exact(self):
+        self.stand_in({(23, 1, 85): unsigned(2**53 + 1)})
+        for limit, status in ((2**53, 2), (2**53 + 1, 0)):
+            found = self.run_site("check", "-c", str(limit), "HERE", "23", "1", "85")
+            self.assertEqual(found[0], status)
+            self.assertIn(" - 9007199254740993 | value=9007199254740993;", found[1])
 
     def test_the_version(self):
         found = self.run_site("check", "-V")
@@ -325,6 +345,10 @@ class Check(harness.SiteTest):
             check HERE 0 1 85 --no-flags => 0 BACNET OK - 42.25 | value=42.25;~:;~:
             """
         )
+        for reliability, told in ((enumerated(0), "fault"), (enumerated(999), "fault: 999")):
+            values[0, 1, 103] = reliability
+            self.stand_in(values)
+            self.rows("check HERE 0 1 85 => 2 BACNET CRITICAL - 42.25, %s | value=42.25;~:;~:" % told)
 
     def test_a_deadline(self):
         begun = time.monotonic()

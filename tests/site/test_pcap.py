@@ -131,7 +131,11 @@ class Files(unittest.TestCase):
             (ng[:-4] + b"\0\0\0\0", 1, "block 4 at octet %d has two lengths" % at),
             (ng[:at] + block("<", 3, b"abc"), 1, "block 4 at octet %d holds fewer octets than it says: 6513249" % at),
             (ng[:at] + block("<", 3, b""), 1, "block 4 at octet %d is too short" % at),
-            (section("<") + block("<", 3, bytes(8)), 0, "block 2 at octet 28 is of the interface 0, which is not there"),
+            (
+                section("<") + block("<", 3, bytes(8)),
+                0,
+                "block 2 at octet 28 is of the interface 0, which is not there",
+            ),
             (ng[: at + 4] + b"\x0b\0\0\0", 1, "block 4 at octet %d has a length of 11 octets" % at),
             (
                 ng[:at] + enhanced("<", 2, INNER, 3),

@@ -28,8 +28,18 @@ ROWS = [
     ),
     ("0e", SEVERAL, "50010e91019102", "error 1 2"),
     ("0e", SEVERAL[:-2], "30010e" + VALUES[:-2], "service 14 (ReadPropertyMultiple): answered"),
-    ("05", "09121c0000000a29013900", "200105", "subscribe to analog-input 10 (0 10) for ever, confirmed, process 18: ok"),
-    ("05", "09121c0000000a29003a012c", "200105", "analog-input 10 (0 10) for 300 s, unconfirmed, process 18: ok"),
+    (
+        "05",
+        "09121c0000000a29013900",
+        "200105",
+        "subscribe to analog-input 10 (0 10) for ever, confirmed, process 18: ok",
+    ),
+    (
+        "05",
+        "09121c0000000a29003a012c",
+        "200105",
+        "subscribe to analog-input 10 (0 10) for 300 s, unconfirmed, process 18: ok",
+    ),
     ("05", "09121c0000000a", "200105", "unsubscribe from analog-input 10 (0 10), process 18: ok"),
     ("05", "09121c000000", "200105", "service 5 (SubscribeCOV): ok"),
     (
@@ -78,6 +88,7 @@ class Bodies(unittest.TestCase):
     def test_what_is_none(self):
         for reader, octets in (
             (services.asked_for, "0c000000101e1f"),
+            (services.asked_for, SEVERAL + "0c00000010"),
             (services.asked_for, "0c000000101e19011f"),
             (services.asked_for, "0c000000101e09553e3f1f"),
             (services.asked_for, "1c000000101e09551f"),

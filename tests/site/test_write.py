@@ -44,6 +44,13 @@ NO_LIMITS = {
     (2, 7, 85): real("00000000"),
     (2, 7, 65): real("00000000"),
     (2, 7, 69): real("00000000"),
+    (2, 8, 77): string("Most"),
+    (2, 8, 85): real("00000000"),
+    (2, 8, 65): real("42c80000"),
+    (2, 9, 77): string("Least"),
+    (2, 9, 85): real("00000000"),
+    (2, 9, 65): real("7fc00000"),
+    (2, 9, 69): real("40a00000"),
     (45, 1, 77): string("Steps"),
     (45, 1, 85): tagged(3, b"\x05"),
     (45, 1, 22): unsigned(1),
@@ -88,6 +95,7 @@ class Write(harness.SiteTest):
             ("40 1 -x", (40, 1, 85), string("-x"), 0),
             ("40 1 -5", (40, 1, 85), string("-5"), 0),
             ("40 1 -.5°", (40, 1, 85), string("-.5°"), 0),
+            ("40 1 a\\x1bb", (40, 1, 85), string("a\\x1bb"), 0),
             ("40 1 null --type text", (40, 1, 85), string("null"), 0),
             ("14 2 Off", (14, 2, 85), unsigned(1), 0),
             ("14 2 4 --type unsigned", (14, 2, 85), unsigned(4), 0),
@@ -148,6 +156,19 @@ class Write(harness.SiteTest):
             ),
         )
 
+    def test_a_held_point(self):
+        """A higher priority that holds it is told, where something waits below."""
+        self.stand_in(VALVE)
+        for words, last in (
+            ("20 --priority 8", "relinquish-default: 0"),
+            ("null --priority 10", "relinquish-default: 0"),
+            ("30 --priority 16", "priority 8 (manual-operator) holds it: what is written at 16 waits"),
+            ("30 --priority 5", "relinquish-default: 0"),
+        ):
+            out = self.run_site("write", "HERE", "1", "1", *words.split(" "))[1]
+            with self.subTest(words=words):
+                self.assertEqual(out.splitlines()[-1], last)
+
     def test_what_is_refused_before_anything_is_sent(self):
         device = self.stand_in(ALL)
         self.rows(
@@ -160,6 +181,8 @@ class Write(harness.SiteTest):
             write HERE 1 1 1e40 --priority 8 => 2 !past the range: 1e40; nothing was sent
             write HERE 1 1 100.5 --priority 8 => 2 !1:1 analog-output takes -10 to 100, not 100.5; nothing was sent
             write HERE 1 1 -11 --priority 8 => 2 !1:1 analog-output takes -10 to 100, not -11; nothing was sent
+            write HERE 2 8 100.5 => 2 !2:8 analog-value takes up to 100, not 100.5; nothing was sent
+            write HERE 2 9 4 => 2 !2:9 analog-value takes 5 and more, not 4; nothing was sent
             write HERE 14 2 0 => 2 !14:2 multi-state-output takes 1 to 4, not 0; nothing was sent
             write HERE 14 2 5 => 2 !14:2 multi-state-output takes 1 to 4, not 5; nothing was sent
             write HERE 14 2 1.5 => 2 !no number and no state: 1.5; it has off, heat; nothing was sent
@@ -175,15 +198,17 @@ class Write(harness.SiteTest):
             write HERE 0 9 x --property 12 => 1 !application-software-version: error 2 32; nothing was sent
             write HERE 1 1 20 --priority 6 => 2 !priority 6 is the device's own
             write HERE 1 1 20 --priority 17 => 2 !argument --priority: not 1 to 16: 17
+            write HERE 1 1 20 --priority -5 => 2 !argument --priority: not 1 to 16: -5; see
             write HERE 1 1 20 --priority 0 => 2 !argument --priority: not 1 to 16: 0
             write HERE 1 1 20 --property pv => 2 !no property: pv
             write HERE 1 1 => 2 !the following arguments are required: VALUE
-            write HERE 40 1 -x => 2 !the following arguments are required: VALUE; see bacsite write --help; a value as -x stands behind --
             write HERE 40 1 null => 2 !null lets go of a priority: 40:1 characterstring-value has no priority array
             write HERE 45 1 -3 --property cov-increment => 2 !past the range: -3; nothing was sent
             write DEAD 1 1 20 --priority 8 => 1 !timeout; nothing was sent
             """
         )
+        told = self.run_site("write", "HERE", "40", "1", "-x")[2]
+        self.assertTrue(told.endswith("--help; a value as -x stands behind --\n"), told)
         self.assertEqual(device.written, [])
 
     def test_an_object_that_is_another(self):
@@ -303,6 +328,22 @@ class Write(harness.SiteTest):
             found = self.run_site("write", "HERE", "1", "1", "20", "--priority", "8", stdout=full)
         told = "bacsite: writing failed; nothing was sent\n"
         self.assertEqual((found[0], found[2], device.written), (3, told, []))
+        out, into = os.pipe()
+        os.close(out)
+        found = self.run_site("write", "HERE", "1", "1", "20", "--priority", "8", stdout=into)
+        os.close(into)
+        told = "bacsite: nothing was sent\n"
+        self.assertEqual((found[0], found[2], device.written), (3, told, []))
+
+    def test_a_tool_that_sends_nothing(self):
+        device = self.stand_in(VALVE)
+        os.mkdir(self.world.folder + "/bound")
+        script = '#!/bin/sh\n[ "$1" = bacwp ] && echo "bactool: bind failed" >&2 && exit 3\nexec %s "$@"\n'
+        os.chmod(self.path("bound/bactool", script % harness.TOOL), 0o755)
+        words = ["write", "--tools", "IN/bound", "HERE", "1", "1", "20", "--priority", "8"]
+        status, out, _ = self.run_site(*words)
+        last = "write 20 at priority 8: nothing was sent: bactool: bind failed"
+        self.assertEqual((status, out.splitlines()[3:], device.written), (3, [last], []))
 
     def test_an_output_that_fails_behind_the_write_says_how_that_ended(self):
         for mode, how in (("", "ok"), ("silent", "outcome not known: the write may have been made")):
