@@ -109,7 +109,7 @@ def words_and_options():
 def bacsite():
     """The options of each command, and what is told of each in numbers."""
     options, told = [], set()
-    for command in re.findall(r"(?m)^    ([a-z]+)(?: .*)?$", help_of("python3", "site/bacsite")):
+    for command in re.findall(r"(?m)^    ([a-z-]+)(?: .*)?$", help_of("python3", "site/bacsite")):
         text = help_of("python3", "site/bacsite", command)
         options += [f"{command} {it}" for it in re.findall(r"(?m)^  (--?[A-Za-z-]+)(?: .*)?$", text)]
         rows = re.findall(r"(?m)^  (--[a-z-]+) [A-Z]+ +(.*[0-9].*)$", text)
