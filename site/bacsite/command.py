@@ -9,7 +9,7 @@ from dataclasses import dataclass
 from typing import Callable, NoReturn, Optional, Sequence
 
 from . import VERSION
-from .failures import Failure, wrong
+from .failures import WRONG_WORDS, Failure, wrong
 from .output import put
 from .processes import FOREVER
 
@@ -47,6 +47,8 @@ class Parser(argparse.ArgumentParser):
         try:
             words = self.parse_args(marked)
         except Failure as failure:
+            if failure.status != WRONG_WORDS:
+                raise
             raise wrong(f"{failure}{_hint(given)}") from None
         for name, it in vars(words).items():
             if isinstance(it, list):
