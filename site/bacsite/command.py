@@ -8,7 +8,7 @@ from dataclasses import dataclass
 from typing import Callable, NoReturn, Optional, Sequence
 
 from . import VERSION
-from .failures import Failure, wrong
+from .failures import WRONG_WORDS, Failure, wrong
 from .output import put
 
 CALLS_AT_ONCE = 32
@@ -45,6 +45,8 @@ class Parser(argparse.ArgumentParser):
         try:
             words = self.parse_args(marked)
         except Failure as failure:
+            if failure.status != WRONG_WORDS:
+                raise
             raise wrong(f"{failure}{_hint(given)}") from None
         for name, it in vars(words).items():
             if isinstance(it, list):

@@ -69,18 +69,19 @@ def written(controller: Controller, order: Order) -> int:
     except Failure as failure:
         raise Failure(f"{failure}; {NOTHING_SENT}".lstrip("; "), failure.status) from failure
     where = "" if order.priority is None else f" at priority {order.priority}"
-    told = f"write {place.told(value)}{where}"
+    head = f"write {place.told(value)}{where}: "
     if order.dry:
-        put(f"{told}: {NOTHING_SENT}, as was asked for\n")
+        put(f"{head}{NOTHING_SENT}, as was asked for\n")
         return 0
-    with controller.calls.writing():  # until somebody knows how it ended
-        ending = ending_of(_sent(controller, order, value))
-        told = f"{told}: {ending.told}"
-        try:
+    told = head + NOT_KNOWN
+    try:
+        with controller.calls.writing():  # until it is told how that ended
+            ending = ending_of(_sent(controller, order, value))
+            told = head + ending.told
             put(told + "\n")
-            return _checked(controller, order, place, value, ending)
-        except Failure as failure:
-            raise Failure(f"{told}; {str(failure) or 'nobody reads on'}", BROKEN) from failure
+        return _checked(controller, order, place, value, ending)
+    except Exception as error:  # whatever it is
+        raise Failure(f"{told}; {str(error) or 'nobody reads on'}", BROKEN) from error
 
 
 def _show(controller: Controller, place: Place) -> None:
@@ -100,7 +101,9 @@ def _checked(
         return ending.status
     found, status = _read_back(controller, order, place), ending.status
     if not ending.was_refused and (found.fault or found.text != value.text):
-        put(f"not as written: {place.shown(found)}\n")
+        unread = place.priorities.fault
+        why = "not sure, since no priority is read" if unread else "not as written"
+        put(f"{why}: {place.shown(found)}\n")
         status = status or MISSING
     reason = _another(controller)
     if reason:

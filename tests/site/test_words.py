@@ -7,6 +7,7 @@ import unittest
 from unittest import mock
 
 import harness
+import bacsite
 from bacsite import addresses, points, words
 from bacsite.failures import Failure
 from bacsite.output import put
@@ -196,7 +197,7 @@ class Words(unittest.TestCase):
         told = subprocess.run(
             [harness.TOOL, "--help"], stdout=subprocess.PIPE, encoding="utf-8"
         ).stdout
-        self.assertTrue(told.startswith("bactool %s:" % words.VERSION), told)
+        self.assertTrue(told.startswith("bactool %s:" % bacsite.VERSION), told)
 
 
 if __name__ == "__main__":

@@ -5,12 +5,15 @@ import resource
 import signal
 import subprocess
 import unittest
+from unittest import mock
 
 import harness
-from bacsite import names
-from bacsite.calls import Outcome
+from bacsite import names, write
+from bacsite.calls import Calls, Outcome
+from bacsite.controller import Controller
 from bacsite.encode import encode
 from bacsite.failures import Failure
+from bacsite.target import Place
 from bacsite.write import ending_of
 from stand_ins import NULL, an_object, enumerated, real, string, tagged, unsigned
 
@@ -275,8 +278,11 @@ class Write(harness.SiteTest):
             wanted += ["now: 20", "priority-array: " + told]
             self.assertEqual((out[0], out[1].splitlines()[2:]), (0, wanted))
         self.rows("write HERE 1 1 null => 2 !null lets go of a priority")
-        self.run_site("write", "HERE", "1", "1", "null", "--priority", "8")
+        device.keep = lambda *_: None
+        found = self.run_site("write", "HERE", "1", "1", "null", "--priority", "8")
         self.assertEqual(device.written[-1], ((1, 1, 85), NULL, 8))
+        last = "not sure, since no priority is read: 20"
+        self.assertEqual((found[0], found[1].splitlines()[-1]), (1, last))
 
     def test_a_dry_run(self):
         device = self.stand_in(VALVE)
@@ -349,9 +355,9 @@ class Write(harness.SiteTest):
         for mode, how in (("", "ok"), ("silent", "outcome not known: the write may have been made")):
             for limit, why in ((100, "writing failed"), (None, "nobody reads on")):
                 device = self.stand_in(VALVE, writes=mode, delay=0.2)
-                read, write = os.pipe()
+                reader, pipe = os.pipe()
                 path = self.path("out", b"")
-                with open(path if limit else write, "w", encoding="utf-8") as out:
+                with open(path if limit else pipe, "w", encoding="utf-8") as out:
                     process = subprocess.Popen(
                         [*self.world.command, "write", device.address, *PATIENT],
                         stdout=out,
@@ -361,7 +367,7 @@ class Write(harness.SiteTest):
                     )
                 while not device.written:
                     self.assertIsNone(process.poll())
-                os.close(read)
+                os.close(reader)
                 err = process.communicate(timeout=20)[1].decode()
                 told = "bacsite: write 20 at priority 8: " + how
                 with self.subTest(mode=mode, why=why):
@@ -429,6 +435,20 @@ class Write(harness.SiteTest):
             ),
         ):
             self.rows(f"write {words} device 1000 at DEV;{wanted}")
+
+
+class Faults(harness.SiteTest):
+    def test_whatever_fails_behind_a_sent_write_is_told(self):
+        device, asking = self.stand_in(VALVE), Calls(harness.TOOL, 300, 2, 1)
+        place = Place(device.address, (1, 1, 85), is_present_value=True)
+        order = write.Order(None, place, "20", None, 8, dry=False)
+        for part, told in (("_sent", write.NOT_KNOWN), ("_read_back", "ok")):
+            with mock.patch("bacsite.write." + part, side_effect=OSError("no space")):
+                with mock.patch("bacsite.write.put"), self.assertRaises(Failure) as caught:
+                    with Controller(asking, device.address) as controller:
+                        write.written(controller, order)
+            wanted = "write 20 at priority 8: %s; no space" % told
+            self.assertEqual((str(caught.exception), caught.exception.status), (wanted, 3))
 
 
 class List(harness.SiteTest):
