@@ -13,7 +13,7 @@ from .reasons import NOT_ASKED, TIMEOUT, TOO_LATE, Why
 from .session import Answer, Ended, Session, answer_of, journal_of, read_by
 
 MOST_PATIENCE = 4  # times --apdu-timeout, for one who answers late
-PART = 4  # times the window: so much is asked for before the answers are looked at
+PART = 8  # times the window: so much is asked for before the answers are looked at
 
 Item = TypeVar("Item")
 Self = TypeVar("Self", bound="Asking")

@@ -121,12 +121,14 @@ def device_of(
     assert controller.instance is not None, "it was identified"
     what = (DEVICE, controller.instance)
     device, read = Device(controller.address, controller.instance), _Read(controller)
-    read.ask([(*what, it) for it in (names.OBJECT_NAME, names.VENDOR_NAME, names.MODEL_NAME)])
+    revision = [] if bounds.devices_alone else [names.DATABASE_REVISION]
+    texts = [names.OBJECT_NAME, names.VENDOR_NAME, names.MODEL_NAME]
+    read.ask([(*what, it) for it in texts + revision])
     device.name = read.value(device.reasons, *what, names.OBJECT_NAME, optional=False).text
     device.vendor = read.value(device.reasons, *what, names.VENDOR_NAME, optional=False).text
     device.model = read.value(device.reasons, *what, names.MODEL_NAME, optional=False).text
     if not bounds.devices_alone:
-        device.revision = _revision(controller)
+        device.revision = _revision_of(read.values[(*what, names.DATABASE_REVISION)])
         _add_objects(device, controller, bounds, names_of(device))
     if controller.is_over:
         device.reasons.append("deadline" if controller.late else TIMEOUT)
@@ -134,9 +136,8 @@ def device_of(
     return device
 
 
-def _revision(controller: Controller) -> str:
+def _revision_of(value: Value) -> str:
     """The revision of its database; empty where it has none."""
-    value = controller.value(DEVICE, controller.instance or 0, names.DATABASE_REVISION)
     return value.text if value.kind is Kind.NUMBER else ""
 
 
@@ -169,11 +170,13 @@ def _add_objects(
 
 def _changed_meanwhile(device: Device, controller: Controller, count: int) -> List[str]:
     """What tells that the objects are others than when they were listed."""
-    now, why = controller.count(DEVICE, controller.instance or 0, names.OBJECT_LIST)
+    own = (DEVICE, controller.instance or 0)
+    now, why = controller.count(*own, names.OBJECT_LIST)
     found = []
     if count >= 0 and not why and now != count:
         found.append(f"object-list: {count} listed, {now} at the end")
-    revision = _revision(controller) if device.revision else ""
+    value = controller.value(*own, names.DATABASE_REVISION) if device.revision else NOTHING
+    revision = _revision_of(value)
     if revision and revision != device.revision:
         found.append(f"database-revision: {device.revision}, {revision} at the end")
     return found

@@ -151,9 +151,10 @@ def read_by(ended: Ended) -> str:
 
     That reader is not proved, and bacrun is: where they don't agree, this program has a fault.
     """
-    if ended.outcome == TIMEOUT:
-        return TIMEOUT
-    apdu = _apdu_of(ended.datagram)
+    return ended.outcome if ended.outcome == TIMEOUT else _read_by(ended, _apdu_of(ended.datagram))
+
+
+def _read_by(ended: Ended, apdu: Optional[Apdu]) -> str:
     found = outcome_of(apdu) if apdu else "no answer"
     if found == ended.outcome:
         return found
@@ -167,9 +168,11 @@ def answer_of(ended: Ended, asked: What) -> Answer:
     bacrun knows an answer by its number alone, which a late one to an earlier request may have. So
     a value is taken only where the answer itself says that it is what was asked for.
     """
-    outcome = read_by(ended)
-    apdu = _apdu_of(ended.datagram) if outcome[:6] == "value " else None
-    body = read_ack(apdu.body) if apdu else None
+    if ended.outcome == TIMEOUT:
+        return Answer(reason=TIMEOUT)
+    apdu = _apdu_of(ended.datagram)
+    outcome = _read_by(ended, apdu)
+    body = read_ack(apdu.body) if apdu and outcome[:6] == "value " else None
     if not body or body.value is None:
         return Answer(reason="bad-ack" if outcome == "ok" else outcome)
     return Answer(body.value) if is_about(body.what, asked) else Answer(reason=STRANGE)
