@@ -8,9 +8,6 @@ from . import names
 
 MOST_OPEN = 32  # opening tags at once
 OPENING, CLOSING = -1, -2  # in place of the length of a tag
-LONG = 1 << 32
-LEAST = (0, 0, 1, 1, 4, 8, 0, 1, 1, 1, 4, 4, 4)  # octets of the contents of each tag
-MOST = (0, 0, 8, 8, 4, 8, LONG, LONG, LONG, 4, 4, 4, 4)
 QUOTES = {names.OCTETS: "X", names.DATE: "D", names.TIME: "T"}
 
 
@@ -118,8 +115,8 @@ def _element_of(octets: bytes, tag: Tag) -> Optional[Element]:
     if tag.number == names.BOOLEAN:
         return Element(tag.number, bytes([tag.length])) if tag.length < 2 else None
     contents = octets[tag.end : tag.end + tag.length]
-    fits = LEAST[tag.number] <= tag.length <= MOST[tag.number]
-    if len(contents) < tag.length or not fits:
+    _, least, most = names.VALUE_TYPES[tag.number]
+    if len(contents) < tag.length or not least <= tag.length <= most:
         return None
     if tag.number == names.BITS and contents[0] > (7 if contents[1:] else 0):
         return None

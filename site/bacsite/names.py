@@ -11,9 +11,33 @@ NULL, BOOLEAN, UNSIGNED, SIGNED, REAL, DOUBLE, OCTETS, STRING, BITS, ENUMERATED 
 DATE, TIME, OBJECT = 10, 11, 12
 INTEGERS = (UNSIGNED, SIGNED, ENUMERATED)
 LOOK_ALIKE = (*INTEGERS, REAL, DOUBLE)  # the tags whose values bacrp spells by digits alone
-TAGS = (  # what a type is called in words, by its tag
-    "null boolean unsigned signed real double octets text bits enumerated date time object"
-).split()
+LONG = 1 << 32  # octets
+
+
+class ValueType(NamedTuple):
+    """A type of values: what it is called in words, and how many octets its contents have."""
+
+    name: str
+    least: int
+    most: int
+
+
+VALUE_TYPES = (  # by their tags
+    ValueType("null", 0, 0),
+    ValueType("boolean", 0, 0),  # its value is the length
+    ValueType("unsigned", 1, 8),
+    ValueType("signed", 1, 8),
+    ValueType("real", 4, 4),
+    ValueType("double", 8, 8),
+    ValueType("octets", 0, LONG),
+    ValueType("text", 1, LONG),
+    ValueType("bits", 1, LONG),
+    ValueType("enumerated", 1, 4),
+    ValueType("date", 4, 4),
+    ValueType("time", 4, 4),
+    ValueType("object", 4, 4),
+)
+TAGS = [it.name for it in VALUE_TYPES]
 
 BINARY, MULTI_STATE = (3, 4, 5), (13, 14, 19)
 COMMAND, DEVICE = 7, 8
