@@ -34,7 +34,7 @@ class Asking:
         self._patience, self._window = calls.timeout, calls.window
         self._session: Optional[Session] = None
         self._is_stale = False  # whether the next session is to have other settings
-        self._failed = 0  # how many bacruns in a row had a port that somebody has
+        self._failed = 0  # how many bacruns had a port that somebody has
         self._line = calls.line(address)
 
     def __enter__(self: Self) -> Self:
@@ -197,7 +197,7 @@ class Asking:
         sent again gets more time from now on, since to send more would make it slower still."""
         answered = why is not Why.SILENT
         self.silent = not answered and not self._heard
-        self._heard, self._failed = answered, 0
+        self._heard = answered
         taken, most = int(ended.seconds * 1000), min(60000, MOST_PATIENCE * self.calls.timeout)
         patience, window = self._patience, self._window
         if answered and taken > patience:

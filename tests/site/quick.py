@@ -15,13 +15,13 @@ class QuickCalls(Calls):
     """Calls to devices: by their addresses, the values that each has, as those of a StandIn.
 
     `gates` has events by addresses: those there answer once that is set. `over` has those that are
-    set when somebody is asked no more.
+    set when somebody is asked no more. The first `taken` bacruns find that somebody has their port.
     """
 
-    def __init__(self, devices, window=1, gates=None, at_once=8, timeout=60000, retries=0):
+    def __init__(self, devices, window=1, gates=None, at_once=8, timeout=60000, retries=0, taken=0):
         super().__init__("none", timeout, retries, at_once)
         self.devices, self.window = devices, window
-        self.gates = gates or {}
+        self.gates, self.taken = gates or {}, taken
         self.over = {address: threading.Event() for address in devices}
         self.asked, self.begun, self.most = [], [], 0
 
@@ -29,14 +29,26 @@ class QuickCalls(Calls):
         self.begun.append(words)
         if words[0] != "bacrun":
             return QuickWhoIs()
+        self.taken -= 1
+        if self.taken >= 0:
+            return QuickWhoIs("bactool: bind failed")
         return QuickRun(self, int(words[words.index("--window") + 1]))
 
 
 class QuickWhoIs:
-    """A bacwi that nobody answers."""
+    """A bacwi that nobody answers, or a tool that says why it ends at once."""
+
+    def __init__(self, told=""):
+        self.told = told
+
+    def put(self, text):
+        pass
+
+    def line(self):
+        return None
 
     def outcome(self):
-        return Outcome(1)
+        return Outcome(3 if self.told else 1, told=self.told)
 
     def kill(self):
         pass
@@ -55,6 +67,7 @@ class QuickRun:
                 self.ask(*line.split())
             else:
                 self.end(0)
+                self.lines.append("")
 
     def ask(self, _, address, *what):
         self.end(self.window - 1)

@@ -8,10 +8,11 @@ import unittest.mock
 import harness
 from bacsite import addresses, calls, reasons, survey
 from bacsite.controller import Controller
-from bacsite.device import Bounds
+from bacsite.device import Bounds, Device, SiteObject
 from bacsite.earlier import Earlier
 from bacsite.reasons import Why
-from bacsite.report import Counts
+from bacsite.report import Columns, Counts, PollList
+from bacsite.values import Kind, Value
 from quick import QuickCalls
 from stand_ins import LateStandIn, StandIn, an_object, bits, enumerated, real, string, unsigned
 from test_survey import sensors
@@ -117,24 +118,79 @@ class Order(unittest.TestCase):
         self.assertEqual([words[0] for words in many.begun], ["bacrun", "bacwi"])
         self.assertIn("1", begun[0])
 
+    def asked(self, values, numbers, **more):
+        """Which analog inputs are asked for in turn, and the reasons that come."""
+        many = QuickCalls({A: {(0, at, 85): value for at, value in values.items()}}, **more)
+        with Controller(many, A) as controller:
+            found = controller.ask_all([(0, at, 85) for at in numbers])
+        return [it[2] for it in many.asked], [it.reason for it in found]
+
+    def test_in_turn(self):
+        good, busy = real("42290000"), ("abort", 9)
+        once = {1: [busy, good], 2: [busy, good], 3: good, 4: good}
+        more = {"window": 4, "timeout": 1, "retries": 1}
+        found = self.asked({**once, 9: good}, [9, 1, 2, 3, 4], **more)
+        self.assertEqual(found, ([9, 1, 2, 3, 4, 1, 2], [""] * 5))
+        self.assertEqual(self.asked({1: good, 2: good}, [1, 2], taken=3), ([1, 2], ["", ""]))
+        failed = (["bactool: bind failed"] * 2)
+        self.assertEqual(self.asked({}, [1, 2], taken=999), ([], failed))
+
+    def test_who_has_not_answered_has_one_request_at_a_time(self):
+        good, gone = real("42290000"), "silent"
+        for window in 1, 4:
+            found = self.asked({}.fromkeys(range(4), gone), range(4), window=window)
+            self.assertEqual(found, ([0], ["timeout", *["not asked"] * 3]))
+            values = {0: good, 1: gone, 2: gone, 3: good, 4: good, 5: good, 6: good, 7: good}
+            count, reasons_ = self.asked(values, range(8), window=window)
+            self.assertEqual(len(count), {1: 3, 4: 6}[window])
+            self.assertEqual(reasons_[:3], ["", "timeout", "timeout"])
+            self.assertEqual(set(reasons_[len(count) :]), {"not asked"})
+
     def test_silent_twice_in_a_row_is_asked_no_more(self):
         for window in 1, 4:
-            values = device(11, 30)
-            values.update({(0, at, number): "silent" for at in (13, 14) for number in (77, 85, 111, 117)})
+            values = device(11, 80)
+            gone = {(0, at, number): "silent" for at in range(33, 81) for number in (77, 85, 111, 117)}
+            many = QuickCalls({A: {**values, **gone}}, window)
+            (found,) = survey.surveyed(many, addresses.targets([A]), Bounds(), Earlier())
+            told = " of 80 objects not asked"
+            self.assertEqual([it.split(" ", 1)[-1] for it in found.reasons], [told[1:], "timeout"])
+            self.assertEqual(int(found.reasons[0].split()[0]), 80 - len(found.objects))
+            self.assertNotIn("object-name: not asked", sum((it.reasons for it in found.objects), []))
+
+    def test_elements_that_are_not_asked_are_counted(self):
+        for window in 1, 4:
+            elements = {(8, 11, 76, at): an_object(0, at) for at in range(1, 41)}
+            elements.update({(8, 11, 76, at): "silent" for at in (5, 6)})
+            values = {**device(11), **elements, (8, 11, 76, 0): unsigned(40), (8, 11, 76): ("abort", 4)}
             many = QuickCalls({A: values}, window)
-            (found,) = self.surveyed(many, [A])
-            self.assertIn("objects not asked", found[3][0])
-            self.assertEqual(found[3][1], "timeout")
+            with Controller(many, A) as controller:
+                found = controller.elements(99, 8, 11, 76)
+            lost = ["element %d of 40: timeout" % at for at in (5, 6)]
+            left = 40 - len(found.found) - found.lost
+            self.assertEqual(found.reasons[:2], lost)
+            self.assertEqual(found.reasons[-1], "%d of 40 elements not asked" % left)
+            self.assertGreater(left, 30)
 
     def test_a_remark_of_several_lines(self):
-        text = "\x01" * 1400  # each is printed by four characters
-        many = QuickCalls({A: {(0, 1, 28): string(text, 6), (0, 1, 77): string("next")}})
-        for window in 1, 4:
-            many.window = window
-            with Controller(many, A) as controller:
-                found, after = controller.values([(0, 1, 28), (0, 1, 77)])
-            self.assertEqual((found.text.count(r"\x01"), len(found.text)), (1400, 5604))
-            self.assertEqual(after.text, "next")
+        for text, shown in ((b"\x01" * 1400, 5604), (b"\x01" * 1019 + b"A", 4081), (b"\x01" * 1018, 4076)):
+            values = {(0, 1, 28): string(text, 6), (0, 1, 77): string("next")}
+            for window in 1, 2, 4:
+                many = QuickCalls({A: values}, window)
+                with Controller(many, A) as controller:
+                    controller.ask(0, 1, 77)
+                    whats = [(0, 1, 77), (0, 1, 28), (0, 1, 77), (0, 1, 77), (0, 1, 28)]
+                    found = controller.values(whats)
+                self.assertEqual([len(it.text) for it in found], [4, shown, 4, 4, shown])
+
+
+class Lists(unittest.TestCase):
+    def test_each_point_of_a_list_has_a_name_of_its_own(self):
+        found, names_ = PollList(), []
+        for address in "192.0.2.1:1", "192.0.2.2:1", "192.0.2.3:1":
+            point = SiteObject(0, 5, "Room 1", Value(Kind.NUMBER, "1"))
+            text = found.of(Device(address, 9, objects=[point]), Columns())
+            names_ += [line.split()[0] for line in text.splitlines()[1:]]
+        self.assertEqual(names_, ["9.Room_1", "9.Room_1.0.5", "9.Room_1.0.5'"])
 
 
 class PortNumbers(unittest.TestCase):
@@ -179,6 +235,12 @@ class Window(harness.SiteTest):
         self.assertEqual(self.polled(device, 40, "--window", "4"), (0, ["42.25"] * 40))
         self.assertEqual(len(set(device.ports)), 2, "a bacrun with a window of its own")
         self.assertEqual(device.asked.count((0, 2, 85)), 2)
+
+    def test_one_who_loses_has_fewer(self):
+        values = {(0, at, 85): real("42290000") for at in range(80)}
+        device = self.stand_in(values, lose=40)
+        self.assertEqual(self.polled(device, 80, "--window", "4"), (0, ["42.25"] * 80))
+        self.assertGreater(len(set(device.ports)), 1)
 
     def test_each_bacrun_has_a_port_of_its_own(self):
         device = self.stand_in({(0, 1, 85): real("42290000")})

@@ -437,6 +437,9 @@ DEAD;device -;timeout
         self.assertEqual(out.splitlines()[-5:], ["  since: " + it for it in told])
         found = json.loads(self.run_site("survey", "HERE", "--since", before, "--json")[1])
         self.assertEqual(found["changes"], told)
+        device.values.update({**listed((0, 1), (0, 2), (0, 3)), (8, 77, 76, 3): ("error", 2, 42)})
+        out = self.run_site("survey", "HERE", "--since", before)[1]
+        self.assertNotIn("gone", out, "an element is lost, and may be the one that was there")
         device.values[8, 4194303, 75] = "silent"
         device.reply = lambda apdu: b""
         word = "127.0.0.1-1:" + self.names["HERE"].split(":")[1]
