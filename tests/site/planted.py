@@ -16,7 +16,7 @@ from concurrent.futures import ThreadPoolExecutor
 
 HERE = os.path.dirname(os.path.abspath(__file__))
 TOP = os.path.dirname(os.path.dirname(HERE))
-AT_ONCE = 4
+AT_ONCE, MOST_SECONDS = 4, 900
 
 
 def faults():
@@ -43,7 +43,12 @@ def noticed(program, fault):
         with open(f"{room}/{path}", "w", encoding="utf-8") as file:
             file.write(text.replace(old, new))
         command = [sys.executable, f"{room}/tests/site/run.py", program, *tests]
-        done = subprocess.run(command, stdout=subprocess.PIPE, stderr=subprocess.STDOUT)
+        try:
+            done = subprocess.run(
+                command, stdout=subprocess.PIPE, stderr=subprocess.STDOUT, timeout=MOST_SECONDS
+            )
+        except subprocess.TimeoutExpired:
+            return "noticed, since the tests do not end"
     said = done.stdout.decode("utf-8", "replace")
     failed = re.findall(r"(?m)^(?:FAIL|ERROR): (\w+)", said)
     return "noticed by " + (failed or ["no test, it ends"])[0] if done.returncode else "NOT NOTICED"

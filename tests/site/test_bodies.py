@@ -47,6 +47,9 @@ d100 hex d100
 f900 hex f900
 2105ff hex 2105ff
 6502ab00 X'ab00'
+65fe0001ab X'ab'
+65ff00000001ab X'ab'
+65ffffffffab hex 65ffffffffab
 7502003f "?"
 """
 

@@ -114,6 +114,8 @@ class Pages(unittest.TestCase):
             "2 devices, of which 1 are silent; 2 objects, of which 1 have a flag set",
         ):
             self.assertIn(part, page)
+        self.assertIn('<td class="count" data-n="2">2</td>', page)
+        self.assertIn('<td class="count" data-n="0"></td>', page)
         self.assertEqual(safe("a<b\u202e"), "a&lt;b\\u202e")
 
     def test_addresses_are_sorted_as_numbers(self):

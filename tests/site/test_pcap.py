@@ -137,6 +137,7 @@ class Files(unittest.TestCase):
                 "block 2 at octet 28 is of the interface 0, which is not there",
             ),
             (ng[: at + 4] + b"\x0b\0\0\0", 1, "block 4 at octet %d has a length of 11 octets" % at),
+            (ng[: at + 4] + b"\x0d\0\0\0", 1, "block 4 at octet %d has a length of 13 octets" % at),
             (
                 ng[:at] + enhanced("<", 2, INNER, 3),
                 1,

@@ -85,6 +85,10 @@ class Bodies(unittest.TestCase):
                 with self.subTest(reader=reader, length=length):
                     self.assertIsNone(reader(whole[:length]))
 
+    def test_a_closing_tag_alone_is_none(self):
+        self.assertIsNone(services.items_of(b"\x3f"))
+        self.assertIsNone(services.items_of(b"\x09\x12\x1f"))
+
     def test_what_is_none(self):
         for reader, octets in (
             (services.asked_for, "0c000000101e1f"),

@@ -125,6 +125,11 @@ class Pairs(unittest.TestCase):
         self.assertIsNone(first.again)
         self.assertIn("AGAIN, 2999 ms after its answer", line_of(second))
 
+    def test_a_minute_later(self):
+        """After a minute without an answer the same octets are a new request."""
+        for gap, count in ((59000, 1), (61000, 2)):
+            self.assertEqual(len(entries(exchange(0, None) + resend(gap))), count)
+
     def test_number_used_again(self):
         """Another request under the number of an open one ends that; a late answer is that of the new one."""
         other = (10, CLIENT, DEVICE, wrapped(read_apdu(1, "0c000000061955"), "0104"))
