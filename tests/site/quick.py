@@ -16,12 +16,13 @@ class QuickCalls(Calls):
 
     `gates` has events by addresses: those there answer once that is set. `over` has those that are
     set when somebody is asked no more. The first `taken` bacruns find that somebody has their port.
+    What `lost` has is sent twice.
     """
 
-    def __init__(self, devices, window=1, gates=None, at_once=8, timeout=60000, retries=0, taken=0):
+    def __init__(self, devices, window=1, gates=None, at_once=8, timeout=60000, retries=0, taken=0, lost=()):
         super().__init__("none", timeout, retries, at_once)
         self.devices, self.window = devices, window
-        self.gates, self.taken = gates or {}, taken
+        self.gates, self.taken, self.lost = gates or {}, taken, lost
         self.over = {address: threading.Event() for address in devices}
         self.asked, self.begun, self.most = [], [], 0
 
@@ -74,7 +75,8 @@ class QuickRun:
         what = tuple(map(int, what))
         self.address = address
         self.calls.asked.append((address, *what))
-        self.lines.append("# send %d %s 00" % (self.tickets, address))
+        sent = "# send %d %s 00" % (self.tickets, address)
+        self.lines += [sent] * (1 + (what in self.calls.lost))
         self.open.append((self.tickets, what))
         self.tickets += 1
         self.calls.most = max(self.calls.most, len(self.open))

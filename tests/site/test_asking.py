@@ -131,9 +131,19 @@ class Order(unittest.TestCase):
         more = {"window": 4, "timeout": 1, "retries": 1}
         found = self.asked({**once, 9: good}, [9, 1, 2, 3, 4], **more)
         self.assertEqual(found, ([9, 1, 2, 3, 4, 1, 2], [""] * 5))
+        found = self.asked({1: [busy, good], 2: good}, [1, 2], timeout=1, retries=1)
+        self.assertEqual(found, ([1, 1, 2], ["", ""]))
         self.assertEqual(self.asked({1: good, 2: good}, [1, 2], taken=3), ([1, 2], ["", ""]))
-        failed = (["bactool: bind failed"] * 2)
+        failed = ["bactool: bind failed"] * 2
         self.assertEqual(self.asked({}, [1, 2], taken=999), ([], failed))
+
+    def test_one_who_loses_has_half_as_many_each_time(self):
+        values = {(0, at, 85): real("42290000") for at in range(99)}
+        many = QuickCalls({A: values}, 8, lost={(0, 20, 85), (0, 50, 85)})
+        with Controller(many, A) as controller:
+            controller.ask_all(list(values))
+        windows = [words[words.index("--window") + 1] for words in many.begun]
+        self.assertEqual(windows, ["8", "4", "2"])
 
     def test_who_has_not_answered_has_one_request_at_a_time(self):
         good, gone = real("42290000"), "silent"
