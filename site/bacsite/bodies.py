@@ -2,6 +2,7 @@
 
 from __future__ import annotations
 
+from functools import lru_cache
 from typing import Iterator, List, NamedTuple, Optional, Tuple
 
 from . import names
@@ -203,6 +204,7 @@ def read_body(octets: bytes) -> Optional[Body]:
     return body_of(octets, has_value=False)
 
 
+@lru_cache(maxsize=64)  # it is read twice: how it ends a request, and what it is about
 def read_ack(octets: bytes) -> Optional[Body]:
     """What the acknowledgement of a ReadProperty says."""
     return body_of(octets, has_value=True)
