@@ -7,7 +7,7 @@ It asks by bactool, whose behaviour is proved; this package is not. The modules,
     names, decimals, bodies        numbers and their names, Reals, tags and bodies of requests
     values                         values in plain form
     messages, answers              the headers of a datagram, and how an answer ends a request
-    processes, calls, files        bactool is run; files are read, or replaced as a whole
+    files, processes, calls        files are read, or replaced as a whole; bactool is run
     addresses, points              the words that say what is asked
     workers, session, asking, controller    many controllers side by side, each asked by one bacrun
     command                        what a command is, and the words that several have

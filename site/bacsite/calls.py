@@ -12,11 +12,10 @@ from contextlib import contextmanager
 from types import FrameType
 from typing import Dict, Iterator, List, Optional, Sequence
 
-from .failures import BROKEN, Failure
+from .failures import BROKEN, SIGNALS, Failure
 from .output import show
 from .processes import FOREVER, Asks, NotBegun, Outcome, Processes
 
-SIGNALS = (signal.SIGINT, signal.SIGHUP, signal.SIGTERM)
 FIRST_PORT, PORTS = 49152, 16384  # those that nobody has for long, by RFC 6335
 FAR_APART = 6229  # process numbers within 700 of each other, times this, lie 8 ports or more apart
 MOST_TRIES = 100  # of other ports, where somebody has one

@@ -9,8 +9,7 @@ import sys
 import tempfile
 from typing import BinaryIO, Iterable
 
-from .calls import SIGNALS
-from .failures import BROKEN, Failure
+from .failures import BROKEN, SIGNALS, Failure
 
 
 def opened(path: str) -> BinaryIO:

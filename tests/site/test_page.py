@@ -118,6 +118,19 @@ class Pages(unittest.TestCase):
         self.assertIn('<td class="count" data-n="0"></td>', page)
         self.assertEqual(safe("a<b\u202e"), "a&lt;b\\u202e")
 
+    def test_what_was_asked_for_beside_that(self):
+        """Text of a device, so no markup either."""
+        more = {"held": "8 (<b>)", "description": "On <the> roof"}
+        found = an_object(name="T", text="1", unit="", flags=None)
+        found.held, found.description = more["held"], more["description"]
+        page, _ = read([Device(HERE, 9, objects=[found], changes=["name was <i>", "gone: 0:6"])])
+        for part in (
+            '<bdi>T</bdi> <span class="soft"><bdi>On &lt;the&gt; roof</bdi></span>',
+            '<span class="soft">priority 8 (&lt;b&gt;)</span>',
+            '<p class="soft">since: name was &lt;i&gt;; gone: 0:6</p>',
+        ):
+            self.assertIn(part, page)
+
     def test_addresses_are_sorted_as_numbers(self):
         page, _ = read([Device("10.0.0.9:47808"), Device("10.0.0.10:1")])
         numbers = re.findall(r'<td class="id"( data-n="([0-9]+)")?><a', page)
