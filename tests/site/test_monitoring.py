@@ -322,6 +322,7 @@ class Check(harness.SiteTest):
             {
                 (0, 5, 85): real("42290000"),
                 (0, 5, 111): unsigned(15),
+                (0, 1, 85, 1): real("42290000"),
                 (0, 6, 85): real("42290000"),
                 (0, 7, 85): real("42290000"),
                 (0, 7, 111): "silent",
@@ -342,6 +343,7 @@ class Check(harness.SiteTest):
             check HERE 0 6 85 => 0 BACNET OK - 42.25 | value=42.25;~:;~:
             check HERE 0 7 85 => 3 BACNET UNKNOWN - 42.25, status-flags: timeout | value=42.25;~:;~:
             check HERE real 300 1 85 => 2 BACNET CRITICAL - 42.25, fault | value=42.25;~:;~:
+            check HERE 0 1 85 1 => 0 BACNET OK - 42.25 | value=42.25;~:;~:
             check HERE 0 1 85 --no-flags => 0 BACNET OK - 42.25 | value=42.25;~:;~:
             """
         )

@@ -105,11 +105,15 @@ class Terminal(harness.SiteTest):
         text = "s %s 0 1 85\n" % slow.address + "".join(
             "f %s 0 %d 85\n" % (fast.address, at) for at in (1, 2)
         )
-        for options in ((), ("--sorted",)):
-            words = ["poll", "--apdu-timeout", "5000", *options, self.path("two", text)]
-            _, shown = self.told(*words)
-            with self.subTest(options=options):
-                self.assertIn("\r1 of 2 done, 3 calls ", shown)
+        both = ["77@" + slow.address, "77@" + fast.address]
+        for words, told in (
+            (["poll", self.path("two", text)], "\r1 of 2 done, 3 calls "),
+            (["survey", "--devices", *both], "\r1 of 2 done, "),
+            (["survey", "--devices", "--sorted", *both], "\r1 of 2 done, "),
+        ):
+            _, shown = self.told(*words, "--apdu-timeout", "5000")
+            with self.subTest(words=words):
+                self.assertIn(told, shown)
                 self.assertTrue(shown.endswith("\r\x1b[K"), shown)
 
     def test_a_write_shows_no_progress(self):
