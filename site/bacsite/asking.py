@@ -84,8 +84,11 @@ class Asking:
         return [answers.get(at, Answer(reason=NOT_ASKED)) for at in range(len(whats))]
 
     def write(self, request: str) -> Outcome:
-        """Writes, once, by a line of a script; how that ended is told as bacwp tells it."""
-        with self._line, self.calls.writing():
+        """Writes, once, by a line of a script; how that ended is told as bacwp tells it.
+
+        Who calls says that a write is under way meanwhile.
+        """
+        with self._line:
             while True:
                 try:
                     session = self._ready()
