@@ -131,8 +131,8 @@ class Order(unittest.TestCase):
         more = {"window": 4, "timeout": 1, "retries": 1}
         found = self.asked({**once, 9: good}, [9, 1, 2, 3, 4], **more)
         self.assertEqual(found, ([9, 1, 2, 3, 4, 1, 2], [""] * 5))
-        found = self.asked({1: [busy, good], 2: good}, [1, 2], timeout=1, retries=1)
-        self.assertEqual(found, ([1, 1, 2], ["", ""]))
+        found = self.asked({0: good, 1: [busy, good], 2: good}, range(3), timeout=1, retries=1)
+        self.assertEqual(found, ([0, 1, 1, 2], [""] * 3))
         self.assertEqual(self.asked({1: good, 2: good}, [1, 2], taken=3), ([1, 2], ["", ""]))
         failed = ["bactool: bind failed"] * 2
         self.assertEqual(self.asked({}, [1, 2], taken=999), ([], failed))
