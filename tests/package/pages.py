@@ -29,8 +29,7 @@ SETTINGS = {
     "SILENT": "--mac 127.0.0.1:9 --apdu-timeout 20 --apdu-retries 0",
 }
 SECTIONS = {title: rows[1:] for title, _, _, rows in tables.sections()}
-# The options of each command of bacsite that asks.
-SHARED = ["--tools", "--apdu-timeout", "--apdu-retries", "--at-once", "--journal"]
+SHARED = ["--tools", "--apdu-timeout", "--apdu-retries", "--at-once", "--journal"]  # of its commands that ask
 # The fields of Wireshark that have the numbers of a section, and what it spells in a way of its own.
 FIELDS = {"Object types": "objectType", "Properties": "property_identifier", "Error classes": "error_class"}
 FIELDS.update({"Error codes": "error_code", "Reject reasons": "reject_reason", "Abort reasons": "abort_reason"})
