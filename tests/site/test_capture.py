@@ -123,6 +123,15 @@ device           requests  answered  refused  unanswered  sent again  slow  medi
 """
         self.assertEqual(self.told(steps + exchange(9000, 9002, 4), "--summary")[1], summary)
 
+    def test_summary_of_several(self):
+        """The device that failed most stands first; answers to nothing are counted."""
+        steps = exchange(0, 1) + exchange(10, 11, 2, "600209", to="127.0.0.9:47808")
+        steps += [(20, DEVICE, CLIENT, wrapped("20090f"))]
+        text = self.told(steps, "--summary")[1]
+        devices = [it.split(" ")[0] for it in text.splitlines()[3:5]]
+        self.assertEqual(devices, ["127.0.0.9:47808", DEVICE])
+        self.assertIn("\nalso seen: answers to nothing seen 1\n", text)
+
     def test_only(self):
         steps = exchange(0, 1) + exchange(10, 11, 2, "600209") + exchange(20, 1500, 3)
         for words, numbers in (("failed", ["2"]), ("slow", ["3"])):

@@ -10,7 +10,7 @@ import unittest
 
 import harness
 import bacsite
-from bacsite.check import OK, CRITICAL, UNKNOWN, WARNING, range_of, verdict_on_flags
+from bacsite.check import OK, CRITICAL, UNKNOWN, WARNING, range_of, verdict_on, verdict_on_flags
 from bacsite.failures import Failure
 from bacsite.poll import Reading
 from bacsite.points import Point
@@ -234,6 +234,10 @@ class Ranges(unittest.TestCase):
             (fault("timeout"), (UNKNOWN, "status-flags: timeout")),
         ):
             self.assertEqual(verdict_on_flags(Reading(Point(""), value, "", flags)), wanted)
+        unread = Reading(Point(""), value, "", fault("timeout"))
+        for warning, status in (("0", WARNING), ("1", UNKNOWN)):
+            found = verdict_on(unread, range_of(warning), range_of(""))
+            self.assertEqual(found.status, status)
 
 
 class Check(harness.SiteTest):
@@ -274,6 +278,8 @@ class Check(harness.SiteTest):
         self.assertEqual(
             [self.run_site("check", *it)[0] for it in (["--help"], [], ["-c"])], [3, 3, 3]
         )
+        told = "BACNET UNKNOWN - argument -t/--timeout: expected one argument; see bacsite check --help\n"
+        self.assertEqual(self.run_site("check", "-t"), (3, told, ""))
 
     def test_numbers_past_those_of_a_double_are_exact(self):
         self.stand_in({(23, 1, 85): unsigned(2**53 + 1)})
@@ -429,12 +435,13 @@ bacnet_flag{point="held",address="HERE",flag="overridden"} 1
             "sys.path.insert(0, %r)\n"
             "from bacsite.files import replace_file\n"
             "def parts():\n"
+            "    assert any(it.startswith('whole.prom.') for it in os.listdir(%r))\n"
             "    yield 'new'\n"
             "    os.kill(os.getpid(), signal.SIGTERM)\n"
             "    yield ' and whole'\n"
             "replace_file(%r, parts())\n"
         )
-        code %= (harness.TOP + "/site", path)
+        code %= (harness.TOP + "/site", self.world.folder, path)
         done = subprocess.run([sys.executable, "-c", code])
         self.assertEqual((done.returncode, self.file("whole.prom")), (-15, "new and whole"))
 

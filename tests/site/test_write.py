@@ -49,6 +49,7 @@ NO_LIMITS = {
     (2, 7, 69): real("00000000"),
     (2, 8, 77): string("Most"),
     (2, 8, 85): real("00000000"),
+    (2, 8, 22): real("3f800000"),
     (2, 8, 65): real("42c80000"),
     (2, 9, 77): string("Least"),
     (2, 9, 85): real("00000000"),
@@ -64,6 +65,10 @@ CROSSED = {
     (14, 5, 85): unsigned(1),
     (14, 5, 74): unsigned(4),
     (14, 5, 110): string("Off") + string("1") + string("2") + string("3"),
+    (14, 6, 77): string("Unnamed"),
+    (14, 6, 85): unsigned(1),
+    (14, 6, 74): unsigned(2),
+    (14, 6, 110): string("") + string("On"),
     (5, 6, 77): string("Door"),
     (5, 6, 85): enumerated(0),
     (5, 6, 4): string("Inactive"),
@@ -90,6 +95,7 @@ class Write(harness.SiteTest):
             ("1 1 20 --priority 8", (1, 1, 85), real("41a00000"), 8),
             ("analog-output 1 -2.5 --priority 9", (1, 1, 85), real("c0200000"), 9),
             ("1 1 null --priority 9", (1, 1, 85), NULL, 9),
+            ("2 8 150 --property cov-increment", (2, 8, 22), real("43160000"), 0),
             ("14 2 3", (14, 2, 85), unsigned(3), 0),
             ("14 2 heat", (14, 2, 85), unsigned(2), 0),
             ("5 3 läuft", (5, 3, 85), enumerated(1), 0),
@@ -238,6 +244,7 @@ class Write(harness.SiteTest):
         self.rows(
             """
             write HERE 14 5 1 => 2 !1 may be 1 (Off) or 2 (1): by --type unsigned it is the number; nothing was sent
+            write HERE 14 6 '' => 2 !no number and no state: ; it has on; nothing was sent
             write HERE 5 6 active => 2 !active may be 0 (Active) or 1 (Inactive): give its number; nothing was sent
             write HERE 5 6 INACTIVE => 2 !INACTIVE may be 0 (Active) or 1 (Inactive): give its number; nothing was sent
             """
