@@ -220,7 +220,7 @@ def known(rows):
         found[name] = int(re.search(pattern, text, re.M)[1])
     sends = [found["timeout"] // 1000 * time for time in range(found["retries"] + 2)]
     found.update({"seconds": sends[1], "early": ", ".join(map(str, sends[:-2])), "last": sends[-2], "whole": sends[-1]})
-    found["hours"] = found["turns"] // 3600
+    found.update({"hours": found["turns"] // 3600, "last port": found["first port"] + found["ports"] - 1})
     times = ["once", "twice", "three times", "four times"][found["site retries"]]
     return {**found, "site tries": times, "ports of Linux": round(60999 - 32768, -3)}
 
