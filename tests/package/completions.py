@@ -36,7 +36,7 @@ def options(*words):
 def rows():
     """Lines that are being typed, and what may follow each: those of the table, and options of tools and commands."""
     site = ["python3", TOP + "/site/bacsite"]
-    commands = re.findall(r"(?m)^    ([a-z]+)(?: .*)?$", shown(*site, "--help"))
+    commands = re.findall(r"(?m)^    ([a-z-]+)(?: .*)?$", shown(*site, "--help"))
     lists = {"TOOLS": TOOLS, "COMMANDS": commands, "TAGS": [str(tag) for tag in range(13)]}
     for line, words in re.findall(r"(?m)^([^#\n].*)\|(.*)$", text_of("tests/package/completions.txt")):
         yield line, [it for word in words.split() for it in lists.get(word, [word])]

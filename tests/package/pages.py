@@ -29,7 +29,7 @@ SETTINGS = {
     "SILENT": "--mac 127.0.0.1:9 --apdu-timeout 20 --apdu-retries 0",
 }
 SECTIONS = {title: rows[1:] for title, _, _, rows in tables.sections()}
-SHARED = ["--tools", "--apdu-timeout", "--apdu-retries", "--at-once"]  # options of each command of bacsite that asks
+SHARED = ["--tools", "--apdu-timeout", "--apdu-retries", "--at-once", "--window", "--journal"]  # of all that ask
 # The fields of Wireshark that have the numbers of a section, and what it spells in a way of its own.
 FIELDS = {"Object types": "objectType", "Properties": "property_identifier", "Error classes": "error_class"}
 FIELDS.update({"Error codes": "error_code", "Reject reasons": "reject_reason", "Abort reasons": "abort_reason"})
@@ -109,7 +109,7 @@ def words_and_options():
 def bacsite():
     """The options of each command, and what is told of each in numbers."""
     options, told = [], set()
-    for command in re.findall(r"(?m)^    ([a-z]+)(?: .*)?$", help_of("python3", "site/bacsite")):
+    for command in re.findall(r"(?m)^    ([a-z-]+)(?: .*)?$", help_of("python3", "site/bacsite")):
         text = help_of("python3", "site/bacsite", command)
         options += [f"{command} {it}" for it in re.findall(r"(?m)^  (--?[A-Za-z-]+)(?: .*)?$", text)]
         rows = re.findall(r"(?m)^  (--[a-z-]+) [A-Z]+ +(.*[0-9].*)$", text)

@@ -7,18 +7,18 @@ import json
 from dataclasses import dataclass, field
 from typing import BinaryIO, Dict, Iterator, Optional
 
-from .command import Command, add_number, within
-from .failures import BROKEN, MISSING, Failure, wrong
-from .files import opened
+from ..command import Command, add_number, within
+from ..failures import BROKEN, MISSING, Failure, wrong
+from ..files import opened
+from ..messages import Message, message_of
+from ..output import put
 from .frames import Passing
-from .messages import Message, message_of
-from .output import put
+from .lines import json_of, line_of
 from .pairing import Pairing
 from .pcap import Damage, packets_of
-from .talk import MILLI, Entry, Talk
+from .talks import MILLI, Entry, Talk
 from .tally import Tally, is_slow
 from .trace import Choice, is_at, traced
-from .wording import json_of, line_of
 
 
 @dataclass
@@ -65,13 +65,16 @@ def is_wanted(entry: Entry, only: Optional[str], slow: int) -> bool:
 
 def _put_entries(capture: Capture, choice: Choice, words: argparse.Namespace) -> int:
     """Prints the lines of a capture, and its summary."""
-    tally = Tally(words.slow * MILLI)
+    tally, is_any = Tally(words.slow * MILLI), choice == Choice()
     for entry in capture.entries():
         if not is_between(entry, choice):
             continue
+        is_any = True
         tally.add(entry)
         if not words.summary and is_wanted(entry, words.only, tally.slow):
             put(_json(json_of(entry)) if words.json else line_of(entry) + "\n")
+    if not is_any and not capture.damage:
+        raise wrong(f"nothing between {choice.client or 'any'} and {choice.device or 'any'}")
     if words.json:
         put(_json(tally.figures(capture.passing, capture.damage)))
     else:

@@ -5,8 +5,9 @@ from __future__ import annotations
 import struct
 from collections import Counter
 from dataclasses import dataclass, field
-from typing import Counter as Counts, Dict, Iterable, Iterator, NamedTuple, Tuple
+from typing import Counter as Counts, Dict, Iterable, Iterator, Tuple
 
+from ..messages import Datagram
 from .pcap import SECOND, Packet
 
 IPV4, UDP, BVLL = 0x0800, 17, 0x81
@@ -20,15 +21,6 @@ MOST_SEEN = 4096
 
 class Passed(Exception):
     """Why a packet is passed over."""
-
-
-class Datagram(NamedTuple):
-    """A UDP datagram: nanoseconds since 1970, from and to whom as ADDRESS:PORT, its octets."""
-
-    nanos: int
-    sender: str
-    receiver: str
-    octets: bytes
 
 
 def _ip_packet(link: int, octets: bytes) -> bytes:
@@ -68,19 +60,17 @@ def _udp(packet: bytes) -> Tuple[str, str, bytes, int]:
 
 
 def _check_link(octets: bytes, length: int) -> None:
-    """Whether a datagram that was sent with so many octets is one of BACnet/IP, and whole."""
+    """Whether a datagram that was sent with so many octets is one of BACnet/IP."""
     is_link = len(octets) >= 4 and octets[0] == BVLL and octets[1] < FUNCTIONS
     if not is_link or int.from_bytes(octets[2:4], "big") != length:
         raise Passed("UDP of something else")
-    if len(octets) < length:
-        raise Passed("cut by the capture")
 
 
 def datagram_of(packet: Packet) -> Datagram:
     """The BACnet/IP datagram in a packet."""
     sender, receiver, octets, length = _udp(_ip_packet(packet.link, packet.octets))
     _check_link(octets, length)
-    return Datagram(packet.nanos, sender, receiver, octets)
+    return Datagram(packet.nanos, sender, receiver, octets, len(octets) < length)
 
 
 @dataclass
@@ -89,6 +79,7 @@ class Passing:
 
     counts: Counts[str] = field(default_factory=Counter)
     packets: int = 0
+    cut: int = 0  # datagrams of which the capture has the first octets alone
     last: int = 0
     seen: Dict[Tuple[str, str, bytes], Tuple[int, bytes]] = field(default_factory=dict)
 
@@ -103,16 +94,18 @@ class Passing:
             except Passed as why:
                 self.counts[str(why)] += 1
                 continue
+            self.cut += datagram.is_cut
             yield datagram
 
     def _check_copy(self, datagram: Datagram, packet: Packet) -> None:
         """Whether it is the same as one of another interface, less than a second before."""
         of_frame = packet.octets[4:8] if packet.link == COOKED_2 else b""
         interface = bytes([packet.interface & 255]) + of_frame
-        nanos, before = self.seen.get(datagram[1:], (0, interface))
+        key = (datagram.sender, datagram.receiver, datagram.octets)
+        nanos, before = self.seen.get(key, (0, interface))
         if before != interface and abs(datagram.nanos - nanos) < SECOND:
             raise Passed("copies of another interface")
         if len(self.seen) > MOST_SEEN:
             now = datagram.nanos
             self.seen = {it: at for it, at in self.seen.items() if now - at[0] < SECOND}
-        self.seen[datagram[1:]] = (datagram.nanos, interface)
+        self.seen[key] = (datagram.nanos, interface)

@@ -6,13 +6,13 @@ from collections import Counter
 from dataclasses import dataclass, field
 from typing import Dict, Iterator, List, NamedTuple, Optional, Sequence, Set
 
-from .failures import wrong
-from .messages import CONFIRMED, Message
+from ..failures import wrong
+from ..messages import CONFIRMED, Message
+from ..texts import clean
+from .lines import asked, message_words, moment
 from .pairing import NUMBERS, Event, Pairing
-from .script import is_askable, request_line
-from .talk import GRACE, MILLI, Talk
-from .texts import clean
-from .wording import asked, message_words, moment
+from .requests import is_askable, request_line
+from .talks import GRACE, MILLI, Talk
 
 MOST_LINE, MOST_WORDS = 4000, 400
 PLACES = 64  # of bactrace, for open requests
@@ -174,7 +174,9 @@ class Trace:
         if event.kind != "answer":
             self._remark(message, message_words(message) if not event.talk else "a second answer")
         line = f"data {message.datagram.sender} {octets.hex()}"
-        if len(line) > MOST_LINE:
+        if message.datagram.is_cut:
+            self._remark(message, "a datagram that the capture has cut")
+        elif len(line) > MOST_LINE:
             self._remark(message, f"a datagram of {len(octets)} octets")
         else:
             self.lines.append(line)

@@ -6,11 +6,11 @@ from collections import Counter
 from dataclasses import dataclass, field
 from typing import Counter as Counts, Dict, Iterable, Iterator, List, Optional, Set
 
+from ..messages import COMPLEX, SIMPLE, UNCONFIRMED, Message
+from ..texts import table
 from .frames import Passing
-from .messages import COMPLEX, SIMPLE, UNCONFIRMED, Message
-from .talk import MILLI, Entry, Talk
-from .texts import table
-from .wording import UNCONFIRMED_SERVICES, millis, times
+from .lines import UNCONFIRMED_SERVICES, millis, times
+from .talks import MILLI, Entry, Talk
 
 COUNTS = ("requests", "answered", "refused", "unanswered")
 MARKS = ("sent again", "slow", "late", "answered twice", "asked again", "open at the end", "failed")
@@ -105,6 +105,9 @@ class Tally:
             heads = ["device", *COUNTS, *MARKS[:2], "median ms", "longest ms"]
             worst = sorted(self.devices, key=lambda it: (-self.devices[it].marks["failed"], it))
             yield from table([heads, *(self.devices[it].row(it) for it in worst)])
+        if passing.cut:
+            cut = times(passing.cut, "datagram")
+            yield f"cut by the capture: {cut}, told by their first octets"
         for words, counts in (("also seen", self.others), ("passed over", passing.counts)):
             if counts:
                 yield f"{words}: " + ", ".join(f"{it} {counts[it]}" for it in sorted(counts))
@@ -118,6 +121,7 @@ class Tally:
             "devices": {name: of.figures() for name, of in sorted(self.devices.items())},
             "others": dict(self.others),
             "packets": passing.packets,
+            "cut": passing.cut,
             "passed_over": dict(passing.counts),
             "damage": damage or None,
         }

@@ -6,11 +6,13 @@ from collections import deque
 from dataclasses import dataclass, field
 from typing import Deque, Dict, Iterator, NamedTuple, Optional, Tuple
 
-from .messages import ABORT, CONFIRMED, REJECT, Apdu, Message
-from .talk import GRACE, MILLI, Answer, Entry, Talk, outcome_of
+from ..answers import outcome_of
+from ..messages import ABORT, CONFIRMED, REJECT, SEGMENT, Apdu, Message
+from .talks import GRACE, MILLI, Answer, Entry, Talk
 
 ROUND, NUMBERS = 192, 256  # between two requests with one invoke id lie at least so many others
 USUAL_WAIT = 3000 * MILLI
+OF_SERVER = 1  # a flag of who acknowledges a part
 
 
 class Event(NamedTuple):
@@ -39,6 +41,9 @@ class Pairing:
             event = self._request(message, apdu)
         elif apdu and apdu.is_answer:
             event = self._answer(message, apdu)
+        elif apdu and apdu.kind == SEGMENT and not apdu.flags & OF_SERVER:
+            talk = self.latest.get((message.sender, apdu.invoke), {}).get(message.receiver)
+            event = Event("part", talk) if talk and talk.outcome == "segmented" else None
         if event is None:
             self.entries.append(message)
         return event or Event("other")
@@ -94,8 +99,10 @@ class Pairing:
         if apdu.kind not in (REJECT, ABORT) and apdu.service != talk.apdu.service:
             return None
         if apdu.part and talk.answers:
+            talk.answers[0].add(apdu)
             return Event("part", talk)
-        talk.answers.append(Answer(message.nanos, apdu, outcome_of(apdu)))
+        parts = [apdu] if apdu.part == 0 else []
+        talk.answers.append(Answer(message.nanos, apdu, outcome_of(apdu), parts))
         if len(talk.answers) > 1:
             return Event("second", talk)
         talk.gap = self.gaps.get(talk.client, 0)

@@ -13,7 +13,7 @@ PCAP = {
     b"\xa1\xb2\x3c\x4d": (">", 1),
     b"\x4d\x3c\xb2\xa1": ("<", 1),
 }
-SECTION, INTERFACE, PACKET = 0x0A0D0D0A, 1, 6  # the blocks of pcapng that are read
+SECTION, INTERFACE, SIMPLE, PACKET = 0x0A0D0D0A, 1, 3, 6  # the blocks of pcapng that are read
 ORDERS = {b"\x1a\x2b\x3c\x4d": ">", b"\x4d\x3c\x2b\x1a": "<"}
 TIME_UNIT, TIME_OFFSET = 9, 14  # options of an interface
 SECOND = 10**9  # in nanoseconds
@@ -84,23 +84,33 @@ def _pcap(source: Source, order: str, unit: int) -> Iterator[Packet]:
 
 
 class _Interface(NamedTuple):
-    """An interface: its link type, the units of time of a second, and the seconds to add."""
+    """An interface: its link type, how many octets of a packet are kept, if not all, the units of
+    time of a second, and the seconds to add."""
 
     link: int
+    kept: int
     units: int
     offset: int
 
 
 def _pcapng(source: Source) -> Iterator[Packet]:
-    """The packets of all sections; none has an interface of the section before."""
+    """The packets of all sections; none has an interface of the section before.
+
+    A packet without a time has that of the packet before it.
+    """
     interfaces: List[_Interface] = []
+    nanos = 0
     for kind, order, body in _blocks(source):
         if kind == SECTION:
             interfaces = []
         elif kind == INTERFACE:
             interfaces.append(_interface(source, order, body))
         elif kind == PACKET:
-            yield _packet(source, order, body, interfaces)
+            packet = _packet(source, order, body, interfaces)
+            nanos = packet.nanos
+            yield packet
+        elif kind == SIMPLE:
+            yield _simple(source, order, body, interfaces)._replace(nanos=nanos)
 
 
 def _blocks(source: Source) -> Iterator[Tuple[int, str, bytes]]:
@@ -131,7 +141,7 @@ def _blocks(source: Source) -> Iterator[Tuple[int, str, bytes]]:
 def _interface(source: Source, order: str, body: bytes) -> _Interface:
     if len(body) < 8:
         raise source.damage("is too short")
-    (link,), options = struct.unpack(order + "H", body[:2]), {}
+    (link, kept), options = struct.unpack(order + "HxxI", body[:8]), {}
     rest = body[8:]
     while len(rest) >= 4:
         number, length = struct.unpack(order + "HH", rest[:4])
@@ -140,7 +150,7 @@ def _interface(source: Source, order: str, body: bytes) -> _Interface:
     unit = (options.get(TIME_UNIT) or b"\6")[0]  # a power of ten, or with the high bit of two
     offset = options.get(TIME_OFFSET, b"")
     seconds = struct.unpack(order + "q", offset)[0] if len(offset) == 8 else 0
-    return _Interface(link, 2 ** (unit & 127) if unit & 128 else 10**unit, seconds)
+    return _Interface(link, kept, 2 ** (unit & 127) if unit & 128 else 10**unit, seconds)
 
 
 def _packet(source: Source, order: str, body: bytes, interfaces: Sequence[_Interface]) -> Packet:
@@ -151,6 +161,19 @@ def _packet(source: Source, order: str, body: bytes, interfaces: Sequence[_Inter
         raise source.damage(f"holds fewer octets than it says: {length}")
     if which >= len(interfaces):
         raise source.damage(f"names the interface {which}, which is not there")
-    link, units, offset = interfaces[which]
+    link, _, units, offset = interfaces[which]
     nanos = (high << 32 | low) * SECOND // units + offset * SECOND
     return Packet(nanos, link, which, body[20 : 20 + length])
+
+
+def _simple(source: Source, order: str, body: bytes, interfaces: Sequence[_Interface]) -> Packet:
+    """A packet of the first interface, which has no time, and says only how long it was sent."""
+    if len(body) < 4:
+        raise source.damage("is too short")
+    if not interfaces:
+        raise source.damage("is of the interface 0, which is not there")
+    (length,) = struct.unpack(order + "I", body[:4])
+    kept = min(length, interfaces[0].kept or length)
+    if kept > len(body) - 4:
+        raise source.damage(f"holds fewer octets than it says: {kept}")
+    return Packet(0, interfaces[0].link, 0, body[4 : 4 + kept])

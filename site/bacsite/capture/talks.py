@@ -3,24 +3,42 @@
 from __future__ import annotations
 
 from dataclasses import dataclass, field
-from typing import List, NamedTuple, Optional, Tuple, Union
+from typing import List, NamedTuple, Optional, Union
 
-from .bodies import error_body, read_ack, read_body, region_text
-from .messages import ABORT, COMPLEX, ERROR, REJECT, SIMPLE, Apdu, Message
-from .names import DEVICE, THIS_DEVICE, What
+from ..answers import READ, WRITE, is_about, outcome_of
+from ..bodies import read_ack, read_body
+from ..messages import COMPLEX, SIMPLE, Apdu, Message
+from ..names import What
 
 MILLI = 10**6  # in nanoseconds
-READ, WRITE = 12, 15  # services
+MORE_FOLLOWS = 4  # a flag of an answer that comes in parts
 GRACE = 50 * MILLI  # clients look at their clock so often; what comes again sooner is a copy
 WINDOW = 60_000 * MILLI  # after that long nothing more is awaited
 
 
 class Answer(NamedTuple):
-    """An answer: when it came, what it is, and how it ends a request, as bactrace says it."""
+    """An answer: when it came, what it is, and how it ends a request, as bactrace says it; and its
+    parts, as far as they follow one another, where it came in parts."""
 
     nanos: int
     apdu: Apdu
     outcome: str
+    parts: List[Apdu]
+
+    @property
+    def whole(self) -> Optional[Apdu]:
+        """It, put together of its parts; nothing where some of them are missing."""
+        if self.apdu.part is None:
+            return self.apdu
+        is_whole = self.parts and not self.parts[-1].flags & MORE_FOLLOWS
+        if not is_whole or any(it.is_cut for it in self.parts):
+            return None
+        return self.apdu._replace(part=None, body=b"".join(it.body for it in self.parts))
+
+    def add(self, apdu: Apdu) -> None:
+        """Notes a part, unless it comes again, or another one is missing before it."""
+        if apdu.part == len(self.parts) % 256:
+            self.parts.append(apdu)
 
 
 @dataclass(eq=False)
@@ -70,22 +88,21 @@ class Talk:
     @property
     def has_failed(self) -> bool:
         """Whether it ended otherwise than with what was asked for, or too late."""
-        if not self.answers or self.late or self.outcome in ("bad-ack", "segmented"):
+        whole = self.answers[0].whole if self.answers else None
+        if not self.answers or self.late or (whole and outcome_of(whole) == "bad-ack"):
             return True
         wanted = {READ: (COMPLEX,), WRITE: (SIMPLE,)}.get(self.apdu.service, (SIMPLE, COMPLEX))
         return self.answers[0].apdu.kind not in wanted or bool(self.other())
 
     def other(self) -> What:
         """What the answer to a read is about, where that is not what was asked for."""
-        answer = self.answers[0].apdu.body if self.answers else b""
-        if not self.outcome.startswith("value ") or answer.startswith(self.apdu.body + b"\x3e"):
+        apdu = self.answers[0].whole if self.answers else None
+        if not apdu or (apdu.kind, apdu.service) != (COMPLEX, READ) or apdu.is_cut:
             return ()
-        asked, told = read_body(self.apdu.body), read_ack(answer)
-        if not asked or not told or asked.what == told.what:
+        if apdu.body.startswith(self.apdu.body + b"\x3e"):
             return ()
-        own = (DEVICE, told.what[1], *asked.what[2:])  # THIS_DEVICE is whichever is asked
-        is_own = asked.what[:2] == (DEVICE, THIS_DEVICE) and told.what == own
-        return () if is_own else told.what
+        asked, told = read_body(self.apdu.body), read_ack(apdu.body)
+        return () if not asked or not told or is_about(told.what, asked.what) else told.what
 
     def has_settled(self, now: int) -> bool:
         """Whether nothing more is awaited."""
@@ -94,20 +111,3 @@ class Talk:
 
 
 Entry = Union[Talk, Message]  # a message that is no part of a talk stands for itself
-
-
-def outcome_of(apdu: Apdu) -> str:
-    """How an answer ends a request, as bactrace says it."""
-    if apdu.kind == SIMPLE:
-        return "ok"
-    if apdu.kind in (REJECT, ABORT):
-        return f"{'reject' if apdu.kind == REJECT else 'abort'} {apdu.service}"
-    if apdu.kind == ERROR:
-        found: Optional[Tuple[int, int]] = error_body(apdu.body)
-        return f"error {found[0]} {found[1]}" if found else "bad-error"
-    if apdu.part is not None:
-        return "segmented"
-    if apdu.service not in (READ, WRITE):
-        return "answered"
-    body = read_ack(apdu.body)
-    return "bad-ack" if not body or body.value is None else "value " + region_text(body.value)

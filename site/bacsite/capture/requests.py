@@ -5,20 +5,20 @@ from __future__ import annotations
 import re
 from typing import Optional, Tuple
 
-from . import names
-from .bodies import Body, Element, bits_of, element_text, elements_of, read_body, write_body
-from .messages import CONFIRMED, Message
-from .talk import READ, WRITE
+from .. import names
+from ..answers import READ, WRITE
+from ..bodies import Body, Element, bits_of, element_text, elements_of, read_body, write_body
+from ..encode import WORD
+from ..messages import CONFIRMED, Message
 
 MOST_BODY, MOST_PROPERTY = 476, 4194303
 ROUTE = re.compile(r"[^/]+(/(?!65535/)[0-9]+/([0-9a-f]{2}){1,7})?")
-WORD = re.compile(rb"[!-\xff]+")  # what has no space in it
 
 
 def is_askable(message: Message) -> bool:
     """Whether it is a whole request to read or to write."""
     apdu = message.apdu
-    if not apdu or apdu.kind != CONFIRMED or apdu.part is not None:
+    if not apdu or apdu.kind != CONFIRMED or apdu.part is not None or apdu.is_cut:
         return False
     return apdu.service in (READ, WRITE)
 

@@ -3,21 +3,25 @@
 from __future__ import annotations
 
 from functools import lru_cache
-from typing import Dict, List, NamedTuple, Optional
+from typing import Dict, List, NamedTuple, Optional, Sequence
 
-from . import names
-from .bodies import Body, elements_of, parameters, read_ack, read_body, region_text, write_body
-from .messages import ABORT, SEGMENT, UNCONFIRMED, Apdu, Message
-from .names import MEANINGS, Form, What, form_of, numbered
-from .talk import GRACE, MILLI, READ, WRITE, Entry, Talk, outcome_of
-from .texts import stamp
-from .values import value_of
+from .. import names
+from ..answers import READ, WRITE, outcome_of
+from ..bodies import Body, elements_of, parameters, read_ack, read_body, write_body
+from ..messages import ABORT, COMPLEX, SEGMENT, UNCONFIRMED, Apdu, Message
+from ..names import MEANINGS, Form, What, form_of, numbered
+from ..texts import stamp
+from ..values import value_of
+from . import services
+from .services import Told
+from .talks import GRACE, MILLI, Entry, Talk
 
 SERVICES = numbered("Confirmed services")[0]
 UNCONFIRMED_SERVICES = numbered("Unconfirmed services")[0]
 CLASSES, CODES = numbered("Error classes")[0], numbered("Error codes")[0]
 REASONS = {"reject": numbered("Reject reasons")[0], "abort": numbered("Abort reasons")[0]}
 I_AM, WHO_IS = 0, 8
+MOST_LISTED = 16  # values of one request in a line
 
 
 def moment(nanos: int) -> str:
@@ -47,11 +51,13 @@ class Asked(NamedTuple):
 
     words: str
     body: Optional[Body] = None
-    value: str = ""
+    value: Optional[str] = None
 
 
 def asked(apdu: Apdu) -> Asked:
     """What a request asks for."""
+    if apdu.is_cut:
+        return Asked(f"service {named(apdu.service, SERVICES)}, cut by the capture")
     return _asked(apdu.service, apdu.body, apdu.part is None)
 
 
@@ -59,7 +65,7 @@ def asked(apdu: Apdu) -> Asked:
 def _asked(service: int, octets: bytes, is_whole: bool) -> Asked:
     told = "service " + named(service, SERVICES)
     if service not in (READ, WRITE) or not is_whole:
-        return Asked(told)
+        return Asked(_other_words(service, octets) or told if is_whole else told)
     body = read_body(octets) if service == READ else write_body(octets)
     if not body:
         return Asked(told + ", which can't be read")
@@ -81,16 +87,57 @@ def point(what: What) -> str:
 
 @lru_cache(4096)
 def shown(region: bytes, what: What) -> str:
-    """A property's value in plain form, by the types that its octets tell."""
-    text, elements = region_text(region), elements_of(region)
-    if elements is None:
-        return text
-    tags = tuple(it.kind for it in elements)
-    if len(set(tags)) == 1:
-        form = Form(tags[:1], len(tags) > 1, names=form_of(what).names)
-    else:
-        form = Form(tags, is_row=True)
-    return value_of(text, form).shown()
+    """A property's value in plain form, of whatever type it is."""
+    return value_of(region, Form(names=form_of(what).names)).shown()
+
+
+def _other_words(service: int, octets: bytes) -> str:
+    """What a request of another service asks for, where that is known here."""
+    if service == services.READ_MULTIPLE:
+        found = services.asked_for(octets)
+        return "read several: " + _listed([point(it) for it in found]) if found else ""
+    if service == services.SUBSCRIBE:
+        return _subscription(octets)
+    return _notice(octets) if service == services.NOTIFY else ""
+
+
+def _listed(texts: Sequence[str]) -> str:
+    """The first of some texts, and how many more there are."""
+    left = len(texts) - MOST_LISTED
+    return ", ".join(texts[:MOST_LISTED]) + (f", and {left} more" if left > 0 else "")
+
+
+def _subscription(octets: bytes) -> str:
+    found = services.subscription_of(octets)
+    if not found:
+        return ""
+    kind, instance = found.what
+    where = f"{names.TYPES.get(kind, str(kind))} {instance} ({kind} {instance})"
+    if found.confirmed is None:
+        return f"unsubscribe from {where}, process {found.process}"
+    how = "confirmed" if found.confirmed else "unconfirmed"
+    span = f"for {found.seconds} s" if found.seconds else "for ever"
+    return f"subscribe to {where} {span}, {how}, process {found.process}"
+
+
+def _notice(octets: bytes) -> str:
+    found = services.notice_of(octets)
+    if not found:
+        return ""
+    told = _listed([f"{point(it.what)} = {_told(it)}" for it in found.told])
+    return f"change at device {found.device}: {told}"
+
+
+def _told(told: Told) -> str:
+    """The value of a property, or why there is none."""
+    if told.value is not None:
+        return shown(told.value, told.what)
+    return _error(*told.error) if told.error else "bad-error"
+
+
+def _error(group: int, code: int) -> str:
+    known = CLASSES.get(group, str(group)), CODES.get(code, str(code))
+    return f"error {group} {code} ({', '.join(known)})"
 
 
 def ended(apdu: Apdu, body: Optional[Body]) -> str:
@@ -100,13 +147,25 @@ def ended(apdu: Apdu, body: Optional[Body]) -> str:
     ack = read_ack(apdu.body) if word == "value" else None
     if ack and ack.value is not None:
         return shown(ack.value, body.what if body else ack.what)
+    if (apdu.kind, apdu.service, apdu.is_cut) == (COMPLEX, services.READ_MULTIPLE, False):
+        found = services.told_by(apdu.body) if apdu.part is None else None
+        return _listed([_told(it) for it in found]) if found else outcome
     if word == "error":
-        group, code = (int(it) for it in numbers)
-        known = CLASSES.get(group, str(group)), CODES.get(code, str(code))
-        return f"{outcome} ({', '.join(known)})"
+        return _error(int(numbers[0]), int(numbers[1]))
     if word in REASONS:
         return f"{word} {named(int(numbers[0]), REASONS[word])}"
-    return outcome
+    return "answered, cut by the capture" if word == "cut" else outcome
+
+
+def _end(talk: Talk, body: Optional[Body]) -> str:
+    """How a talk ended."""
+    if not talk.answers:
+        return "no answer"
+    first = talk.answers[0]
+    if not first.whole:
+        return "answered in parts, of which some are missing"
+    told = ended(first.whole, body)
+    return told if first.apdu.part is None else f"{told}, in {times(len(first.parts), 'part')}"
 
 
 def remarks(talk: Talk, body: Optional[Body]) -> List[str]:
@@ -145,9 +204,10 @@ def line_of(entry: Entry) -> str:
         mark = "!" if entry.apdu and entry.apdu.is_answer else " "
         ends = f"{entry.sender} > {entry.receiver}"
         return f"{mark} {moment(entry.nanos)}  {ends}  {message_words(entry)}"
-    what, end = asked(entry.apdu), "no answer"
+    what = asked(entry.apdu)
+    end = _end(entry, what.body)
     if entry.answers:
-        end = f"{ended(entry.answers[0].apdu, what.body)}  {millis(entry.took or 0)} ms"
+        end += f"  {millis(entry.took or 0)} ms"
     head = f"{_mark(entry)} {moment(entry.nanos)}  {entry.client} > {entry.device}"
     said = "  ".join([end, *remarks(entry, what.body)])
     return f"{head}  #{entry.apdu.invoke} {what.words}: {said}"
@@ -159,7 +219,7 @@ def message_words(message: Message) -> str:
     if not apdu:
         return message.words
     if apdu.kind == UNCONFIRMED:
-        readers = {I_AM: _i_am, WHO_IS: _who_is}
+        readers = {I_AM: _i_am, WHO_IS: _who_is, services.UNCONFIRMED_NOTIFY: _notice}
         words = readers[apdu.service](apdu.body) if apdu.service in readers else ""
         return words or "unconfirmed service " + named(apdu.service, UNCONFIRMED_SERVICES)
     if apdu.is_answer:
@@ -177,7 +237,7 @@ def _i_am(octets: bytes) -> str:
         names.UNSIGNED,
     ]:
         return ""
-    device, most, number, vendor = (int.from_bytes(it.octets, "big") for it in found)
+    device, most, number, vendor = (it.number for it in found)
     if device >> 22 != names.DEVICE:
         return ""
     parts = MEANINGS["segmentation-supported"].get(number, str(number))
@@ -202,7 +262,7 @@ def json_of(entry: Entry) -> Dict[str, object]:
         ends = {"client": entry.sender, "device": entry.receiver}
         return {"kind": "other", "time": moment(entry.nanos), **ends, "what": message_words(entry)}
     what = asked(entry.apdu)
-    body, first = what.body, entry.answers[0].apdu if entry.answers else None
+    body = what.body
     return {
         "kind": "talk",
         "time": moment(entry.nanos),
@@ -212,10 +272,10 @@ def json_of(entry: Entry) -> Dict[str, object]:
         "service": entry.apdu.service,
         "what": what.words,
         "object": list(body.what) if body else None,
-        "written": what.value or None,
+        "written": what.value,
         "priority": body.priority if body else None,
         "outcome": entry.outcome or "no answer",
-        "shown": ended(first, body) if first else "no answer",
+        "shown": _end(entry, body),
         "failed": entry.has_failed,
         "ms": None if entry.took is None else entry.took / MILLI,
         "remarks": remarks(entry, body),
