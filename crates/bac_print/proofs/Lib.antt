@@ -1,4 +1,5 @@
 pub mod Known
+pub mod Folding
 pub mod Printed
 pub mod NumberLengths
 pub mod ValueTexts

@@ -1,21 +1,44 @@
 -- What is shown on a page of its own.
-use Rattle.std.proofs.Common.{◌≡◌, ℕ, false, List, [], Option, Result, Ok, Err, subst, arith}
+use Rattle.std.proofs.Common.{◌≡◌, ℕ, false, List, [], Option, Some, None, Result, Ok, Err, ap, subst, arith}
 use Rattle.std.{proofs.lemmas.List.append-nil, specs.Prelude.is_err}
 use Rattle.bac_print.{proofs.Printed.writes_more, specs.declared.{checked.Checked.Checked, page.Page.Page}}
-use Rattle.bac_print.specs.{Page.{held, writer_of, Writes, Wrote, Prints}, Checked.{has_failed, Took, TookOrFailed}}
+use Rattle.bac_print.specs.Page.{folded, held, laid_out, room_of, writer_of, Writes, Wrote, Prints}
+use Rattle.bac_print.specs.Checked.{has_failed, Took, TookOrFailed}
 
 module _ {W : Type 0} {contents : W → Option (List ℕ)} where
-  -- What was printed on an empty page that was finished was written, as far as the writer didn't fail.
-  pub finished : {writer after : Checked W} {first last : Page W} {text : List ℕ} → writer_of first ≡ writer
+  -- What was printed on an empty page that was finished was written, as it was laid out there, as far as the writer
+  -- didn't fail.
+  finished_as : {writer after : Checked W} {first last : Page W} {text : List ℕ} → writer_of first ≡ writer
       → held first ≡ [] →
       Prints contents first last text → Writes contents (writer_of last) after (held last) [] []
-      → Writes contents writer after [] [] text
+      → Writes contents writer after [] [] (laid_out (room_of first) text)
   unfolding Wrote
-  finished {writer} {after} {first} {last} {text} same empty printed gone =
-      subst (λ (before : Checked W). Writes contents before after [] [] text) same
-      (subst (λ (xs : List ℕ). Writes contents (writer_of first) after xs [] text) empty
+  finished_as {writer} {after} {first} {last} {text} same empty printed gone =
+      let said = laid_out (room_of first) text in
+      subst (λ (before : Checked W). Writes contents before after [] [] said) same
+      (subst (λ (xs : List ℕ). Writes contents (writer_of first) after xs [] said) empty
       (subst (λ (xs : List ℕ). Writes contents (writer_of first) after (held first) [] xs) (append-nil _)
-      (writes_more printed.wrote gone)))
+      (writes_more printed.wrote.writes gone)))
+
+  -- The text itself, where the page's lines are not folded.
+  pub finished : {writer after : Checked W} {first last : Page W} {text : List ℕ} → writer_of first ≡ writer
+      → held first ≡ [] → room_of first ≡ None →
+      Prints contents first last text → Writes contents (writer_of last) after (held last) [] []
+      → Writes contents writer after [] [] text
+  unfolding laid_out
+  finished {writer} {after} {text = text} same empty whole printed gone =
+      subst (λ (xs : List ℕ). Writes contents writer after [] [] xs)
+      (ap (λ (room : Option ℕ). laid_out room text) whole) (finished_as same empty printed gone)
+
+  -- The folded text, where they are.
+  pub folded_out : {writer after : Checked W} {first last : Page W} {text : List ℕ} {left : ℕ}
+      → writer_of first ≡ writer → held first ≡ [] → room_of first ≡ Some left →
+      Prints contents first last text → Writes contents (writer_of last) after (held last) [] []
+      → Writes contents writer after [] [] (folded left text)
+  unfolding laid_out
+  folded_out {writer} {after} {text = text} same empty folds printed gone =
+      subst (λ (xs : List ℕ). Writes contents writer after [] [] xs)
+      (ap (λ (room : Option ℕ). laid_out room text) folds) (finished_as same empty printed gone)
 
   -- All of it, where the writer didn't fail.
   pub all_written : {before after : Checked W} {text : List ℕ} → Writes contents before after [] [] text
@@ -33,7 +56,7 @@ module _ {W : Type 0} {contents : W → Option (List ℕ)} where
   -- The same of a writer that was lent to a page, and is back.
   pub shown : {A E : Type 0} {writer after : Checked W} {first last : Page W} {text : List ℕ} {back : Checked W}
       (answer : Result A E) → after ≡ back →
-      writer_of first ≡ writer → held first ≡ [] → Prints contents first last text
+      writer_of first ≡ writer → held first ≡ [] → room_of first ≡ None → Prints contents first last text
       → Writes contents (writer_of last) after (held last) [] [] →
       has_failed after ≡ is_err answer → TookOrFailed contents writer back text answer
-  shown {writer} {text} answer given same empty printed gone failed = grind (arith, put, finished)
+  shown {writer} {text} answer given same empty whole printed gone failed = grind (arith, put, finished)

@@ -1,4 +1,5 @@
 -- What only private clauses say. No promise of this crate rests on it.
 pub mod Checked
 pub mod Values
+pub mod Page
 pub mod Examples

@@ -4,7 +4,8 @@ ghost use Rattle.std.specs.Prelude.{◌≡◌, [], ◌∷◌, codes, replicate};
 ghost use Rattle.bac_print.specs.{Checked.{TookOrFailed, fresh}, Page.Writes};
 ghost use Rattle.bac_print.specs.Inner.Examples.{unknown, written, failed};
 ghost use Rattle.bac_print.{
-  specs.{Inner.Examples.{PrintsAs, device, far_device}, PeerTexts.peer_text, Values.region_text},
+  specs.{Inner.Examples.{PrintsAs, device, far_device}, Page.{folded, left_after}},
+  specs.{PeerTexts.peer_text, Values.region_text},
 };
 
 // A value of each kind (ANSI/ASHRAE 135, 20.2), and the text of its octets.
@@ -53,4 +54,16 @@ fn examples_of_writers()
     ensures took_front { TookOrFailed unknown (fresh 0) (fresh 0) (1 ∷ []) failed }
     ensures held { Writes unknown (fresh 0) (fresh 0) (1 ∷ []) (1 ∷ 2 ∷ []) (2 ∷ []) }
     ensures dropped { Writes unknown (fresh 0) (fresh 0) (1 ∷ []) [] (2 ∷ []) → ⊥ }
+{}
+
+// A text of just the room in its line, one of an octet more, and one with a line feed at the edge. The room is known
+// behind them.
+#[tactic(none)]
+fn examples_of_folding()
+    ensures just { folded 3 (codes "abc") ≡ codes "abc" }
+    ensures one_more { folded 3 (codes "abcd") ≡ codes "abc\n#+d" }
+    ensures feed { folded 3 (codes "abc\nd") ≡ codes "abc\nd" }
+    ensures none_left { left_after 3 (codes "abc") ≡ 0 }
+    ensures new_line { left_after 3 (codes "abcd") ≡ 4_093 }
+    ensures whole_line { left_after 3 (codes "abc\n") ≡ 4_096 }
 {}

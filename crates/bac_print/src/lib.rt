@@ -1,6 +1,7 @@
 //! Text that is printed: numbers, octets, peers, values, and how a request ended. What is read is in `bac_text`.
 //!
 //! [`Checked`] is a reader or a writer that remembers whether it failed, and [`Page`] gathers text for a writer.
+//! [`Page::folding`] makes a page whose long lines go on in lines that begin with `#+`.
 //! [`show_value`] prints values, and [`show_outcome`] how a request ended, each on a page of its own; the methods of
 //! [`Page`] and [`print_outcome`] print on a page that one has. `specs/Values.antt` says what is printed of a value.
 //!

@@ -1,8 +1,10 @@
 //! Text on its way to a writer.
-ghost use Rattle.std.specs.Prelude.{◌≡◌, ◌+◌, ◌≤◌, [], ◌++◌, drop, length, decimal, is_err, false};
+ghost use Rattle.std.specs.Prelude.{◌≡◌, ◌+◌, ◌≤◌, ◌==◌, [], ◌++◌, drop, length, position, decimal, is_err, false};
+ghost use Rattle.std.specs.Prelude.{Some, None};
 ghost use Rattle.hex.specs.Hex.{encode_lower};
 ghost use Rattle.bac_print.{
-  specs.{Checked.{has_failed, TookOrFailed}, Inner.Checked.HasNotRead, Page.{held, writer_of, Writes, Prints}},
+  specs.{Checked.{has_failed, TookOrFailed}, Inner.{Checked.HasNotRead, Page.Holds}},
+  specs.Page.{folded, folded_line, folded_octet, held, left_after, left_behind, room_of, writer_of, Writes, Prints},
 };
 
 use crate::checked::{Checked, WriteFailed};
@@ -15,6 +17,9 @@ const PAGE_ROOM: usize = 16_384;
 // The octets that are turned into hexadecimal at a time.
 const HEX_PART: usize = 32;
 
+// The most octets of a folded line, without its line feed: as many as a line of a script has.
+const FOLDED_LINE: usize = 4_096;
+
 // The digits of the longest number.
 const LONGEST_NUMBER: usize = 20;
 
@@ -24,6 +29,8 @@ const LONGEST_NUMBER: usize = 20;
 pub struct Page<'w, W> {
     writer: &'w mut Checked<W>,
     held: ArrayVec<u8, PAGE_ROOM>,
+    // How many octets the line that was begun has room for, where lines are folded.
+    room: Option<usize>,
 }
 
 impl<'w, W: Write> Page<'w, W> {
@@ -32,10 +39,26 @@ impl<'w, W: Write> Page<'w, W> {
         ensures same { result.writer.ghost_name ≡ writer.entry.ghost_name }
         ensures writer { writer_of result ≡ writer.old }
         ensures empty { held result ≡ [] }
+        ensures unfolded { room_of result ≡ None }
     {
         Page {
             writer,
             held: ArrayVec::new(),
+            room: None,
+        }
+    }
+
+    /// The same, but its lines are folded: what is past 4,096 octets of a line goes on in lines that begin with `#+`.
+    pub fn folding(writer: &'w mut Checked<W>) -> Self
+        ensures same { result.writer.ghost_name ≡ writer.entry.ghost_name }
+        ensures writer { writer_of result ≡ writer.old }
+        ensures empty { held result ≡ [] }
+        ensures folds { room_of result ≡ Some folded_line }
+    {
+        Page {
+            writer,
+            held: ArrayVec::new(),
+            room: Some(FOLDED_LINE),
         }
     }
 
@@ -47,7 +70,7 @@ impl<'w, W: Write> Page<'w, W> {
     }
 
     /// Hands the writer what the page holds.
-    #[tactic(auto, unfolding(crate::specs::Page::Wrote))]
+    #[tactic(auto, unfolding(crate::specs::Page::Wrote, crate::specs::Page::laid_out, crate::specs::Page::room_after))]
     pub fn turn_in(&mut self)
         ensures printed { Prints W.contents self.old self.new [] }
         ensures empty { held self.new ≡ [] }
@@ -65,7 +88,11 @@ impl<'w, W: Write> Page<'w, W> {
         ensures printed { Writes W.contents (writer_of self.entry) self.exit.0.now (held self.entry) [] [] }
         ensures failed { has_failed self.exit.0.now ≡ is_err result }
     {
-        let Page { writer, held } = self;
+        let Page {
+            writer,
+            held,
+            room: _,
+        } = self;
         write_on(writer, held.as_slice());
         if writer.failed() {
             return Err(WriteFailed);
@@ -75,30 +102,78 @@ impl<'w, W: Write> Page<'w, W> {
 
     /// Prints the text.
     #[inline(always)]
-    #[tactic(auto, unfolding(crate::specs::Page::Wrote))]
     pub fn print(&mut self, text: &[u8])
         ensures { Prints W.contents self.old self.new text.now }
     {
-        if self.held.try_extend_from_slice(text).is_err() {
-            self.print_past(text);
+        match self.room {
+            None => self.hold(text),
+            Some(left) => self.room = Some(self.fold(text, left)),
         }
     }
 
-    // Prints a text for which there is no room on the page.
+    // Puts a text on the page, folded, where its first line has room for so many octets; and tells the room behind it.
+    fn fold(&mut self, text: &[u8], room: usize) -> usize
+        ensures text { Holds W.contents self.old self.new (folded room text.now) }
+        ensures left { result ≡ left_after room text.now }
+    {
+        let end = feed_position(text).unwrap_or(text.len());
+        let (front, rest) = text.split_at(end.min(room));
+        self.hold(front);
+        self.fold_octets(rest, room - front.len())
+    }
+
+    // The same, octet by octet.
+    fn fold_octets(&mut self, octets: &[u8], room: usize) -> usize
+        ensures text { Holds W.contents self.old self.new (folded room octets.now) }
+        ensures left { result ≡ left_after room octets.now }
+    {
+        let mut left = room;
+        for octet in octets {
+            left = self.fold_octet(*octet, left);
+        }
+        left
+    }
+
+    // The same of one octet.
+    fn fold_octet(&mut self, octet: u8, room: usize) -> usize
+        ensures text { Holds W.contents self.old self.new (folded_octet room octet) }
+        ensures left { result ≡ left_behind room octet }
+    {
+        if octet == b'\n' {
+            self.hold(b"\n");
+            return FOLDED_LINE;
+        }
+        if room == 0 {
+            self.hold(&[b'\n', b'#', b'+', octet]);
+            return FOLDED_LINE - 3;
+        }
+        self.hold(&[octet]);
+        room - 1
+    }
+
+    // Puts a text on the page as it is.
+    #[inline(always)]
+    fn hold(&mut self, text: &[u8])
+        ensures { Holds W.contents self.old self.new text.now }
+    {
+        if self.held.try_extend_from_slice(text).is_err() {
+            self.hold_past(text);
+        }
+    }
+
+    // Puts a text on a page that has no room for it.
     #[cold]
-    #[tactic(auto, using(crate::proofs::Printed::printing))]
-    fn print_past(&mut self, text: &[u8])
-        ensures { Prints W.contents self.old self.new text.now }
+    fn hold_past(&mut self, text: &[u8])
+        ensures { Holds W.contents self.old self.new text.now }
     {
         self.turn_in();
         self.hold_or_write(text);
     }
 
     // Holds the text on an empty page, or writes it where no page has room for it.
-    #[tactic(auto, unfolding(crate::specs::Page::Wrote))]
     fn hold_or_write(&mut self, text: &[u8])
         requires { held self.old ≡ [] }
-        ensures { Prints W.contents self.old self.new text.now }
+        ensures { Holds W.contents self.old self.new text.now }
     {
         if self.held.try_extend_from_slice(text).is_err() {
             write_on(self.writer, text);
@@ -139,6 +214,13 @@ impl<W: Write> Page<'_, W> {
         hex::encode_to_slice(octets, digits).unwrap();
         self.print(digits);
     }
+}
+
+// Where the first line feed stands.
+fn feed_position(text: &[u8]) -> Option<usize>
+    ensures { result ≡ position (λ octet. octet == 10) text.now }
+{
+    text.iter().position(|octet| *octet == b'\n')
 }
 
 /// Writes the decimal digits of a number before a position of the room, and says where they begin.

@@ -1,6 +1,6 @@
 -- Acts one after another.
 use Rattle.std.specs.List.{AllByRecursion, flat_map}
-use Rattle.std.{proofs.{Common.{◌≡◌, ℕ, List, [], ◌∷◌, ◌++◌, Option, Result, Ok, Err, refl, subst, sym, ap, append_assoc, arith, None, Some, unwrap_or, ◌<◌, ◌+◌, length, nat_lt, true, take, drop, get_or}}, proofs.lemmas.{Bool.Decides.nat_tests, List.{append-nil, take_more, take-append-drop, Concat.flat_map-append}}}
+use Rattle.std.{proofs.{Common.{◌≡◌, ℕ, List, [], ◌∷◌, ◌++◌, Option, Result, Ok, Err, refl, subst, sym, ap, append_assoc, arith, None, Some, unwrap_or, ◌<◌, ◌+◌, ◌^◌, length, nat_lt, true, take, drop, get_or}}, proofs.lemmas.{Bool.Decides.nat_tests, List.{append-nil, take_more, take-append-drop, Concat.flat_map-append}}}
 use Rattle.bac_pdu.specs.{Apdu.longest_body, Peer.Station}
 use Rattle.bac_tsm.{
   specs.{declared.{client.SubmitFault.TheVariants.TooLong, due.DueEntry.DueEntry}, Lookahead.refusal_of},
@@ -14,7 +14,7 @@ use Rattle.bac_run.specs.declared.fault.RunFault.{RunFault, TheVariants.{Script,
 use Rattle.bac_script.specs.declared.tracing.TraceFault.{TraceFault}
 use Rattle.bac_run.specs.{Fault.send_failed, Input.{inputs_in, input_in}}
 use Rattle.bac_run.specs.{
-  Journal.{Act, Turn, remark, Asked, Paused, Came, Passed, Told, Untold, whole_line, arrival_line, time_line, client_after, journal, history_of, turn_at, at_event, remarks, posts, line_of, asked_by},
+  Journal.{Act, FitsLine, Turn, remark, Asked, Paused, Came, Passed, Told, Untold, whole_line, arrival_line, time_line, client_after, journal, history_of, turn_at, at_event, remarks, posts, line_of, asked_by},
   Went.{IsGained, GainsDue, IsWithin, Went, WentFor, Opened, open_in},
 }
 
@@ -184,6 +184,11 @@ pub tick_none : (client : Client) (time : ℕ) → length client.state.waiting �
     → length (tick (rules_of client) client.state time).after.waiting ≡ 0
 tick_none client time none = none_kept _ client.state.waiting none
 
+fit_append : (xs ys : List Act) → AllByRecursion FitsLine xs → AllByRecursion FitsLine ys
+    → AllByRecursion FitsLine (xs ++ ys)
+fit_append [] ys here later = later
+fit_append (x ∷ xs) ys (first, here) later = (first, fit_append xs ys here later)
+
 module _ {Origin W : Type 0} {contents : W → Option (List ℕ)} where
   -- Some acts, and then more.
   pub went_more : {A B : Type 0} {x : A} {result : Result B RunFault} {c d e : Client} {p q r : Page W}
@@ -199,11 +204,12 @@ module _ {Origin W : Type 0} {contents : W → Option (List ℕ)} where
         client_is = grind (arith, moved, first.client_is, second.client_is);
         prints = printed_as (first.prints ⨾ second.prints) (grind (arith, printed, first.client_is));
         asks = grind (arith, asked, first.client_is, due_more first.asks second.asks);
+        fit = fit_append first.acts second.acts first.fit second.fit;
       }
 
   -- Nothing was done yet.
   pub went_nothing : (c : Client) (p : Page W) (s : Account Origin) → Went contents c c p p s s done []
-  went_nothing c p s = record { acts = []; of_input = refl; client_is = refl; prints = prints_nothing p; asks = due_nothing s }
+  went_nothing c p s = record { acts = []; of_input = refl; client_is = refl; prints = prints_nothing p; asks = due_nothing s; fit = tt }
 
   -- The page was turned in.
   pub went_turned : {A : Type 0} {result : Result A RunFault} {c d : Client} {p q r : Page W} {s t : Account Origin}
@@ -215,26 +221,28 @@ module _ {Origin W : Type 0} {contents : W → Option (List ℕ)} where
     client_is = then.client_is;
     prints = first ⨾ then.prints;
     asks = then.asks;
+    fit = then.fit;
   }
 
   -- One act.
   pub went_one : {A : Type 0} {result : Result A RunFault} {c d : Client} {p q : Page W} {s t : Account Origin}
-      (act : Act) → d ≡ (turn_at c act).after
+      (act : Act) → FitsLine act → d ≡ (turn_at c act).after
       → Prints contents p q (line_of act ++ remarks (turn_at c act).notes)
       → GainsDue result (asked_by act ++ posts (turn_at c act).notes) s t → Went contents c d p q s t result (input_in act)
-  went_one act moved printed asked = record {
+  went_one act fits moved printed asked = record {
     acts = act ∷ [];
     of_input = append-nil _;
     client_is = moved;
     prints = printed_as printed (sym (append-nil _));
     asks = grind (arith, append-nil, asked);
+    fit = (fits, tt);
   }
 
   -- A wait in which nothing came that is handed on.
   pub went_passed : (c : Client) (p : Page W) {s t : Account Origin} (wait : ℕ) (heard : Heard)
       → Gains (Waited wait heard) s t → Went contents c c p p s t done []
   went_passed c p wait heard gains =
-      went_one (Passed wait heard) refl (prints_nothing p)
+      went_one (Passed wait heard) tt refl (prints_nothing p)
       (record { gained = Waited wait heard ∷ []; gains = gains; as_due = refl })
 
   -- A wait that failed.
@@ -246,24 +254,26 @@ module _ {Origin W : Type 0} {contents : W → Option (List ℕ)} where
     client_is = refl;
     prints = prints_nothing p;
     asks = record { gained = Waited wait Failure ∷ []; gains = gains; as_due = (wait, refl) };
+    fit = tt;
   }
 
   -- The time was that which the client was told.
   pub went_untold : (c : Client) (p : Page W) {s t : Account Origin} (time : ℕ) → Gains (Timed time) s t
       → Went contents c c p p s t done []
   went_untold c p time gains =
-      went_one (Untold time) refl (prints_nothing p)
+      went_one (Untold time) tt refl (prints_nothing p)
       (record { gained = Timed time ∷ []; gains = gains; as_due = refl })
 
   -- A datagram was handed on.
   pub went_came : {c d : Client} {p q r : Page W} {s t : Account Origin} (wait : ℕ) (from : Station) (octets : List ℕ)
-      (answer : Option (ℕ × Outcome)) → answer ≡ (datagram (rules_of c) c.state from octets).answer
+      (answer : Option (ℕ × Outcome)) → FitsLine (Came wait from octets)
+      → answer ≡ (datagram (rules_of c) c.state from octets).answer
       → d ≡ keeping c (datagram (rules_of c) c.state from octets).after
       → Prints contents p q (arrival_line from octets) → Prints contents q r (remarks (datagram_notes answer))
       → Gains (Waited wait (Arrived from octets)) s t → Went contents c d p r s t done []
-  went_came {c} wait from octets answer is left line notes gains =
+  went_came {c} wait from octets answer fits is left line notes gains =
       let none = posts-answer answer in
-      went_one (Came wait from octets) left
+      went_one (Came wait from octets) fits left
       (printed_as (line ⨾ notes) (ap (λ (a : Option (ℕ × Outcome)). arrival_line from octets ++ remarks (datagram_notes a)) is))
       (record {
         gained = Waited wait (Arrived from octets) ∷ [];
@@ -273,14 +283,14 @@ module _ {Origin W : Type 0} {contents : W → Option (List ℕ)} where
 
   -- The time was told.
   pub went_told : {A : Type 0} {result : Result A RunFault} {c d : Client} {p q r : Page W} {s t u : Account Origin}
-      (time : ℕ) (due : List DueEntry) → due ≡ (tick (rules_of c) c.state time).answer
+      (time : ℕ) (due : List DueEntry) → time < 2 ^ 64 → due ≡ (tick (rules_of c) c.state time).answer
       → d ≡ keeping c (tick (rules_of c) c.state time).after → Prints contents p q (time_line time)
       → Prints contents q r (remarks (flat_map (due_notes d.state) due)) → Gains (Timed time) s t
       → GainsDue result (posts (flat_map (due_notes d.state) due)) t u → Went contents c d p r s u result []
-  went_told {result} {c} {d} {s} {t} time due is left line notes gains sends =
+  went_told {result} {c} {d} {s} {t} time due fits is left line notes gains sends =
       let same : flat_map (due_notes d.state) due ≡ (turn_at c (Told time)).notes = grind (arith, is, left) in
       let first : GainsDue done (Timed time ∷ []) s t = record { gained = Timed time ∷ []; gains = gains; as_due = refl } in
-      went_one (Told time) left
+      went_one (Told time) fits left
       (printed_as (line ⨾ notes) (ap (λ (ns : List Note). time_line time ++ remarks ns) same))
       (rw (sym same) (due_more first sends))
 
@@ -290,7 +300,7 @@ module _ {Origin W : Type 0} {contents : W → Option (List ℕ)} where
       → Opened contents c d q r s t result event
       → Went contents c d p r s t result (Asked line event ∷ [])
   went_asked line event printed opened =
-      went_one (Asked line event) opened.client_is (printed ⨾ opened.prints) opened.asks
+      went_one (Asked line event) tt opened.client_is (printed ⨾ opened.prints) opened.asks
 
   -- A fault of one part is that of the whole.
   pub went_err : {A : Type 0} (B : Type 0) {c d : Client} {p q : Page W} {s t : Account Origin} {xs : List Act}
@@ -305,6 +315,7 @@ module _ {Origin W : Type 0} {contents : W → Option (List ℕ)} where
       gains = went.asks.gains;
       as_due = gained_err A B fault _ _ went.asks.as_due;
     };
+    fit = went.fit;
   }
 
   -- All was done, whatever it answers.
@@ -316,13 +327,14 @@ module _ {Origin W : Type 0} {contents : W → Option (List ℕ)} where
     client_is = went.client_is;
     prints = went.prints;
     asks = record { gained = went.asks.gained; gains = went.asks.gains; as_due = went.asks.as_due };
+    fit = went.fit;
   }
 
   -- A line stops the run, and nothing was done.
   pub went_stopped : (A : Type 0) (c : Client) (p : Page W) (s : Account Origin) (fault : TraceFault)
       → Went contents c c p p s s (failed A (Script fault)) []
   went_stopped A c p s fault =
-      record { acts = []; of_input = refl; client_is = refl; prints = prints_nothing p; asks = due_stopped A fault s }
+      record { acts = []; of_input = refl; client_is = refl; prints = prints_nothing p; asks = due_stopped A fault s; fit = tt }
 
   -- A request that is too long was refused.
   pub went_refused : (c : Client) {p q r : Page W} (s : Account Origin) (line : List ℕ) (peer : Station) (body : List ℕ)

@@ -4,3 +4,6 @@ pub mod Sends
 pub mod Replays
 pub mod ReadBack
 pub mod Lines
+pub mod Plain
+pub mod Folded
+pub mod Readable

@@ -1,19 +1,17 @@
--- What is read of the lines of requests, and of remarks.
+-- What is read of the lines of requests.
 use Rattle.std.proofs.{
-  Common.{◌≡◌, ◌≢◌, ℕ, ◌+◌, ◌<◌, ◌≤◌, ◌^◌, Bool, true, false, List, [], ◌∷◌, ◌++◌, length, Some, Result, Ok, Err, refl, sym, ◌∙◌, ap},
-  Common.{append_assoc, arith, length-append, ◌⊎◌, inl, inr, nat_lt, lit<},
-  lemmas.{Bool.{cases_Bool, Decides.nat_tests}, Grind.common_steps, Fmt.length-decimal-le},
+  Common.{◌≡◌, ◌≢◌, ℕ, ◌≤◌, ◌==◌, ◌&&◌, nat_lt, true, false, List, [], ◌∷◌, ◌++◌, length, Result, Ok, refl, sym, ◌∙◌},
+  Common.{ap, append_assoc, arith, length-append, ◌⊎◌, inl, inr},
+  lemmas.{Bool.{cases_Bool, false≢true, Decides.nat_tests}, Grind.common_steps},
 }
-use Rattle.std.specs.{Prelude.{codes, decimal}, List.{AllByRecursion}, Str.Lines.strip_carriage_return}
-use Rattle.bac_text.specs.{Limits.longest_line, Words.words_of}
-use Rattle.bac_tsm.specs.Events.{Note, Dropped, TimedOut, Refused}
-use Rattle.bac_tsm.specs.declared.client.SubmitFault.{SubmitFault, TheVariants.{TooLong, TableFull, TicketsSpent}}
-use Rattle.bac_script.specs.{Line.{Said, Nothing, said, said_by, said_in, text_of_line}, Text.note_text}
+use Rattle.std.specs.Str.Lines.{strip_carriage_return}
+use Rattle.bac_text.specs.Limits.{longest_line}
+use Rattle.bac_script.specs.Line.{Said, Nothing, said, said_in, text_of_line}
 use Rattle.bac_script.specs.declared.line.LineFault.{LineFault}
 use Rattle.bac_script.proofs.Pieces.{ends_with_feed-none, ends_with_feed-push}
-use Rattle.bac_run.specs.{Input.{EndsWithFeed, HasNoFeed}, Journal.{ends_with_return, whole_line}}
-use Rattle.bac_run.specs.Replay.{IsLineOf, IsPassedOver, IsShown}
-use Rattle.bac_run.proofs.ReadBack.{decimal_visible, first_word, line_so, shown, shown_on, visible_so}
+use Rattle.bac_run.specs.{Input.{EndsWithFeed, HasNoFeed, said_of}, Journal.{ends_with_return, whole_line}}
+use Rattle.bac_run.specs.Replay.{IsLineOf}
+use Rattle.bac_run.proofs.ReadBack.{line_so}
 
 -- ---- the line of a request
 
@@ -24,7 +22,7 @@ no_feed_push (x ∷ xs) (first, later) = (first, no_feed_push xs later)
 stripped_push : (line : List ℕ) → strip_carriage_return (line ++ 13 ∷ []) ≡ line
 stripped_push line = grind (arith, common_steps)
 
-text_ended : (text : List ℕ) → length text ≤ longest_line
+pub text_ended : (text : List ℕ) → length text ≤ longest_line
     → text_of_line (text ++ 10 ∷ []) ≡ Ok (strip_carriage_return text)
 text_ended text short =
     let ended = ends_with_feed-push text in grind (arith, common_steps, nat_tests, ended, length-append)
@@ -47,10 +45,21 @@ says_same : (line text : List ℕ) (what : Said) → HasNoFeed line → length l
 says_same line text what none short is says =
     ap (λ (r : Result (List ℕ) LineFault). said_in false r) (is ∙ sym (text_open line none short)) ∙ says
 
--- The line, with a line feed where it lacks one, is read as it was.
-pub line_read_back : (line : List ℕ) (what : Said) → EndsWithFeed line ⊎ HasNoFeed line → said false line ≡ Ok what
-    → (ends_with_return line ≡ true → length line < longest_line) → IsLineOf false (whole_line line) what
-line_read_back line what (inl (text, none, is)) says room =
+same_so : (n m : ℕ) → n ≡ m → (n == m) ≡ true
+same_so n m same = grind (arith, nat_tests, same)
+
+-- A line that says something is not too long.
+not_long : (line : List ℕ) (what : Said) → said_of line ≡ Ok what
+    → (said false line ≡ Ok what) × (ends_with_return line ≡ true → (length line == longest_line) ≡ false)
+not_long line what is =
+    elim (cases_Bool (length line == longest_line && ends_with_return line)) [
+      | inl long ↦ absurd (let bad = rw long at is in cc)
+      | inr short ↦ (rw short at is, λ returned. grind (arith, nat_tests, short, returned))
+    ]
+
+read_back : (line : List ℕ) (what : Said) → EndsWithFeed line ⊎ HasNoFeed line → said false line ≡ Ok what
+    → (ends_with_return line ≡ true → (length line == longest_line) ≡ false) → IsLineOf false (whole_line line) what
+read_back line what (inl (text, none, is)) says room =
     let same : whole_line line ≡ line = rw (is, ends_with_feed-push text) refl in
     record {
       text = text;
@@ -58,7 +67,7 @@ line_read_back line what (inl (text, none, is)) says room =
       ended = same ∙ is;
       says = ap (λ (l : List ℕ). said false l) same ∙ says;
     }
-line_read_back line what (inr none) says room =
+read_back line what (inr none) says room =
     let unfed = ends_with_feed-none line none in
     let short = short_so line what none says in
     elim (cases_Bool (ends_with_return line)) [
@@ -66,7 +75,10 @@ line_read_back line what (inr none) says room =
           let same : whole_line line ≡ (line ++ 13 ∷ []) ++ 10 ∷ [] =
           rw (unfed, returned) (sym (append_assoc line (13 ∷ []) (10 ∷ []))) in
           let within = room returned in
-          let fits : length (line ++ 13 ∷ []) ≤ longest_line = omega (arith, length-append line (13 ∷ []), within) in
+          let other : length line ≢ longest_line =
+          λ same. absurd (false≢true (sym within ∙ same_so (length line) longest_line same)) in
+          let fits : length (line ++ 13 ∷ []) ≤ longest_line =
+          omega (arith, length-append line (13 ∷ []), other, short) in
           record {
             text = line ++ 13 ∷ [];
             no_feed = no_feed_push line none;
@@ -87,43 +99,11 @@ line_read_back line what (inr none) says room =
           }
     ]
 
+-- The line, with a line feed where it lacks one, is read as it was.
+pub line_read_back : (line : List ℕ) (what : Said) → EndsWithFeed line ⊎ HasNoFeed line → said_of line ≡ Ok what
+    → IsLineOf false (whole_line line) what
+line_read_back line what cut is =
+    let (says, room) = not_long line what is in read_back line what cut says room
+
 pub empty_read_back : IsLineOf false (10 ∷ []) Nothing
 empty_read_back = line_so false [] Nothing tt (omega arith) refl
-
--- ---- remarks
-
-remark_says : (text : List ℕ) (others : List (List ℕ)) → words_of text ≡ (35 ∷ []) ∷ others
-    → said_by false (words_of text) ≡ Some Nothing
-remark_says text others words = rw words refl
-
--- A text in ASCII behind # and a space is read as nothing, where the line is not too long.
-pub remark_so : (text : List ℕ) → IsShown text → length text ≤ 4094
-    → IsLineOf false ((35 ∷ 32 ∷ text) ++ 10 ∷ []) Nothing
-remark_so text is short =
-    line_so false (35 ∷ 32 ∷ text) Nothing ((omega arith, omega arith), ((omega arith, omega arith), is))
-    (omega (arith, short))
-    (remark_says (35 ∷ 32 ∷ text) (words_of text) (first_word (35 ∷ []) text ((omega arith, omega arith), tt) (lit< tt)))
-
-pub note_passed : (note : Note) (text : List ℕ) → note_text note ≡ text ++ 10 ∷ [] → IsShown text
-    → length text ≤ 4094 → IsPassedOver note
-note_passed note text is visible short = rw is (remark_so text visible short)
-
-pub drop_passed : IsPassedOver Dropped
-drop_passed = note_passed Dropped (codes "drop") refl (shown (codes "drop") (visible_so (codes "drop") refl)) (omega arith)
-
-pub refusal_passed : (why : SubmitFault) → IsPassedOver (Refused why)
-refusal_passed TooLong =
-    note_passed (Refused TooLong) (codes "too-long") refl (shown (codes "too-long") (visible_so (codes "too-long") refl)) (omega arith)
-refusal_passed TableFull =
-    note_passed (Refused TableFull) (codes "full") refl (shown (codes "full") (visible_so (codes "full") refl)) (omega arith)
-refusal_passed TicketsSpent =
-    note_passed (Refused TicketsSpent) (codes "spent") refl (shown (codes "spent") (visible_so (codes "spent") refl)) (omega arith)
-
-pub timeout_passed : (ticket : ℕ) → ticket < 2 ^ 64 → IsPassedOver (TimedOut ticket)
-timeout_passed ticket fits =
-    let few : length (decimal ticket) ≤ 20 = length-decimal-le 20 ticket (lit< tt) (omega (arith, fits)) fits in
-    note_passed (TimedOut ticket) (codes "timeout " ++ decimal ticket) refl
-    (shown_on (codes "timeout ") (decimal ticket)
-    (shown_on (codes "timeout") (32 ∷ []) (shown (codes "timeout") (visible_so (codes "timeout") refl)) ((omega arith, omega arith), tt))
-    (shown (decimal ticket) (decimal_visible ticket fits)))
-    (omega (arith, few))

@@ -1,14 +1,7 @@
 -- What is read of the lines that a run prints.
-use Rattle.std.proofs.{
-  Common.{◌≡◌, ◌≢◌, ℕ, ◌+◌, ◌-◌, ◌^◌, ◌<◌, ◌≤◌, Bool, true, false, List, [], ◌∷◌, ◌++◌, length, get_or, Option, Some, None},
-  Common.{Result, Ok, Err, refl, sym, ◌∙◌, ap, append_assoc, arith, length-append, take, nat_lt, nat_le, ◌==◌, ◌&&◌, lit<, drop, position, ◌*◌, ◌⊎◌, inl, inr, ne_eqb, option_map, lit≤, zero, suc, ◌/◌, ◌%◌, unwrap_or},
-  lemmas.{Bool.Decides.nat_tests, Grind.common_steps, List.Elements.{All-nil, All-cons}, List.append-nil},
-  lemmas.{List.Splits.{slice_split_at, slice_split_none}, Str.{IsUtf8-from_ascii, is_utf8-from_IsUtf8}},
-  lemmas.{Str.Ascii.{IsAscii-nil, IsAscii-cons}, Str.Parse.{tells_all_ascii_digits, numerals_by_value}},
-  lemmas.Fmt.{decimal_nonempty, digits_decimal, digits_value-decimal, length-decimal-le},
-}
-use Rattle.std.specs.{Prelude.{codes, decimal, ok_or, filter}, List.{All, AllByRecursion, list_all, slice_split}, Str.{IsAscii, is_utf8, all_ascii_digits}}
-use Rattle.std.specs.{Str.Lines.strip_carriage_return, Str.Parse.digits_value}
+use Rattle.std.proofs.{Common.{◌≡◌, ◌≢◌, ℕ, ◌+◌, ◌-◌, ◌^◌, ◌<◌, ◌≤◌, Bool, true, false, List, [], ◌∷◌, ◌++◌, length, get_or, Option, Some, None}, Common.{Result, Ok, refl, sym, ◌∙◌, ap, append_assoc, arith, length-append, take, nat_lt, nat_le, ◌==◌, ◌&&◌, lit<, drop, position, ◌*◌, ◌⊎◌, inl, inr, ne_eqb, option_map, lit≤, zero, suc, ◌/◌, ◌%◌, unwrap_or}, lemmas.{Bool.Decides.nat_tests, Grind.common_steps, List.Elements.{All-nil, All-cons}, List.append-nil}, lemmas.{List.Splits.{slice_split_at, slice_split_none}, Str.{IsUtf8-from_ascii, is_utf8-from_IsUtf8}}, lemmas.{Str.Ascii.{IsAscii-nil, IsAscii-cons}, Str.Parse.{tells_all_ascii_digits, numerals_by_value}}, lemmas.Fmt.{decimal_nonempty, digits_decimal, digits_value-decimal, length-decimal-le}}
+use Rattle.std.specs.{Prelude.{codes, decimal}, List.{All, AllByRecursion, list_all}, Str.{IsAscii, is_utf8, all_ascii_digits}}
+use Rattle.std.specs.{Str.Lines.strip_carriage_return}
 use Rattle.std.specs.Int.{is_in_range, to_be_bytes, w32}
 use Rattle.std.proofs.lemmas.Nat.{from_be_bytes-to_be_bytes_4}
 use Rattle.hex.specs.Hex.{IsBytes, encode_lower, encode_with, lower_digits}
@@ -17,10 +10,14 @@ use Rattle.bac_pdu.specs.Peer.{Station}
 use Rattle.bac_print.specs.PeerTexts.{address_text, peer_text}
 use Rattle.bac_tsm.specs.Events.{Data, Tick}
 use Rattle.bac_text.specs.{Address.{address_of, cut_at, number_before_dot, plain_peer_of, short_number, station_at}, Limits.longest_line, Words.{is_blank, number_up_to, octets_of, words_of}}
-use Rattle.bac_script.specs.Line.{Said, Settings, Happens, said, said_by, said_in, ends_with_feed, without_feed, text_of_line}
-use Rattle.bac_script.specs.declared.line.LineFault.{LineFault, TheVariants.Bad}
+use Rattle.bac_script.specs.Line.{Said, Settings, Happens, said_by, said_in, text_of_line}
+use Rattle.bac_script.specs.declared.line.LineFault.{LineFault}
 use Rattle.bac_script.proofs.Pieces.{ends_with_feed-push}
-use Rattle.bac_run.specs.{Journal.{Told, arrival_line, line_of, settings_line, time_line}, Replay.{IsLineOf, IsReadBack, IsShown}}
+use Rattle.bac_run.specs.{Journal.{arrival_line, settings_line, time_line}, Replay.{IsLineOf}}
+
+-- Octets that stand for themselves: those of a text in ASCII, from a space (32) on.
+abbrev pub IsShown : List ℕ → Type 0
+IsShown = AllByRecursion (λ octet. (32 ≤ octet) × (octet ≤ 126))
 
 -- Octets that stand for themselves, without a space.
 abbrev pub IsVisible : List ℕ → Type 0

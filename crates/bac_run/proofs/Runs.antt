@@ -1,19 +1,20 @@
 -- A run so far, and where it stops.
-use Rattle.std.proofs.{Common.{◌≡◌, ◌≢◌, ◌⊎◌, ℕ, ◌+◌, false, List, [], ◌∷◌, ◌++◌, length, take, drop, Option, Some, Result, Ok, Err}, Common.{refl, subst, sym, ◌∙◌, ap, inl, inr, append_assoc, arith, length-append, unwrap_or, IfOk}, lemmas.{Bool.false≢true, List.{append-nil, Concat.flat_map-append}}}
+use Rattle.std.proofs.{Common.{◌≡◌, ◌≢◌, ◌⊎◌, ℕ, ◌+◌, false, List, [], ◌∷◌, ◌++◌, ◌==◌, ◌&&◌, length, take, drop, Option, Some, Result, Ok, Err}, Common.{refl, subst, sym, ◌∙◌, ap, inl, inr, append_assoc, arith, length-append, unwrap_or, IfOk}, lemmas.{Bool.{cases_Bool, false≢true}, List.{append-nil, Concat.flat_map-append}}}
 use Rattle.std.specs.{Prelude.option_and_then, Result.result_ok, List.{AllByRecursion, concat, flat_map}}
 use Rattle.bac_tsm.specs.Client.{Client}
 use Rattle.bac_print.specs.{declared.{checked.Checked.Checked, page.Page.Page}, Checked.{has_failed, Gave}}
-use Rattle.bac_print.specs.Page.{held, writer_of, Prints, Writes}
-use Rattle.bac_print.proofs.{Printed.{◌⨾◌, prints_nothing}, Shown.finished, Known.Gave-none}
-use Rattle.bac_script.specs.{Input.ReaderStands, Line.{Said}, Inner.{Input.{TakesAndKeeps, IsLineCut}, Limits.line_room}, declared.line.LineFault.LineFault, declared.input.Reading.{Reading, TheVariants.{Open, AtEnd, Failed}}}
+use Rattle.bac_print.specs.Page.{folded_line, held, room_of, writer_of, Prints, Writes}
+use Rattle.bac_print.proofs.{Printed.{◌⨾◌, prints_nothing}, Shown.folded_out, Known.Gave-none}
+use Rattle.bac_script.specs.{Input.ReaderStands, Line.{Said, said}, Inner.{Input.{TakesAndKeeps, IsLineCut}, Limits.line_room}, declared.line.LineFault.{LineFault, TheVariants.TooLong}, declared.input.Reading.{Reading, TheVariants.{Open, AtEnd, Failed}}}
 use Rattle.bac_script.specs.declared.tracing.{TraceEnd.TraceEnd, TraceFault.{TraceFault, TheVariants.WriteFailed}}
+use Rattle.bac_text.specs.Limits.{longest_line}
 use Rattle.bac_links.specs.History.{Account, Entry}
 use Rattle.bac_run.specs.declared.{session.Session.Session, fault.RunFault.{RunFault, TheVariants.{Script, Link}}}
-use Rattle.bac_run.specs.{Journal.{Act, client_after, new_client, settings_line}, Went.{IsGained, IsOfWait, IsOver, IsOverAt, IsWithin, Went, WentFor}, Run.{Runs, RunsOn}}
+use Rattle.bac_run.specs.{Journal.{Act, ends_with_return, new_client, settings_line}, Went.{IsGained, IsOfWait, IsOver, IsOverAt, IsWithin, Went, WentFor}, Replay.AreSettings, Run.{Runs, RunsOn}}
 use Rattle.bac_run.specs.Fault.{is_at_link, is_of_link, stopped, write_failed}
 use Rattle.bac_run.proofs.Acts.{done, failed, quiet_went, within_both, within_err, within_turned, went_err, went_more, went_nothing, went_stopped, went_turned}
 use Rattle.bac_script.proofs.{Pieces.said-whole_long, Taken.{Takes-more, Takes-front}}
-use Rattle.bac_run.specs.Input.{acts_of_line, acts_of_said, acts_or_none, inputs_in, AllDone, AreCut, EndsWithFeed}
+use Rattle.bac_run.specs.Input.{acts_of_line, acts_of_said, acts_or_none, inputs_in, said_of, AllDone, AreCut, EndsWithFeed}
 use Rattle.bac_run.specs.Input.{HasNoFeed, IsGood}
 
 -- The settings were printed, and lines were taken, and what they ask for was done.
@@ -72,9 +73,18 @@ cut_so Open line (inr c) = inr c.no_feed
 cut_so AtEnd line c = inr c.no_feed
 cut_so Failed line c = inr c.no_feed
 
+said_of_long : (line : List ℕ) → said false line ≡ Err TooLong → said_of line ≡ Err TooLong
+said_of_long line is =
+    elim (cases_Bool (length line == longest_line && ends_with_return line)) [
+      | inl long ↦ rw long refl
+      | inr short ↦ rw short is
+    ]
+
 -- A line that is good is not too long, so it ends with a line feed, unless reading has ended.
 too_long_bad : (line : List ℕ) → HasNoFeed line → length line ≡ line_room → IsGood line → ⊥
-too_long_bad line none long good = good (ap (λ (r : Result Said LineFault). option_and_then (acts_of_said line) (result_ok r)) (said-whole_long false line none long))
+too_long_bad line none long good =
+    good (ap (λ (r : Result Said LineFault). option_and_then (acts_of_said line) (result_ok r))
+    (said_of_long line (said-whole_long false line none long)))
 
 feed_so : (line : List ℕ) → IsLineCut Open line → IsGood line → EndsWithFeed line
 feed_so line (inl c) good = (c.text, c.no_feed, c.ended)
@@ -120,7 +130,7 @@ all_done_so (Ok end) taken acts lines is asked good count = (asked, good, refl, 
 all_done_so (Err fault) taken acts lines is asked good count = ([], sym asked ∙ sym (append-nil _))
 
 -- What is all done is done as far as a front of it.
-done_front : (result : Result TraceEnd RunFault) (taken : List (List ℕ)) (kept : List ℕ) (acts : List Act)
+pub done_front : (result : Result TraceEnd RunFault) (taken : List (List ℕ)) (kept : List ℕ) (acts : List Act)
     → AllDone result taken kept acts → (rest : List Act) × (flat_map acts_or_none taken ≡ inputs_in acts ++ rest)
 done_front (Ok end) taken kept acts (asked, _, _, _) = ([], sym asked ∙ sym (append-nil _))
 done_front (Err fault) taken kept acts is = is
@@ -225,6 +235,7 @@ module _ {Origin R W : Type 0} {remaining : R → Option (List ℕ)} {contents :
             };
             prints = f.settings ⨾ all.prints;
             asks = all.asks;
+            fit = all.fit;
             over = subst (λ (client : Client). IsOver (failed TraceEnd fault) client) all.client_is over;
             within = within_both session.window f.went (went_turned turned (went_err TraceEnd fault last)) f.within
                 (quiet_went session.window (went_turned turned (went_err TraceEnd fault last)) tt);
@@ -252,6 +263,7 @@ module _ {Origin R W : Type 0} {remaining : R → Option (List ℕ)} {contents :
             };
             prints = f.settings ⨾ all.prints;
             asks = all.asks;
+            fit = all.fit;
             over = subst (λ (client : Client). IsOver result client) all.client_is over;
             within = within_both session.window f.went (went_turned turned last) f.within
                 (quiet_went session.window (went_turned turned last) tt);
@@ -277,6 +289,7 @@ module _ {Origin R W : Type 0} {remaining : R → Option (List ℕ)} {contents :
             };
             prints = f.settings ⨾ all.prints;
             asks = all.asks;
+            fit = all.fit;
             over = subst (λ (client : Client). IsOver (failed TraceEnd fault) client) all.client_is over;
             within = within_both session.window f.went (went_turned turned (went_err TraceEnd fault line.went)) f.within
                 (within_turned session.window turned (went_err TraceEnd fault line.went)
@@ -334,6 +347,7 @@ module _ {Origin R W : Type 0} {remaining : R → Option (List ℕ)} {contents :
             };
             prints = f.settings ⨾ all.prints;
             asks = all.asks;
+            fit = all.fit;
             over = subst (λ (client : Client). IsOver result client) all.client_is over;
             within = within_both session.window f.went (went_turned turned (went_more taken.went then)) f.within
                 (within_turned session.window turned (went_more taken.went then)
@@ -351,15 +365,17 @@ module _ {Origin R W : Type 0} {remaining : R → Option (List ℕ)} {contents :
     -- What is left on the page in the end goes out, or the writer fails.
     pub goes_out : {reader reader' : Checked R} {first last : Page W} {writer after back : Checked W} {s t : Account Origin}
         {result : Result TraceEnd RunFault} → after ≡ back → RunsOn remaining contents session reader reader' first last s t result
-        → writer_of first ≡ writer → held first ≡ [] → Writes contents (writer_of last) after (held last) [] []
-        → Runs remaining contents session reader reader' writer back s t result
-    goes_out is runs same empty gone = record {
+        → AreSettings session → writer_of first ≡ writer → held first ≡ [] → room_of first ≡ Some folded_line
+        → Writes contents (writer_of last) after (held last) [] [] → Runs remaining contents session reader reader' writer back s t result
+    goes_out is runs settings same empty folds gone = record {
       acts = runs.acts;
       takes = runs.takes;
-      printed = rw is at (finished same empty runs.prints gone);
+      printed = rw is at (folded_out same empty folds runs.prints gone);
       asks = runs.asks;
       over = runs.over;
       within = runs.within;
+      fit = runs.fit;
+      settings = settings;
     }
 
     -- It is told that the writer has failed.
@@ -383,4 +399,6 @@ module _ {Origin R W : Type 0} {remaining : R → Option (List ℕ)} {contents :
       };
       over = tt;
       within = runs.within;
+      fit = runs.fit;
+      settings = runs.settings;
     }

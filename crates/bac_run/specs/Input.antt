@@ -1,13 +1,16 @@
 -- The lines of the input, and what a run does of each.
-use Rattle.std.specs.Prelude.{◌≡◌, ◌≢◌, ℕ, Bool, false, ◌==◌, ◌||◌, List, [], ◌∷◌, ◌++◌, Option, Some, None, unwrap_or}
+use Rattle.std.specs.Prelude.{◌≡◌, ◌≢◌, ℕ, Bool, false, ◌==◌, ◌||◌, ◌&&◌, List, [], ◌∷◌, ◌++◌}
+use Rattle.std.specs.Prelude.{Option, Some, None, unwrap_or}
 use Rattle.std.specs.{Prelude.{option_and_then, length, Result, Ok, Err, if◌then◌else◌, ◌⊎◌}, Result.result_ok}
 use Rattle.std.specs.List.{AllByRecursion, concat, flat_map}
 use Rattle.bac_tsm.specs.Events.{Ask}
 use Rattle.bac_print.specs.{declared.checked.Checked.Checked, Checked.Gave}
+use Rattle.bac_text.specs.Limits.{longest_line}
 use Rattle.bac_script.specs.Line.{Said, Nothing, Happens, said}
+use Rattle.bac_script.specs.declared.line.LineFault.{LineFault, TheVariants.TooLong}
 use Rattle.bac_script.specs.declared.tracing.TraceEnd.{TraceEnd}
 use Rattle.bac_run.specs.declared.fault.RunFault.{RunFault}
-use Rattle.bac_run.specs.Journal.{Act, Asked, Paused}
+use Rattle.bac_run.specs.Journal.{Act, Asked, Paused, ends_with_return}
 
 -- The first octet of a line behind its blanks, spaces (32) and tabs (9), is # (35).
 abbrev pub is_remark : List ℕ → Bool
@@ -24,9 +27,15 @@ acts_of_said line Nothing = Some (skipped line)
 acts_of_said line (Happens (Ask peer service body)) = Some (Asked line (Ask peer service body) ∷ [])
 acts_of_said line _ = None
 
--- What is done of a line, where it is not bad. No line says settings.
+-- What a line says. No line says settings. Where it has 4,096 octets and lacks its line feed, and ends with a carriage
+-- return, it is too long: the journal would have one more.
+abbrev pub said_of : List ℕ → Result Said LineFault
+said_of line =
+    if length line == longest_line && ends_with_return line then Err TooLong else said false line
+
+-- What is done of a line, where it is not bad.
 abbrev pub acts_of_line : List ℕ → Option (List Act)
-acts_of_line line = option_and_then (acts_of_said line) (result_ok (said false line))
+acts_of_line line = option_and_then (acts_of_said line) (result_ok (said_of line))
 
 abbrev pub acts_or_none : List ℕ → List Act
 acts_or_none line = unwrap_or (acts_of_line line) []

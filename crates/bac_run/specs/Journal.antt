@@ -1,7 +1,8 @@
 -- What a run does, one thing after another; and its journal, what it asks of its link, and what `bactrace` prints of it.
-use Rattle.std.specs.Prelude.{ℕ, ◌-◌, ◌==◌, Bool, nat_lt, nat_le, ◌&&◌, List, [], ◌∷◌, ◌++◌, length, slice_index, codes, decimal, if◌then◌else◌}
+use Rattle.std.specs.Prelude.{◌≡◌, ◌<◌, ◌^◌, ◌-◌, ◌==◌, ◌&&◌, nat_lt, nat_le, ℕ, Bool, true, None, if◌then◌else◌}
+use Rattle.std.specs.Prelude.{List, [], ◌∷◌, ◌++◌, length, slice_index, codes, decimal}
 use Rattle.std.specs.List.{flat_map}
-use Rattle.hex.specs.Hex.{encode_lower}
+use Rattle.hex.specs.Hex.{IsBytes, encode_lower}
 use Rattle.bac_pdu.specs.Peer.{Station}
 use Rattle.bac_tsm.specs.Events.{Event, Data, Tick, Note, Sent}
 use Rattle.bac_tsm.specs.{Machine.{initial, step, Stepped}, Client.{Client, rules_of, keeping}}
@@ -75,6 +76,14 @@ line_of Paused = 10 ∷ []
 line_of (Came wait from octets) = arrival_line from octets
 line_of (Told time) = time_line time
 line_of _ = []
+
+-- What the link answers fits the line that says it: an address of 32 bits and a port of 16, without a route, and octets
+-- for which there is a line; a time of 64 bits.
+abbrev pub FitsLine : Act → Type 0
+FitsLine (Came wait from octets) = (from.ip < 2 ^ 32) × (from.port < 2 ^ 16) × (from.route ≡ None) × IsBytes octets
+    × (has_line (length octets) ≡ true)
+FitsLine (Told time) = time < 2 ^ 64
+FitsLine act = Unit {0}
 
 -- What `bactrace` prints of a note, as a remark: behind # (35) and a space (32).
 abbrev pub remark : Note → List ℕ

@@ -1,13 +1,13 @@
 -- The journal as a script: what `bactrace` reads in its lines, and what it prints of them.
-use Rattle.std.specs.Prelude.{◌≡◌, ◌≢◌, ◌≤◌, ℕ, Bool, true, false, List, [], ◌∷◌, ◌++◌, Result, Ok, Err}
+use Rattle.std.specs.Prelude.{◌≡◌, ◌≢◌, ℕ, Bool, true, false, List, [], ◌∷◌, ◌++◌, Result, Ok, Err}
 use Rattle.std.specs.List.{AllByRecursion}
 use Rattle.bac_pdu.specs.Peer.{Station}
-use Rattle.bac_tsm.specs.{Client.Client, Events.{Data, Tick, Note, Sent}}
+use Rattle.bac_tsm.specs.{Events.{Data, Tick, Note, Sent}}
 use Rattle.bac_script.specs.Line.{Said, Nothing, Settings, Happens, said}
 use Rattle.bac_links.specs.History.{Entry, Posted}
 use Rattle.bac_links.specs.declared.fault.ToolFault.TheVariants.{SendFailed}
 use Rattle.bac_run.specs.declared.{session.Session.Session, fault.RunFault.{RunFault, TheVariants.Link}}
-use Rattle.bac_run.specs.Journal.{Act, Asked, Paused, Came, Told, turn_at, line_of, remark, settings_line}
+use Rattle.bac_run.specs.Journal.{Act, Asked, Paused, Came, Told, line_of, settings_line}
 
 -- The text is one line, with its only line feed (10) at its end, and says this. The flag says whether it may be settings.
 pub record IsLineOf (is_first : Bool) (line : List ℕ) (what : Said) : Type 0 where
@@ -23,20 +23,6 @@ IsReadBack Paused = IsLineOf false (line_of Paused) Nothing
 IsReadBack (Came wait from octets) = IsLineOf false (line_of (Came wait from octets)) (Happens (Data from octets))
 IsReadBack (Told time) = IsLineOf false (line_of (Told time)) (Happens (Tick time))
 IsReadBack _ = Unit {0}
-
--- `bactrace` reads a remark as nothing.
-abbrev pub IsPassedOver : Note → Type 0
-IsPassedOver note = IsLineOf false (remark note) Nothing
-
--- Octets that stand for themselves: those of a text in ASCII, from a space (32) on.
-abbrev pub IsShown : List ℕ → Type 0
-IsShown = AllByRecursion (λ octet. (32 ≤ octet) × (octet ≤ 126))
-
--- The same of all lines and remarks of these acts.
-abbrev pub AreReadBack : Client → List Act → Type 0
-AreReadBack client [] = Unit {0}
-AreReadBack client (act ∷ later) = IsReadBack act × AllByRecursion IsPassedOver (turn_at client act).notes
-    × AreReadBack (turn_at client act).after later
 
 -- The settings of a session are read as settings.
 abbrev pub AreSettings : Session → Type 0

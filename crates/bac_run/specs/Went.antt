@@ -1,5 +1,6 @@
 -- What a part of a run did to its client, its page and its link.
 use Rattle.std.specs.Prelude.{◌≡◌, ◌<◌, ℕ, List, [], ◌∷◌, ◌++◌, length, Option, Result, Ok, Err}
+use Rattle.std.specs.List.{AllByRecursion}
 use Rattle.bac_pdu.specs.Peer.{Station}
 use Rattle.bac_tsm.specs.{Client.Client, Events.Event}
 use Rattle.bac_print.specs.{declared.page.Page.Page, Page.Prints}
@@ -8,7 +9,7 @@ use Rattle.bac_links.specs.History.{Entry, Failure, Waited, Posted, Unposted, Ac
 use Rattle.bac_links.specs.declared.fault.ToolFault.TheVariants.{SendFailed, ReceiveFailed}
 use Rattle.bac_run.specs.declared.fault.RunFault.{RunFault, TheVariants.{Link, Script}}
 use Rattle.bac_run.specs.Input.{inputs_in, IsDone}
-use Rattle.bac_run.specs.Journal.{Act, Asked, client_after, journal, history_of, turn_at, at_event, remarks, posts}
+use Rattle.bac_run.specs.Journal.{Act, Asked, FitsLine, client_after, journal, history_of, turn_at, at_event, remarks, posts}
 
 -- With this result a link was asked all that is due; but where a send failed, all before that send; and where a receive
 -- failed, that receive too.
@@ -34,6 +35,7 @@ pub record Went {Origin W A : Type 0} (contents : W → Option (List ℕ)) (clie
   pub client_is : client' ≡ client_after client acts
   pub prints : Prints contents page page' (journal client acts)
   pub asks : GainsDue result (history_of client acts) seen left
+  pub fit : AllByRecursion FitsLine acts
 
 -- The client made its step at this event, its notes were printed as remarks, and what it sends was sent.
 pub record Opened {Origin W A : Type 0} (contents : W → Option (List ℕ)) (client client' : Client) (page page' : Page W)

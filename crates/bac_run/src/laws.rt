@@ -5,15 +5,14 @@ ghost use Rattle.bac_wire.specs.Copies.{EqualsBy, MakesCopies};
 ghost use Rattle.bac_print.specs.declared.checked.Checked.{Checked};
 ghost use Rattle.bac_script.specs.{Script.{text, lines, first_fault}, Text.notes_text};
 ghost use Rattle.bac_script.specs.declared.{input.Reading.TheVariants.AtEnd, tracing.TraceEnd.TraceEnd};
-ghost use Rattle.bac_script.specs.{Line.{Happens, Settings as SettingsSaid, said}, Text.note_text};
+ghost use Rattle.bac_script.specs.Line.{Happens, Settings as SettingsSaid};
 ghost use Rattle.hex.specs.Hex.{IsBytes};
-ghost use Rattle.bac_tsm.specs.Events.{Data, Dropped, Event, Note, Refused, TimedOut};
-ghost use Rattle.bac_tsm.specs.declared.client.SubmitFault.{SubmitFault};
+ghost use Rattle.bac_tsm.specs.Events.{Data, Event};
 ghost use Rattle.bac_links.specs.History.{Account, Entry};
 ghost use Rattle.bac_run.specs.{
-  Input.{EndsWithFeed, HasNoFeed},
-  Journal.{Act, Asked, Paused, Told, arrival_line, ends_with_return, new_client, notes_of, settings_line},
-  Replay.{AreReadBack, AreSent, AreSettings, IsLineOf, IsPassedOver, IsReadBack, IsShown, posted_in, sent_in},
+  Input.{EndsWithFeed, HasNoFeed, said_of},
+  Journal.{Asked, Paused, Told, arrival_line, new_client, notes_of, settings_line},
+  Replay.{AreSent, IsLineOf, IsReadBack, posted_in, sent_in},
   Run.{Runs, journal_of},
 };
 ghost use Rattle.bac_run.specs.declared.{session.Session.Session as Settings, fault.RunFault.RunFault as Fault};
@@ -35,16 +34,18 @@ pub fn a_run_sends_what_it_remarks<L: Link, R: Read, W: Write>()
         (flat_map posted_in gained) }
 {}
 
-/// The journal is a script, and what `bactrace` prints of it is what the client told: its remarks without their marks.
-#[tactic(auto, using(crate::proofs::Replays::replays, crate::proofs::Replays::no_fault))]
-pub fn a_journal_is_a_script()
-    ensures text { (session : Settings) (acts : List Act) → AreSettings session
-        → AreReadBack (new_client session.config.timeout session.config.retries) acts
-        → text (journal_of session acts) AtEnd
-        ≡ notes_text (notes_of (new_client session.config.timeout session.config.retries) acts) }
-    ensures fault { (session : Settings) (acts : List Act) → AreSettings session
-        → AreReadBack (new_client session.config.timeout session.config.retries) acts
-        → first_fault (lines (journal_of session acts) AtEnd) ≡ None }
+/// The journal of a run is a script, and what `bactrace` prints of it is what the client told: its remarks without
+/// their marks.
+pub fn a_journal_is_a_script<L: Link, R: Read, W: Write>()
+    ensures text { (session : Settings) (reader reader' : Checked R) (before after : Checked W)
+        (seen left : Account L.Origin) (result : Result TraceEnd Fault)
+        (runs : Runs R.remaining W.contents session reader reader' before after seen left result)
+        → text (journal_of session runs.acts) AtEnd
+        ≡ notes_text (notes_of (new_client session.config.timeout session.config.retries) runs.acts) }
+    ensures fault { (session : Settings) (reader reader' : Checked R) (before after : Checked W)
+        (seen left : Account L.Origin) (result : Result TraceEnd Fault)
+        (runs : Runs R.remaining W.contents session reader reader' before after seen left result)
+        → first_fault (lines (journal_of session runs.acts) AtEnd) ≡ None }
 {}
 
 /// `bactrace` reads the line of a time as that time.
@@ -69,25 +70,13 @@ pub fn an_arrival_is_read_back()
         (Happens (Data (record { ip = ip; port = port; route = None }) octets)) }
 {}
 
-/// `bactrace` reads the line of a request, as it stands in the journal, as that request. (The last line of the input may
-/// lack its line feed; where it ends with a carriage return then, there has to be room for one more.)
+/// `bactrace` reads the line of a request, as it stands in the journal, as that request. (The last line of the input
+/// may lack its line feed.)
 #[tactic(auto, using(crate::proofs::Lines::empty_read_back))]
 pub fn a_request_is_read_back()
     ensures asked { (line : List ℕ) (event : Event) → EndsWithFeed line ⊎ HasNoFeed line
-        → said false line ≡ Ok (Happens event) → (ends_with_return line ≡ true → length line < 4096)
-        → IsReadBack (Asked line event) }
+        → said_of line ≡ Ok (Happens event) → IsReadBack (Asked line event) }
     ensures paused { IsReadBack Paused }
-{}
-
-/// `bactrace` passes over a remark in ASCII of at most 4,096 octets; so over each that a request was refused or timed
-/// out, or that a datagram was dropped.
-#[tactic(auto, using(crate::proofs::Lines::note_passed, crate::proofs::Lines::drop_passed, crate::proofs::Lines::refusal_passed, crate::proofs::Lines::timeout_passed))]
-pub fn a_remark_is_passed_over()
-    ensures short { (note : Note) (text : List ℕ) → note_text note ≡ text ++ 10 ∷ [] → IsShown text
-        → length text ≤ 4094 → IsPassedOver note }
-    ensures dropped { IsPassedOver Dropped }
-    ensures refused { (why : SubmitFault) → IsPassedOver (Refused why) }
-    ensures timed_out { (ticket : ℕ) → ticket < 2 ^ 64 → IsPassedOver (TimedOut ticket) }
 {}
 
 /// A clone is what it was cloned from, and takes no memory.

@@ -1,14 +1,16 @@
 //! A run of many requests over one link.
 
 ghost use Rattle.std.specs.Prelude.{◌≡◌, ◌≢◌, ◌⊎◌, ◌<◌, ◌≤◌, [], ◌∷◌, Some, false, true, Err, IfErr, IfOk};
+ghost use Rattle.bac_wire.specs.Steps.{result_seen};
 ghost use Rattle.bac_pdu.specs.Peer.{station};
+ghost use Rattle.bac_script.specs.Inner.LineSeen.{line_seen};
 ghost use Rattle.bac_tsm.specs.Events.{Ask};
 ghost use Rattle.bac_print.specs.{Checked.has_failed, Page.{held, writer_of}};
 ghost use Rattle.bac_run.specs.{Fault.{is_at_link, is_of_link, stopped, write_failed}};
 ghost use Rattle.bac_script.specs.declared.tracing.TraceFault.TheVariants.{WriteFailed};
 ghost use Rattle.bac_run.specs.{Journal.Asked, Went.{Went, WentFor, Opened}, Run.{Runs, RunsOn}};
 ghost use Rattle.bac_run.specs.Went.{IsOfWait, IsOver, IsOverAt, open_in};
-ghost use Rattle.bac_run.specs.Input.{acts_of_line, is_remark, skipped};
+ghost use Rattle.bac_run.specs.Input.{acts_of_line, is_remark, said_of, skipped};
 
 use crate::fault::RunFault;
 use crate::journal::{print_line, print_settings, remark_refusal, remark_sent};
@@ -18,6 +20,7 @@ use bac_links::{Datagram, Link, turn_wait};
 use bac_pdu::Peer;
 use bac_print::{Checked, Page};
 use bac_script::{Chunk, Line, LineFault, LineRoom, Reading, TraceEnd, TraceFault, read_line};
+use bac_text::LONGEST_LINE;
 use bac_tsm::{Client, SubmitFault};
 use std::io::{Read, Write};
 
@@ -47,7 +50,7 @@ pub fn run_requests<L: Link, R: Read, W: Write>(
     ensures not_written { result ≡ Err write_failed → has_failed writer.new ≡ true }
     ensures unsaid { has_failed writer.new ≡ true → (result ≡ Err write_failed) ⊎ (is_at_link result ≡ true) }
 {
-    let mut page = Page::new(writer);
+    let mut page = Page::folding(writer);
     let answer = run_lines(session, link, reader, &mut page);
     if page.finish().is_err() && !is_at_link(&answer) {
         return Err(RunFault::Script(TraceFault::WriteFailed));
@@ -124,7 +127,7 @@ impl Run {
         ensures not_written { result ≡ Err write_failed → has_failed (writer_of page.new) ≡ true }
         ensures over { IfErr result (λ fault. IsOverAt fault self.new.client) }
     {
-        match read_line(line, false, room) {
+        match read_short_line(line, room) {
             Ok(Line::Skipped) => self.pause(line, link, page),
             Ok(Line::Request(peer, service, body)) => {
                 self.ask(line, *peer, service, body, link, page)
@@ -299,6 +302,16 @@ fn submit<L: Link, W: Write>(
             Ok(())
         }
     }
+}
+
+// What a line says, where the journal has room for it.
+fn read_short_line<'a>(line: &'a [u8], room: &'a mut LineRoom) -> Result<Line<'a>, LineFault>
+    ensures { result_seen line_seen result ≡ said_of line.now }
+{
+    if line.len() == LONGEST_LINE && line.last() == Some(&b'\r') {
+        return Err(LineFault::TooLong);
+    }
+    read_line(line, false, room)
 }
 
 // Whether the first octet of a line behind its blanks is that of a remark.

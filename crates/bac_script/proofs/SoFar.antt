@@ -8,7 +8,8 @@ use Rattle.std.{
 use Rattle.bac_tsm.specs.Client.{Client}
 use Rattle.bac_device.specs.Device.{DeviceState}
 use Rattle.bac_print.specs.{Checked.{has_failed, reads_of, last_of, octets_of}, declared.page.Page.Page}
-use Rattle.bac_print.specs.{declared.checked.Checked.Checked, Page.{held as on_page, writer_of, Writes, Wrote, Prints}}
+use Rattle.bac_print.specs.{declared.checked.Checked.Checked, Page.{held as on_page, laid_out, room_of, writer_of}}
+use Rattle.bac_print.specs.Page.{Writes, Wrote, Prints}
 use Rattle.bac_print.proofs.{Known.Gave-none, Shown.{finished, all_written}, Printed.{◌⨾◌, prints_nothing}}
 use Rattle.bac_script.{
   specs.declared.{input.Reading.{Reading, TheVariants.{Open, AtEnd, Failed}}, line.LineFault.LineFault},
@@ -25,10 +26,16 @@ use Rattle.bac_script.{
 
 -- What was printed on an empty page is out, or still held.
 out_so_far : {W : Type 0} {contents : W → Option (List ℕ)} {page between : Page W} {printed : List ℕ}
-    → Prints contents page between printed → on_page page ≡ [] → has_failed (writer_of between) ≡ false →
+    → Prints contents page between printed → on_page page ≡ [] → room_of page ≡ None
+    → has_failed (writer_of between) ≡ false →
     octets_of (writer_of between) ++ on_page between ≡ octets_of (writer_of page) ++ printed
-unfolding Wrote
-out_so_far = grind (arith, append_assoc)
+unfolding Wrote laid_out
+out_so_far {contents = contents} {page} {between} {printed} prints empty whole good =
+    let same = ap (λ (room : Option ℕ). laid_out room printed) whole in
+    let writes : Writes contents (writer_of page) (writer_of between) (on_page page) (on_page between) printed =
+    subst (λ (said : List ℕ). Writes contents (writer_of page) (writer_of between) (on_page page) (on_page between) said)
+    same prints.wrote.writes in
+    grind (arith, append_assoc, writes)
 
 -- The course of each script that begins with these octets: this text, and then the course from this stage on.
 abbrev GoesOn : List ℕ → List ℕ → Stage → Bool → ℕ → Type 0
@@ -51,6 +58,7 @@ pub record SoFar {R W : Type 0} (remaining : R → Option (List ℕ)) (contents 
   pub asked : reads_of reader' ≤ reads_of reader + length taken.given
   pub needed : IsNeeded reader reader' taken.given
   pub empty : on_page page ≡ []
+  pub unfolded : room_of page ≡ None
   pub told : IsToldFirst reader' (writer_of page) (writer_of page') taken.given
   pub sound : has_failed reader' ≡ false
   pub unended : HasNotEnded reader reader'
@@ -267,6 +275,7 @@ module _ {R W : Type 0} {remaining : R → Option (List ℕ)} {contents : W → 
         asked = let none = ap empty_reads is in omega (arith, none, reads);
         needed = needed;
         empty = s.empty;
+        unfolded = s.unfolded;
         told = λ before split. further _ printed (told before split);
         sound = h.sound;
         unended = h.unended ∙ s.unended;
@@ -284,10 +293,10 @@ untold (octet ∷ before) _ split = absurd (cc)
 
 pub SoFar-none : {R W : Type 0} (remaining : R → Option (List ℕ)) (contents : W → Option (List ℕ)) (reader : Checked R)
     (held : List ℕ) (page : Page W)
-    (client : Client) (device : DeviceState) → on_page page ≡ [] → has_failed reader ≡ false → held ≡ []
-    → client ≡ new_client 3000 3 0 → device ≡ device_with [] →
+    (client : Client) (device : DeviceState) → on_page page ≡ [] → room_of page ≡ None → has_failed reader ≡ false
+    → held ≡ [] → client ≡ new_client 3000 3 0 → device ≡ device_with [] →
     SoFar remaining contents reader reader held page page 0 true client device
-SoFar-none _ _ reader held page _ _ empty sound none fresh unwritten = record {
+SoFar-none _ _ reader held page _ _ empty whole sound none fresh unwritten = record {
   octets = [];
   text = [];
   stage = first_stage;
@@ -295,6 +304,7 @@ SoFar-none _ _ reader held page _ _ empty sound none fresh unwritten = record {
   asked = grind arith;
   needed = grind arith;
   empty = empty;
+  unfolded = whole;
   told = λ before split. untold before (last_of reader) split;
   sound = sound;
   unended = refl;
@@ -322,9 +332,10 @@ module _ {R W : Type 0} {remaining : R → Option (List ℕ)} {contents : W → 
     {first last : Page W} {answer : Result TraceEnd TraceFault} where
   -- The page of a run was finished, and all was written.
   pub traces_all : after ≡ back → RunsOn remaining contents reader reader' first last answer → writer_of first ≡ writer
-      → on_page first ≡ [] → Writes contents (writer_of last) after (on_page last) [] [] → has_failed after ≡ false
+      → on_page first ≡ [] → room_of first ≡ None → Writes contents (writer_of last) after (on_page last) [] []
+      → has_failed after ≡ false
       → Traces remaining contents reader reader' writer back answer
-  traces_all is s same empty gone good =
+  traces_all is s same empty unfolded gone good =
       subst (λ (w : Checked W). Traces remaining contents reader reader' writer w answer) is
       (record {
         given = s.given;
@@ -332,17 +343,18 @@ module _ {R W : Type 0} {remaining : R → Option (List ℕ)} {contents : W → 
         written = s.printed;
         read = s.read;
         told = told_still reader' first last same s.told gone;
-        took = all_written (finished same empty s.prints gone) good;
+        took = all_written (finished same empty unfolded s.prints gone) good;
         runs = s.runs;
       })
 
   -- The same where the writer has failed.
   pub traces_front : (told : Result TraceEnd TraceFault) → told ≡ Err WriteFailed → after ≡ back
       → RunsOn remaining contents reader reader' first last answer →
-      writer_of first ≡ writer → on_page first ≡ [] → Writes contents (writer_of last) after (on_page last) [] []
+      writer_of first ≡ writer → on_page first ≡ [] → room_of first ≡ None
+      → Writes contents (writer_of last) after (on_page last) [] []
       → Traces remaining contents reader reader' writer back told
-  traces_front told failed is s same empty gone =
-      let w = finished same empty s.prints gone in
+  traces_front told failed is s same empty unfolded gone =
+      let w = finished same empty unfolded s.prints gone in
       subst (λ (w : Checked W). Traces remaining contents reader reader' writer w told) is
       (record {
         given = s.given;

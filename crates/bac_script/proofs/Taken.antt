@@ -5,8 +5,8 @@ use Rattle.std.{
   proofs.Common.{[], ◌∷◌, ◌++◌, length, take, drop, get_or, Option, Some, None, inl, inr, true},
   proofs.Common.{append_assoc, length-append, arith, ◌==◌, position, eqb-true, take-append-drop, take_all, append-nil},
 }
-use Rattle.bac_print.{proofs.Printed.◌⨾◌, specs.{declared.{page.Page.Page, checked.Checked.Checked}, Checked.reads_of}}
-use Rattle.bac_print.specs.{Checked.{last_of, octets_of, has_failed}, Page.{held as on_page, writer_of, Wrote, Prints}}
+use Rattle.bac_print.{proofs.{Folding.laid_out-none, Printed.◌⨾◌}, specs.{declared.{page.Page.Page, checked.Checked.Checked}, Checked.reads_of}}
+use Rattle.bac_print.specs.{Checked.{last_of, octets_of, has_failed}, Page.{held as on_page, room_of, writer_of, Wrote, Prints}}
 use Rattle.bac_script.{
   specs.Inner.{Feeds.HasNoFeed, Input.{HasNotEnded, TakesAndKeeps, ReadForLine, IsNext, IsTurnedIn, IsUnread}},
   specs.{Inner.Limits.line_room, Input.ReaderStands, declared.input.Reading.{Reading, TheVariants.Open}},
@@ -26,7 +26,7 @@ Takes-front = grind (arith, take-append-drop)
 turned : {W : Type 0} {contents : W → Option (List ℕ)} {page page' : Page W} → Prints contents page page' []
     → on_page page' ≡ [] → has_failed (writer_of page') ≡ false → IsTurnedIn page page'
 unfolding Wrote
-turned = grind (arith, append-nil)
+turned {page = page} printed = let none = laid_out-none (room_of page) in grind (arith, append-nil, none)
 
 -- It stays out.
 pub further : {W : Type 0} {contents : W → Option (List ℕ)} {page page' : Page W} {text : List ℕ} (out : List ℕ)

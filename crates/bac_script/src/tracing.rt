@@ -1,7 +1,7 @@
 //! A script, run as it is read.
 
 ghost use Rattle.std.specs.Prelude.{◌≡◌, ◌↔◌, true, false, Err, []};
-ghost use Rattle.bac_print.specs.{Checked.has_failed, Message.message_text, Page.{held, writer_of}};
+ghost use Rattle.bac_print.specs.{Checked.has_failed, Message.message_text, Page.{held, room_of, writer_of}};
 ghost use Rattle.bac_script.specs.Inner.{Running.new_client, Tracing.RunsOn};
 ghost use Rattle.bac_script.specs.{Script.fault_at, Tracing.{Traces, trace_status_of, trace_fault_text}};
 
@@ -95,6 +95,7 @@ fn run_script<R: Read, W: Write>(
 ) -> Result<TraceEnd, TraceFault>
     requires reader { has_failed reader.old ≡ false }
     requires page { held page.old ≡ [] }
+    requires unfolded { room_of page.old ≡ None }
     ensures script { RunsOn R.remaining W.contents reader.old reader.new page.old page.new result }
     ensures write_failed { result ≡ Err TraceFault.WriteFailed → has_failed (writer_of page.new) ≡ true }
 {

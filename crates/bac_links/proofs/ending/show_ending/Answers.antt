@@ -8,11 +8,11 @@ returns-in_err-finish-clause-text g c =
     let (fault, was, _) = err_from_is_err_and c.from_residual.result c.from_residual.ensures.1 in
     rw was
     (shown {A = Unit {0}} {after = c.finish.new.self.0} (Err fault) (search rules) c.new-page.ensures.writer
-    c.new-page.ensures.empty
+    c.new-page.ensures.empty c.new-page.ensures.unfolded
     (c.print_ending-exit.ensures.text ⨾ c.print.ensures) c.in_err-finish.ensures.printed c.in_err-finish.ensures.failed)
 
 pub returns-clause-text : goal.returns-clause-text
 returns-clause-text g c =
     shown {E = Unit {0}} {after = c.finish.new.self.0} (Ok c.in_ok-finish.field-0) (search rules)
-    c.new-page.ensures.writer c.new-page.ensures.empty
+    c.new-page.ensures.writer c.new-page.ensures.empty c.new-page.ensures.unfolded
     (c.print_ending-exit.ensures.text ⨾ c.print.ensures) c.in_ok-finish.ensures.printed c.in_ok-finish.ensures.failed

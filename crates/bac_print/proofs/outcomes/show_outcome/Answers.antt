@@ -5,5 +5,5 @@ use Rattle.bac_print.proofs.outcomes.show_outcome.Goals as goal
 
 pub returns-clause-text : goal.returns-clause-text
 returns-clause-text g c =
-    shown _ (search rules) c.new-page.ensures.writer c.new-page.ensures.empty
+    shown _ (search rules) c.new-page.ensures.writer c.new-page.ensures.empty c.new-page.ensures.unfolded
     c.print_outcome.ensures c.finish.ensures.printed c.finish.ensures.failed

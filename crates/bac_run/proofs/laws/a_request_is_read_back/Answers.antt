@@ -4,4 +4,4 @@ use Rattle.bac_run.proofs.Lines.{line_read_back}
 use Rattle.bac_run.proofs.laws.a_request_is_read_back.Goals as goal
 
 pub returns-clause-asked : goal.returns-clause-asked
-returns-clause-asked c = λ line event cut says room. line_read_back line (Happens event) cut says room
+returns-clause-asked c = λ line event cut says. line_read_back line (Happens event) cut says

@@ -12,7 +12,7 @@ use Rattle.bac_script.proofs.tracing.run_script.Goals as goal
 
 pub loop-next-init : goal.loop-next-init
 loop-next-init g c = record {
-  so_far = SoFar-none _ _ _ _ _ _ _ c.requires.page c.requires.reader c.new-chunk.ensures c.usual_client-client.ensures
+  so_far = SoFar-none _ _ _ _ _ _ _ c.requires.page c.requires.unfolded c.requires.reader c.new-chunk.ensures c.usual_client-client.ensures
       c.small_device-device.ensures;
   room = rw c.new-chunk.ensures (omega arith);
 }

@@ -6,9 +6,9 @@ use Rattle.bac_script.proofs.tracing.trace.Goals as goal
 pub returns-in_err-finish-clause-script : goal.returns-in_err-finish-clause-script
 returns-in_err-finish-clause-script g c =
     traces_front _ (search rules) (search rules) c.run_script-answer.ensures.script
-    c.new-page.ensures.writer c.new-page.ensures.empty c.finish.ensures.printed
+    c.new-page.ensures.writer c.new-page.ensures.empty c.new-page.ensures.unfolded c.finish.ensures.printed
 
 pub returns-clause-script : goal.returns-clause-script
 returns-clause-script g c =
     traces_all (search rules) c.run_script-answer.ensures.script c.new-page.ensures.writer
-    c.new-page.ensures.empty c.finish.ensures.printed (search rules)
+    c.new-page.ensures.empty c.new-page.ensures.unfolded c.finish.ensures.printed (search rules)

@@ -11,6 +11,6 @@ returns-in-Some g c =
       said,
       subst (λ (after : Checked g.row.W.Denot). Writes g.W.Write.contents c.args.writer.now after [] [] octets)
           (search rules)
-          (finished {after = c.finish.new.self.0} c.new-page.ensures.writer c.new-page.ensures.empty printed
-          c.finish.ensures.printed),
+          (finished {after = c.finish.new.self.0} c.new-page.ensures.writer c.new-page.ensures.empty
+          c.new-page.ensures.unfolded printed c.finish.ensures.printed),
     )

@@ -13,7 +13,7 @@ returns-in_err-wait-clause-went g c =
 pub returns-in_ok-wait-clause-went : goal.returns-in_ok-wait-clause-went
 returns-in_ok-wait-clause-went g c =
     for_same (grind (arith, c.is_remark.ensures, c.if-not-is_remark.true))
-    (for_quiet _ (tt, tt) (went_more c.in_ok-wait.ensures.went (went_one Paused refl c.print.ensures (due_nothing _))))
+    (for_quiet _ (tt, tt) (went_more c.in_ok-wait.ensures.went (went_one Paused tt refl c.print.ensures (due_nothing _))))
 
 pub returns-else-not-is_remark-clause-went : goal.returns-else-not-is_remark-clause-went
 returns-else-not-is_remark-clause-went g c =

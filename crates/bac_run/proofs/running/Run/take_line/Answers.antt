@@ -1,10 +1,10 @@
 -- What a line says.
-use Rattle.std.proofs.Common.{ℕ, List, ◌<◌, length, Result, Ok, Err, IsTrue, arith, refl, rules, ◌≡◌, sym, ap, false}
+use Rattle.std.proofs.Common.{ℕ, List, ◌<◌, length, Result, Ok, Err, IsTrue, arith, refl, rules, ◌≡◌, sym, ap}
 use Rattle.std.specs.{Prelude.option_and_then, Result.result_ok}
 use Rattle.bac_tsm.specs.Events.{Ask}
-use Rattle.bac_script.specs.Line.{Said, Nothing, Happens, said}
+use Rattle.bac_script.specs.Line.{Said, Nothing, Happens}
 use Rattle.bac_script.specs.declared.line.LineFault.{LineFault}
-use Rattle.bac_run.specs.Input.{acts_of_line, acts_of_said, acts_or_none}
+use Rattle.bac_run.specs.Input.{acts_of_line, acts_of_said, acts_or_none, said_of}
 use Rattle.std.proofs.lemmas.Bool.Decides.{nat_tests}
 use Rattle.bac_wire.specs.Identifier.{identifier}
 use Rattle.bac_pdu.specs.{Apdu.longest_body, Peer.station}
@@ -18,7 +18,7 @@ past (Err n) h = absurd (search rules)
 past (Ok body) h = grind (arith, nat_tests, h)
 
 -- What is done of a line that says this.
-wanted : (line : List ℕ) (what : Said) → Ok what ≡ said false line → acts_of_line line ≡ acts_of_said line what
+wanted : (line : List ℕ) (what : Said) → Ok what ≡ said_of line → acts_of_line line ≡ acts_of_said line what
 wanted line what is = ap (λ (r : Result Said LineFault). option_and_then (acts_of_said line) (result_ok r)) (sym is)
 
 pub returns-in-Ok-Skipped-clause-went : goal.returns-in-Ok-Skipped-clause-went

@@ -1,0 +1,18 @@
+-- The front stands in its line as it is, and the rest is folded behind it.
+use Rattle.std.proofs.{Common.arith, lemmas.List.take-append-drop}
+use Rattle.bac_print.proofs.{Folding.plain_front, Printed.folds_on}
+use Rattle.bac_print.proofs.page.Page.fold.Goals as goal
+
+pub returns-clause-text : goal.returns-clause-text
+returns-clause-text g c =
+    let plain = plain_front c.args.text.now c.split_at.result.0.now c.args.room (grind arith) in
+    let whole = folds_on c.args.text.now c.split_at.result.0.now c.split_at.result.1.now c.args.room plain
+    (grind (arith, take-append-drop)) c.hold.ensures c.fold_octets.ensures.text c.fold_octets.ensures.left in
+    whole.held
+
+pub returns-clause-left : goal.returns-clause-left
+returns-clause-left g c =
+    let plain = plain_front c.args.text.now c.split_at.result.0.now c.args.room (grind arith) in
+    let whole = folds_on c.args.text.now c.split_at.result.0.now c.split_at.result.1.now c.args.room plain
+    (grind (arith, take-append-drop)) c.hold.ensures c.fold_octets.ensures.text c.fold_octets.ensures.left in
+    whole.is_left

@@ -1,0 +1,6 @@
+-- A page that is turned in is given the text after that.
+use Rattle.bac_print.proofs.Printed.{held_past}
+use Rattle.bac_print.proofs.page.Page.hold_past.Goals as goal
+
+pub returns : goal.returns
+returns g c = held_past c.turn_in.ensures.printed c.hold_or_write.ensures

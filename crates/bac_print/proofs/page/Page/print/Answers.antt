@@ -1,0 +1,9 @@
+-- Where the page folds its lines, the text was put on it folded; else as it is.
+use Rattle.bac_print.proofs.Printed.{printed_whole, printed_folded}
+use Rattle.bac_print.proofs.page.Page.print.Goals as goal
+
+pub returns-in-None : goal.returns-in-None
+returns-in-None g c = printed_whole c.in-None.is c.hold.ensures
+
+pub returns-in-Some : goal.returns-in-Some
+returns-in-Some g c = printed_folded c.in-Some.left c.fold.result c.in-Some.is c.fold.ensures.text c.fold.ensures.left
