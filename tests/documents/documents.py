@@ -348,7 +348,7 @@ def rows_are_read_back(parts):
 
 
 def wide_lines():
-    places = [*SOURCES, "Makefile", "*.mk", "*.py", "crates/*/oracle/*.py", "site/bacsite/*.py"]
+    places = [*SOURCES, "Makefile", "*.mk", "*.py", "crates/*/oracle/*.py", "site/bacsite/**/*.py"]
     for folder in ("bench", "completions", "examples", "man", "packaging", "tests"):
         places += [f"{folder}/**/*.{ending}" for ending in "py sh c awk bash zsh fish service".split()]
     for file in files(*places):
