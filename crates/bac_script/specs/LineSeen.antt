@@ -6,7 +6,7 @@ use Rattle.bac_tsm.specs.Events.{Ask, Data, Tick}
 use Rattle.bac_device.specs.Turns.{Arrival}
 use Rattle.bac_text.specs.Pairs.{whole_body_of}
 use Rattle.bac_script.specs.declared.{line.{Line.Line, Received.Received}, long_write.LongWrite.LongWrite}
-use Rattle.bac_script.specs.{Line.{Said, Nothing, Settings, Happens, Asks}, Inner.LongBody.octets_or_none}
+use Rattle.bac_script.specs.{Line.{Said, Nothing, Settings, Happens, Asks}, LongBody.octets_or_none}
 use Rattle.bac_script.specs.declared.line.Line.TheVariants as line
 
 abbrev pub arrival_seen : Received → Arrival

@@ -2,14 +2,10 @@
 use Rattle.std.{
   specs.Prelude.{◌≡◌, ℕ, ◌+◌, ◌-◌, ◌*◌, ◌<◌, ◌≤◌, take, drop, List, [], ◌∷◌, ◌++◌, length, Option, ◌⊎◌, false},
 }
-use Rattle.bac_print.specs.Checked.{ends_of, reads_of, last_of, octets_of, has_failed, Gave}
+use Rattle.bac_print.specs.Checked.{reads_of, last_of, octets_of, has_failed, Gave}
 use Rattle.bac_print.specs.{Page.{held as on_page, writer_of}, declared.{checked.Checked.Checked, page.Page.Page}}
 use Rattle.bac_script.specs.declared.input.Reading.{Reading, TheVariants.{Open, AtEnd, Failed}}
-use Rattle.bac_script.specs.{Inner.{Feeds.HasNoFeed, Limits.{line_room, chunk_room}}, Input.{most_reads, ReaderStands}}
-
--- Since then no read gave nothing: the count of such reads is as before.
-abbrev pub HasNotEnded : {R : Type 0} → Checked R → Checked R → Type 0
-HasNotEnded before after = ends_of after ≡ ends_of before
+use Rattle.bac_script.specs.{Feeds.HasNoFeed, Limits.{line_room, chunk_room}, Input.{most_reads, ReaderStands}}
 
 -- So many reads may still be made.
 abbrev pub may_read : {R : Type 0} → Checked R → ℕ
