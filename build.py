@@ -31,7 +31,7 @@ PROCESS_CODE = 9000  # octets of code for each process: each loads the proofs of
 COST = """From nothing this takes 15 to 40 minutes of processor time, as fast as the machine is: 8 to 20 minutes of the
 clock with four processors, longer with two. Memory: up to 2.5 GB for each crate at work. Disk: 3.2 GB, which are kept,
 so that the next build proves only what has changed."""
-NO_KIT = "This needs rt, of the Rattle kit, which is not in the PATH. No public place has it that we know of: see README.md."
+NO_KIT = "This needs rt, of the Rattle kit, which is not in the PATH; README.md says where it comes from."
 
 
 def size(crate):

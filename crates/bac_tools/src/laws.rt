@@ -20,8 +20,8 @@ use std::io::{Read, Write};
 /// end as often, or where one run was cut off, its reader gave a front of what the other's gave and did not meet its
 /// end. As far as the sockets were answered alike, the runs asked and sent the same. Then they ask the same next; or
 /// both are over with the same report; or one was cut off, since there was no memory for its words, or its writer
-/// failed. Where one or both are over, both printed one text, or a front of it where they were cut off. Where `clap` does
-/// not take the words, each report tells of an error that `clap` may give at these.
+/// failed. Where one or both are over, both printed one text, or a front of it where they were cut off. Where `clap`
+/// does not take the words, each report tells of an error that `clap` may give at these.
 ///
 /// Two calls with the same `typed` run the same words, `words_called typed`, or lack memory for them (`IsCalled`). What
 /// the program that is called with words reports last is a function of the report of the words and of whether its
