@@ -30,7 +30,8 @@ TOLD = {"client", "device", "program"}  # the pages whose sizes it tells
 NOT_YET = set("""bac_run clap_laws AskAlike OneText Tells IsAccepted events_of Searched who_is_to Serves replies_of
     sent_at sends_of_call LogsHistory account_with Binds BindsAtMost Sends Waits Prints GaveSame GaveFront
     TakesAndKeeps ReadForLine IsNext ReadsNoMore ReaderStands requests_in Traces IsWritten Program ProgramRun IsRun
-    CalledRun RunsAsCalls RunsWithout BatchRuns IsTold texts_of GivesSockets AsksAtMostOnce ToolRuns""".split())
+    CalledRun RunsAsCalls RunsWithout RunsUnasked BatchRuns IsTold texts_of GivesSockets AsksAtMostOnce
+    ToolRuns""".split())
 PROBLEMS = []
 
 

@@ -4,7 +4,7 @@ ghost use Rattle.std.specs.Prelude.{◌≡◌, [], ◌∷◌, codes, replicate};
 ghost use Rattle.bac_print.specs.{Checked.{TookOrFailed, fresh}, Page.Writes};
 ghost use Rattle.bac_print.specs.Inner.Examples.{unknown, written, failed};
 ghost use Rattle.bac_print.{
-  specs.{Inner.Examples.{PrintsAs, device, far_device}, Page.{folded, left_after}},
+  specs.{Inner.Examples.{PrintsAs, device, far_device}, Page.{folded, folded_line, left_after}},
   specs.{PeerTexts.peer_text, Values.region_text},
 };
 
@@ -60,6 +60,7 @@ fn examples_of_writers()
 // behind them.
 #[tactic(none)]
 fn examples_of_folding()
+    ensures longest { folded_line ≡ 4_096 }
     ensures just { folded 3 (codes "abc") ≡ codes "abc" }
     ensures one_more { folded 3 (codes "abcd") ≡ codes "abc\n#+d" }
     ensures feed { folded 3 (codes "abc\nd") ≡ codes "abc\nd" }

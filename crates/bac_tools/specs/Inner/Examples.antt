@@ -1,7 +1,6 @@
 -- A run of the program that lacked memory for its words, for examples of what is said of two runs.
 use mathlib.Core.Logic.{inl}
 use Rattle.std.specs.Prelude.{ℕ, false, List, [], ◌∷◌, Some, None, Result, Err, refl}
-use Rattle.clap.specs.Words.{Text}
 use Rattle.bac_print.specs.Checked.{fresh}
 use Rattle.bac_links.specs.{History.{Entry, Timed}, declared.socket.NoSocket.NoSocket}
 use Rattle.bac_words.specs.declared.faults.UsageFault.TheVariants.{Memory}
