@@ -48,6 +48,7 @@ examples: program
 	@echo "examples/demo.sh: as it is to be"
 	@tests/program/sockets.py $(PROGRAM)
 	@tests/program/rows.py $(PROGRAM)
+	@tests/program/runs.py $(PROGRAM)
 	@tests/program/failing.py $(PROGRAM)
 	@tests/site/run.py $(PROGRAM)
 
@@ -73,8 +74,8 @@ try check test gate bench: kit
 
 kit:
 	@command -v rt >/dev/null || { \
-	    echo "This needs rt, a command of the Rattle kit, which is not in the PATH;" \
-	        "README.md says where it comes from." >&2; \
+	    echo "This needs rt, of the Rattle kit, which is not in the PATH." \
+	        "No public place has it that we know of: see README.md." >&2; \
 	    exit 1; \
 	}
 

@@ -2,8 +2,8 @@
 """Proves the crates that the program rests on, and builds the program. Usage: ./build.py [--tests]
 
 With --tests it runs the tests of the trials, over what is kept of the crates below, and says how many passed. Those
-of bac_trials are proved first. To prove those of tool_trials takes 12 to 19 minutes of processor time: so they are
-run as the sources stand, by `rt try`, until `rt test` was run there.
+of bac_trials are proved the first time. To prove those of tool_trials takes 12 to 19 minutes of processor time: so they
+are run as the sources stand, by `rt try`, until `rt test` was run there.
 
 Crates that don't rest on one another are proved side by side, as many as there are processors and memory for, each by
 its share of the processors, rounded up. RT_JOBS is another number of processors to use. There is a line for each crate,
@@ -29,9 +29,9 @@ ROOMS = "out/build"
 CRATE_MEMORY = 2 << 30  # what a crate takes while it is proved, in octets
 PROCESS_CODE = 9000  # octets of code for each process: each loads the proofs of the crates below anew
 COST = """From nothing this takes 15 to 40 minutes of processor time, as fast as the machine is: 8 to 20 minutes of the
-clock with four processors, longer with two. Memory: some 2 GB for each crate at work. Disk: 3.2 GB, which are kept, so
-that the next build proves only what has changed."""
-NO_KIT = "This needs rt, a command of the Rattle kit, which is not in the PATH; README.md says where it comes from."
+clock with four processors, longer with two. Memory: up to 2.5 GB for each crate at work. Disk: 3.2 GB, which are kept,
+so that the next build proves only what has changed."""
+NO_KIT = "This needs rt, of the Rattle kit, which is not in the PATH; README.md says where it comes from."
 
 
 def size(crate):

@@ -3,6 +3,7 @@
 all; with --write what comes is written there.
 
     network       over 127.0.0.1: bacdev beside a bare echo server, bacrp beside a bare client, and memory
+    runs          over 127.0.0.1: reads by one bacrun beside a bare client, and beside a process of bacrp each
     instructions  by callgrind, where valgrind is installed: the same numbers whatever else is at work
     script        a million mixed lines, beside other programs over the same file
     calls         the benchmarks of this folder, files .rattle, which are proved first: some minutes
@@ -10,6 +11,7 @@ all; with --write what comes is written there.
 BACTOOL names another program than the repository's own, and ROUNDS how often two servers are compared.
 """
 import datetime
+import itertools
 import os
 import re
 import shutil
@@ -119,6 +121,17 @@ def clients():
             yield row(name, f"{statistics.median(took):.0f}", f"{min(took):.0f}")
 
 
+def grown(words, lines, count):
+    """The most that lay in memory of a command, once it had a tenth of these lines and all of them."""
+    how = {"stdin": subprocess.PIPE, "stdout": subprocess.DEVNULL, "text": True}
+    with subprocess.Popen(words, **how) as process:
+        for number, line in enumerate(lines):
+            process.stdin.write(line)
+            if number == count // 10:
+                early = resident(process)
+        return row(f"{words[1]}, {count} lines", early, resident(process))
+
+
 def memory():
     """The most that lay in memory so far. A child's `ru_maxrss` would count what Python had before it was begun."""
     yield row("\nresident memory, kilobytes", "early", "late")
@@ -127,18 +140,46 @@ def memory():
         early = resident(process)
         load(port, 32, MANY_REPLIES)
         yield row(f"bacdev, 1000 and {MANY_REPLIES} replies", early, resident(process))
-    how = {"stdin": subprocess.PIPE, "stdout": subprocess.DEVNULL, "text": True}
-    with subprocess.Popen([PROGRAM, "bactrace"], **how) as process:
-        for number, line in enumerate(mixed(LINES)):
-            process.stdin.write(line)
-            if number == LINES // 10:
-                early = resident(process)
-        yield row(f"bactrace, {LINES} lines", early, resident(process))
+    with device() as (_, port):
+        reads = itertools.repeat(f"read 127.0.0.1:{port} 0 5 85\n", MANY_REPLIES)
+        yield grown([PROGRAM, "bacrun"], reads, MANY_REPLIES)
+    yield grown([PROGRAM, "bactrace"], mixed(LINES), LINES)
 
 
 def network():
     for part in (servers, shares, clients, memory):
         yield from part()
+
+
+# ---- many requests ----
+
+def batch(port, window):
+    """The reads a second of one bacrun, each of which has to be answered."""
+    with tempfile.TemporaryFile("w+") as lines, tempfile.TemporaryFile("w+") as journal:
+        lines.write(f"read 127.0.0.1:{port} 0 5 85\n" * REPLIES)
+        lines.seek(0)
+        seconds, _ = timed([PROGRAM, "bacrun", "--window", str(window)], lines, journal)
+        journal.seek(0)
+        if journal.read().count("\n# done ") != REPLIES:
+            sys.exit("bacrun: a read has no answer")
+        return REPLIES / seconds
+
+
+def runs():
+    rates = {(program, window): [] for program in (UDP, PROGRAM) for window in (1, 8, 64)}
+    for _ in range(ROUNDS):
+        for (program, window), found in rates.items():
+            with device(program=[program]) as (_, port):
+                found.append(batch(port, window) if program == PROGRAM else load(port, window, REPLIES))
+    with device() as (_, port):
+        alone = RUNS / sum(timed([PROGRAM, *BACRP, f"127.0.0.1:{port}"])[0] for _ in range(RUNS))
+    bare, ours = ([statistics.median(rates[program, window]) for window in (1, 8, 64)] for program in (UDP, PROGRAM))
+    yield row(f"reads a second, {ROUNDS} x {REPLIES}", "1 open", "8 open", "64 open")
+    yield row("bare client, bare echo server", *(f"{it:.0f}" for it in bare))
+    yield row("bacrun, bacdev", *(f"{it:.0f}" for it in ours))
+    yield row(f"bacrp, bacdev, {RUNS} processes", f"{alone:.0f}")
+    yield row("bacrun by the bare client", *(f"{one / by:.2f}" for one, by in zip(ours, bare)))
+    yield row("bacrun by bacrp", *(f"{it / alone:.0f}" for it in ours))
 
 
 # ---- instructions ----
@@ -219,7 +260,7 @@ def calls():
 
 # ---- the boxes of SPEED ----
 
-PARTS = {"network": network, "instructions": instructions, "script": script, "calls": calls}
+PARTS = {"network": network, "runs": runs, "instructions": instructions, "script": script, "calls": calls}
 
 
 def lines_of(part):

@@ -2,7 +2,8 @@
 """Gives the built program random input, and follows what it answers and prints: the lines and datagrams of the rows
 that it is tried by, as they are and damaged.
 
-Usage: bench/soak.py device DATAGRAMS [SEED], or script LINES [SEED]; BACTOOL names another program than the tree's.
+Usage: bench/soak.py device DATAGRAMS [SEED], script LINES [SEED], runs RUNS [SEED], or readers ANSWERS [SEED]; BACTOOL
+names another program than the tree's.
 
 `device` sends datagrams to bacdev over 127.0.0.1, and reads every reply. What each must get is told from what bacsite
 reads of it, by the rules of docs/PROTOCOL.md: silence, an I-Am, or one reply to its confirmed request, to its own
@@ -12,6 +13,11 @@ invoke id and of no more octets than it announced. Everything stays on this mach
 `script` runs one long script through bactrace, and follows each request through what it prints. Each line but a tick
 prints one line. A request that is sent gets the next ticket, and is sent again three times at most; it ends once, and
 only while it is open; at most 64 are open, under different invoke numbers, and `full` comes only where 64 are.
+
+`runs` runs bacrun over random requests, against two peers that answer, lose, double, hold back and damage what they
+send, and looks at each run as tests/program/runs.py does: bactrace prints the remarks of its journal, octet for octet.
+
+`readers` has bactrace take odd answers to a read, and compares how each ended the request with what bacsite reads.
 
 It stops at the first that is not so, and shows it.
 """
@@ -28,11 +34,12 @@ from collections import Counter
 
 HERE = os.path.dirname(__file__)
 sys.path[:0] = [HERE + "/../tests", HERE + "/../tests/program", HERE + "/../site"]
+from bacsite.answers import outcome_of
 from bacsite.bodies import parameters, read_ack
-from bacsite.frames import Datagram
-from bacsite.messages import CONFIRMED, DISTRIBUTE, UNCONFIRMED, UNICAST, message_of
+from bacsite.messages import CONFIRMED, DISTRIBUTE, UNCONFIRMED, UNICAST, Datagram, message_of
 from rows import row_cases
-from tree import PROGRAM, TOP, device, local_socket, resident
+from runs import check, run
+from tree import PROGRAM, TOP, WRONG, device, local_socket, resident
 
 # ---- random datagrams ----
 
@@ -184,17 +191,25 @@ PRINTED = re.compile(
 )
 
 
+def answers_among(datagrams):
+    """The answers among these, each with the place of its invoke number."""
+    return [(it.datagram.octets, it.at + 1) for it in map(read, datagrams) if it.apdu and it.apdu.is_answer]
+
+
+def any_answer(dice, answers, number):
+    """The digits of one of the answers, with this invoke number; it may be damaged."""
+    octets, at = dice.choice(answers)
+    octets = octets[:at] + bytes([number]) + octets[at + 1 :]
+    return (damaged(dice, octets) if dice.random() < 0.2 else octets).hex()
+
+
 def pool(dice):
     """Lines to choose from, but for ticks, in the shares that they are to have. An answer has any invoke number."""
     asks, datagrams = known()
-    peers = [line.split()[1].split("/")[0] for line in asks]
-    answers = [(it.datagram.octets, it.at + 1) for it in map(read, datagrams) if it.apdu and it.apdu.is_answer]
+    peers, answers = [line.split()[1].split("/")[0] for line in asks], answers_among(datagrams)
     lines = dice.choices(asks, k=6000) + ["", "# a comment", "  \t"]
     for _ in range(24000):
-        octets, at = dice.choice(answers)
-        octets = octets[:at] + dice.randbytes(1) + octets[at + 1 :]
-        octets = damaged(dice, octets) if dice.random() < 0.2 else octets
-        lines.append(f"data {dice.choice(peers)} {octets.hex() or '81'}")
+        lines.append(f"data {dice.choice(peers)} {any_answer(dice, answers, dice.randrange(256)) or '81'}")
     for _ in range(6000):
         lines.append(f"ask {dice.choice(peers)} {any_datagram(dice, datagrams, 47808).hex() or '81'}")
     return lines
@@ -258,11 +273,85 @@ def soak_script(dice, lines):
     return seen.counts
 
 
+# ---- runs ----
+
+def plan(dice, answers):
+    """What the peers do with each datagram that they hear, as tests/program/runs.txt has it: mostly they answer it."""
+    for number in itertools.count():
+        words = [str(number)] * dice.choice([0, 1, 1, 1, 1, 2])
+        if dice.random() < 0.2:
+            words.append(dice.choice(["", "other:", "plain:"]) + str(dice.randint(0, number)))
+        if dice.random() < 0.3:
+            invoke_id = (number + dice.randint(-7, 2)) % 256
+            words.append("octets:" + dice.choice([any_answer(dice, answers, invoke_id), ""]))
+        if dice.random() < 0.004:
+            words.append("stop")
+        yield dice.sample(words, len(words))
+
+
+def soak_runs(dice, count):
+    """Makes so many runs, and counts what their remarks say."""
+    counts, (asks, datagrams) = Counter(), known()
+    answers = answers_among(datagrams)
+    asks += [f"read P 2 {dice.randrange(17000)} 85" for _ in range(len(asks) // 10)]  # bits of many lines
+    asks = [re.sub("(?<=[de]) [^/ ]+", f" {peer}", ask, count=1) for ask in asks if len(ask) < 4000 for peer in "AB"]
+    for _ in range(count):
+        timeout, retries, window = dice.choice([5, 20, 60]), dice.randint(0, 2), dice.choice([1, 2, 8, 64])
+        options = f"--apdu-timeout {timeout} --apdu-retries {retries} --window {window}"
+        lines = [dice.choice(asks if dice.random() < 0.9 else ["", "# a remark"]) for _ in range(dice.randint(1, 80))]
+        text, it = run(PROGRAM, options, "\n".join([*lines, ""]), plan(dice, answers))
+        remarks = check("a run", PROGRAM, options, text, it)
+        if WRONG or it.status != 0:
+            sys.exit("\n".join([*WRONG, options, it.fault, text, it.journal]))
+        counts.update(remark.split()[0] for remark in remarks)
+    return counts
+
+
+# ---- the two readers ----
+
+ASKED, HEADS = "127.0.0.9:47808", ["0100"] * 4 + ["0103", "0120ffff00ff", "0157"]
+
+
+def odd_answer(dice, number, body=bytes.fromhex("0c4b00000119553e")):
+    """A datagram that answers a read of a vendor's value, perhaps damaged behind its invoke id."""
+    parts = [bytes([dice.randrange(256)]) + dice.randbytes(dice.randrange(9)) for _ in range(dice.randrange(3))]
+    for tag in dice.choices(range(13), k=dice.randrange(4)):
+        octets = dice.randbytes(dice.choice([1, 4, 4, 8, 20]))
+        parts.append(bytes([tag << 4 | min(len(octets), 5)]) + bytes([len(octets)] * (len(octets) > 4)) + octets)
+    dice.shuffle(parts)
+    whole = bytes([0x30, number, 12]) + body + b"".join(parts) + b"\x3f"
+    if dice.random() < 0.4:
+        whole = whole[:2] + damaged(dice, whole[2:])
+    if dice.random() < 0.1:
+        whole = bytes([dice.choice([0x20, 0x38, 0x50, 0x60, 0x71]), number]) + dice.randbytes(dice.randrange(9))
+    rest = bytes.fromhex(dice.choice(HEADS)) + whole
+    return b"\x81\x0a" + (4 + len(rest)).to_bytes(2, "big") + rest
+
+
+def soak_readers(dice, count):
+    """Each answer meets a request of its own, which a Reject ends where the answer does not."""
+    answers = [odd_answer(dice, (at + 1) % 256) for at in range(count)]
+    ends = ["810a0009010060%02x09" % ((at + 1) % 256) for at in range(count)]
+    lines = (f"read {ASKED} 300 1 85\ndata {ASKED} {it.hex()}\ndata {ASKED} {end}\n" for it, end in zip(answers, ends))
+    done = subprocess.run([PROGRAM, "bactrace"], input="".join(lines), stdout=subprocess.PIPE, text=True, check=True)
+    told, counts = done.stdout.splitlines(), Counter()
+    for at, (octets, line) in enumerate(zip(answers, told[1::3])):
+        apdu = read(octets).apdu
+        taken = bool(apdu and apdu.is_answer and apdu.invoke == (at + 1) % 256 and line != "drop")
+        if line != (f"done {at} {outcome_of(apdu)}" if taken else "drop"):
+            sys.exit(f"{octets.hex()}: bactrace prints {line!r}, bacsite reads {apdu and outcome_of(apdu)!r}")
+        counts[line.split(" ")[2] if taken else line] += 1
+    return counts
+
+
 def main(what, count, seed=random.randrange(1 << 32)):
     print(f"seed {seed}", flush=True)
     begun = time.time()
-    counts = {"device": soak_device, "script": soak_script}[what](random.Random(int(seed)), int(count))
-    print(f"{count} {'datagrams' if what == 'device' else 'lines'} in {time.time() - begun:.0f} s")
+    kinds = {"device": (soak_device, "datagrams"), "script": (soak_script, "lines")}
+    kinds |= {"runs": (soak_runs, "runs"), "readers": (soak_readers, "answers")}
+    soaked, unit = kinds[what]
+    counts = soaked(random.Random(int(seed)), int(count))
+    print(f"{count} {unit} in {time.time() - begun:.0f} s")
     for kind, number in sorted(counts.items()):
         print(f"{number:9}  {kind}")
 

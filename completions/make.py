@@ -39,7 +39,7 @@ def programs():
     for head, lines in tables.sections_of("completions/table.txt"):
         tools = {head.split()[0]: Tool(head.split()[0], "", "COMMAND")}
         for line in lines:
-            option = re.fullmatch(r"  ([\w ]+): (-[^\s,]+(?:, -[^\s,]+)*) ?(\S*) \| (.*)", line)
+            option = re.fullmatch(r"  ([\w -]+): (-[^\s,]+(?:, -[^\s,]+)*) ?(\S*) \| (.*)", line)
             if not option:
                 tool = Tool(*line.split(" | "))
                 tools[tool.name] = tool

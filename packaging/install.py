@@ -21,7 +21,7 @@ import tempfile
 TOP = pathlib.Path(__file__).resolve().parent.parent
 LIST, DOC = "share/bactool/installed", "share/doc/bactool"
 BASH, FISH = "share/bash-completion/completions", "share/fish/vendor_completions.d"
-TOOLS = ["bacrp", "bacwp", "bacwi", "bacdev", "bactrace"]
+TOOLS = ["bacrp", "bacwp", "bacwi", "bacdev", "bacrun", "bactrace"]
 
 
 def lay_out(program, version, tree, prefix, zsh):

@@ -24,10 +24,11 @@ run()
 
 
 def main(target):
-    paths = sorted(path for path in PACKAGE.glob("*.*") if path.suffix in PARTS and path.name != "__main__.py")
+    paths = sorted(path for path in PACKAGE.rglob("*.*") if path.suffix in PARTS and path.name != "__main__.py")
+    parts = [(f"bacsite/{path.relative_to(PACKAGE)}", path.read_bytes()) for path in paths]
     octets = io.BytesIO()
     with zipfile.ZipFile(octets, "w") as file:
-        for name, text in [("__main__.py", MAIN), *((f"bacsite/{path.name}", path.read_bytes()) for path in paths)]:
+        for name, text in [("__main__.py", MAIN), *parts]:
             part = zipfile.ZipInfo(name)
             part.create_system, part.external_attr = 3, 0o100644 << 16  # of Unix
             file.writestr(part, text)

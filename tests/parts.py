@@ -9,8 +9,9 @@ memory for each processor. How far a part is stands here, behind the minutes sin
 in out/parts, and the end of that is shown where it fails.
 
 The last line is `N passed, M failed, K skipped`: so much was left out, as for a tool that is not installed here. Above
-it stand what was left out, how many wrong bodies are shown wrong, only refused, or holes, and the names of the parts
-that failed. A part that tried nothing has failed, and so has one of make a script of which says nothing.
+it stand what took longest, what was left out, how many wrong bodies are shown wrong, only refused, or holes, and the
+names of the parts that failed. A part that tried nothing has failed, and so has one of make a script of which says
+nothing.
 """
 import glob
 import os
@@ -28,6 +29,7 @@ LOGS = "out/parts"
 PROGRAM = "crates/bactool/out/bactool"
 BEGAN = time.monotonic()
 LEFT_OUT, SHOWN = [], []  # what the parts say of what was left out, and of what shows the wrong bodies wrong
+TOOK = {}  # the seconds of each script that said how much it tried, and of what its part did besides
 # What a script says of how much it tried, wrong bodies with their twins, and of how much of it failed.
 TRIED = r"^[\w./]+: (\d+) (?!not )(?:.* of (\d+) twins)?|^examples/\S+: as it is to be$"
 FAILED = r"(\d+) (?:not |don't |failed$)"
@@ -93,7 +95,7 @@ class Work(Job):
     """A part at work."""
 
     def __init__(self, part):
-        self.part, self.told, self.is_lost = part, 0, False
+        self.part, self.told, self.is_lost, self.since = part, 0, False, time.monotonic()
         outer = {name: it for name, it in os.environ.items() if name not in ("MAKEFLAGS", "MFLAGS", "MAKELEVEL")}
         log = f"{TOP}/{LOGS}/{part.name.replace(' ', '_')}.log"
         super().__init__(part.command, log, cwd=part.place, env={**outer, **part.settings})
@@ -104,9 +106,15 @@ class Work(Job):
         for line in lines[self.told :]:
             if re.search(self.part.shown, line):
                 say(f"{self.part.name}: {line}")
+            if script := re.match(r"(tests/\S+): \d", line):
+                self.takes(script[1])
             self.is_lost = self.is_lost or bool(re.search(self.part.lost, line))
         self.told = len(lines)
         return ended or self.is_lost
+
+    def takes(self, name):
+        """What has this name took the time since the last one."""
+        TOOK[name], self.since = time.monotonic() - self.since, time.monotonic()
 
     def counts(self):
         """How many passed and failed. A part that tried nothing has failed, and one a script of which says nothing."""
@@ -122,6 +130,7 @@ class Work(Job):
     def tell(self):
         """Says what came of it, behind the end of what it said where it failed."""
         (passed, failed), said = self.counts(), self.said()
+        self.takes(self.part.name)
         LEFT_OUT.extend(it for it in said.splitlines() if re.search(r"(?<!none )left out", it))
         SHOWN.extend(re.findall(r"\d+ wrong bodies: .*?(?=; \d+ of .* failed$)", said, re.M))
         if failed:
@@ -175,8 +184,10 @@ def gate(room):
     tried = [gently("self test", "tests/bodies/self_test.py"), gently("wrong bodies", wrong, "--over", tree)]
     yield beside([whole_proof(room)], tried)
     drops = Part("drops", ["tests/bodies/let_go.py", "--over", tree])
+    emptied = Part("definitions", ["tests/bodies/definitions.py", "--over", tree])
     program = Part("program", ["install", "-D", f"{tree}/{PROGRAM}", PROGRAM], tried="")
-    yield [[drops, program, target("examples"), target("lint")]]
+    false = Part("false checks", ["tests/false_checks.py", PROGRAM])
+    yield [[drops, emptied, program, false, target("examples"), target("lint")]]
 
 
 def main(words):
@@ -186,6 +197,8 @@ def main(words):
     os.makedirs(LOGS, exist_ok=True)
     with tempfile.TemporaryDirectory(prefix="gate-") as room:
         passed, lost = run((test if words == ["test"] else gate)(room), words == ["gate"])
+    longest = sorted(TOOK, key=TOOK.get, reverse=True)[:5]
+    print("longest: " + ", ".join(f"{name} {TOOK[name]:.0f} s" for name in longest))
     print("\n".join([*LEFT_OUT, *SHOWN, *(f"failed: {name}" for name in lost)]))
     print(f"{passed} passed, {sum(lost.values())} failed, {len(LEFT_OUT)} skipped")
     return 1 if lost else 0

@@ -17,7 +17,7 @@ import time
 
 TOP = os.path.dirname(os.path.dirname(os.path.abspath(__file__)))
 PROGRAM = os.environ.get("BACTOOL", TOP + "/crates/bactool/out/bactool")
-TOOLS = ["bacrp", "bacwp", "bacwi", "bacdev", "bactrace"]
+TOOLS = ["bacrp", "bacwp", "bacwi", "bacdev", "bacrun", "bactrace"]
 HELD = []  # locks of the ports that this process was given
 SCRIPT = os.path.relpath(sys.argv[0], TOP)
 COMPARED, WRONG = [], []  # what a script has compared, and what is not as it is to be

@@ -2,19 +2,25 @@
 
 It asks by bactool, whose behaviour is proved; this package is not. The modules, from below:
 
-    texts, failures, output, files    what is shown, how the program fails, where it writes
-    names                      the numbers of BACnet and their names, from numbers.txt
-    decimals, values           what bacrp prints, in plain form
-    addresses, points          the words that say what is asked
-    processes, calls, workers  bactool is run, and many controllers are asked side by side
-    controller                 one controller is asked, one thing after another
-    survey, report, page       what a controller has, and how that is printed
-    read, poll, check, prometheus, convert    the other commands that change nothing
-    encode, target, write      what bacwp takes, where it goes, and the command
-    pcap, frames, messages, bodies    the datagrams of a capture
-    talk, pairing, wording, tally     requests with their answers, in words and counted
-    script, trace, capture     a capture as a script for bactrace, and the command
-    command, words, main       what a command is, the table of all, and the program
+    texts, failures, output        what is shown, how the program fails, where it writes
+    reasons                        why there is no value
+    names, decimals, bodies        numbers and their names, Reals, tags and bodies of requests
+    values                         values in plain form
+    messages, answers              the headers of a datagram, and how an answer ends a request
+    files, processes, calls        files are read, or replaced as a whole; bactool is run
+    addresses, points              the words that say what is asked
+    workers, session, asking, controller    many controllers side by side, each asked by one bacrun
+    command                        what a command is, and the words that several have
+    device, earlier                what a device has, and had in an earlier survey
+    survey, page, report           who is at the addresses of a site, and how that is printed
+    poll, read, check, prometheus, convert    the other commands that change nothing
+    encode, target, write, write_list    what bacwp takes, where it goes, and the commands
+    capture/pcap, capture/frames   the datagrams of a capture
+    capture/talks, capture/pairing    requests with their answers
+    capture/services, capture/lines, capture/tally    these in words, and counted
+    capture/requests, capture/trace    a script for bactrace
+    capture/command                the command
+    words, main                    the table of all commands, and the program
 """
 
 VERSION = "0.4.0"

@@ -13,9 +13,14 @@ from .failures import wrong
 PORT = 47808
 MOST_ADDRESSES = 65536
 MOST_DEVICE = 4194302
+MOST_NETWORK = 65534
 INSTANCE_AT = re.compile(r"(?:([0-9]{1,7})@)?(.*)", re.S)
 ADDRESS = re.compile(r"([0-9]{1,3}(?:\.[0-9]{1,3}){3})(?::([0-9]{1,5}))?")
-HOST = re.compile(r"(?![0-9.]+(?::|\Z))([A-Za-z0-9._-]{1,253})(?::([0-9]{1,5}))?")
+# No host's name ends in a number: a resolver would take 0x7f.2.31 for an address, as it is written.
+HOST = re.compile(
+    r"(?!(?:.*\.)?(?:0[xX][0-9A-Fa-f]*|[0-9]+)\.?(?::|\Z))([A-Za-z0-9._-]{1,253})(?::([0-9]{1,5}))?"
+)
+ROUTE = re.compile(r"([^/]*)/([0-9]{1,5})/((?:[0-9A-Fa-f]{2}){1,7})")
 RANGE = re.compile(r"([0-9.]+)(?:/([0-9]{1,2})|-([0-9.]+))(?::([0-9]{1,5}))?")
 
 
@@ -26,17 +31,34 @@ class Target(NamedTuple):
     wanted: Tuple[Optional[int], ...]
     in_range: bool = False  # it was not named itself, so that nobody may be there
 
+    @property
+    def may_be_router(self) -> bool:
+        """Whether stations are looked for behind it: it was named itself, and no device there."""
+        return None in self.wanted and not self.in_range and not is_routed(self.address)
+
 
 def one(word: str) -> Tuple[Optional[int], str]:
-    """The instance, if there is one, and the address with its port, of [INSTANCE@]ADDRESS."""
+    """The instance, if there is one, and the address with its port, of [INSTANCE@]ADDRESS.
+
+    A station behind a router is 192.0.2.7/5/01: the router, the number of the network there, and
+    the octets of its address in that network.
+    """
     instance, rest = _split(word)
+    route, behind = ROUTE.fullmatch(rest), ""
+    if route and 1 <= int(route[2]) <= MOST_NETWORK:
+        rest, behind = route[1], f"/{int(route[2])}/{route[3].lower()}"
     found, name = ADDRESS.fullmatch(rest), HOST.fullmatch(rest)
     if found:
-        return instance, _checked(found[1], found[2], word)
+        return instance, _checked(found[1], found[2], word) + behind
     host = _looked_up(name[1]) if name else ""
     if not name or not host:
         raise wrong("no address: " + word)
-    return instance, _checked(host, name[2], word)
+    return instance, _checked(host, name[2], word) + behind
+
+
+def is_routed(address: str) -> bool:
+    """Whether it is that of a station behind a router."""
+    return "/" in address
 
 
 @lru_cache(maxsize=None)

@@ -2,15 +2,13 @@
 
 from __future__ import annotations
 
+from functools import lru_cache
 from typing import Iterator, List, NamedTuple, Optional, Tuple
 
 from . import names
 
 MOST_OPEN = 32  # opening tags at once
 OPENING, CLOSING = -1, -2  # in place of the length of a tag
-LONG = 1 << 32
-LEAST = (0, 0, 1, 1, 4, 8, 0, 1, 1, 1, 4, 4, 4)  # octets of the contents of each tag
-MOST = (0, 0, 8, 8, 4, 8, LONG, LONG, LONG, 4, 4, 4, 4)
 QUOTES = {names.OCTETS: "X", names.DATE: "D", names.TIME: "T"}
 
 
@@ -28,6 +26,16 @@ class Element(NamedTuple):
 
     kind: int
     octets: bytes
+
+    @property
+    def number(self) -> int:
+        """The contents as a number."""
+        return int.from_bytes(self.octets, "big", signed=self.kind == names.SIGNED)
+
+    @property
+    def of_object(self) -> Tuple[int, int]:
+        """The type and the instance of an object."""
+        return self.number >> 22, self.number & names.THIS_DEVICE
 
 
 class Body(NamedTuple):
@@ -85,13 +93,21 @@ def elements_of(region: bytes) -> Optional[List[Element]]:
     """The values of a region, where it has nothing else."""
     found, at = [], 0
     while at < len(region):
-        tag = tag_at(region, at)
-        element = _element_of(region, tag) if tag else None
-        if not tag or not element:
+        element = element_at(region, at)
+        if not element:
             return None
-        found.append(element)
-        at = tag.end + (0 if tag.number == names.BOOLEAN else tag.length)
+        found.append(element[0])
+        at = element[1]
     return found
+
+
+def element_at(region: bytes, at: int) -> Optional[Tuple[Element, int]]:
+    """The value that begins at a place, if one does, and where it ends."""
+    tag = tag_at(region, at)
+    element = _element_of(region, tag) if tag else None
+    if not tag or not element:
+        return None
+    return element, tag.end + (0 if tag.number == names.BOOLEAN else tag.length)
 
 
 def _element_of(octets: bytes, tag: Tag) -> Optional[Element]:
@@ -100,8 +116,8 @@ def _element_of(octets: bytes, tag: Tag) -> Optional[Element]:
     if tag.number == names.BOOLEAN:
         return Element(tag.number, bytes([tag.length])) if tag.length < 2 else None
     contents = octets[tag.end : tag.end + tag.length]
-    fits = LEAST[tag.number] <= tag.length <= MOST[tag.number]
-    if len(contents) < tag.length or not fits:
+    _, least, most = names.VALUE_TYPES[tag.number]
+    if len(contents) < tag.length or not least <= tag.length <= most:
         return None
     if tag.number == names.BITS and contents[0] > (7 if contents[1:] else 0):
         return None
@@ -132,8 +148,7 @@ def element_text(element: Element) -> str:
         return f"{QUOTES[kind]}'{octets.hex()}'"
     if kind in (names.REAL, names.DOUBLE):
         return octets.hex()
-    number = int.from_bytes(octets, "big", signed=kind == names.SIGNED)
-    return f"{number >> 22}:{number & 4194303}" if kind == names.OBJECT else str(number)
+    return ":".join(map(str, element.of_object if kind == names.OBJECT else [element.number]))
 
 
 def region_text(region: bytes) -> str:
@@ -159,8 +174,8 @@ def parameters(octets: bytes) -> Iterator[Tuple[int, bytes]]:
 
 
 def _parameter_ends(octets: bytes, tag: Tag) -> Optional[Tuple[int, int]]:
-    """Where the contents of a context tag end, and all of it. Only the tag 3 opens and closes."""
-    if tag.length >= 0:
+    """Where the contents of a context tag end, and all of it. The tag 3, and no other, opens."""
+    if tag.length >= 0 and tag.number != 3:
         end = tag.end + tag.length
         return (end, end) if end <= len(octets) else None
     inner = region_end(octets, tag.end) if (tag.length, tag.number) == (OPENING, 3) else None
@@ -189,6 +204,7 @@ def read_body(octets: bytes) -> Optional[Body]:
     return body_of(octets, has_value=False)
 
 
+@lru_cache(maxsize=64)  # it is read twice: how it ends a request, and what it is about
 def read_ack(octets: bytes) -> Optional[Body]:
     """What the acknowledgement of a ReadProperty says."""
     return body_of(octets, has_value=True)
@@ -203,10 +219,9 @@ def error_body(octets: bytes) -> Optional[Tuple[int, int]]:
     """Class and code of an Error, whatever follows them."""
     numbers, at = [], 0
     for _ in range(2):
-        tag = tag_at(octets, at)
-        element = _element_of(octets, tag) if tag else None
-        if not tag or not element or element.kind != names.ENUMERATED:
+        found = element_at(octets, at)
+        if not found or found[0].kind != names.ENUMERATED:
             return None
-        numbers.append(int.from_bytes(element.octets, "big"))
-        at = tag.end + tag.length
+        numbers.append(found[0].number)
+        at = found[1]
     return numbers[0], numbers[1]

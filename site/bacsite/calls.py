@@ -8,14 +8,14 @@ import shutil
 import signal
 import sys
 import threading
+from contextlib import contextmanager
 from types import FrameType
-from typing import Optional, Sequence
+from typing import Dict, Iterator, List, Optional, Sequence
 
-from .failures import BROKEN, Failure
+from .failures import BROKEN, SIGNALS, Failure
 from .output import show
-from .processes import FOREVER, Outcome, Processes
+from .processes import FOREVER, Asks, NotBegun, Outcome, Processes
 
-SIGNALS = (signal.SIGINT, signal.SIGHUP, signal.SIGTERM)
 FIRST_PORT, PORTS = 49152, 16384  # those that nobody has for long, by RFC 6335
 FAR_APART = 6229  # process numbers within 700 of each other, times this, lie 8 ports or more apart
 MOST_TRIES = 100  # of other ports, where somebody has one
@@ -23,12 +23,12 @@ BIND_FAILED = "bactool: bind failed"
 
 
 class Ports:
-    """Gives each call a port of its own.
+    """Gives each tool a port of its own.
 
-    bacrp and bacwp take the first answer that has their number, which is always 1, from the address
-    that they asked: also a late one to an earlier call at the same port. So no port comes again for
-    16,384 calls. The first one is by the number of this process: so programs that run at nearly the
-    same time don't begin where another one was just now.
+    A tool takes the first answer that has the number of its request from the address that it asked:
+    also a late one to an earlier tool at the same port, and an Error names no object. So no port
+    comes again for 16,384 tools. The first one is by the number of this process: so programs that
+    run at nearly the same time don't begin where another one was just now.
     """
 
     def __init__(self) -> None:
@@ -45,44 +45,81 @@ class Calls:
 
     def __init__(self, tool: str, timeout: int, retries: int, at_once: int) -> None:
         self.tool, self.timeout, self.retries, self.at_once = tool, timeout, retries, at_once
+        self.window = 1  # how many requests one controller has at the same time
+        self.journals = ""  # the folder for what each bacrun prints, where that is kept
         self.processes = Processes()
-        self.count = 0
+        self.count = 0  # of the requests
         self.writes = 0  # how many are under way, or were when all was ended
         self._lock = threading.RLock()  # a signal may come while the main thread has it
+        self._lines: Dict[str, threading.Lock] = {}
         self._ports = Ports()
 
     @classmethod
     def of(cls, words: argparse.Namespace) -> "Calls":
         """Those that the words ask for; signals end them from now on."""
         calls = cls(_found(words.tools), words.apdu_timeout, words.apdu_retries, words.at_once)
+        calls.window, calls.journals = words.window, words.journal or ""
+        if calls.journals and not os.path.isdir(calls.journals):
+            raise Failure("no folder: " + calls.journals, BROKEN)
         calls._heed_signals()
         return calls
 
-    def run(self, words: Sequence[str], until: float = FOREVER) -> Outcome:
-        """Runs a tool with a port that no call before it had."""
-        outcome = self._run(words, until)
-        for _ in range(MOST_TRIES):
-            if outcome.told != BIND_FAILED:
-                break
-            outcome = self._run(words, until)
-        return outcome
-
-    def _run(self, words: Sequence[str], until: float) -> Outcome:
+    def start(self, words: Sequence[str], until: float = FOREVER) -> Asks:
+        """A tool that was begun, with a port that none before it had."""
         with self._lock:
-            self.count += 1
             port = self._ports.next()
         command = [self.tool, words[0], "--port", str(port), *words[1:]]
-        return self.processes.run(command, until)
+        return self.processes.start(command, until)
 
-    def write(self, words: Sequence[str]) -> Outcome:
-        """Runs bacwp, once, and as long as it takes."""
+    def run(self, words: Sequence[str], until: float = FOREVER) -> Outcome:
+        """How a tool ended that asks for one thing."""
+        self.counted()
+        for _ in range(MOST_TRIES):
+            try:
+                outcome = self.processes.over(self.start(words, until))
+            except NotBegun as why:
+                return Outcome(None, told=str(why))
+            if outcome.told != BIND_FAILED:
+                break
+        return outcome
+
+    def line(self, address: str) -> threading.Lock:
+        """What each has who asks there, since stations behind one router share its slow line."""
+        with self._lock:
+            return self._lines.setdefault(address.partition("/")[0], threading.Lock())
+
+    def counted(self) -> None:
+        """Counts a request."""
+        with self._lock:
+            self.count += 1
+
+    @contextmanager
+    def writing(self) -> Iterator[None]:
+        """A write is under way meanwhile."""
+        self.counted()
         with self._lock:
             self.writes += 1
-        outcome = self.run(["bacwp", *words])
+        yield
         with self._lock:
             if not self.processes.ended.is_set():  # one that was ended may have been made
                 self.writes -= 1
-        return outcome
+
+    def write(self, words: Sequence[str]) -> Outcome:
+        """Runs bacwp, once, and as long as it takes."""
+        with self.writing():
+            return self.run(["bacwp", *words])
+
+    def options(self, address: str, patience: int) -> List[str]:
+        """How and where bacwp is to send."""
+        return ["--mac", address, "--apdu-timeout", str(patience), *self._retries()]
+
+    def session(self, patience: int, window: int, until: float) -> Asks:
+        """A bacrun that was begun."""
+        times = ["--apdu-timeout", str(patience), *self._retries()]
+        return self.start(["bacrun", *times, "--window", str(window)], until)
+
+    def _retries(self) -> List[str]:
+        return ["--apdu-retries", str(self.retries)]
 
     def _heed_signals(self) -> None:
         """INT, HUP and TERM end the calls and the program, but where they are ignored."""
@@ -105,5 +142,6 @@ def _found(folder: Optional[str]) -> str:
         "bactool", path=folder or beside + os.pathsep + os.environ.get("PATH", os.defpath)
     )
     if not tool:
-        raise Failure("no bactool in " + (folder or "PATH"), BROKEN)
+        hint = "" if folder else " nor beside bacsite; --tools FOLDER says where it is"
+        raise Failure("no bactool in " + (folder or "PATH") + hint, BROKEN)
     return tool

@@ -4,23 +4,27 @@ from __future__ import annotations
 
 import argparse
 import re
+import threading
+import time
 from decimal import Decimal
-from typing import NamedTuple, Tuple
+from queue import Empty, SimpleQueue
+from typing import NamedTuple, Optional, Sequence, Tuple, Union
 
 from . import names
 from .calls import Calls
-from .command import Command, deadline_of, within
-from .controller import NOT_ASKED, TIMEOUT, Controller
-from .failures import wrong
+from .command import Command, add_version, within
+from .controller import Controller
+from .failures import Failure, wrong
 from .output import put
 from .points import POINT, Point, point_of
 from .poll import Reading, reading_of
-from .processes import TOO_LATE
+from .processes import FOREVER, deadline_of
+from .reasons import TOO_LATE, Why
+from .values import Kind
 from .workers import alone
 
 OK, WARNING, CRITICAL, UNKNOWN = range(4)
 STATUSES = ("OK", "WARNING", "CRITICAL", "UNKNOWN")
-GONE = (TIMEOUT, TOO_LATE, NOT_ASKED)  # the plant is, or its network
 EVERYTHING = "~:"
 NUMBER = r"-?(?:[0-9]+(?:\.[0-9]*)?|\.[0-9]+)"
 RANGE = re.compile(rf"(@?)(?:(~|{NUMBER})?:({NUMBER})?|({NUMBER}))")
@@ -31,10 +35,10 @@ class Range(NamedTuple):
 
     word: str
     inside: bool
-    low: float
-    high: float
+    low: Decimal
+    high: Decimal
 
-    def alerts(self, number: float) -> bool:
+    def alerts(self, number: Decimal) -> bool:
         """Whether the number is to be told."""
         return (self.low <= number <= self.high) == self.inside
 
@@ -59,7 +63,7 @@ def range_of(word: str) -> Range:
     if not found:
         raise wrong("no range: " + word)
     low, high = found[2] or "0", found[3] or found[4] or "inf"
-    made = Range(word, bool(found[1]), float(low.replace("~", "-inf")), float(high))
+    made = Range(word, bool(found[1]), Decimal(low.replace("~", "-inf")), Decimal(high))
     if made.low > made.high:
         raise wrong("no range: " + word)
     return made
@@ -68,17 +72,18 @@ def range_of(word: str) -> Range:
 def verdict_on(reading: Reading, warning: Range, critical: Range) -> Verdict:
     """What the value is to monitoring."""
     value = reading.value
-    if value.fault in GONE or value.fault.startswith("no number"):
+    if value.why.is_gone or value.why is Why.NO_NUMBER:
         return Verdict(CRITICAL, value.fault)
-    if value.number is None:
+    if value.kind is not Kind.NUMBER:
         return Verdict(UNKNOWN, value.fault or "no number: " + value.shown())
-    status = WARNING if warning.alerts(value.number) else OK
-    if critical.alerts(value.number):
+    number = Decimal(value.text)
+    status = WARNING if warning.alerts(number) else OK
+    if critical.alerts(number):
         status = CRITICAL
     by_flags, flags = verdict_on_flags(reading)
     text = ", ".join(filter(None, [value.shown(), flags]))
-    number = format(Decimal(value.text), "f")
-    return Verdict(_worse(status, by_flags), text, f"value={number};{warning.word};{critical.word}")
+    numbers = f"value={number:f};{warning.word};{critical.word}"
+    return Verdict(_worse(status, by_flags), text, numbers)
 
 
 def verdict_on_flags(reading: Reading) -> Tuple[int, str]:
@@ -88,9 +93,9 @@ def verdict_on_flags(reading: Reading) -> Tuple[int, str]:
     if flags.fault:
         return UNKNOWN, "status-flags: " + flags.fault
     told = flags.text if flags.text != "normal" else ""
-    if "fault" in flags.text.split(", "):
+    if "fault" in flags.bits:
         return CRITICAL, told
-    return WARNING if "out-of-service" in flags.text.split(", ") else OK, told
+    return WARNING if "out-of-service" in flags.bits else OK, told
 
 
 def _worse(one: int, other: int) -> int:
@@ -105,8 +110,30 @@ def reliability_of(controller: Controller, point: Point) -> str:
     return "" if value.fault or value.text == "0" else value.meaning or value.text
 
 
+def looked_up(words: Sequence[str], deadline: float) -> Optional[Point]:
+    """The point of these words; nothing where the name of its host isn't looked up in time."""
+    found: "SimpleQueue[Union[Point, Failure]]" = SimpleQueue()
+
+    def look() -> None:
+        try:
+            found.put(point_of("", words))
+        except Failure as failure:
+            found.put(failure)
+
+    left = None if deadline == FOREVER else max(0.0, deadline - time.monotonic())
+    threading.Thread(target=look, daemon=True).start()  # nothing else ends what looks it up
+    try:
+        point = found.get(timeout=left)
+    except Empty:
+        return None
+    if isinstance(point, Failure):
+        raise point
+    return point
+
+
 def arguments(parser: argparse.ArgumentParser) -> None:
     """The words of check."""
+    add_version(parser)
     parser.add_argument("words", nargs="+", metavar="WORD", help=POINT)
     parser.add_argument(
         "-H", "--hostname", metavar="ADDRESS", help="the address, which WORD leaves out then"
@@ -128,24 +155,29 @@ def arguments(parser: argparse.ArgumentParser) -> None:
 
 def work(words: argparse.Namespace) -> int:
     """Prints a line, and has a status, for monitoring."""
-    warning, critical = range_of(words.warning), range_of(words.critical)
-    deadline = deadline_of(words.timeout)
-    given = ([words.hostname] if words.hostname else []) + words.words
-    point = point_of("", given)
-    calls = Calls.of(words)
-    controller = Controller(calls, point.address, deadline)
-
-    def asked() -> Tuple[Reading, str]:
-        reading = reading_of(controller, point, with_flags=not words.no_flags)
-        has_fault = "fault" in reading.flags.text.split(", ") and not reading.flags.fault
-        return reading, reliability_of(controller, point) if has_fault else ""
-
-    reading, reliability = alone(calls, asked)
-    verdict = verdict_on(reading, warning, critical)
-    if reliability:
-        verdict = verdict._replace(text=f"{verdict.text}: {reliability}")
+    ranges = range_of(words.warning), range_of(words.critical)
+    deadline, verdict = deadline_of(words.timeout), Verdict(CRITICAL, TOO_LATE)
+    point = looked_up(([words.hostname] if words.hostname else []) + words.words, deadline)
+    if point:
+        with Controller(Calls.of(words), point.address, deadline) as controller:
+            verdict = _asked(controller, point, ranges, with_flags=not words.no_flags)
     put(verdict.line())
     return verdict.status
+
+
+def _asked(
+    controller: Controller, point: Point, ranges: Tuple[Range, Range], with_flags: bool
+) -> Verdict:
+    """What the point is to monitoring, and where it has a fault why, as the object says."""
+
+    def asked() -> Tuple[Reading, str]:
+        reading = reading_of(controller, point, with_flags)
+        has_fault = "fault" in reading.flags.bits
+        return reading, reliability_of(controller, point) if has_fault else ""
+
+    reading, reliability = alone(controller.calls, asked)
+    verdict = verdict_on(reading, *ranges)
+    return verdict._replace(text=f"{verdict.text}: {reliability}") if reliability else verdict
 
 
 COMMAND = Command(

@@ -4,15 +4,16 @@ from __future__ import annotations
 
 import argparse
 import re
-import time
 from dataclasses import dataclass
-from typing import Callable, NoReturn, Optional
+from typing import Callable, NoReturn, Optional, Sequence
 
-from .failures import wrong
+from . import VERSION
+from .failures import WRONG_WORDS, Failure, wrong
 from .output import put
-from .processes import FOREVER
 
 CALLS_AT_ONCE = 32
+MARK = "\0"  # of a word that argparse is not to take for an option; no word has it
+SHORT = ("-h", "-V", "-H", "-w", "-c", "-t")  # the options of one letter
 
 
 @dataclass(frozen=True)
@@ -36,7 +37,52 @@ class Parser(argparse.ArgumentParser):
         put(self.format_help())
 
     def error(self, message: str) -> NoReturn:
-        raise wrong(f"{message}; see {self.prog} --help")
+        raise wrong(f"{message.replace(MARK, '')}; see {self.prog} --help")
+
+    def parsed(self, given: Sequence[str]) -> argparse.Namespace:
+        """The words, read; those that begin as negative numbers, as -10:5, are no options."""
+        marked = [MARK + word if re.match(r"-\.?[0-9]", word) else word for word in given]
+        try:
+            words = self.parse_args(marked)
+        except Failure as failure:
+            if failure.status != WRONG_WORDS:
+                raise
+            raise wrong(f"{failure}{_hint(given)}") from None
+        for name, it in vars(words).items():
+            if isinstance(it, list):
+                setattr(words, name, [_unmarked(one) for one in it])
+            elif isinstance(it, str):
+                setattr(words, name, _unmarked(it))
+        return words
+
+
+class Version(argparse.Action):
+    """Prints the version, and ends the program."""
+
+    def __call__(
+        self,
+        parser: argparse.ArgumentParser,
+        namespace: argparse.Namespace,
+        values: object,
+        option_string: Optional[str] = None,
+    ) -> None:
+        put(f"bacsite {VERSION}\n")
+        parser.exit()
+
+
+def add_version(parser: argparse.ArgumentParser) -> None:
+    """The option that prints the version."""
+    parser.add_argument("-V", "--version", action=Version, nargs=0, help="print the version")
+
+
+def _unmarked(word: str) -> str:
+    return word[1:] if word.startswith(MARK) else word
+
+
+def _hint(given: Sequence[str]) -> str:
+    """What is said where a value may have been taken for an option."""
+    odd = [it for it in given if re.match("-[^-]", it) and it[:2] not in SHORT]
+    return "" if "--" in given or not odd else f"; a value as {odd[0]} stands behind --"
 
 
 def within(least: int, most: int) -> Callable[[str], int]:
@@ -69,9 +115,8 @@ def asking(at_once: int) -> Parser:
     add_number(parser, "apdu-retries", 0, 9, 2, "how often it is sent again")
     told = "how many controllers are asked at the same time"
     add_number(parser, "at-once", 1, 256, at_once, told)
+    told = "how many requests one controller has at the same time"
+    add_number(parser, "window", 1, 64, 1, told)
+    told = "a folder for scripts of all that is sent and comes, for bactrace"
+    parser.add_argument("--journal", metavar="FOLDER", help=told)
     return parser
-
-
-def deadline_of(seconds: Optional[int]) -> float:
-    """The time by the clock of `time.monotonic` which lies so many seconds ahead."""
-    return time.monotonic() + seconds if seconds else FOREVER

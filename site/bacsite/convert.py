@@ -37,7 +37,7 @@ def octets_arguments(parser: argparse.ArgumentParser) -> None:
 
 def octets(words: argparse.Namespace) -> int:
     """Prints the octets of a decimal number."""
-    put(encoded(words.number.strip(), words.double) + "\n")
+    put(encoded(words.number, words.double) + "\n")
     return 0
 
 

@@ -10,17 +10,16 @@ from . import names
 from .decimals import encoded, shortest
 from .failures import wrong
 from .points import instance, object_type
-from .texts import clean
+from .texts import escaped
 
-# What a type is called in words, by its tag.
-TYPES = (
-    "null boolean unsigned signed real double octets text bits enumerated date time object"
-).split()
 LIMITS = {
     names.UNSIGNED: (0, 2**64 - 1),
     names.SIGNED: (-(2**63), 2**63 - 1),
     names.ENUMERATED: (0, 2**32 - 1),
 }
+NUMBER = re.compile("-?[0-9]+")
+WORD = re.compile(rb"[!-\xff]+")  # what can be a word of a line of a script
+LAST_YEAR = 2154  # the octet of the next one stands for any
 TIME = re.compile(r"([0-9]{1,2}):([0-9]{2})(?::([0-9]{2})(?:\.([0-9]{2}))?)?")
 
 
@@ -37,29 +36,23 @@ class Encoded(NamedTuple):
 
 
 NULL = Encoded(names.NULL, "null", "null")
-States = Callable[[], Dict[str, int]]  # the numbers of names, which may have to be asked for
 
 
-def encode(word: str, tag: int, states: States) -> Encoded:
+def encode(word: str, tag: int) -> Encoded:
     """The value of a word as one of this tag; it fails where it is none."""
     if tag in names.INTEGERS:
-        return _integer(word.strip(), tag, states)
+        return _integer(word, tag)
     if tag in (names.REAL, names.DOUBLE):
-        octets = encoded(word.strip(), tag == names.DOUBLE)
+        octets = encoded(word, tag == names.DOUBLE)
         return Encoded(tag, octets, shortest(octets))
     if tag == names.STRING:
-        return Encoded(tag, word, clean(word))
-    return OTHERS[tag](word.strip())
+        return Encoded(tag, word, escaped(word))
+    return OTHERS[tag](word)
 
 
-def _integer(word: str, tag: int, states: States) -> Encoded:
-    """A number, or the name of a state or of a number, in capital letters or small ones."""
-    if not re.fullmatch("-?[0-9]+", word):
-        found = states()
-        if word.lower() not in found:
-            told = "; it has " + ", ".join(found) if 0 < len(found) <= 20 else ""
-            raise wrong(f"no number and no state: {word}{told}")
-        word = str(found[word.lower()])
+def _integer(word: str, tag: int) -> Encoded:
+    if not NUMBER.fullmatch(word):
+        raise wrong("no number: " + word)
     least, most = LIMITS[tag]
     if not least <= int(word) <= most:
         raise wrong("past the range: " + word)
@@ -88,9 +81,11 @@ def _octets(word: str) -> Encoded:
 def _date(word: str) -> Encoded:
     try:
         date = datetime.datetime.strptime(word, "%Y-%m-%d")
-        octets = bytes([date.year - 1900, date.month, date.day, date.isoweekday()])
     except ValueError:
         raise wrong("no date, as 2024-10-31: " + word) from None
+    if not 1900 <= date.year <= LAST_YEAR:
+        raise wrong(f"no date of 1900 to {LAST_YEAR}: {word}")
+    octets = bytes([date.year - 1900, date.month, date.day, date.isoweekday()])
     return Encoded(names.DATE, octets.hex(), date.strftime("%Y-%m-%d"))
 
 

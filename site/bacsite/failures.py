@@ -1,10 +1,13 @@
-"""How the program fails."""
+"""How the program fails, and what ends it."""
 
 from __future__ import annotations
+
+import signal
 
 from .texts import clean
 
 MISSING, WRONG_WORDS, BROKEN = 1, 2, 3  # statuses; 0 is that all which was asked for came
+SIGNALS = (signal.SIGINT, signal.SIGHUP, signal.SIGTERM)  # which end it
 
 
 class Failure(Exception):

@@ -4,12 +4,12 @@ from __future__ import annotations
 
 import os
 import signal
+import stat
 import sys
 import tempfile
 from typing import BinaryIO, Iterable
 
-from .calls import SIGNALS
-from .failures import BROKEN, Failure
+from .failures import BROKEN, SIGNALS, Failure
 
 
 def opened(path: str) -> BinaryIO:
@@ -26,25 +26,37 @@ def is_replaceable(path: str) -> bool:
     return not os.path.lexists(path) or (os.path.isfile(path) and not os.path.islink(path))
 
 
-def replace_file(path: str, parts: Iterable[str]) -> None:
-    """Replaces a file as a whole, or leaves it as it was. A signal waits until that is done."""
+def replace_file(path: str, parts: Iterable[str], for_all: bool = False) -> None:
+    """Replaces a file as a whole, or leaves it as it was. A signal waits until that is done.
+
+    Who may read it stays as it was. Of a new one the umask says that, unless it is for all.
+    """
     mask = signal.pthread_sigmask(signal.SIG_BLOCK, SIGNALS)
     try:
-        _replace(path, parts)
+        _replace(path, parts, for_all)
     except OSError as error:
         raise Failure(f"writing failed: {path}: {error.strerror}", BROKEN) from error
     finally:
         signal.pthread_sigmask(signal.SIG_SETMASK, mask)
 
 
-def _replace(path: str, parts: Iterable[str]) -> None:
+def _mode_of(path: str, for_all: bool) -> int:
+    if os.path.exists(path):
+        return stat.S_IMODE(os.stat(path).st_mode)
+    mask = os.umask(0)
+    os.umask(mask)
+    return 0o644 if for_all else 0o666 & ~mask
+
+
+def _replace(path: str, parts: Iterable[str], for_all: bool) -> None:
     folder, name = os.path.split(path)
+    mode = _mode_of(path, for_all)
     number, new = tempfile.mkstemp(prefix=name + ".", dir=folder or ".")
     try:
         with open(number, "w", encoding="utf-8") as file:
             file.writelines(parts)
             file.flush()
-            os.fchmod(number, 0o644)
+            os.fchmod(number, mode)
             os.fsync(number)
         os.rename(new, path)
     except BaseException:

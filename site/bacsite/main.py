@@ -2,12 +2,14 @@
 
 from __future__ import annotations
 
+import os
 import sys
+import traceback
 from contextlib import suppress
 
 from .failures import BROKEN, Failure
 from .output import put, show
-from .words import no_options, parser_of
+from .words import parsed
 
 UNKNOWN = 3  # to monitoring
 
@@ -19,7 +21,7 @@ def main() -> int:
     try:
         if sys.stdout is None:
             raise Failure("writing failed", BROKEN)
-        words = parser_of(given).parse_args(no_options(given))
+        words = parsed(given)
         status: int = words.work(words)
         return status
     except SystemExit:  # help or the version was asked for
@@ -28,6 +30,8 @@ def main() -> int:
         text, status = str(failure), failure.status
     except Exception as error:  # a fault of this program  pylint: disable=broad-except
         text, status = repr(error), BROKEN
+        if os.environ.get("BACSITE_DEBUG") == "1":
+            show(traceback.format_exc())
     if checks:
         with suppress(Failure):
             put("BACNET UNKNOWN - " + text.replace("|", "/") + "\n")

@@ -4,13 +4,24 @@ from __future__ import annotations
 
 from typing import NamedTuple, Optional, Tuple
 
-from .frames import Datagram
-
 FORWARDED, DISTRIBUTE, UNICAST, BROADCAST = 4, 9, 10, 11
 NETWORK_AT = {FORWARDED: 10, DISTRIBUTE: 4, UNICAST: 4, BROADCAST: 4}
 CONFIRMED, UNCONFIRMED, SIMPLE, COMPLEX, SEGMENT, ERROR, REJECT, ABORT = range(8)
 ANSWERS = (SIMPLE, COMPLEX, ERROR, REJECT, ABORT)
 TARGET, SOURCE, NETWORK_MESSAGE = 0x20, 0x08, 0x80  # bits of the network header
+
+
+class Datagram(NamedTuple):
+    """A UDP datagram: nanoseconds since 1970, from and to whom as ADDRESS:PORT, its octets.
+
+    Of one that is cut a capture has kept the first octets alone.
+    """
+
+    nanos: int
+    sender: str
+    receiver: str
+    octets: bytes
+    is_cut: bool = False
 
 
 class Apdu(NamedTuple):
@@ -25,6 +36,7 @@ class Apdu(NamedTuple):
     part: Optional[int]
     service: int
     body: bytes
+    is_cut: bool = False
 
     @property
     def is_answer(self) -> bool:
@@ -80,9 +92,9 @@ def _network_message(plain: Message, at: int) -> Message:
         return routed._replace(words="network message " + kind)
     apdu = apdu_of(octets[start:])
     if not apdu:
-        words = "an APDU that can't be read: " + (octets[start:].hex() or "none")
-        return routed._replace(words=words)
-    return routed._replace(apdu=apdu, at=start)
+        why = "is cut" if plain.datagram.is_cut else "can't be read"
+        return routed._replace(words=f"an APDU that {why}: {octets[start:].hex() or 'none'}")
+    return routed._replace(apdu=apdu._replace(is_cut=plain.datagram.is_cut), at=start)
 
 
 def _network_of(octets: bytes, at: int) -> Optional[Tuple[str, str, int]]:

@@ -11,16 +11,56 @@ NULL, BOOLEAN, UNSIGNED, SIGNED, REAL, DOUBLE, OCTETS, STRING, BITS, ENUMERATED 
 DATE, TIME, OBJECT = 10, 11, 12
 INTEGERS = (UNSIGNED, SIGNED, ENUMERATED)
 LOOK_ALIKE = (*INTEGERS, REAL, DOUBLE)  # the tags whose values bacrp spells by digits alone
+LONG = 1 << 32  # octets
+
+
+class ValueType(NamedTuple):
+    """A type of values: what it is called in words, and how many octets its contents have."""
+
+    name: str
+    least: int
+    most: int
+
+
+VALUE_TYPES = (  # by their tags
+    ValueType("null", 0, 0),
+    ValueType("boolean", 0, 0),  # its value is the length
+    ValueType("unsigned", 1, 8),
+    ValueType("signed", 1, 8),
+    ValueType("real", 4, 4),
+    ValueType("double", 8, 8),
+    ValueType("octets", 0, LONG),
+    ValueType("text", 1, LONG),
+    ValueType("bits", 1, LONG),
+    ValueType("enumerated", 1, 4),
+    ValueType("date", 4, 4),
+    ValueType("time", 4, 4),
+    ValueType("object", 4, 4),
+)
+TAGS = [it.name for it in VALUE_TYPES]
 
 BINARY, MULTI_STATE = (3, 4, 5), (13, 14, 19)
 COMMAND, DEVICE = 7, 8
 THIS_DEVICE = 4194303  # the instance that whichever device is asked takes for its own
 
 ACTION, ACTIVE_TEXT, ALARM_VALUE, ALARM_VALUES, INACTIVE_TEXT = 2, 4, 6, 7, 46
+DATABASE_REVISION, DESCRIPTION, EVENT_STATE = 155, 28, 36
+COV_INCREMENT, DEADBAND = 22, 25
 MAX_VALUE, MIN_VALUE, MODEL_NAME, NUMBER_OF_STATES = 65, 69, 70, 74
 OBJECT_ID, OBJECT_LIST, OBJECT_NAME, OBJECT_TYPE = 75, 76, 77, 79
 PRESENT_VALUE, PRIORITY_ARRAY, RELIABILITY, RELINQUISH_DEFAULT = 85, 87, 103, 104
 STATE_TEXT, STATUS_FLAGS, UNITS, VENDOR_NAME, PROPERTY_LIST = 110, 111, 117, 121, 371
+
+# What the standard keeps each priority for; the others are free.
+PRIORITY_NAMES = {
+    1: "manual-life-safety",
+    2: "automatic-life-safety",
+    5: "critical-equipment-control",
+    6: "minimum-on-off",
+    8: "manual-operator",
+}
+BY_HAND = 8  # an entry of the priority array at this place, or before, stands above the program
+NOT_COMMANDED = (0, 3, 6, 7, 12, 13, 17, 21, 22, 23, 24, 28)  # types without a priority array
 
 What = Tuple[int, ...]  # an object type, an instance, a property, and perhaps an index
 
@@ -84,6 +124,11 @@ def has_value(object_type: int) -> bool:
     return TYPE_TELLS.get(object_type, "") != "-"
 
 
+def may_be_commanded(object_type: int) -> bool:
+    """Whether an object of this type may have a priority array."""
+    return has_value(object_type) and object_type not in NOT_COMMANDED
+
+
 def present_form(object_type: int) -> Form:
     """Which present value an object has."""
     tags = tags_of(TYPE_TELLS.get(object_type, ""))
@@ -116,5 +161,7 @@ def _form(object_type: int, number: int, is_element: bool) -> Form:
         return present._replace(is_list=is_list)
     if tags == (REAL,) and (not present.tags or present.tags[0] in LOOK_ALIKE):
         tags = present.tags  # limits of an accumulator are integers
+    if tags == (SIGNED,) and number in (COV_INCREMENT, DEADBAND):
+        tags = (UNSIGNED,)  # no step is below 0
     names = MEANINGS.get(PROPERTIES.get(number, ""), {})
     return Form(tags, is_list, len(tags) > 1, names=names)

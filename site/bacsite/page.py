@@ -8,9 +8,9 @@ import html
 import ipaddress
 import pkgutil
 from collections import Counter
-from typing import Iterator, List, Optional, Sequence
+from typing import Iterator, Optional, Sequence
 
-from .survey import Device, SiteObject
+from .device import Device, SiteObject
 from .texts import clean
 
 FLAGS = ("in-alarm", "fault", "overridden", "out-of-service")
@@ -36,6 +36,10 @@ def _own(text: str) -> str:
     return f"<bdi>{safe(text)}</bdi>" if text else ""
 
 
+def _soft(text: str) -> str:
+    return f' <span class="soft">{_own(text)}</span>' if text else ""
+
+
 def _cell(name: str, inner: str, number: Optional[float] = None) -> str:
     """A cell of a table, and by which number it is sorted, if by one."""
     sorts = "" if number is None else f' data-n="{number!r}"'
@@ -48,13 +52,8 @@ def _head(heads: Sequence[str]) -> str:
     return f"<thead><tr>{''.join(cells)}</tr></thead>"
 
 
-def _set(found: SiteObject) -> List[str]:
-    """The flags that are set."""
-    return [] if found.flags in ("", "normal") else found.flags.split(", ")
-
-
 def _is_odd(found: SiteObject) -> bool:
-    return bool(found.reasons or _set(found))
+    return bool(found.reasons or found.flags)
 
 
 def _badge(flag: str, words: str) -> str:
@@ -68,13 +67,15 @@ def _object_row(found: SiteObject) -> str:
         value += f' <span class="meaning">({_own(found.meaning)})</span>'
     if found.unit:
         value += f' <span class="unit">{safe(found.unit)}</span>'
-    flags = [_badge(flag, flag) for flag in _set(found)]
+    if found.held:
+        value += f' <span class="soft">priority {safe(found.held)}</span>'
+    flags = [_badge(flag, flag) for flag in found.flags or ()]
     cells = [
         _cell("id", f"{kind}:{instance}", kind << 22 | instance),
         _cell("type", safe(found.type_name)),
-        _cell("name", _own(found.name)),
+        _cell("name", _own(found.name) + _soft(found.description)),
         _cell("value", value, found.value.number),
-        _cell("flags", " ".join(flags) or f'<span class="soft">{safe(found.flags)}</span>'),
+        _cell("flags", " ".join(flags) or f'<span class="soft">{safe(found.told_flags)}</span>'),
         _cell("reason", safe("; ".join(found.reasons))),
     ]
     odd = ' data-odd="1"' if _is_odd(found) else ""
@@ -93,6 +94,8 @@ def _section(at: int, device: Device) -> Iterator[str]:
     yield f"<h2>{_own(title)}</h2>\n<dl>{''.join(_facts(device))}</dl>\n"
     if reason:
         yield f'<p class="reason">{safe(reason)}</p>\n'
+    if device.changes:
+        yield f'<p class="soft">since: {safe("; ".join(device.changes))}</p>\n'
     if device.objects:
         yield f'<table class="objects">{_head(OBJECT_HEADS)}<tbody>\n'
         yield from map(_object_row, device.objects)
@@ -147,15 +150,15 @@ def _device_row(at: int, device: Device) -> str:
 
 def _flags(device: Device) -> str:
     """How many objects of a device have which flag set."""
-    counts = Counter(flag for it in device.objects for flag in _set(it))
+    counts = Counter(flag for it in device.objects for flag in it.flags or ())
     known = [flag for flag in FLAGS if flag in counts]
     others = sorted(flag for flag in counts if flag not in FLAGS)
     return " ".join(_badge(flag, f"{counts[flag]} {flag}") for flag in known + others)
 
 
 def _address_number(address: str) -> int:
-    """An address as a number, by which it is sorted."""
-    host, _, port = address.partition(":")
+    """An address as a number, by which it is sorted; a station has that of its router."""
+    host, _, port = address.partition("/")[0].partition(":")
     return int(ipaddress.IPv4Address(host)) << 16 | int(port)
 
 

@@ -8,12 +8,13 @@ from typing import Dict, Iterable, List, NamedTuple, Optional, Sequence
 from . import addresses
 from .failures import BROKEN, Failure, wrong
 from .files import opened
-from .names import PROPERTIES, TYPES, Form, What
+from .names import DOUBLE, INTEGERS, PROPERTIES, REAL, TYPES, Form, What
 from .texts import clean
-from .values import FORMS
 
 POINT = "[INSTANCE@]ADDRESS [real|double|integer] TYPE INSTANCE PROPERTY [INDEX]"
 MOST_TYPE, MOST_INSTANCE, MOST_INDEX = 1023, 4194303, 4294967295
+# What a list may name in front of a type: a value of another one is a reason then.
+FORMS = {"integer": Form(INTEGERS), "real": Form((REAL,)), "double": Form((DOUBLE,))}
 
 
 class Point(NamedTuple):
@@ -29,13 +30,13 @@ class Point(NamedTuple):
 
 def number(word: str, what: str, most: int, names: Optional[Dict[int, str]] = None) -> int:
     """A number, also by its name, in capital letters or small ones."""
-    spelled = word.strip().lower()
+    spelled = word.lower()
     for found, name in (names or {}).items():
         if name == spelled:
             return found
     if spelled.isascii() and spelled.isdigit() and len(spelled) <= 10 and int(spelled) <= most:
         return int(spelled)
-    raise wrong(f"no {what}: {word.strip()}{_hint(spelled, (names or {}).values())}")
+    raise wrong(f"no {what}: {word}{_hint(spelled, (names or {}).values())}")
 
 
 def _hint(word: str, names: Iterable[str]) -> str:
@@ -81,7 +82,7 @@ def point_of(name: str, words: Sequence[str]) -> Point:
 def points_of(path: str) -> List[Point]:
     """The points of a list; of a line that is wrong one with a fault. `-` is standard input."""
     points = []
-    for line in _text_of(path).split("\n"):
+    for line in text_of(path).split("\n"):
         words = line.split()
         if words and not words[0].startswith("#"):
             points.append(_point_of_line(clean(words[0]), words[1:]))
@@ -97,7 +98,8 @@ def _point_of_line(name: str, words: Sequence[str]) -> Point:
         return Point(name, fault=str(failure))
 
 
-def _text_of(path: str) -> str:
+def text_of(path: str) -> str:
+    """What a file has, or standard input for `-`."""
     try:
         with opened(path) as file:
             octets = file.read()

@@ -7,12 +7,13 @@ from typing import Dict, Iterator, List, NamedTuple, Sequence
 
 from .calls import Calls
 from .command import Command
-from .controller import NO_SUCH_PROPERTY, Controller
+from .controller import Controller
 from .failures import MISSING
 from .names import PRESENT_VALUE, STATUS_FLAGS
 from .output import put
 from .points import POINT, Point, points_of
 from .processes import FOREVER
+from .reasons import Why
 from .texts import stamp
 from .values import NOTHING, Value, fault, flags_of
 from .workers import side_by_side
@@ -35,9 +36,7 @@ def polled(
     for point in points:
         groups.setdefault(point.address, []).append(point)
     jobs = [
-        lambda group=group: _readings(
-            Controller(calls, group[0].address, deadline), group, with_flags
-        )
+        lambda group=group: _readings(calls, group, with_flags, deadline)
         for group in groups.values()
     ]
     return side_by_side(calls, jobs)
@@ -50,22 +49,44 @@ def in_order(points: Sequence[Point], groups: Iterator[List[Reading]]) -> List[R
     return sorted(readings, key=lambda reading: places[id(reading.point)])
 
 
-def _readings(controller: Controller, points: Sequence[Point], with_flags: bool) -> List[Reading]:
-    return [reading_of(controller, point, with_flags) for point in points]
+def _readings(
+    calls: Calls, points: Sequence[Point], with_flags: bool, deadline: float
+) -> List[Reading]:
+    with Controller(calls, points[0].address, deadline) as controller:
+        parts = controller.parts(points)
+        return [it for part in parts for it in readings_of(controller, part, with_flags)]
 
 
 def reading_of(controller: Controller, point: Point, with_flags: bool) -> Reading:
     """The value of a point, and where that is a present value its flags, if they are wanted."""
-    reason = point.fault
-    if not reason and point.device is not None:
-        reason = controller.identify(point.device)
-    value = fault(reason) if reason else controller.value(*point.what, form=point.form)
-    flags = NOTHING
-    if with_flags and not value.fault and point.what[2:] == (PRESENT_VALUE,):
-        flags = flags_of(controller.value(*point.what[:2], STATUS_FLAGS))
-        if NO_SUCH_PROPERTY.fullmatch(flags.fault):
-            flags = NOTHING
-    return Reading(point, value, stamp(), flags)
+    return readings_of(controller, [point], with_flags)[0]
+
+
+def readings_of(
+    controller: Controller, points: Sequence[Point], with_flags: bool
+) -> List[Reading]:
+    """The same of several points."""
+    reasons = [it.fault or _other_device(controller, it) for it in points]
+    asked = [point for point, reason in zip(points, reasons) if not reason]
+    found = iter(controller.values([it.what for it in asked], [it.form for it in asked]))
+    values = [fault(reason) if reason else next(found) for reason in reasons]
+    flagged = [
+        point.what
+        for point, value in zip(points, values)
+        if with_flags and not value.fault and point.what[2:] == (PRESENT_VALUE,)
+    ]
+    asked_flags = controller.values([(*what[:2], STATUS_FLAGS) for what in flagged])
+    flags, at = dict(zip(flagged, map(flags_of, asked_flags))), stamp()
+    none = [what for what, found in flags.items() if found.why is Why.NO_PROPERTY]
+    flags.update((what, NOTHING) for what in none)
+    return [
+        Reading(point, value, at, NOTHING if value.fault else flags.get(point.what, NOTHING))
+        for point, value in zip(points, values)
+    ]
+
+
+def _other_device(controller: Controller, point: Point) -> str:
+    return "" if point.device is None else controller.identify(point.device)
 
 
 def row_of(reading: Reading) -> str:

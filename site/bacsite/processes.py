@@ -2,18 +2,26 @@
 
 from __future__ import annotations
 
-import signal
+import os
+import select
 import subprocess
 import threading
 import time
+from contextlib import suppress
 from dataclasses import dataclass, field
-from typing import Dict, List, Optional, Sequence
+from typing import List, Optional, Protocol, Sequence, Set
 
+from .reasons import TOO_LATE
 from .texts import clean
 
 FOREVER = float("inf")
 LONGEST_START = 1.0  # seconds
-TOO_LATE = "not done in time"
+MOST_OCTETS = 65536  # of one reading
+
+
+def deadline_of(seconds: Optional[int]) -> float:
+    """The time by the clock of `time.monotonic` which lies so many seconds ahead."""
+    return time.monotonic() + seconds if seconds else FOREVER
 
 
 @dataclass(frozen=True)
@@ -25,49 +33,121 @@ class Outcome:
     told: str = ""
 
 
+class Asks(Protocol):
+    """Whom lines ask, and whose lines answer: a process, or in tests what is quicker."""
+
+    def put(self, text: str) -> None:
+        """Hands it a text."""
+
+    def line(self) -> Optional[str]:
+        """The next line, once that has come; nothing where it has ended."""
+
+    def outcome(self) -> Outcome:
+        """Lets it end, and says how it did."""
+
+    def kill(self) -> None:
+        """Ends it at once."""
+
+
+class Process:
+    """One that was begun: lines go in, and lines come out, until its time is up."""
+
+    def __init__(self, popen: "subprocess.Popen[bytes]", until: float) -> None:
+        self._popen, self._until = popen, until
+        self._kept, self._is_late = b"", False
+        self._waits = select.poll()
+        if popen.stdout:
+            self._waits.register(popen.stdout, select.POLLIN)
+
+    def put(self, text: str) -> None:
+        """Hands it a text. That it has ended is told by `line`."""
+        with suppress(BrokenPipeError):
+            assert self._popen.stdin, "it is a pipe"
+            os.write(self._popen.stdin.fileno(), os.fsencode(text))
+
+    def line(self) -> Optional[str]:
+        """The next line, once that has come; nothing where it has ended, or is ended here."""
+        assert self._popen.stdout, "it is a pipe"
+        while b"\n" not in self._kept:
+            left = self._left()
+            if not self._waits.poll(None if left is None else left * 1000):
+                self._end()
+                return None
+            octets = os.read(self._popen.stdout.fileno(), MOST_OCTETS)
+            if not octets:
+                return None
+            self._kept += octets
+        line, _, self._kept = self._kept.partition(b"\n")
+        return _text(line)
+
+    def outcome(self) -> Outcome:
+        """Lets it end, and says how it did, with the lines that nobody has read."""
+        try:
+            out, err = self._popen.communicate(timeout=self._left())
+        except subprocess.TimeoutExpired:
+            self._end()
+            out, err = self._popen.communicate()
+        if self._is_late:
+            return Outcome(None, told=TOO_LATE)
+        told = _lines(err)
+        return Outcome(self._popen.returncode, _lines(out), told[0] if told else "")
+
+    def kill(self) -> None:
+        """Ends it at once."""
+        self._popen.kill()
+
+    def _left(self) -> Optional[float]:
+        """The seconds that it has; None stands for ever."""
+        return None if self._until == FOREVER else max(0.0, self._until - time.monotonic())
+
+    def _end(self) -> None:
+        self._is_late = True
+        self.kill()
+
+
+class NotBegun(Exception):
+    """Why a process was not begun."""
+
+
 class Processes:
-    """Runs processes. `end` ends those that run, and lets no other begin."""
+    """Begins processes. `end` ends those that run, and lets no other begin."""
 
     def __init__(self) -> None:
         self.ended = threading.Event()
         self._lock = threading.RLock()  # a signal may come while the main thread has it
-        self._running: Dict["subprocess.Popen[bytes]", float] = {}  # and until when
+        self._running: Set[Asks] = set()
         self._starting = 0
 
-    def run(self, command: Sequence[str], until: float) -> Outcome:
-        """Runs a command, and says how it ended."""
-        if self.ended.is_set():
-            return Outcome(None, told="ended")
-        try:
-            process = self._started(command, until)
-        except OSError as error:
-            return Outcome(None, told=f"cannot run {command[0]}: {error.strerror}")
-        try:
-            out, err = process.communicate()
-        finally:
-            with self._lock:
-                del self._running[process]
-        if process.returncode == -signal.SIGKILL and until <= time.monotonic():
-            return Outcome(None, told=TOO_LATE)
-        told = _lines(err)
-        return Outcome(process.returncode, _lines(out), told[0] if told else "")
-
-    def _started(self, command: Sequence[str], until: float) -> "subprocess.Popen[bytes]":
+    def start(self, command: Sequence[str], until: float = FOREVER) -> Process:
         """Starts a process; without the lock, since to start one takes longer than all else."""
         with self._lock:
             self._starting += 1
         try:
-            process = subprocess.Popen(  # pylint: disable=consider-using-with
-                command, stdin=subprocess.DEVNULL, stdout=subprocess.PIPE, stderr=subprocess.PIPE
+            if self.ended.is_set():
+                raise NotBegun("ended")
+            pipe = subprocess.PIPE
+            popen = subprocess.Popen(  # pylint: disable=consider-using-with
+                command, stdin=pipe, stdout=pipe, stderr=pipe, start_new_session=True
             )
+            process = Process(popen, until)
             with self._lock:
-                self._running[process] = until
+                self._running.add(process)
                 if self.ended.is_set():
                     process.kill()
             return process
+        except OSError as error:
+            raise NotBegun(f"cannot run {command[0]}: {error.strerror}") from error
         finally:
             with self._lock:
                 self._starting -= 1
+
+    def over(self, process: Asks) -> Outcome:
+        """How a process ended, which is waited for."""
+        try:
+            return process.outcome()
+        finally:
+            with self._lock:
+                self._running.discard(process)
 
     def end(self) -> None:
         """Ends those that run. One that is just being started ends itself: that is waited for."""
@@ -79,14 +159,10 @@ class Processes:
         while self._starting and time.monotonic() < latest:
             time.sleep(0.001)
 
-    def look(self) -> None:
-        """Ends those whose time is up. Whoever waits for them does this again and again."""
-        now = time.monotonic()
-        with self._lock:
-            for process, until in self._running.items():
-                if until <= now:
-                    process.kill()
+
+def _text(octets: bytes) -> str:
+    return clean(octets.decode("ascii", "backslashreplace"))
 
 
 def _lines(octets: bytes) -> List[str]:
-    return [clean(line) for line in octets.decode("ascii", "backslashreplace").splitlines()]
+    return [_text(line) for line in octets.splitlines()]

@@ -3,7 +3,7 @@
 from __future__ import annotations
 
 import argparse
-from typing import List, Sequence
+from typing import Sequence
 
 from .calls import Calls
 from .command import Command
@@ -19,7 +19,7 @@ NOT_UP = ("fault", "out-of-service")
 def is_up(reading: Reading) -> bool:
     """Whether the point has a value which the device stands for."""
     missing = reading.value.fault or reading.flags.fault
-    return not (missing or any(flag in NOT_UP for flag in _set(reading)))
+    return not (missing or any(flag in NOT_UP for flag in reading.flags.bits))
 
 
 def text_of(readings: Sequence[Reading]) -> str:
@@ -28,7 +28,7 @@ def text_of(readings: Sequence[Reading]) -> str:
     ups = [_sample("bacnet_up", it, str(int(is_up(it)))) for it in readings]
     numbers = [it for it in readings if it.value.kind is Kind.NUMBER]
     values = [_sample("bacnet_value", it, it.value.text) for it in numbers]
-    flags = [_sample("bacnet_flag", it, "1", flag) for it in readings for flag in _set(it)]
+    flags = [_sample("bacnet_flag", it, "1", flag) for it in readings for flag in it.flags.bits]
     gauges = [_gauge("bacnet_up", up_help, ups)]
     gauges.append(_gauge("bacnet_value", "The value of the point.", values))
     if flags:
@@ -52,12 +52,6 @@ def _sample(name: str, reading: Reading, value: str, flag: str = "") -> str:
 
 def _escaped(text: str) -> str:
     return text.replace("\\", "\\\\").replace('"', '\\"')
-
-
-def _set(reading: Reading) -> List[str]:
-    """The status flags that are set."""
-    text = reading.flags.text
-    return [] if reading.flags.fault or text in ("", "normal") else text.split(", ")
 
 
 def _refuse(path: str, points: Sequence[Point]) -> None:
@@ -86,7 +80,7 @@ def work(words: argparse.Namespace) -> int:
     _refuse(words.file, points)
     groups = polled(Calls.of(words), points, with_flags=not words.no_flags)
     readings = in_order(points, groups)
-    replace_file(words.file, [text_of(readings)])
+    replace_file(words.file, [text_of(readings)], for_all=True)
     return 0 if all(map(is_up, readings)) else MISSING
 
 

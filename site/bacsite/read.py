@@ -3,18 +3,19 @@
 from __future__ import annotations
 
 import argparse
-import re
 from typing import Dict, List, Sequence
 
+from .bodies import elements_of
 from .calls import Calls
 from .command import Command, add_number
-from .controller import NO_SUCH_PROPERTY, NOT_ASKED, Controller
+from .controller import Controller
 from .failures import MISSING
-from .names import OBJECT_ID, OBJECT_NAME, OBJECT_TYPE, PROPERTIES, PROPERTY_LIST
+from .names import INTEGERS, OBJECT_ID, OBJECT_NAME, OBJECT_TYPE, PROPERTIES, PROPERTY_LIST
 from .output import put
-from .points import POINT, Point, point_of
+from .points import MOST_INSTANCE, POINT, Point, point_of
 from .poll import reading_of
-from .values import Value, fault, parts_of
+from .reasons import Why
+from .values import Value, fault
 from .workers import alone
 
 
@@ -26,8 +27,8 @@ def read_arguments(parser: argparse.ArgumentParser) -> None:
 def read(words: argparse.Namespace) -> int:
     """Prints the value of a point, or why there is none."""
     point, calls = point_of("", words.words), Calls.of(words)
-    controller = Controller(calls, point.address)
-    value = alone(calls, lambda: reading_of(controller, point, with_flags=False)).value
+    with Controller(calls, point.address) as controller:
+        value = alone(calls, lambda: reading_of(controller, point, with_flags=False)).value
     put(value.shown() + "\n")
     return MISSING if value.fault else 0
 
@@ -43,16 +44,16 @@ def properties_arguments(parser: argparse.ArgumentParser) -> None:
 def properties(words: argparse.Namespace) -> int:
     """Prints the properties that an object has."""
     point, calls = point_of("", [*words.words, "present-value"]), Calls.of(words)
-    controller = Controller(calls, point.address)
-    values = alone(calls, lambda: _values(controller, point, words.last))
+    with Controller(calls, point.address) as controller:
+        values = alone(calls, lambda: _values(controller, point, words.last))
     shown = {
         number: value
         for number, value in values.items()
-        if not NO_SUCH_PROPERTY.fullmatch(value.fault) and value.fault != NOT_ASKED
+        if value.why not in (Why.NO_PROPERTY, Why.NOT_ASKED)
     }
     for number, value in shown.items():
         put(f'{number} {PROPERTIES.get(number, "-")} {value.shown()}\n')
-    left = sum(value.fault == NOT_ASKED for value in values.values())
+    left = sum(value.why is Why.NOT_ASKED for value in values.values())
     if left:
         put(f"{left} of {len(values)} properties not asked\n")
     return MISSING if left or not shown or any(it.fault for it in shown.values()) else 0
@@ -63,22 +64,23 @@ def _values(controller: Controller, point: Point, last: int) -> Dict[int, Value]
     what = point.what[:2]
     reason = "" if point.device is None else controller.identify(point.device)
     name = fault(reason) if reason else controller.value(*what, OBJECT_NAME)
-    if name.fault and not NO_SUCH_PROPERTY.fullmatch(name.fault):
+    if name.why not in (Why.NONE, Why.NO_PROPERTY):
         return {OBJECT_NAME: name}
     values = {OBJECT_NAME: name}
-    for number in _numbers(controller, what, last):
-        if number != OBJECT_NAME:
-            values[number] = controller.value(*what, number)
+    numbers = [it for it in _numbers(controller, what, last) if it != OBJECT_NAME]
+    for part in controller.parts(numbers):
+        values.update(zip(part, controller.values([(*what, number) for number in part])))
     return dict(sorted(values.items()))
 
 
 def _numbers(controller: Controller, what: Sequence[int], last: int) -> List[int]:
     """The numbers that are asked for: by the property-list, or all of them up to the last."""
-    good, text = controller.read(*what, PROPERTY_LIST)
-    parts = parts_of(text)
-    if good and all(re.fullmatch("[0-9]{1,7}", part) for part in parts):
-        return sorted({OBJECT_ID, OBJECT_NAME, OBJECT_TYPE, *map(int, parts)})
-    return list(range(last + 1))
+    answer = controller.read(*what, PROPERTY_LIST)
+    listed = None if answer.reason else elements_of(answer.region)
+    if listed is None or not all(it.kind in INTEGERS for it in listed):
+        return list(range(last + 1))
+    numbers = {it.number for it in listed if 0 <= it.number <= MOST_INSTANCE}
+    return sorted({OBJECT_ID, OBJECT_NAME, OBJECT_TYPE, *numbers})
 
 
 READ = Command("prints the value of one property, or why there is none", read_arguments, read)

@@ -7,48 +7,93 @@ import csv
 import io
 import json
 import re
-from typing import Callable, Dict, List, Sequence
+from typing import Callable, Dict, List, NamedTuple, Sequence, Set, Tuple
 
 from . import addresses
 from .calls import Calls
 from .command import Command, add_number
+from .device import Bounds, Device, SiteObject
+from .earlier import Earlier, earlier_of
 from .failures import MISSING, wrong
 from .files import is_replaceable, replace_file
-from .output import put
+from .output import put, show
 from .page import page_of
-from .survey import Bounds, Device, SiteObject, surveyed
+from .survey import surveyed
 from .texts import stamp, table
+from .values import NOTHING
 
-COLUMNS = (
-    "address device device_name vendor model type instance type_name name value meaning unit flags "
-    "reason"
-).split()
+MISSES = "present-value: "  # so begins why there is none
+
 FORMULA = re.compile(r"[=+\-@\t\r]")
 NUMBER = re.compile(r"-?[0-9.]+(e[-+]?[0-9]+)?")
 
+# What is told of a device and of an object, by the names of the columns.
+OF_DEVICE: Dict[str, Callable[[Device], object]] = {
+    "address": lambda it: it.address,
+    "device": lambda it: it.instance,
+    "device_name": lambda it: it.name,
+    "vendor": lambda it: it.vendor,
+    "model": lambda it: it.model,
+}
+OF_OBJECT: Dict[str, Callable[[SiteObject], object]] = {
+    "type": lambda it: it.object_type,
+    "instance": lambda it: it.instance,
+    "type_name": lambda it: it.type_name,
+    "name": lambda it: it.name,
+    "value": lambda it: it.value.text,
+    "meaning": lambda it: it.meaning,
+    "unit": lambda it: it.unit,
+    "flags": lambda it: it.told_flags,
+    "held": lambda it: it.held,
+    "description": lambda it: it.description,
+    "event_state": lambda it: it.event_state,
+}
+OFTEN = tuple(OF_OBJECT)[:-3]  # the others stand there where they were asked for
 
-def as_lines(device: Device) -> str:
-    """A line of the device, and one of each object, in columns."""
+
+class Columns(NamedTuple):
+    """Which columns there are beside those of every survey."""
+
+    objects: Tuple[str, ...] = ()
+    changes: bool = False
+
+    @property
+    def names(self) -> List[str]:
+        """All of them, as CSV has them."""
+        return [*OF_DEVICE, *OFTEN, *self.objects, *["change"] * self.changes, "reason"]
+
+
+def as_lines(device: Device, columns: Columns) -> str:
+    """A line of the device, and one of each object, in columns; below them what has changed."""
     instance = "-" if device.instance is None else str(device.instance)
     head = [device.address, "device " + instance, device.name, device.vendor, device.model]
     lines = ["  ".join(filter(None, [*head, "; ".join(device.reasons)]))]
-    lines += ["  " + line for line in table([_cells(it) for it in device.objects])]
+    lines += ["  " + line for line in table([_cells(it, columns) for it in device.objects])]
+    lines += ["  since: " + change for change in device.changes]
     return "".join(line + "\n" for line in lines)
 
 
-def _cells(found: SiteObject) -> List[str]:
+def _cells(found: SiteObject, columns: Columns) -> List[str]:
     shown = f"{found.value.text} ({found.meaning})" if found.meaning else found.value.text
     shown = " ".join(filter(None, [shown, found.unit])) if shown else ""
     which = f"{found.object_type}:{found.instance}"
-    return [which, found.type_name, found.name, shown, found.flags, "; ".join(found.reasons)]
+    more = [str(OF_OBJECT[it](found)) for it in columns.objects]
+    told = [which, found.type_name, found.name, shown, found.told_flags, *more]
+    return [*told, "; ".join(found.reasons)]
 
 
-def as_csv(device: Device) -> str:
+def as_csv(device: Device, columns: Columns) -> str:
     """A row of each object; and one of the device alone where that has a reason, or no object."""
-    rows = [{**_of_device(device), **_of_object(it)} for it in device.objects]
-    if device.reasons or not rows:
-        rows.append({**_of_device(device), "reason": "; ".join(device.reasons)})
-    return csv_lines([[row.get(column, "") for column in COLUMNS] for row in rows])
+    told = {name: of(device) for name, of in OF_DEVICE.items()}
+    rows: List[Dict[str, object]] = []
+    for it in device.objects:
+        of_object = {name: of(it) for name, of in OF_OBJECT.items()}
+        rows.append({**told, **of_object, "reason": "; ".join(it.reasons)})
+    if device.reasons or device.changes or not rows:
+        own = {"reason": "; ".join(device.reasons), "change": "; ".join(device.changes)}
+        rows.append({**told, **own})
+    cells = [[row.get(name) for name in columns.names] for row in rows]
+    return csv_lines([["" if it is None else str(it) for it in row] for row in cells])
 
 
 def csv_lines(rows: Sequence[Sequence[str]]) -> str:
@@ -63,46 +108,42 @@ def _harmless(cell: str) -> str:
     return "'" + cell if FORMULA.match(cell) and not NUMBER.fullmatch(cell) else cell
 
 
-def _of_device(device: Device) -> Dict[str, str]:
-    instance = "" if device.instance is None else str(device.instance)
-    found = {"address": device.address, "device": instance, "device_name": device.name}
-    return {**found, "vendor": device.vendor, "model": device.model}
-
-
-def _of_object(found: SiteObject) -> Dict[str, str]:
-    return {
-        "type": str(found.object_type),
-        "instance": str(found.instance),
-        "type_name": found.type_name,
-        "name": found.name,
-        "value": found.value.text,
-        "meaning": found.meaning,
-        "unit": found.unit,
-        "flags": found.flags,
-        "reason": "; ".join(found.reasons),
-    }
-
-
-def as_json(device: Device) -> str:
+def as_json(device: Device, columns: Columns) -> str:
     """The device as one line of JSON, its objects in it."""
-    objects = [
-        {
-            "type": it.object_type,
-            "instance": it.instance,
-            "type_name": it.type_name,
-            "name": it.name,
-            "value": it.value.text,
-            "kind": it.value.kind.value,
-            "meaning": it.meaning,
-            "unit": it.unit,
-            "flags": it.flags,
-            "reasons": it.reasons,
-        }
-        for it in device.objects
-    ]
-    of_device = {"address": device.address, "device": device.instance, "name": device.name}
-    more = {"vendor": device.vendor, "model": device.model, "reasons": device.reasons}
-    return json.dumps({**of_device, **more, "objects": objects}, ensure_ascii=False) + "\n"
+    names = (*OFTEN, *columns.objects)
+    objects: List[Dict[str, object]] = []
+    for it in device.objects:
+        of_object = {name: OF_OBJECT[name](it) for name in names}
+        objects.append({**of_object, "kind": it.value.kind.value, "reasons": it.reasons})
+    told = {name.replace("device_", ""): of(device) for name, of in OF_DEVICE.items()}
+    told.update(revision=device.revision, asked=device.asked, reasons=device.reasons)
+    more = {"changes": device.changes} if columns.changes else {}
+    return json.dumps({**told, **more, "objects": objects}, ensure_ascii=False) + "\n"
+
+
+class PollList:
+    """The points of a survey as a list that `poll` reads, each under a name of its own."""
+
+    def __init__(self) -> None:
+        self._names: Set[str] = set()
+
+    def of(self, device: Device, _: Columns) -> str:
+        """The present value of each object that has one."""
+        told = [device.address, "" if device.instance is None else f"device {device.instance}"]
+        lines = ["# " + "  ".join(filter(None, [*told, device.name, *device.reasons]))]
+        for it in device.objects:
+            if it.value is not NOTHING or any(why.startswith(MISSES) for why in it.reasons):
+                which = f"{it.type_name or it.object_type} {it.instance} present-value"
+                lines.append(f"{self._name(device, it)} {device.instance}@{device.address} {which}")
+        return "".join(line + "\n" for line in lines)
+
+    def _name(self, device: Device, it: SiteObject) -> str:
+        base = f"{device.instance}.{'_'.join(it.name.split()) or it.type_name}"
+        name = base if base not in self._names else f"{base}.{it.object_type}.{it.instance}"
+        while name in self._names:
+            name += "'"
+        self._names.add(name)
+        return name
 
 
 def arguments(parser: argparse.ArgumentParser) -> None:
@@ -116,11 +157,22 @@ def arguments(parser: argparse.ArgumentParser) -> None:
     forms = parser.add_mutually_exclusive_group()
     forms.add_argument("--csv", action="store_true", help="as CSV, for a spreadsheet")
     forms.add_argument("--json", action="store_true", help="as JSON, a line of each device")
+    forms.add_argument("--list", action="store_true", help="as a list of points, for poll")
     forms.add_argument("--html", metavar="FILE", help="as a page, into a file that it replaces")
     parser.add_argument(
         "--sorted", action="store_true", help="in the order of the words, not as they come"
     )
     parser.add_argument("--devices", action="store_true", help="devices alone, no objects")
+    parser.add_argument(
+        "--details", action="store_true", help="descriptions and event states too"
+    )
+    told = "only what priority 8 or a more urgent one commands, and which one"
+    parser.add_argument("--held", action="store_true", help=told)
+    parser.add_argument(
+        "--stations", action="store_true", help="survey the stations behind a router too"
+    )
+    told = "an earlier survey by --json: what has changed since, and names that it has already"
+    parser.add_argument("--since", metavar="FILE", help=told)
     parser.add_argument("--silent", action="store_true", help="also who is silent in a range")
     most = "up to so many objects of a device are asked"
     add_number(parser, "objects", 1, 999999, Bounds.objects, most)
@@ -131,23 +183,60 @@ def arguments(parser: argparse.ArgumentParser) -> None:
 def work(words: argparse.Namespace) -> int:
     """Prints what is at the addresses."""
     targets = addresses.targets(words.address)
-    form: Callable[[Device], str] = as_csv if words.csv else as_json if words.json else as_lines
     if words.html and not is_replaceable(words.html):
         raise wrong("no plain file: " + words.html)
+    earlier = earlier_of(words.since) if words.since else Earlier()
+    columns, form = _columns(words), _form(words)
     if words.csv:
-        put(csv_lines([COLUMNS]))
-    bounds = Bounds(words.objects, words.deadline, words.devices)
-    missing, found = False, []
-    for device in surveyed(Calls.of(words), targets, bounds, words.sorted or bool(words.html)):
+        put(csv_lines([columns.names]))
+    bounds = Bounds(
+        words.objects, words.deadline, words.devices, words.details, words.held, words.stations
+    )
+    counts, found = Counts(len(targets)), []
+    in_order = words.sorted or bool(words.html)
+    for device in surveyed(Calls.of(words), targets, bounds, earlier, in_order):
+        counts.add(device)
         if device.hidden and not words.silent:
             continue
-        missing = missing or not (device.is_whole or device.hidden)
         found.append(device)
         if not words.html:
-            put(form(device))
+            put(form(device, columns))
     if words.html:
         replace_file(words.html, page_of(found, stamp()))
-    return MISSING if missing or not found else 0
+    if any(it.in_range for it in targets):
+        show(counts.line())
+    return MISSING if counts.missing or not found else 0
+
+
+class Counts:
+    """How many were asked, and what came of that."""
+
+    def __init__(self, asked: int) -> None:
+        self.asked, self.devices, self.silent, self.others = asked, 0, 0, 0
+        self.missing = False
+
+    def add(self, device: Device) -> None:
+        """Counts a device, or an address where there is none."""
+        self.devices += device.instance is not None
+        self.silent += device.hidden
+        self.others += device.instance is None and not device.hidden
+        self.missing = self.missing or not (device.is_whole or device.hidden)
+
+    def line(self) -> str:
+        """The counts in words."""
+        others = f", {self.others} for another reason without a device" if self.others else ""
+        return f"{self.asked} asked, {self.devices} devices, {self.silent} silent{others}\n"
+
+
+def _form(words: argparse.Namespace) -> Callable[[Device, Columns], str]:
+    if words.list:
+        return PollList().of
+    return as_csv if words.csv else as_json if words.json else as_lines
+
+
+def _columns(words: argparse.Namespace) -> Columns:
+    held, details = ("held",) * words.held, ("description", "event_state") * words.details
+    return Columns((*held, *details), bool(words.since))
 
 
 COMMAND = Command(

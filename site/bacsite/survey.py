@@ -1,94 +1,46 @@
-"""What a controller has: the device, and each of its objects; `report` prints that."""
+"""Who is at the addresses of a site, and what each has; `report` prints that."""
 
 from __future__ import annotations
 
-import re
-from dataclasses import dataclass, field
-from typing import Dict, Iterator, List, Optional, Sequence
+from functools import partial
+from threading import Event
+from typing import Dict, Iterator, List, Optional, Sequence, Tuple
 
-from . import names
-from .addresses import Target
+from .addresses import Target, is_routed
 from .calls import Calls
-from .command import deadline_of
-from .controller import NO_SUCH_PROPERTY, TIMEOUT, TOO_LONG, Controller, Elements
-from .names import BINARY, DEVICE, LOOK_ALIKE, MULTI_STATE, PROPERTIES, TYPES
+from .controller import Controller
+from .device import Bounds, Device, device_of, shortened
+from .earlier import Earlier
+from .processes import deadline_of
+from .reasons import Why, why_of
 from .texts import stamp
-from .values import NOTHING, Kind, Value, flags_of, parts_of
 from .workers import side_by_side
 
-
-@dataclass
-class SiteObject:
-    """An object of a device, and why something of it is missing."""
-
-    object_type: int
-    instance: int
-    name: str = ""
-    value: Value = NOTHING
-    meaning: str = ""  # of a state
-    unit: str = ""
-    flags: str = ""  # `normal`, or those that are set
-    reasons: List[str] = field(default_factory=list)
-
-    @property
-    def type_name(self) -> str:
-        """The name of its type; empty for a vendor's own."""
-        return TYPES.get(self.object_type, "")
+Heard = List[Tuple[int, str]]  # who answers a Who-Is: instance and address
 
 
-@dataclass
-class Device:
-    """A device, and why something of it is missing. Without an instance nobody said which it is."""
+class _Turn:
+    """Of one address: whether the device there was asked, and who answered a Who-Is meanwhile."""
 
-    address: str
-    instance: Optional[int] = None
-    name: str = ""
-    vendor: str = ""
-    model: str = ""
-    objects: List[SiteObject] = field(default_factory=list)
-    reasons: List[str] = field(default_factory=list)
-    hidden: bool = False  # nobody is there, and nobody said that somebody is
-    asked: str = ""  # when
-
-    @property
-    def is_whole(self) -> bool:
-        """Whether nothing of it is missing."""
-        return not self.reasons and not any(it.reasons for it in self.objects)
-
-
-@dataclass(frozen=True)
-class Bounds:
-    """How far a survey goes with one controller."""
-
-    objects: int = 5000
-    seconds: int = 600
-    devices_alone: bool = False
-
-
-class _Asker:
-    """Asks for properties of one object, and keeps why some are missing."""
-
-    def __init__(self, controller: Controller, object_type: int, instance: int) -> None:
-        self.controller, self.what = controller, (object_type, instance)
-        self.reasons: List[str] = []
-
-    def value(self, number: int, *index: int, optional: bool = True) -> Value:
-        """A value, or nothing. That there is no such property is no fault where it is optional."""
-        value = self.controller.value(*self.what, number, *index)
-        if number == names.STATUS_FLAGS:
-            value = flags_of(value)
-        if not value.fault:
-            return value
-        if not (optional and NO_SUCH_PROPERTY.fullmatch(value.fault)):
-            self.reasons.append(f"{PROPERTIES[number]}: {value.fault}")
-        return NOTHING
+    def __init__(self) -> None:
+        self.asked = Event()
+        self.heard: Optional[Heard] = None
 
 
 def surveyed(
-    calls: Calls, targets: Sequence[Target], bounds: Bounds, in_order: bool = False
+    calls: Calls,
+    targets: Sequence[Target],
+    bounds: Bounds,
+    earlier: Earlier,
+    in_order: bool = False,
 ) -> Iterator[Device]:
     """The devices at these addresses as they are ready. Two with one instance are remarked."""
-    jobs = [lambda target=target: devices_at(calls, target, bounds) for target in targets]
+    turns = {target.address: _Turn() for target in targets}
+    jobs = [partial(_devices_at, calls, it, bounds, earlier, turns[it.address]) for it in targets]
+    routers = [it for it in targets if it.may_be_router]
+    jobs += [
+        partial(_stations_behind, calls, it, bounds, earlier, turns[it.address]) for it in routers
+    ]
     seen: Dict[int, str] = {}
     for devices in side_by_side(calls, jobs, in_order):
         for device in devices:
@@ -99,104 +51,78 @@ def surveyed(
             yield device
 
 
-def devices_at(calls: Calls, target: Target, bounds: Bounds) -> List[Device]:
+def _devices_at(
+    calls: Calls, target: Target, bounds: Bounds, earlier: Earlier, turn: _Turn
+) -> List[Device]:
+    try:
+        with Controller(calls, target.address, deadline_of(bounds.seconds)) as controller:
+            return devices_at(controller, target, bounds, earlier, turn)
+    finally:
+        turn.asked.set()
+
+
+def _stations_behind(
+    calls: Calls, target: Target, bounds: Bounds, earlier: Earlier, turn: _Turn
+) -> List[Device]:
+    """Who answers a Who-Is from behind the router at an address: named, or surveyed as well.
+
+    A job of its own, since it takes as long as a Who-Is waits; begun once the device was asked.
+    """
+    turn.asked.wait()
+    heard = turn.heard
+    if heard is None:
+        heard = Controller(calls, target.address).who_is()
+    router = target.address + "/"
+    stations = [(instance, address) for instance, address in heard if address.startswith(router)]
+    if not bounds.stations:
+        return [Device(address, instance, asked=stamp()) for instance, address in stations]
+    found: List[Device] = []
+    for instance, address in stations:
+        station = Target(address, (instance,))
+        found += _devices_at(calls, station, bounds, earlier, _Turn())
+    return found
+
+
+def devices_at(
+    controller: Controller, target: Target, bounds: Bounds, earlier: Earlier, turn: _Turn
+) -> List[Device]:
     """The device at an address, and a line for each other one that is looked for there."""
-    controller = Controller(calls, target.address, deadline_of(bounds.seconds))
     found: List[Device] = []
     asked = stamp()
     for wanted in target.wanted:
-        reason = controller.identify(wanted)
+        reason = _identified(controller, wanted, turn)
         if reason:
-            hidden = target.in_range and controller.instance is None and reason == TIMEOUT
-            found.append(Device(target.address, reasons=[reason], hidden=hidden))
+            strange = _others(controller, target, turn.heard or [])
+            hidden = target.in_range and why_of(reason) is Why.SILENT and not strange
+            found.append(Device(target.address, reasons=[reason, *strange], hidden=hidden))
         elif all(device.instance is None for device in found):
-            found.append(device_of(controller, bounds))
+            found.append(device_of(controller, bounds, earlier.names_of))
     for device in found:
         device.asked = asked
+        device.changes = earlier.changes_of(device)
+        device.hidden = device.hidden and not device.changes
     return found
 
 
-def device_of(controller: Controller, bounds: Bounds) -> Device:
-    """The device that a controller has said it is, and its objects."""
-    assert controller.instance is not None, "it was identified"
-    asker = _Asker(controller, DEVICE, controller.instance)
-    device = Device(controller.address, controller.instance, reasons=asker.reasons)
-    device.name = asker.value(names.OBJECT_NAME, optional=False).text
-    device.vendor = asker.value(names.VENDOR_NAME, optional=False).text
-    device.model = asker.value(names.MODEL_NAME, optional=False).text
-    if not bounds.devices_alone:
-        _add_objects(device, controller, bounds)
-    if controller.is_over:
-        device.reasons.append("deadline" if controller.late else TIMEOUT)
-    return device
+def _identified(controller: Controller, wanted: Optional[int], turn: _Turn) -> str:
+    """Why it is not to be asked as this device. Who is silent is asked once more where he answers
+    a Who-Is: another program had him, or the request was lost."""
+    reason = controller.identify(wanted)
+    if not controller.silent or turn.heard is not None or is_routed(controller.address):
+        return reason
+    turn.heard = controller.who_is()
+    if all(address != controller.address for _, address in turn.heard):
+        return reason
+    controller.again()
+    return controller.identify(wanted)
 
 
-def _add_objects(device: Device, controller: Controller, bounds: Bounds) -> None:
-    listed = _object_list(controller, bounds)
-    device.reasons += ["object-list: " + reason for reason in _shortened(listed.reasons)]
-    objects = [it for it in dict.fromkeys(listed.found) if not it.startswith(f"{DEVICE}:")]
-    for word in objects[: bounds.objects]:
-        if controller.is_over:
-            break
-        object_type, instance = map(int, word.split(":"))
-        device.objects.append(object_of(controller, object_type, instance))
-    left = len(objects) - len(device.objects)
-    if left:
-        device.reasons.append(f"{left} of {len(objects)} objects not asked")
-
-
-def _object_list(controller: Controller, bounds: Bounds) -> Elements:
-    """The objects that a device says it has, as TYPE:INSTANCE, but for those that were lost."""
-    assert controller.instance is not None, "it was identified"
-    what = (DEVICE, controller.instance, names.OBJECT_LIST)
-    good, text = controller.ask(*what)
-    if text in TOO_LONG:
-        listed = controller.elements(bounds.objects + 1, *what)  # the device itself is one of them
-    elif good:
-        listed = Elements(parts_of(text))
-    else:
-        listed = Elements(reasons=[text])
-    strange = [it for it in listed.found if not re.fullmatch("[0-9]{1,4}:[0-9]{1,7}", it)]
-    listed.found = [it for it in listed.found if it not in strange]
-    listed.reasons += ["no object: " + it for it in strange]
-    return listed
-
-
-def _shortened(reasons: Sequence[str]) -> List[str]:
-    """The first reasons, and how many there are beside them but for the last, which counts."""
-    if len(reasons) <= 4:
-        return list(reasons)
-    return [*reasons[:3], f"{len(reasons) - 4} more such", reasons[-1]]
-
-
-def object_of(controller: Controller, object_type: int, instance: int) -> SiteObject:
-    """What an object has."""
-    asker = _Asker(controller, object_type, instance)
-    found = SiteObject(object_type, instance, reasons=asker.reasons)
-    found.name = asker.value(names.OBJECT_NAME, optional=False).text
-    if names.has_value(object_type):
-        found.value = asker.value(names.PRESENT_VALUE)
-        found.flags = asker.value(names.STATUS_FLAGS).text
-    if _has_unit(object_type):
-        unit = asker.value(names.UNITS)
-        found.unit = unit.meaning or unit.text
-    if found.value.kind is Kind.NUMBER:
-        found.meaning = _state(asker, object_type, int(found.value.number or 0))
-    found.meaning = found.meaning or found.value.meaning
-    return found
-
-
-def _has_unit(object_type: int) -> bool:
-    if object_type in BINARY + MULTI_STATE or not names.has_value(object_type):
-        return False
-    tags = names.present_form(object_type).tags
-    return not tags or tags[0] in LOOK_ALIKE
-
-
-def _state(asker: _Asker, object_type: int, state: int) -> str:
-    """What the device calls this state; empty where it has no word for it."""
-    if object_type in MULTI_STATE:
-        return asker.value(names.STATE_TEXT, state).text
-    if object_type in BINARY:
-        return asker.value(names.ACTIVE_TEXT if state else names.INACTIVE_TEXT).text
-    return ""
+def _others(controller: Controller, target: Target, heard: Heard) -> List[str]:
+    """What is odd about those who answered a Who-Is that was sent to one who is no device."""
+    found = []
+    for instance, address in heard:
+        if address == controller.address:
+            found.append(f"device {instance} answers a Who-Is, and no read")
+        elif target.in_range or not is_routed(address):
+            found.append(f"device {instance} answers a Who-Is from {address}")
+    return shortened(found)

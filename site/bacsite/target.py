@@ -2,16 +2,28 @@
 
 from __future__ import annotations
 
-import math
-from dataclasses import dataclass, replace
-from typing import Dict, Optional
+from dataclasses import dataclass, field, replace
+from decimal import Decimal
+from typing import Dict, NamedTuple, Optional, Set, Tuple
 
 from . import names
-from .controller import NO_SUCH_PROPERTY, Controller
-from .encode import NULL, TYPES, Encoded, encode
+from .bodies import elements_of
+from .controller import Controller
+from .encode import NULL, NUMBER, Encoded, encode
 from .failures import MISSING, Failure, wrong
 from .names import BINARY, MULTI_STATE, PROPERTIES, What, form_of
-from .values import NOTHING, Kind, Value, parts_of, value_of
+from .reasons import Why
+from .values import NOTHING, Kind, Value, values_of
+
+ANSWERED = ("error", "reject", "abort", "no text", "no list")  # reasons that an answer gives
+Limits = Tuple[Optional[Decimal], Optional[Decimal]]
+
+
+class Priorities(NamedTuple):
+    """The priority array by its numbers, from 1, if there is one; or why it is not read."""
+
+    values: Dict[int, Value] = {}
+    fault: str = ""
 
 
 @dataclass(frozen=True)
@@ -23,13 +35,37 @@ class Place:
     is_present_value: bool
     name: str = ""  # of the object
     value: Value = NOTHING
-    commandable: bool = False  # it has a priority array
+    texts: Dict[int, str] = field(default_factory=dict)  # what the object calls its states
+    priorities: Priorities = Priorities()
 
     def which(self) -> str:
         """It in words."""
         kind, number, prop, *_ = self.what
         told = f'{kind}:{number} {names.TYPES.get(kind, "")}'
         return told.rstrip() + ("" if self.is_present_value else " " + _name_of(prop))
+
+    def shown(self, value: Value) -> str:
+        """A value that it has, a state by what the object calls it."""
+        is_state = self.texts and value.kind is Kind.NUMBER
+        own = self.texts.get(int(value.text)) if is_state else None
+        return replace(value, meaning=own or value.meaning).shown()
+
+    def named(self, number: int) -> str:
+        """A number that it may have, with its name."""
+        meaning = form_of(self.what).names.get(number, "")
+        return self.shown(Value(Kind.NUMBER, str(number), meaning))
+
+    def told(self, value: Encoded) -> str:
+        """A value that it is to have."""
+        return self.named(int(value.text)) if value.tag in names.INTEGERS else value.shown()
+
+    def numbers(self) -> Dict[str, Set[int]]:
+        """Which numbers a name stands for, in small letters: by the standard, and by the object."""
+        found: Dict[str, Set[int]] = {}
+        for table in (form_of(self.what).names, self.texts):
+            for number, name in table.items():
+                found.setdefault(name.lower(), set()).add(number)
+        return found
 
 
 def _name_of(prop: int) -> str:
@@ -46,83 +82,110 @@ def looked_at(controller: Controller, place: Place) -> Place:
     value = _needed(controller, *place.what)
     if value is NOTHING:
         raise Failure(f"{_name_of(place.what[2])}: error 2 32", MISSING)
-    array = priorities(controller, place) if place.is_present_value else {}
-    return replace(place, name=name.text, value=value, commandable=bool(array))
+    texts = _texts(controller, place) if form_of(place.what).states else {}
+    array = priorities(controller, place) if place.is_present_value else Priorities()
+    if array.fault and not array.fault.startswith(ANSWERED):
+        raise Failure("priority-array: " + array.fault, MISSING)
+    return replace(place, name=name.text, value=value, texts=texts, priorities=array)
 
 
 def _needed(controller: Controller, *what: int) -> Value:
     """A value, or nothing where there is no such property; any other reason ends the program."""
     value = controller.value(*what)
-    if NO_SUCH_PROPERTY.fullmatch(value.fault):
+    if value.why is Why.NO_PROPERTY:
         return NOTHING
-    if value.fault and not value.fault.startswith("no number"):  # NaN can be written over
+    if value.fault and value.why is not Why.NO_NUMBER:  # NaN can be written over
         raise Failure(f"{_name_of(what[2])}: {value.fault}", MISSING)
     return value
 
 
-def priorities(controller: Controller, place: Place) -> Dict[int, Value]:
-    """The priority array by its numbers, from 1; empty where there is none."""
+def _texts(controller: Controller, place: Place) -> Dict[int, str]:
+    """What the object calls its states, as far as it says so."""
+    kind, number, *_ = place.what
+    if kind in MULTI_STATE:
+        answer = controller.read(kind, number, names.STATE_TEXT)
+        if answer.reason and not answer.reason.startswith(ANSWERED):
+            raise Failure("state-text: " + answer.reason, MISSING)
+        form = form_of((kind, number, names.STATE_TEXT, 1))
+        texts = dict(enumerate(values_of(answer.region, form), 1))
+    else:
+        own = (names.INACTIVE_TEXT, names.ACTIVE_TEXT)
+        texts = {at: controller.value(kind, number, it) for at, it in enumerate(own)}
+    for at, text in texts.items():
+        if text.fault and not text.fault.startswith(ANSWERED):
+            raise Failure(f"the text of state {at}: {text.fault}", MISSING)
+    return {at: it.text for at, it in texts.items() if it.kind is Kind.TEXT and it.text}
+
+
+def priorities(controller: Controller, place: Place) -> Priorities:
+    """The priority array."""
     what = (*place.what[:2], names.PRIORITY_ARRAY)
-    good, text = controller.read(*what)
-    if not good:
-        if NO_SUCH_PROPERTY.fullmatch(text):
-            return {}
-        raise Failure("priority-array: " + text, MISSING)
-    form = form_of((*what, 1))
-    return {at: value_of(part, form) for at, part in enumerate(parts_of(text), 1)}
+    answer = controller.read(*what)
+    if answer.why is Why.NO_PROPERTY:
+        return Priorities()
+    if answer.reason or elements_of(answer.region) is None:
+        return Priorities(fault=answer.reason or "no list")
+    return Priorities(dict(enumerate(values_of(answer.region, form_of((*what, 1))), 1)))
 
 
 def encoded_for(controller: Controller, place: Place, word: str, type_: Optional[str]) -> Encoded:
     """The value of a word here. It fails where that is of the wrong type, or past a range."""
     form = form_of(place.what)
-    if word == "null" and place.is_present_value:
+    if word == "null" and place.is_present_value and not type_:
         return NULL
     if form.is_list or form.is_row:
         raise wrong(f"{_name_of(place.what[2])} has several values: name one by --index")
-    tag = TYPES.index(type_) if type_ else (form.tags[0] if form.tags else -1)
+    tag = names.TAGS.index(type_) if type_ else (form.tags[0] if form.tags else -1)
     if form.tags and tag not in form.tags:
-        raise wrong(f"{place.which()} is no {type_}, but {TYPES[form.tags[0]]}")
+        raise wrong(f"{place.which()} is no {type_}, but {names.TAGS[form.tags[0]]}")
     if tag < 0:
         raise wrong(f"the type of {place.which()} is not known: name it by --type")
-    value = encode(word, tag, lambda: states_of(controller, place))
+    if tag in names.INTEGERS and not (type_ and NUMBER.fullmatch(word)):
+        word = _number(place, word, names.TAGS[tag])
+    value = encode(word, tag)
     if tag in names.LOOK_ALIKE and place.is_present_value:
         _refuse_past_the_range(controller, place, value)
     return value
 
 
-def states_of(controller: Controller, place: Place) -> Dict[str, int]:
-    """The names of numbers, in small letters: those of the standard, and those of the object."""
-    found = {name.lower(): number for number, name in form_of(place.what).names.items()}
-    if not place.is_present_value:
-        return found
-    kind, number, *_ = place.what
-    if kind in BINARY:
-        for state, prop in enumerate((names.INACTIVE_TEXT, names.ACTIVE_TEXT)):
-            text = controller.value(kind, number, prop)
-            if text.kind is Kind.TEXT and text.text:
-                found[text.text.lower()] = state
-    elif kind in MULTI_STATE:
-        good, listed = controller.read(kind, number, names.STATE_TEXT)
-        form = form_of((kind, number, names.STATE_TEXT, 1))
-        texts = [value_of(part, form).text.lower() for part in parts_of(listed)] if good else []
-        found.update({text: at for at, text in enumerate(texts, 1) if texts.count(text) == 1})
-    return found
+def _number(place: Place, word: str, type_: str) -> str:
+    """The number that a word is, or is the name of. It fails where it may be two."""
+    known, is_number = place.numbers(), NUMBER.fullmatch(word)
+    found = known.get(word.lower(), set()) | ({int(word)} if is_number else set())
+    if len(found) > 1:
+        which = " or ".join(map(place.named, sorted(found)))
+        cure = f"by --type {type_} it is the number" if is_number else "give its number"
+        raise wrong(f"{word} may be {which}: {cure}")
+    if not found:
+        alone = [name for name, numbers in known.items() if len(numbers) == 1]
+        told = "; it has " + ", ".join(alone) if 0 < len(alone) <= 20 else ""
+        raise wrong(f"no number and no state: {word}{told}")
+    return str(found.pop())
 
 
 def _refuse_past_the_range(controller: Controller, place: Place, value: Encoded) -> None:
     """Fails where the number is not one that the object has, as it says itself."""
+    least, most = _limits(controller, place)
+    number = Decimal(value.text)
+    if (least is None or least <= number) and (most is None or number <= most):
+        return
+    ends = f"{least:f} and more" if most is None else f"up to {most:f}"
+    if least is not None and most is not None:
+        ends = f"{least:f} to {most:f}"
+    raise wrong(f"{place.which()} takes {ends}, not {value.text}")
+
+
+def _limits(controller: Controller, place: Place) -> Limits:
+    """The least and the greatest number of an object. Both are 0 where it knows of none."""
     kind, number, *_ = place.what
-    least, most = form_of(place.what).states or (-math.inf, math.inf)
-    if kind in MULTI_STATE:
-        most = _bound(controller, kind, number, names.NUMBER_OF_STATES, most)
-    elif kind not in BINARY:
-        least = _bound(controller, kind, number, names.MIN_VALUE, least)
-        most = _bound(controller, kind, number, names.MAX_VALUE, most)
-    if not least <= float(value.text) <= most:
-        raise wrong(f"{place.which()} takes {least:g} to {most:g}, not {value.text}")
+    if kind in BINARY + MULTI_STATE:
+        least, most = form_of(place.what).states or (0, 1)
+        count = _limit(controller, kind, number, names.NUMBER_OF_STATES) if least else None
+        return Decimal(least), count or Decimal(most)
+    found = [_limit(controller, kind, number, it) for it in (names.MIN_VALUE, names.MAX_VALUE)]
+    return (None, None) if found == [0, 0] else (found[0], found[1])
 
 
-def _bound(controller: Controller, kind: int, number: int, prop: int, usual: float) -> float:
-    """A limit that the object has; the usual one where it has none."""
-    limit = _needed(controller, kind, number, prop).number
-    return usual if limit is None else limit
+def _limit(controller: Controller, *what: int) -> Optional[Decimal]:
+    limit = _needed(controller, *what)
+    return Decimal(limit.text) if limit.kind is Kind.NUMBER else None

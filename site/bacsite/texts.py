@@ -7,12 +7,24 @@ import time
 import unicodedata
 from typing import List, Optional, Sequence
 
+ESCAPE = re.compile(r"\\(?:[\\nrt]|x[0-9a-f]{2}|u[0-9a-f]{4}|U[0-9a-f]{8})")
+
 
 def clean(text: str) -> str:
     """A text in which what would steer a terminal or end a line is escaped."""
+    if text.isprintable():
+        return text
     return "".join(
         char if char.isprintable() else char.encode("unicode_escape").decode() for char in text
     )
+
+
+def escaped(text: str) -> str:
+    """A text that somebody else has made, as `clean`. Where it has something to escape, or reads as
+    if it had, each backslash is doubled: so no two texts look alike."""
+    if text.isprintable() and not ESCAPE.search(text):
+        return text
+    return clean(text.replace("\\", "\\\\"))
 
 
 def stamp(seconds: Optional[float] = None) -> str:
@@ -35,20 +47,3 @@ def table(rows: Sequence[Sequence[str]]) -> List[str]:
         "  ".join(cell + " " * (wide - width(cell)) for cell, wide in zip(row, widths)).rstrip()
         for row in rows
     ]
-
-
-CHARACTER_SETS = {"": "utf-8", "3:": "utf-32-be", "4:": "utf-16-be", "5:": "latin-1"}
-ESCAPE = re.compile(rb"\\(?:x([0-9a-f]{2})|(.))")
-
-
-def decoded(quoted: str) -> str:
-    """A text as bacrp prints it, SET:"TEXT", decoded; as it came where its set can't be read."""
-    charset, inner = quoted.split('"', 1)
-    octets = ESCAPE.sub(
-        lambda found: bytes.fromhex(found[1].decode()) if found[1] else found[2],
-        inner[:-1].encode(),
-    )
-    try:
-        return clean(octets.decode(CHARACTER_SETS[charset]))
-    except (KeyError, UnicodeDecodeError):
-        return quoted

@@ -1,16 +1,26 @@
-"""Values in plain form, of the lines that bacrp prints."""
+"""Values in plain form, of the octets of an answer: their tags tell which types they have."""
 
 from __future__ import annotations
 
 import enum
-import re
 from dataclasses import dataclass
-from typing import Dict, List, Optional, Sequence
+from typing import Dict, List, Optional, Sequence, Tuple
 
 from . import names
+from .bodies import (
+    OPENING,
+    Element,
+    bits_of,
+    element_at,
+    element_text,
+    elements_of,
+    region_end,
+    tag_at,
+)
 from .decimals import NO_NUMBERS, shortest
 from .names import Form
-from .texts import clean, decoded
+from .reasons import Why, why_of
+from .texts import escaped
 
 
 class Kind(enum.Enum):
@@ -19,7 +29,6 @@ class Kind(enum.Enum):
     NUMBER = "number"
     TEXT = "text"
     OTHER = "other"  # bits, a date, a list, null, ..
-    UNTYPED = "untyped"  # digits whose type is not known
     FAULT = "fault"  # it is missing, or is not what the property has to have
 
 
@@ -30,11 +39,17 @@ class Value:
     kind: Kind
     text: str
     meaning: str = ""  # the name of a number, or of the bits that are set
+    bits: Tuple[str, ...] = ()  # the names of those that are set
 
     @property
     def fault(self) -> str:
         """Why there is no value; empty where there is one."""
         return self.text if self.kind is Kind.FAULT else ""
+
+    @property
+    def why(self) -> Why:
+        """What the fault says."""
+        return why_of(self.fault)
 
     @property
     def number(self) -> Optional[float]:
@@ -45,6 +60,10 @@ class Value:
         """The value with what it means."""
         return f"{self.text} ({self.meaning})" if self.meaning else self.text
 
+    def told(self) -> str:
+        """The same, a text in quotation marks."""
+        return f'"{self.text}"' if self.kind is Kind.TEXT else self.shown()
+
 
 def fault(text: str) -> Value:
     """No value, and why."""
@@ -52,136 +71,136 @@ def fault(text: str) -> Value:
 
 
 NOTHING = Value(Kind.OTHER, "")
-
-# How bacrp spells the values of each tag, and what they are called where another one is found.
-SPELLINGS = {
-    names.NULL: "null",
-    names.BOOLEAN: "true|false",
-    names.UNSIGNED: "0|[1-9][0-9]*",
-    names.SIGNED: "0|-?[1-9][0-9]*",
-    names.REAL: "[0-9a-f]{8}",
-    names.DOUBLE: "[0-9a-f]{16}",
-    names.OCTETS: "X'(?:[0-9a-f]{2})*'",
-    names.STRING: r'(?:[0-9]+:)?"(?:[^"\\]|\\.)*"',
-    names.BITS: "B'[01]*'",
-    names.ENUMERATED: "0|[1-9][0-9]*",
-    names.DATE: "D'[0-9a-f]{8}'",
-    names.TIME: "T'[0-9a-f]{8}'",
-    names.OBJECT: "[0-9]+:[0-9]+",
-}
-CALLED = (
-    "null boolean integer integer real double octets text bits integer date time object".split()
-)
-MARKED = (names.NULL, names.BOOLEAN, names.OCTETS, names.STRING, names.BITS, names.DATE, names.TIME)
-TELL_THEMSELVES = (*MARKED, names.OBJECT)
-# What a list of points may name in front of a type.
-FORMS = {
-    "integer": Form(names.INTEGERS),
-    "real": Form((names.REAL,)),
-    "double": Form((names.DOUBLE,)),
-}
-PART = re.compile(r'((?:[0-9]+:)?"(?:[^"\\]|\\.)*"|[^,"]+)(?:,|\Z)')
+CHARACTER_SETS = {0: "utf-8", 3: "utf-32-be", 4: "utf-16-be", 5: "latin-1"}
 
 
-def value_of(text: str, form: Form) -> Value:
-    """What bacrp prints of a property whose values are of this form."""
-    if text.startswith("{"):
-        return _list_of(PART.findall(text[1:-1]), text, form)
-    if form.is_row:
-        return fault(f'no {" and ".join(CALLED[tag] for tag in form.tags)}: {text}')
-    return _element_of(text, form)
-
-
-def parts_of(text: str) -> List[str]:
-    """The elements of a list as bacrp prints it; of one element it prints that alone."""
-    return PART.findall(text[1:-1]) if text.startswith("{") else [text]
-
-
-def _list_of(parts: Sequence[str], text: str, form: Form) -> Value:
-    """A list, or a row of parts of several types."""
-    if form.is_row and len(parts) == len(form.tags):
-        found = [_element_of(part, Form((tag,))) for part, tag in zip(parts, form.tags)]
+def value_of(region: bytes, form: Form) -> Value:
+    """The value of a property, or of an element, whose values are to be of this form."""
+    elements = elements_of(region)
+    if elements is None:
+        text = _constructed(region)
+        return _none(form, text) if form.tags else Value(Kind.OTHER, text)
+    if form.is_row and len(elements) == len(form.tags):
+        found = [_value(it, Form((tag,))) for it, tag in zip(elements, form.tags)]
+    elif len(elements) == 1 and not form.is_row:
+        return _value(elements[0], form)
     elif form.is_list or not form.tags:
-        found = [_element_of(part, form) for part in parts]
+        found = [_value(it, form) for it in elements]
     else:
-        return fault(f"no {CALLED[form.tags[0]]}: {clean(text)}")
+        return _none(form, _listed([_plain(it) for it in elements]))
     wrong = [it for it in found if it.kind is Kind.FAULT]
-    texts = [f'"{it.text}"' if it.kind is Kind.TEXT else it.shown() for it in found]
-    return wrong[0] if wrong else Value(Kind.OTHER, "{" + ", ".join(texts) + "}")
+    return wrong[0] if wrong else Value(Kind.OTHER, _listed(found))
 
 
-def _element_of(text: str, form: Form) -> Value:
-    """A value that is no list. Where its type is not known, it may tell itself by its spelling."""
-    tags = form.tags or TELL_THEMSELVES
-    for tag in tags:
-        if re.fullmatch(SPELLINGS[tag], text):
-            return _plain(tag, text, form)
-    if form.tags:
-        return fault(f"no {CALLED[form.tags[0]]}: {text}")
-    return _untyped(text)
+def values_of(region: bytes, form: Form) -> List[Value]:
+    """Each value of a list or an array, whose elements are to be of this form."""
+    return [_value(it, form) for it in elements_of(region) or []]
 
 
-def _untyped(text: str) -> Value:
-    """What may be a Real, a Double or an integer is marked: 40600000 is 3.5, or 40 million."""
-    if re.fullmatch("[0-9a-f]{8}|[0-9a-f]{16}", text):
-        text = "untyped:" + text
-    return Value(Kind.UNTYPED, text)
+def told(element: Element) -> str:
+    """A value of any type, a text in quotation marks."""
+    return _plain(element).told()
 
 
-def _plain(tag: int, text: str, form: Form) -> Value:
-    """A value of a tag, which is spelled as this tag is."""
-    if tag in (names.REAL, names.DOUBLE):
-        return _decimal(text)
-    if tag in names.INTEGERS:
-        return _integer(text, form)
-    if tag == names.STRING:
-        return Value(Kind.TEXT, decoded(text))
+def shown(region: bytes) -> str:
+    """A value that nothing is known of."""
+    return value_of(region, Form()).told()
+
+
+def _listed(found: Sequence[Value]) -> str:
+    """A list; of one element that alone."""
+    texts = [it.told() for it in found]
+    return texts[0] if len(texts) == 1 else "{" + ", ".join(texts) + "}"
+
+
+def _none(form: Form, found: str) -> Value:
+    """The fault that a value is of another type than it has to be."""
+    tags = form.tags if form.is_row else form.tags[:1]
+    called = ["integer" if it in names.INTEGERS else names.TAGS[it] for it in tags]
+    return fault(f'no {" and ".join(called)}: {found}')
+
+
+def _value(element: Element, form: Form) -> Value:
+    """A value of this form. Whole numbers of all types are one, but for a sign where none is."""
+    value, kind, tags = _plain(element, form.names), element.kind, form.tags
+    whole = kind in names.INTEGERS and any(it in names.INTEGERS for it in tags)
+    is_below = whole and element.number < 0 and names.SIGNED not in tags
+    if tags and (is_below or not (whole or kind in tags)):
+        type_ = f"{names.TAGS[kind]} " if kind in names.LOOK_ALIKE else ""
+        return _none(form, type_ + value.told())
+    if value.text in NO_NUMBERS and value.kind is Kind.NUMBER:  # as of a sensor that has failed
+        return fault("no number: " + value.text)
+    if form.states and whole and not form.states[0] <= int(value.text) <= form.states[1]:
+        return fault("no state: " + value.text)
+    return value
+
+
+def _plain(element: Element, meanings: Optional[Dict[int, str]] = None) -> Value:
+    """A value of any type, with what its number or its bits mean."""
+    kind, octets, text, known = *element, element_text(element), meanings or {}
+    if kind in (names.REAL, names.DOUBLE):
+        return Value(Kind.NUMBER, shortest(text))
+    if kind in names.INTEGERS:
+        return Value(Kind.NUMBER, text, known.get(int(text), ""))
+    if kind == names.STRING:
+        return Value(Kind.TEXT, _decoded(octets, text))
     meaning = ""
-    if tag == names.BITS:
-        meaning = _bits_set(text, form.names)
-    elif tag in (names.DATE, names.TIME):
-        text = _moment_of(text)
-    elif tag == names.OBJECT:
-        meaning = names.TYPES.get(int(text.split(":")[0]), "")
+    if kind == names.BITS:
+        places = [at for at, bit in enumerate(bits_of(octets)) if bit == "1"] if known else []
+        bits = tuple(known.get(at, f"bit {at}") for at in places)
+        return Value(Kind.OTHER, text, ", ".join(bits), bits)
+    if kind in (names.DATE, names.TIME):
+        text = _moment_of(kind, octets) or text
+    elif kind == names.OBJECT:
+        meaning = names.TYPES.get(element.number >> 22, "")
     return Value(Kind.OTHER, text, meaning)
 
 
-def _decimal(octets: str) -> Value:
-    """A Real or a Double. A sensor that has failed may give NaN or an infinity: no number."""
-    decimal = shortest(octets)
-    if decimal in NO_NUMBERS:
-        return fault("no number: " + decimal)
-    return Value(Kind.NUMBER, decimal)
+def _decoded(octets: bytes, text: str) -> str:
+    """A text by its set; as bacrp prints it where that can't be read."""
+    try:
+        return escaped(octets[1:].decode(CHARACTER_SETS[octets[0]]))
+    except (KeyError, UnicodeDecodeError):
+        return text
 
 
-def _integer(text: str, form: Form) -> Value:
-    """An integer. That of a binary or a multi-state point has to be a state."""
-    number = int(text)
-    if form.states and not form.states[0] <= number <= form.states[1]:
-        return fault("no state: " + text)
-    return Value(Kind.NUMBER, text, form.names.get(number, ""))
-
-
-def _bits_set(text: str, meanings: Dict[int, str]) -> str:
-    """The names of the bits that are set, where bits of this property have names."""
-    bits = [at for at, bit in enumerate(text[2:-1]) if bit == "1"] if meanings else []
-    return ", ".join(meanings.get(at, f"bit {at}") for at in bits)
-
-
-def _moment_of(text: str) -> str:
-    """A Date or a Time as 2024-10-31 or 12:30:00.00; as bacrp prints it where a part is any."""
-    first, second, third, last = bytes.fromhex(text[2:-1])
-    if text[0] == "D":
+def _moment_of(kind: int, octets: bytes) -> str:
+    """A Date or a Time as 2024-10-31 or 12:30:00.00; empty where a part is any."""
+    first, second, third, last = octets
+    if kind == names.DATE:
         is_date = first < 255 and 1 <= second <= 12 and 1 <= third <= 31
-        return f"{1900 + first}-{second:02d}-{third:02d}" if is_date else text
+        return f"{1900 + first}-{second:02d}-{third:02d}" if is_date else ""
     is_time = first < 24 and second < 60 and third < 60 and last < 100
-    return f"{first:02d}:{second:02d}:{third:02d}.{last:02d}" if is_time else text
+    return f"{first:02d}:{second:02d}:{third:02d}.{last:02d}" if is_time else ""
+
+
+def _constructed(region: bytes) -> str:
+    """A region with context tags, which tell no types: [1]X'05' is a value, [0]{..} has others."""
+    texts, at = [], 0
+    while at < len(region):
+        tag, end, element = tag_at(region, at), None, element_at(region, at)
+        if tag and tag.length == OPENING:
+            end = region_end(region, tag.end)
+        closing = tag_at(region, end) if end is not None else None
+        if element:
+            texts.append(_plain(element[0]).told())
+            at = element[1]
+        elif tag and tag.length == OPENING and closing:
+            texts.append(f"[{tag.number}]{{{_constructed(region[tag.end : end])}}}")
+            at = closing.end
+        elif tag and tag.length >= 0:
+            at = tag.end + tag.length
+            mark = f"[{tag.number}]" if tag.context else f"{tag.number}:"
+            texts.append(f"{mark}X'{region[tag.end : at].hex()}'")
+        else:
+            return "hex " + region.hex()
+    return ", ".join(texts)
 
 
 def flags_of(value: Value) -> Value:
     """Status flags, which are four bits, by their names, or `normal`; else a fault."""
     if value.fault:
         return value
-    if not re.fullmatch("B'[01]{4}'", value.text):
+    if len(value.text) != len("B'0000'"):
         return fault("no four bits: " + value.text)
-    return Value(Kind.OTHER, value.meaning or "normal")
+    return Value(Kind.OTHER, value.meaning or "normal", bits=value.bits)

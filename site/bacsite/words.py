@@ -3,13 +3,10 @@
 from __future__ import annotations
 
 import argparse
-import re
 from importlib import import_module
-from typing import Dict, List, Optional, Sequence
+from typing import Dict, Sequence
 
-from . import VERSION
-from .command import Command, Parser, asking
-from .output import put
+from .command import Command, Parser, add_version, asking
 
 # Each command by its name, and where its Command is: a new one is a module, and a line here. Only
 # the module of the command that is asked for is loaded, since monitoring begins it again and again.
@@ -21,7 +18,8 @@ COMMANDS: Dict[str, str] = {
     "check": "check.COMMAND",
     "prometheus": "prometheus.COMMAND",
     "write": "write.COMMAND",
-    "capture": "capture.COMMAND",
+    "write-list": "write_list.COMMAND",
+    "capture": "capture.command.COMMAND",
     "real": "convert.REAL",
     "octets": "convert.OCTETS",
 }
@@ -30,10 +28,10 @@ DESCRIPTION = """\
 Surveys a site of BACnet/IP controllers, reads and writes points of them, and tells monitoring.
 
 It asks by bactool, which lies beside it, on PATH or in --tools FOLDER. An ADDRESS is 192.0.2.7,
-192.0.2.7:47809 or the name of a host. With an instance in front, as 1234@192.0.2.7, it is asked
-first which device it is, and for nothing more if that is another one. TYPE and PROPERTY are numbers
-or names, as 0 or analog-input. They tell which type a value has; for a vendor's own, real, double
-or integer behind the address tells it.
+192.0.2.7:47809, the name of a host, or of station 01 in network 5 behind a router 192.0.2.7/5/01.
+With an instance in front, as 1234@192.0.2.7, it is asked first which device it is, and for nothing
+more if that is another one. TYPE and PROPERTY are numbers or names, as 0 or analog-input. They tell
+which type a value has to have; real, double or integer behind the address demands one.
 
 The status is 0 where all that was asked for came, 1 where something is missing, 2 where the words
 are wrong, and 3 where a stream, a file or bactool fails. That of check is as monitoring plugins
@@ -41,23 +39,9 @@ have it.
 """
 
 
-class Version(argparse.Action):
-    """Prints the version, and ends the program."""
-
-    def __call__(
-        self,
-        parser: argparse.ArgumentParser,
-        namespace: argparse.Namespace,
-        values: object,
-        option_string: Optional[str] = None,
-    ) -> None:
-        put(f"bacsite {VERSION}\n")
-        parser.exit()
-
-
 def command_of(name: str) -> Command:
     """The command of this name."""
-    module, _, attribute = COMMANDS[name].partition(".")
+    module, _, attribute = COMMANDS[name].rpartition(".")
     command: Command = getattr(import_module("." + module, __package__), attribute)
     return command
 
@@ -66,7 +50,7 @@ def parser_of(given: Sequence[str]) -> Parser:
     """The parser of these words; that of all commands where they begin with none."""
     form = argparse.RawDescriptionHelpFormatter
     top = Parser(prog="bacsite", description=DESCRIPTION, formatter_class=form)
-    top.add_argument("-V", "--version", action=Version, nargs=0, help="print the version")
+    add_version(top)
     commands = top.add_subparsers(dest="command", required=True, metavar="COMMAND")
     for name in [given[0]] if given and given[0] in COMMANDS else COMMANDS:
         command = command_of(name)
@@ -82,6 +66,6 @@ def parser_of(given: Sequence[str]) -> Parser:
     return top
 
 
-def no_options(given: Sequence[str]) -> List[str]:
-    """The words, a space in front of those that begin as negative numbers: -10:5 is no option."""
-    return [" " + word if re.match(r"-\.?[0-9]", word) else word for word in given]
+def parsed(given: Sequence[str]) -> argparse.Namespace:
+    """The words, read."""
+    return parser_of(given).parsed(given)

@@ -71,7 +71,6 @@ def _as_come(
 def _next(done: "SimpleQueue[Future[Result]]", progress: _Progress) -> "Future[Result]":
     """The next one that is done."""
     while True:
-        progress.calls.processes.look()
         try:
             return done.get(timeout=LOOK_EVERY)
         except Empty:
@@ -83,7 +82,6 @@ def _in_order(
 ) -> Iterator["Future[Result]"]:
     for future in futures:
         while not wait([future], LOOK_EVERY).done:
-            progress.calls.processes.look()
             progress.done = sum(it.done() for it in futures)
             progress.show()
         progress.clear()

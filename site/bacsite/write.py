@@ -3,30 +3,25 @@
 from __future__ import annotations
 
 import argparse
+import os
 from typing import NamedTuple, Optional, Tuple
 
 from . import addresses, names
+from .addresses import is_routed
+from .bodies import elements_of
 from .calls import BIND_FAILED, Calls
 from .command import Command, within
 from .controller import Controller
-from .encode import TYPES, Encoded
+from .encode import WORD, Encoded
 from .failures import BROKEN, MISSING, WRONG_WORDS, Failure, wrong
-from .names import PRESENT_VALUE
+from .names import DEVICE, OBJECT, OBJECT_ID, PRESENT_VALUE, PRIORITY_NAMES
 from .output import put
 from .points import index, instance, object_type, property_number
 from .processes import Outcome
-from .target import Place, encoded_for, looked_at, priorities
+from .target import Place, Priorities, encoded_for, looked_at, priorities
 from .values import Value
 from .workers import alone
 
-# What the standard keeps each priority for; the others are free.
-PRIORITY_NAMES = {
-    1: "manual-life-safety",
-    2: "automatic-life-safety",
-    5: "critical-equipment-control",
-    6: "minimum-on-off",
-    8: "manual-operator",
-}
 NOT_KNOWN = "outcome not known: the write may have been made"
 NOTHING_SENT = "nothing was sent"
 
@@ -40,11 +35,6 @@ class Order(NamedTuple):
     type: Optional[str]
     priority: Optional[int]
     dry: bool
-
-    def told(self, value: Encoded) -> str:
-        """It in words."""
-        where = "" if self.priority is None else f" at priority {self.priority}"
-        return f"write {value.shown()}{where}"
 
 
 class Ending(NamedTuple):
@@ -75,23 +65,58 @@ def written(controller: Controller, order: Order) -> int:
     """Looks, writes, and looks again; the status of the program."""
     try:
         place, value = prepared(controller, order)
+        _show(controller, place)
     except Failure as failure:
-        raise Failure(f"{failure}; {NOTHING_SENT}", failure.status) from failure
+        raise Failure(f"{failure}; {NOTHING_SENT}".lstrip("; "), failure.status) from failure
+    where = "" if order.priority is None else f" at priority {order.priority}"
+    head = f"write {place.told(value)}{where}: "
+    if order.dry:
+        put(f"{head}{NOTHING_SENT}, as was asked for\n")
+        return 0
+    told = head + NOT_KNOWN
+    try:
+        with controller.calls.writing():  # until it is told how that ended
+            ending = ending_of(_sent(controller, order, value))
+            told = head + ending.told
+            put(told + "\n")
+        return _checked(controller, order, place, value, ending)
+    except Exception as error:  # whatever it is
+        raise Failure(f"{told}; {str(error) or 'nobody reads on'}", BROKEN) from error
+
+
+def _show(controller: Controller, place: Place) -> None:
+    """Prints what is there."""
     put(f"device {controller.instance or 0} at {controller.address}\n")
     put(f"object {place.which()} {place.name}\n")
-    put(f"before: {place.value.shown()}\n")
-    if order.dry:
-        put(f"{order.told(value)}: {NOTHING_SENT}, as was asked for\n")
-        return 0
-    ending = ending_of(_sent(controller, order, value))
-    put(f"{order.told(value)}: {ending.told}\n")
+    put(f"before: {place.shown(place.value)}\n")
+    if place.priorities.fault:
+        put(f"priority-array: {place.priorities.fault}\n")
+
+
+def _checked(
+    controller: Controller, order: Order, place: Place, value: Encoded, ending: Ending
+) -> int:
+    """Looks again, also which device that is; the status of the program."""
     if not ending.was_sent:
         return ending.status
-    found = _read_back(controller, order)
-    if ending.was_refused or (not found.fault and found.text == value.text):
-        return ending.status
-    put(f"not as written: {found.shown()}\n")
-    return ending.status or MISSING
+    found, status = _read_back(controller, order, place), ending.status
+    if not ending.was_refused and (found.fault or found.text != value.text):
+        unread = place.priorities.fault
+        why = "not sure, since no priority is read" if unread else "not as written"
+        put(f"{why}: {place.shown(found)}\n")
+        status = status or MISSING
+    reason = _another(controller)
+    if reason:
+        put(f"not sure that it is device {controller.instance or 0} still: {reason}\n")
+    return status or (MISSING if reason else 0)
+
+
+def _another(controller: Controller) -> str:
+    """Why it may be another device than before, as one that took over its address."""
+    own = (DEVICE, controller.instance or 0)
+    answer = controller.ask(*own, OBJECT_ID)
+    found = [(it.kind, it.of_object) for it in elements_of(answer.region) or []]
+    return answer.reason or ("" if found == [(OBJECT, own)] else "it says another number")
 
 
 def prepared(controller: Controller, order: Order) -> Tuple[Place, Encoded]:
@@ -101,35 +126,49 @@ def prepared(controller: Controller, order: Order) -> Tuple[Place, Encoded]:
         raise Failure(reason, MISSING)
     place = looked_at(controller, order.place)
     value = encoded_for(controller, place, order.word, order.type)
-    if place.commandable and order.priority is None:
+    commandable = bool(place.priorities.values)
+    if commandable and order.priority is None:
         raise wrong(f"{place.which()} is commanded by priorities: name one by --priority")
-    if value.tag == names.NULL and not place.commandable:
+    if is_routed(place.address) and not WORD.fullmatch(os.fsencode(value.word)):
+        raise wrong("no text with a space, and no empty one, can be sent behind a router")
+    may_let_go = commandable or (place.priorities.fault and order.priority)
+    if value.tag == names.NULL and not may_let_go:
         raise wrong(f"null lets go of a priority: {place.which()} has no priority array")
     return place, value
 
 
 def _sent(controller: Controller, order: Order, value: Encoded) -> Outcome:
-    kind, number, prop, *element = order.place.what
-    where = [controller.instance or 0, kind, number, prop, order.priority or 0, *(element or [-1])]
-    what = ["--", str(value.tag), value.word]
-    return controller.calls.write([*controller.options(), *map(str, where), *what])
+    what, element = order.place.what[:3], order.place.what[3:] or (-1,)
+    where = [str(it) for it in (*what, order.priority or 0, *element)]
+    if is_routed(order.place.address):
+        return controller.write(" ".join([*where, str(value.tag), value.word]))
+    device, value_words = str(controller.instance or 0), ["--", str(value.tag), value.word]
+    return controller.calls.write([*controller.options(), device, *where, *value_words])
 
 
-def _read_back(controller: Controller, order: Order) -> Value:
+def _read_back(controller: Controller, order: Order, place: Place) -> Value:
     """Prints what the property is now. It gives what stands where the value was written."""
-    now = controller.value(*order.place.what)
-    put(f"now: {now.shown()}\n")
-    array = priorities(controller, order.place) if order.place.is_present_value else {}
-    for priority, found in array.items():
-        if found.text != "null":
-            name = PRIORITY_NAMES.get(priority, "")
-            told = f"priority {priority} ({name})" if name else f"priority {priority}"
-            put(f"{told}: {found.shown()}\n")
-    if not array:
+    now = controller.value(*place.what)
+    put(f"now: {place.shown(now)}\n")
+    array = priorities(controller, place) if place.is_present_value else Priorities()
+    if array.fault:
+        put(f"priority-array: {array.fault}\n")
+    standing = {at: it for at, it in array.values.items() if it.told() != "null"}
+    for priority, found in standing.items():
+        put(f"{_priority(priority)}: {place.shown(found)}\n")
+    if not array.values:
         return now
-    default = controller.value(*order.place.what[:2], names.RELINQUISH_DEFAULT)
-    put(f"relinquish-default: {default.shown()}\n")
-    return array.get(order.priority or 16, now)
+    default = controller.value(*place.what[:2], names.RELINQUISH_DEFAULT)
+    put(f"relinquish-default: {place.shown(default)}\n")
+    least, written_at = min(standing, default=16), order.priority or 16
+    if least < written_at and written_at in standing:
+        put(f"{_priority(least)} holds it: what is written at {written_at} waits\n")
+    return array.values.get(written_at, now)
+
+
+def _priority(number: int) -> str:
+    name = PRIORITY_NAMES.get(number, "")
+    return f"priority {number} ({name})" if name else f"priority {number}"
 
 
 def arguments(parser: argparse.ArgumentParser) -> None:
@@ -145,7 +184,7 @@ def arguments(parser: argparse.ArgumentParser) -> None:
     parser.add_argument("--property", default="present-value", help="where not present-value")
     parser.add_argument("--index", metavar="N", help="the element of an array")
     parser.add_argument(
-        "--type", choices=TYPES[1:], help="where it is not known, as a vendor's own"
+        "--type", choices=names.TAGS[1:], help="where it is not known, as a vendor's own"
     )
     parser.add_argument("--dry-run", action="store_true", help="look at all, and send no write")
 
@@ -166,8 +205,8 @@ def order_of(words: argparse.Namespace) -> Order:
 def work(words: argparse.Namespace) -> int:
     """Writes a property, and reads it back."""
     order, calls = order_of(words), Calls.of(words)
-    controller = Controller(calls, order.place.address)
-    return alone(calls, lambda: written(controller, order), quiet=True)
+    with Controller(calls, order.place.address) as controller:
+        return alone(calls, lambda: written(controller, order), quiet=True)
 
 
 COMMAND = Command(

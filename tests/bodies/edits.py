@@ -3,8 +3,9 @@ entry of crates/CRATE/wrong/FILE.edits, which holds those of src/FILE.rt: a line
 CONTRIBUTING.md (A wrong body) says what the lines `file:`, `in:`, `old:`, `new:`, `body:`, `clause:`, `twin:`, `at:`,
 `by:` and `hole:` are.
 
-No body and no twin may call back to the function that it stands in: tried beside stubs it would pass for one that
-returns. A `body:` may, since it stands beside the right function.
+A body or a twin that may call back to the function that it stands in would pass, beside stubs, for one that returns. So
+one with a name by which it might is tried in its function's place, with all that lies on the way as it is: the check
+refuses a cycle. A `body:` is tried beside the right function, and may call that.
 """
 import collections
 import functools
@@ -119,20 +120,19 @@ def answered(crate):
 
 
 def names_in(text):
-    """The names that this text calls or hands on; what it calls of its own type has `self.` in front."""
-    bare = re.sub(r"//.*|\"(?:[^\"\\]|\\.)*\"|b?'(?:[^'\\]|\\.)'", "", text)
-    called = re.findall(r"(?:(?<![\w.])self\.)?\b\w+(?=\s*(?:::<[^()]*>)?\()", bare)
-    return {*called, *re.findall(r"[(,]\s*(?:\w+::)*(\w+)\s*(?=[,)])", bare)}
+    """The words of this text, each with what stands in front of it. No quotes and no remark hide one."""
+    said = ["", "", *re.findall(r"\w+|::|\S", text)]
+    return {(said[at - 2] * (said[at - 1] in (".", "::")), *said[at - 1 : at + 1]) for at in range(2, len(said))}
 
 
 @functools.cache
 def calls_in(crate):
-    """The names of a crate's functions, each with the names that the bodies of such functions call."""
+    """The names of a crate's functions, each with those that stand in the bodies of such functions."""
     found = collections.defaultdict(set)
     for path, text in sources_of(crate).items():
         for it in functions_of(crate, path, text):
-            found[it.name] |= {name.removeprefix("self.") for name in names_in(it.text)}
-    return found
+            found[it.name] |= set(re.findall(r"\w+", it.text))
+    return {name: words & found.keys() for name, words in found.items()}
 
 
 def reached(crate, name):
@@ -140,7 +140,7 @@ def reached(crate, name):
     found, rest = set(), {name}
     while rest:
         found |= rest
-        rest = {it for name in rest for it in calls_in(crate).get(name, ())} - found
+        rest = {it for name in rest for it in calls_in(crate)[name]} - found
     return found
 
 
@@ -177,17 +177,23 @@ def entries_in(file, source):
 
 
 def entries_of(crate):
-    """The entries of a crate: those of must-fail by their names, the others by their files."""
+    """The entries of a crate: those of must-fail by their names, the others by their files. In must-fail a line that
+    `rt` does not read, and would tell of, stands behind `# `."""
     home = f"{ROOT}/crates/{crate}"
     for file in sorted(glob.glob(f"{home}/must-fail/*.edit")):
-        yield Entry(file, os.path.basename(file)[: -len(".edit")], text_of(file))
+        text = re.sub(r"(?m)^(?!file: |old: |new:|# )", "bare: ", text_of(file).rstrip("\n"))
+        yield Entry(file, os.path.basename(file)[: -len(".edit")], re.sub(r"(?m)^# (?!file|old|new)", "", text))
     for file in sorted(glob.glob(f"{home}/wrong/**/*.edits", recursive=True)):
         yield from entries_in(file, f"file: src/{os.path.relpath(file, f'{home}/wrong')[: -len('.edits')]}.rt")
 
 
 # What is tried of an entry: the wrong body; its twin; the twin with nothing in one of its branches, each of which has a
-# number; the wrong body under a contract that says that the clause is false; and the right body under that contract.
-WRONG, TWIN, EMPTIED, REFUTED, CONTROL = "", "twin", "emptied twin", "refuted", "control"
+# number; the twin of an `impl` with the wrong one's ghost clauses; the wrong body under a contract that says that the
+# clause is false; the right body under that contract; and the wrong one under a contract that says that there are no
+# such arguments.
+WRONG, TWIN, EMPTIED, GHOST = "", "twin", "emptied twin", "ghost clause alone"
+REFUTED, CONTROL, NEVER = "refuted", "control", "never called"
+GHOSTS = re.compile(r"ghost .*?; (?=fn )")  # of an `impl`
 
 
 class Edit:
@@ -202,12 +208,14 @@ class Edit:
             said[word] = text.removeprefix(" ")
             if word == "file":
                 said.pop("in", None)
-            if word in (("twin",) if part.startswith((TWIN, EMPTIED)) else ("new", "body")):
+            if word in (("twin",) if part.startswith((TWIN, EMPTIED, GHOST)) else ("new", "body")):
                 old = said["old"] if "old" in said else body_of(crate, said["file"], said.get("in"))
-                self.pairs.append(Pair(said["file"], said.get("in"), old, said[word]))
+                given = iter(GHOSTS.findall(said["new"]) if part == GHOST else ())
+                new = GHOSTS.sub(lambda it, given=given: next(given, it[0]), said[word])
+                self.pairs.append(Pair(said["file"], said.get("in"), old, new))
         self.has_twin, self.calls_right, self.condition = TWIN in said, "body" in said, said.get("at", "")
         self.wrong, self.hole, self.by = said.get("body", said.get("new", "")), said.get("hole", ""), said.get("by", "")
-        self.promised = said.get("clause", "").split()
+        self.promised, self.bare = said.get("clause", "").split(), said.get("bare", "")
         if part == CONTROL:
             path, within, _, _ = self.pairs[0]
             right = body_of(crate, path, within)
@@ -216,7 +224,7 @@ class Edit:
         if part.startswith(EMPTIED):
             self.pairs = [self.pairs[0]._replace(new=self.emptied()[int(part.removeprefix(EMPTIED))])]
         # only ever tried beside its function, and without the answers that this has
-        self.is_apart = self.calls_right or part in (REFUTED, CONTROL) or part.startswith(EMPTIED)
+        self.is_apart = self.calls_right or part in (REFUTED, CONTROL, NEVER) or part.startswith(EMPTIED)
         names = (it.strip("`,.") for it in self.hole.split())
         self.test = next((it for it in names if "/" in it and os.path.isfile(f"{ROOT}/{it}")), "")
         self.is_unfit = next(self.faults(), "")
@@ -247,12 +255,11 @@ class Edit:
 
     def faults_of_lines(self):
         """What the lines of this edit have, and may not have."""
-        is_in_place = not self.calls_right and not self.is_wide
         if not self.pairs:
             yield "it has no `new:`"
-        elif is_in_place and (back := self.called_back()):
-            yield f"it calls `{back}`, and so itself: in its function's place it never returns"
-        if self.is_wide and not (law_of(self.crate, self.by) and "/must-fail/" in self.file):
+        if self.bare:
+            yield f"`rt` does not read a line of it, which has no `# ` in front: {self.bare}"
+        if self.is_wide and not (law_of(self.crate, self.by) and "/wrong/" not in self.file):
             yield "it is outside a function: it has to stand in must-fail, and its `by:` to name a law that refuses it"
         if not self.is_wide and len(self.pairs) > 1:
             yield "it has more than one `new:`"
@@ -263,7 +270,7 @@ class Edit:
         if self.condition and not (self.functions and self.pairs[0].within and len(self.refuting()) == 1):
             yield "it has an `at:`, and not `in:` and one clause that it is to leave false"
         if self.promised and not (self.is_wide or self.is_beside()):
-            yield "it has a `clause:`, and its function has answers"
+            yield "it has a `clause:`, and its function has answers, or it may call that"
         if not set(self.promised) <= {*self.clauses(), INVARIANT}:
             yield "its `clause:` names what is not ensured"
 
@@ -272,11 +279,14 @@ class Edit:
         known = [self.wrong, "" if self.calls_right else self.pairs[0].old]
         return twins.emptied(known, self.pairs[0].new)
 
-    def called_back(self):
-        """What it calls beyond what stood there, where that comes back to the function that it stands in, or ""."""
+    @functools.cached_property
+    def way_back(self):
+        """The names of all functions by which what it says, and did not stand there, may call the one it stands in."""
+        if self.is_wide or self.is_apart or not self.functions:
+            return set()
         of, pair = self.functions[0][1], self.pairs[0]
-        more = sorted(it.removeprefix("self.") for it in names_in(pair.new) - names_in(pair.old))
-        return next((it for it in more if of.name in reached(self.crate, it)), "")
+        more = {it for *_, it in names_in(pair.new) - names_in(pair.old)} & calls_in(self.crate).keys()
+        return set().union(*(it for it in (reached(self.crate, name) for name in more) if of.name in it))
 
     def applied(self, texts):
         """These texts with the edit in them, or None where another edit stands in the way."""
@@ -305,7 +315,8 @@ class Edit:
         """Whether it is tried in a copy beside its function. With answers, which name their own place, only a body that
         needs none is."""
         of = self.functions[0][1]
-        return bool(of.behind) and (self.is_apart or not any(map(of.symbols.match, answered(self.crate))))
+        in_place = self.way_back or any(map(of.symbols.match, answered(self.crate)))
+        return bool(of.behind) and (self.is_apart or not in_place)
 
     def place(self):
         """Where a check has the law, or else the copy, by which this edit is judged, in parts."""
@@ -326,17 +337,18 @@ class Edit:
         return [it[it.index("{") + 1 : it.rindex("}")].strip() for it in texts]
 
     def refutation(self):
-        """The head of its function, with this condition and with the clause said to be false."""
+        """The head of its function, with this condition, and with the clause or all that there is said to be false."""
         kept = [re.sub(r"^( *requires) \{", r"\1 given {", line) for line in self.promises([])]
         more = [] if self.condition == "always" else [f"    requires at_which {{ {self.condition} }}"]
-        return [*kept, *more, f"    ensures {{ ({self.refuting()[0]}) → ⊥ }}"]
+        false = "⊥" if self.part == NEVER else f"({self.refuting()[0]}) → ⊥"
+        return [*kept, *more, f"    ensures {{ {false} }}"]
 
     def stand_beside(self, number):
         """Puts this edit into a copy of its function, named by this number, where it is tried in one."""
         if self.is_unfit or self.is_wide or not self.is_beside():
             return
         path, of = self.functions[0]
-        if self.part in (REFUTED, CONTROL):
+        if self.part in (REFUTED, CONTROL, NEVER):
             head = self.refutation()
         elif self.part.startswith(EMPTIED):  # the branch in which nothing stands is taken, whatever is ensured
             head = self.promises([])

@@ -3,6 +3,7 @@ text without what is hard in the wrong one, a branch of its own that is never ta
 such branch, with `unreachable!()` in the place of what the branch does, and that may not be proved. A branch that the
 wrong text has too needs no such try: were it never taken, the wrong body would be proved.
 """
+import collections
 import re
 
 TOKEN = re.compile(
@@ -13,9 +14,13 @@ TOKEN = re.compile(
 # Calls and arithmetic that change nothing.
 NEUTRAL = re.compile(
     r"""\ (?: \.\ (?:max|(?:wrapping|saturating)_(?:add|sub))\ \(\ 0\ \) | \.\ min\ \(\ \w+\ ::\ MAX\ \)
-    | [-+|^]\ 0 | [*/]\ 1 | \[\ (?:0\ )?\.\.\ \] )(?=\ )""",
+    | [-+|^]\ 0 | [*/]\ 1 | \[\ (?:0\ )?\.\.\ \] | (?<=[({=;,]\ )(?:0\ [+|^]|1\ \*) )(?=\ )""",
     re.VERBOSE,
 )
+NAME = r"(?:_|(?:mut )?(?!true |false )[a-z]\w*)"
+ONE_ARM = re.compile(rf" match ([^{{}}]*) (\{{) ({NAME}|\( (?:{NAME} ,? ?)*\)) => ")
+PARTS = re.compile(rf" let (\() (?:{NAME} ,? ?)*\) = (\() ")
+NO_WORDS = "match let mut ref return if else true false _ self".split()
 EMPTY = "unreachable!()"
 
 
@@ -24,12 +29,39 @@ def words(text):
     return TOKEN.findall(re.sub(r"//.*", "", text))
 
 
+def parts(text, begin):
+    """What stands between the commas in the bracket at this place of a text."""
+    found, depth = [""], 0
+    for it in text[begin + 1 : closing(text, begin)]:
+        depth += (it in "([{") - (it in ")]}")
+        found = [*found, ""] if it == "," and not depth else [*found[:-1], found[-1] + it]
+    return found
+
+
+def unfolded(said):
+    """These words with names bound in the place of a match of one arm, and a part in the place of a list of parts."""
+    if it := ONE_ARM.search(said):
+        end = closing(said, it.start(2))
+        return f"{said[: it.start()]} let {it[3]} = {it[1]} ; {said[it.end() : end]}{said[end + 1 :]}"
+    if (it := PARTS.search(said)) and closing(said, it.start(2)):
+        pairs = zip(parts(said, it.start(1)), parts(said, it.start(2)))
+        lets = "".join(f" let {name.strip()} = {part.strip()} ;" for name, part in pairs if name.strip())
+        return said[: it.start()] + lets + said[closing(said, it.start(2)) + 3 :]
+    for it in re.finditer(r"(?<![\w)\]>!] )[(\[]", said):
+        end, found = closing(said, it.start()), parts(said, it.start())
+        if end and (part := re.match(r" +(?:\. (\d)|\[ (\d) \])(?= )", said[end + 1 :])):
+            one = found[int(part[1] or part[2])] if found[1:] else f"{found[0]}{part[0]}"
+            return said[: it.start()] + one + said[end + 1 + part.end() :]
+    return said
+
+
 def plain(text):
     """The words of this text without brackets and references, a named part in the place of its name, and no arithmetic
     that changes nothing."""
     said, before = f" {' '.join(words(re.sub(r'[iu](?:size|[0-9]+)::MIN', '0', text)))} ", ""
     while said != before:
         before = said
+        said = re.sub(r" let (?:_|\( \)) = [^;]* ;", "", unfolded(said))
         said = re.sub(r" [({] (\w+) [)}](?= )", r" \1", NEUTRAL.sub("", said))
         said = re.sub(r" (\d+) \+ (\d+)(?= )", lambda it: f" {int(it[1]) + int(it[2])}", said)
         if named := re.search(r" let (?:mut )?([a-z]\w*) = ([^;{}]*) ;", said):
@@ -39,7 +71,7 @@ def plain(text):
             said = head + (re.sub(use, lambda _: part, rest) if re.search(use, rest) else f" {named[1]} :={part}{rest}")
     equal = lambda it: " " + " == ".join(sorted((it[1], it[2])))
     said = re.sub(r" ([\w. ]+?) == ([\w. ]+?)(?= (?:[;{})=]|&&|$))", equal, said)
-    return [it for it in said.split() if it not in "(){}[]&*;," and it != "mut"]
+    return [it for it in said.split() if it not in "(){}[]&*;," and it not in ("mut", "return")]
 
 
 def call_of(head):
@@ -52,19 +84,35 @@ def call_of(head):
 
 
 def hard(text):
-    """The operators of a text for which the prover has no more than single laws."""
-    said = words(text)
-    of_two = lambda at: at and re.match(r"[\w)\]]", said[at - 1]) and said[at - 1] not in ("return", "in", "if", "else")
-    found = {it for it in said if it in ("<<", ">>", "^", "%", "/", "<<=", ">>=", "^=", "%=", "/=", "*=", "&=", "|=")}
-    return {it.rstrip("=") for it in found} | {it for at, it in enumerate(said) if it in "*&|" and of_two(at)}
+    """The operators of a text for which the prover has no more than single laws, each with what stands beside it."""
+    said = ["", *words(text), ""]
+    of_two = lambda at: re.match(r"[\w)\]]", said[at - 1]) and said[at - 1] not in ("return", "in", "if", "else")
+    signs = ("<<", ">>", "^", "%", "/", "<<=", ">>=", "^=", "%=", "/=", "*=", "&=", "|=")
+    places = (at for at, it in enumerate(said) if it in signs or (it and it in "*&|" and of_two(at)))
+    return {(said[at].rstrip("="), said[at - 1], said[at + 1]) for at in places}
+
+
+def harder(old, wrong):
+    """What of the wrong text is hard by a sign that did not stand there."""
+    return [it for it in hard(wrong) if it[0] not in {sign for sign, *_ in hard(old)}]
 
 
 def fault(old, wrong, twin):
     """Why a twin beside this wrong text shows nothing, where this stood there, or ""."""
-    if plain(old) in (plain(twin), plain(re.sub(r"\blet _ = [^;]*;", "", twin))):
+    if plain(old) == plain(twin):
         return "its twin is what stood there in other words"
-    lacking = hard(wrong) - hard(twin) - hard(old)
+    has_like = lambda one: any(one[0] == it[0] and (one[1] == it[1] or one[2] == it[2]) for it in hard(twin))
+    lacking = {it[0] for it in harder(old, wrong) if not has_like(it)}
     return f"its twin lacks {' '.join(sorted(lacking))}" if lacking else ""
+
+
+def doubt(old, wrong, twin):
+    """What the tool can't tell of this twin, or ""."""
+    if signs := {it[0] for it in harder(old, wrong)}:
+        return f"the tool can't tell whether the twin has {' '.join(sorted(signs))} for the same"
+    counts = [collections.Counter(words(it)) for it in (old, wrong, twin)]
+    common = [it for it in (counts[1] & counts[2]) - counts[0] if re.match(r"\w", it) and it not in NO_WORDS]
+    return "" if common else "the tool can't tell more: body and twin share nothing that did not stand there"
 
 
 def closing(text, begin):

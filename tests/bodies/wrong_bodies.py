@@ -37,8 +37,8 @@ import time
 
 sys.path.insert(0, os.path.dirname(__file__) + "/..")
 import twins
-from edits import CONTROL, EMPTIED, INVARIANT, REFUTED, ROOT, TWIN, WRONG
-from edits import Edit, entries_of, functions_of, module_of, sources_of
+from edits import CONTROL, EMPTIED, GHOST, GHOSTS, INVARIANT, NEVER, REFUTED, ROOT, TWIN, WRONG
+from edits import IMPL, Edit, entries_of, functions_of, module_of, sources_of, symbol_of
 from stubs import LINKED, PLACE, put_fault, put_stubs
 from tree import all_crates, copy_crate, crates_below, free_memory, processors
 
@@ -62,18 +62,21 @@ class Body(Edit):
 
     def __init__(self, crate, entry, part=WRONG):
         super().__init__(crate, entry, part)
-        self.beside, self.kind, self.why, self.tries = {}, "", [], 0
+        self.beside, self.kind, self.why, self.tries = {}, "", [], int(bool(self.way_back))  # such a one is tried alone
 
     def touches(self, symbol):
+        if self.part == GHOST:
+            owners = ((it.path, IMPL.search(it.new)) for it in self.pairs)
+            return any(of and re.match(f"{self.crate}::{symbol_of(path, of, '')}", symbol) for path, of in owners)
         if self.is_wide:
             return symbol == f"{self.crate}::{self.by}"
         own = rf"::{self.copy.name}(::|$)" if self.copy else self.functions[0][1].symbols
         return bool(re.search(own, symbol))
 
     def stands_in(self, path, of):
-        """Whether this function of a file is what it is tried in."""
+        """Whether this function of a file is what it is tried in, or is on a way back to that."""
         own = [(file, it.symbols) for file, it in self.functions]
-        return of.name == self.copy.name if self.copy else (path, of.symbols) in own
+        return of.name == self.copy.name if self.copy else (path, of.symbols) in own or of.name in self.way_back
 
     def asked(self):
         """What a check that tries this edit is asked for: a copy; a law, with the modules that get an `impl`; else the
@@ -81,7 +84,8 @@ class Body(Edit):
         if self.copy:
             return [self.copy.name]
         if self.is_wide:
-            return [self.by, *("::".join(module_of(it.path)) for it in self.pairs if re.search(r"\bimpl\b", it.new))]
+            modules = ["::".join(module_of(it.path)) for it in self.pairs if re.search(r"\bimpl\b", it.new)]
+            return modules if self.part == GHOST else [self.by, *modules]
         path, of = self.functions[0]
         if not of.behind or of.impl:
             return ["::".join(module_of(path)) or of.shown]
@@ -90,13 +94,13 @@ class Body(Edit):
     def may_be_spoilt(self):
         """Whether a fault may be its answer: once, where it is to be refused, and not by a type's invariant, which the
         fault hides. What the fault alone refuses is tried again without it. In a function's place others answer."""
-        is_right = self.part in (TWIN, REFUTED) or self.hole or INVARIANT in self.promised
+        is_right = self.part in (TWIN, REFUTED, GHOST) or self.hole or INVARIANT in self.promised
         return not (self.tries or is_right) and bool(self.copy or self.is_wide)
 
     def opens(self, goal):
         """Whether this edit may leave open such a goal of what it touches: of a law, of the clauses that it names."""
         clause = re.search(r"-clause-(\w+)", goal)
-        if not (self.is_wide and self.promised):
+        if not (self.is_wide and self.promised) or self.part == GHOST:
             return True
         return clause[1] in self.promised if clause else len(self.clauses()) == 1
 
@@ -125,18 +129,28 @@ class Body(Edit):
         at_values = any(it.endswith(" false") and kind_of(it) == self.kind for it in self.why)
         if self.kind in ("clause", "safety") and at_values and not self.brings():
             return BY_VALUES
-        if REFUTED in proved and CONTROL not in proved:
+        if REFUTED in proved and not {CONTROL, NEVER} & {*proved}:
             return BY_PROOF
         return BY_TWIN if TWIN in proved and self.kind != "bad" and not self.idle() else REFUSED_ONLY
 
     def idle(self):
         """Why its twin shows nothing, or ""."""
         if TWIN not in self.beside or self.is_wide:
-            return ""
+            is_idle = GHOST in self.beside and self.beside[GHOST].kind == "PROVED"
+            return "its ghost clause alone is refused" * is_idle
         if any(part.startswith(EMPTIED) and it.kind == "PROVED" for part, it in self.beside.items()):
             return "a branch of its twin is never taken"
+        return twins.fault(*self.three())
+
+    def three(self):
+        """What stood there, or the call of the right one, the wrong text and its twin's."""
         old = twins.call_of(self.functions[0][1].head) if self.calls_right else self.pairs[0].old
-        return twins.fault(old, self.wrong, self.beside[TWIN].pairs[0].new)
+        return old, self.wrong, self.beside[TWIN].pairs[0].new
+
+    def told(self):
+        """By what it is shown, and what of its twin is left to a reader."""
+        doubt = twins.doubt(*self.three()) if self.shown() == BY_TWIN and not self.is_wide else ""
+        return f"{self.shown()}{doubt and f' ({doubt})'}"
 
     def brings(self):
         """Whether it brings a loop or a closure that did not stand there."""
@@ -312,7 +326,7 @@ class Bodies:
         for it in self.edits:
             shown = "" if it.part else it.shown()
             if options.goals or (shown == REFUSED_ONLY and options.shown):
-                lines.append(f"    {it.name}: {it.kind}, {shown or it.part}: {'; '.join(it.why)}")
+                lines.append(f"    {it.name}: {it.kind}, {it.part or it.told()}: {'; '.join(it.why)}")
         return "\n".join(lines)
 
 
@@ -352,10 +366,12 @@ def edits_of(crate, only=""):
 def with_twins(edits):
     """These bodies and what is tried beside them, each of which has a place."""
     for it in edits:
-        parts = [TWIN] * it.has_twin + [REFUTED, CONTROL] * bool(it.condition)
+        parts = [TWIN] * it.has_twin + [REFUTED, CONTROL, NEVER] * bool(it.condition)
+        parts += [GHOST] * (it.has_twin and bool(GHOSTS.search(it.entry.text)))
         it.beside = {part: Body(it.crate, it.entry, part) for part in parts}
         twin = it.beside.get(TWIN)
-        if twin and not twin.is_unfit and not it.is_wide and it.functions[0][1].behind:
+        is_apart = twin and not twin.is_unfit and not it.is_wide and it.functions[0][1].behind
+        if is_apart and not twins.fault(*it.three()):
             parts = [f"{EMPTIED}{at}" for at in range(len(twin.emptied()))]
             it.beside.update((part, Body(it.crate, it.entry, part)) for part in parts)
     edits = [*edits, *(other for it in edits for other in it.beside.values())]
@@ -365,11 +381,8 @@ def with_twins(edits):
 
 
 def sample_of(edits):
-    """The first of these bodies that one check holds, without what is tried beside them."""
-    found = [it for it in edits if it.copy and not it.part][:SAMPLE]
-    for it in found:
-        it.beside = {}
-    return found
+    """The first of these bodies that one check holds, and that values show wrong: nothing stands beside them."""
+    return [it for it in edits if it.copy and not (it.part or it.beside or it.hole)][:SAMPLE]
 
 
 def build(crates):
@@ -404,7 +417,7 @@ def options_of():
     flag("--goals", help="print each refusal, and by what it is shown")
     flag("--shown", help="print the bodies that are refused and not shown wrong")
     flag("--clauses", help="print the clauses of public functions that no body leaves open")
-    flag("--sample", help=f"take {SAMPLE} of each crate that one check holds, those of must-fail first, without twins")
+    flag("--sample", help=f"take {SAMPLE} of each crate that values show wrong, in one check, those of must-fail first")
     word("--only", default="", metavar="PATTERN", help="take the bodies whose CRATE/NAME the pattern is found in")
     word("--over", metavar="TREE", help="take the crates below from this tree, each once `rt ci` has put it there")
     jobs = max(1, min(processors(), free_memory() // CHECK_MEMORY))
@@ -413,13 +426,13 @@ def options_of():
     return parser.parse_args()
 
 
-def failed_of(crates, options):
+def failed_of(crates):
     """What is not as it is to be of these crates, all of which are tried."""
     failed = [line for it in crates for line in it.strange]
     for it in (it for crate in crates for it in crate.edits):
         if not it.is_well():
             failed.append(f"{it.name}: {it.kind}: {'; '.join(it.why)}{' (a known hole)' * bool(it.hole)}")
-        elif it.part == WRONG and it.shown() == REFUSED_ONLY and not options.sample:
+        elif it.part == WRONG and it.shown() == REFUSED_ONLY:
             failed.append(f"{it.name}: {REFUSED_ONLY} {it.idle() and f'({it.idle()})'}")
     return failed
 
@@ -442,7 +455,7 @@ def main():
     crates = [Bodies(crate, group, options.over or ROOT) for crate, group in tried.items()]
     try_all(crates, options.jobs)
     print("\n".join(it.told(options) for it in crates))
-    failed = failed_of(crates, options)
+    failed = failed_of(crates)
     print("".join(f"FAILED {it}\n" for it in failed), end="")
     used = resource.getrusage(resource.RUSAGE_CHILDREN)
     seconds = f"{used.ru_utime + used.ru_stime:.0f} processor seconds"

@@ -4,7 +4,8 @@ where they differ, and says in what.
 
 - docs/CODE.md: each crate of crates.txt has a row, and stands in the drawing below the crates that it rests on.
   `Beside the crates` names each other folder and file at the top, and each file of docs/, bench/, tests/ and its rooms.
-  Each script of tests/ that can be run is run by a target of make, or `by hand`, as that table says.
+  Each script of tests/ that can be run is run by a target of make, or `by hand`, as that table says. What each target
+  runs is that of targets.txt, and the program is made of all sources.
 - Each file of src/ begins with a line `//!` that says what it has, and each of specs/ and proofs/ with one `--`, but
   for lists of modules and answers to single functions. What the head of a library shows stands in its examples; the
   calls that it shows stand in bac_uses.
@@ -16,11 +17,15 @@ where they differ, and says in what.
   words.
 - docs/PROTOCOL.md: the texts of faults are those of the code. Each row of a table is read back from outside: named in
   pins.txt, once, with the worked row or example that would fail were it wrong in a definition and in the code at once.
-  What is named there stands in the document, and the text which is named for it in its file.
+  What is named there stands in the document, and the text which is named for it in its file; a number of three digits
+  or more, or one beside it, stands in these texts too, in decimal or as octets. The device has the properties of
+  its table, and no others.
 - No type has a `Drop` that is written by hand, which could do anything when a value is let go. bac_pdu has no loop, and
   no crate from there to bac_device can begin a count of work. Each public constant, and the clone and the `==` of each
   public type, is said by a law.
 - Links lead to what a package has: a document, or a file of examples/.
+- Python can read each of its files. What has no name or mark of a test in the tests of `bacsite` and of the crates is
+  called by something. Each fault of planted.diff still has its place.
 - Lines have at most 120 columns, in the documents but for tables and what is printed; in scripts; and in src/, specs/
   and proofs/ but for attributes, which `rt fmt` lays out, and words that are longer.
 """
@@ -28,11 +33,14 @@ import collections
 import glob
 import os
 import re
+import subprocess
 import sys
 import textwrap
 
-sys.path.insert(0, os.path.dirname(__file__) + "/..")
-from tree import TOP, all_crates, crates_below, text_of
+sys.path[:0] = [os.path.dirname(__file__) + "/..", os.path.dirname(__file__) + "/../site"]
+import planted
+from program.rows import LETTERS
+from tree import TOP, all_crates, crates_below, sections_of, text_of
 
 SOURCES = ["crates/*/src/**/*.rt", "crates/*/specs/**/*.antt", "crates/*/proofs/**/*.antt"]
 OF_STD = {"arrayvec", "byteorder", "clap", "hex", "thiserror", "std", "fault_of", "map", "filter", "flat_map"}
@@ -49,6 +57,11 @@ WHOLE = ["docs/", "bench/", "tests/", "tests/[a-z]*/"]  # folders whose row name
 PAGES = {"README.md", "CONTRIBUTING.md", "SECURITY.md", "CHANGELOG.md"}
 WELL_KNOWN = PAGES | {"LICENSE", ".gitignore", ".git", "crates", "out"}
 WIDTH = 120
+# What tries nothing where nothing calls it: functions beside the tests of bacsite, and of the crates.
+BESIDE_TESTS = {
+    "tests/site/*.py": r"(?m)^    def (?!test_|setUp|tearDown|handle_|_)(\w+)\(self",
+    "crates/*_trials/src/**/*.rt": r"(?m)(?<!#\[test\]\n)^(?:pub(?:\(\w+\))? )?fn (\w+)",
+}
 
 
 def sections(text):
@@ -123,6 +136,34 @@ def scripts_are_run(section):
         is_run = os.path.basename(file) in by_hand or re.search(rf"{file}\b", runs)
         if os.access(file, os.X_OK) and not is_run:
             yield f"{file}: no target of make runs it, and docs/CODE.md does not say `by hand`"
+
+
+def targets():
+    """A section of targets.txt has what a target runs, or the whole text of a file."""
+    how = {"env": {"PATH": os.environ["PATH"]}, "text": True, "stdout": subprocess.PIPE}
+    made = lambda *words: subprocess.run(["make", "-sB", "--old-file=kit", *words], check=False, **how).stdout
+    for name, wanted in sections_of("tests/documents/targets.txt"):
+        runs = (text_of(name) if os.path.isfile(name) else made("-n", name)).splitlines()
+        if runs != wanted:
+            yield f"make {name}: {' '.join({*runs} ^ {*wanted}) or 'its order'}: not as targets.txt has it"
+    if {*made("--eval=sources: ; @echo $(SOURCES)", "sources").split()} != {*files(*SOURCES), "crates.txt"}:
+        yield "Makefile: SOURCES are not all that the program is made of"
+
+
+def what_tries_nothing():
+    for place, pattern in BESIDE_TESTS.items():
+        texts = "".join(map(text_of, files(place)))
+        for name in re.findall(pattern, texts):
+            if len(re.findall(rf"\b{name}\b", texts)) == 1:
+                yield f"{place}: {name} is no test, and nothing calls it"
+    for path, _, old, _ in planted.faults():
+        if not os.path.isfile(path) or text_of(path).count(old) != 1:
+            yield f"tests/site/planted.diff: {path} does not have once: {old}"
+    for file in (it for it in files("**/*.py") if not it.startswith("out/")):
+        try:
+            compile(text_of(file), file, "exec")
+        except SyntaxError as fault:
+            yield f"{file}: {fault}"
 
 
 def heads_of_sources():
@@ -264,6 +305,25 @@ def rows_of_rules(parts):
     return [(heading, " | ".join(row.values())) for heading, section in parts.items() for row in tables(section)]
 
 
+def properties_of_the_device(section):
+    """The table has the properties that the definition has, each with its number, and its value where that is fixed."""
+    numbers = dict(re.findall(r"(?m)^(\w+) = (\d+)$", text_of("crates/bac_device/specs/Limits.antt")))
+    rows = re.findall(r"\((\d+), (.*?)\) +-- ([\w-]+)", text_of("crates/bac_device/specs/Device.antt"))
+    there = {f"{name} ({number})": value.partition(" ")[2] for number, value, name in rows}
+    told = {}
+    for row in tables(section):
+        if "Property" in row:
+            properties, values = row["Property"].split(", "), row["Value"].split("; ")
+            values = values if len(values) == len(properties) else row["Value"].split(", ")
+            told.update(zip(properties, values))
+    yield from (f"docs/PROTOCOL.md: {name} is told or defined alone" for name in sorted({*told} ^ {*there}))
+    for name in {*told} & {*there}:
+        value = there[name].removeprefix('0 (codes "').removesuffix('")')
+        fixed = value != there[name] or numbers.get(value, value).isdecimal()
+        if fixed and numbers.get(value, value) != re.sub(r"`(.*)`|(\d+).*", r"\1\2", told[name]):
+            yield f"docs/PROTOCOL.md: {name} is {value}, not {told[name]}"
+
+
 def rows_are_read_back(parts):
     rows, named = rows_of_rules(parts), set()
     for heading, key, places in pins():
@@ -273,6 +333,11 @@ def rows_are_read_back(parts):
         if not places:
             yield f"{heading}: {key}: nothing is named that reads it back"
         named.add((heading, key))
+        texts = re.sub(r"(?<=\d)[,_](?=\d)", "", " ".join(text for _, text in places)).lower()
+        texts = re.sub(r"\b[pqmva]\b", lambda letter: LETTERS[letter[0].upper()], texts)
+        for number in map(int, re.findall(r"(?<![\d.])\d{3,20}(?!\d)", re.sub(r"(?<=\d),(?=\d)", "", key))):
+            if not any(form in texts for n in (number - 1, number, number + 1) for form in (str(n), f"{n:02x}")):
+                yield f"{heading}: {key}: nothing that is named has the number {number}"
         for file, text in places:
             file = file if "/" in file else f"tests/program/rows/{file}"
             if not os.path.isfile(file) or on_one_line(text) not in on_one_line(text_of(file)):
@@ -283,7 +348,7 @@ def rows_are_read_back(parts):
 
 
 def wide_lines():
-    places = [*SOURCES, "Makefile", "*.mk", "*.py", "crates/*/oracle/*.py", "site/bacsite/*.py"]
+    places = [*SOURCES, "Makefile", "*.mk", "*.py", "crates/*/oracle/*.py", "site/bacsite/**/*.py"]
     for folder in ("bench", "completions", "examples", "man", "packaging", "tests"):
         places += [f"{folder}/**/*.{ending}" for ending in "py sh c awk bash zsh fish service".split()]
     for file in files(*places):
@@ -319,6 +384,8 @@ def main():
         *map_of_crates(code["The crates"]),
         *map_beside_the_crates(code["Beside the crates"]),
         *scripts_are_run(code["Beside the crates"]),
+        *targets(),
+        *what_tries_nothing(),
         *heads_of_sources(),
         *names_of_proofs("docs/PROOFS.md", proofs, *known),
         *names_of_proofs("README.md", sections(readme)["What is proved"], *known),
@@ -328,6 +395,7 @@ def main():
         *drops_by_hand(),
         *uncounted_work(),
         *public_names_without_a_law(),
+        *properties_of_the_device(rules["The device"]),
         *rows_are_read_back(rules),
         *links_and_lines(),
         *wide_lines(),

@@ -4,9 +4,10 @@ its first page, in whose table a row has a page's file, its title, and the calls
 public call of the crate that no page before has.
 
 Usage: tests/documents/reading.py [--write | CALL]: compares docs/reading/, and the sizes that README.md tells, with the
-tree; says which public calls stand on no page, which definitions lie in the wrong room, and which names a file brings
-in that aren't there, or that it doesn't say; ends with 1 where there are any. With --write it writes docs/reading/ anew
-(make reading). Of a CALL, as bac_tsm::run, it prints the list, with what each definition says of itself.
+tree; says which public calls stand on no page, which definitions lie in the wrong room, which of those that laws and
+public clauses name no example holds, and which names a file brings in that aren't there, or that it doesn't say; ends
+with 1 where there are any. With --write it writes docs/reading/ anew (make reading). Of a CALL, as bac_tsm::run, it
+prints the list, with what each definition says of itself.
 """
 import collections
 import glob
@@ -17,7 +18,7 @@ import sys
 import textwrap
 
 sys.path.insert(0, os.path.dirname(__file__) + "/..")
-from sources import CLAUSE, CRATES, SPECS, TOKEN, USE, Item
+from sources import CLAUSE, CRATES, SOURCES, SPECS, TOKEN, USE, Declared, Definition, Item
 from sources import closed, code_of, defined, parts_of, public_calls, read_tree, uses_in
 from tree import TOP, text_of, write
 
@@ -25,6 +26,12 @@ FOLDER = "docs/reading"
 TRIALS = {"bac_trials", "tool_trials", "bac_uses"}  # no crate rests on their clauses
 SIZE = r"\[([\d,]+) lines\]\(docs/reading/(\w+)\.md\)"  # as README.md tells it
 TOLD = {"client", "device", "program"}  # the pages whose sizes it tells
+# Crates and definitions that no example holds yet, as docs/PROOFS.md says.
+NOT_YET = set("""bac_run clap_laws AskAlike OneText Tells IsAccepted events_of Searched who_is_to Serves replies_of
+    sent_at sends_of_call LogsHistory account_with Binds BindsAtMost Sends Waits Prints GaveSame GaveFront
+    TakesAndKeeps ReadForLine IsNext ReadsNoMore ReaderStands requests_in Traces IsWritten Program ProgramRun IsRun
+    CalledRun RunsAsCalls RunsWithout RunsUnasked BatchRuns IsTold texts_of GivesSockets AsksAtMostOnce
+    ToolRuns""".split())
 PROBLEMS = []
 
 
@@ -134,6 +141,41 @@ def rooms():
                 yield f"{specs.path}: {item.name} belongs in Inner, since no public clause needs it"
 
 
+def said_by(calls):
+    """The text of each clause of these calls, with the definitions that it says, also by what is made for examples."""
+    for call in calls:
+        for clause in call.clauses:
+            said = [it for it in call.file.said_in([clause]) if isinstance(it, Item)]
+            for item in said:
+                if item.file.path.endswith("/Inner/Examples.antt"):
+                    said.extend(it for it in item.needs if isinstance(it, Item) and it not in said)
+            yield clause[1].strip("{} \n"), {it for it in said if isinstance(it, Definition)}
+
+
+def unheld():
+    """The definitions that laws and public clauses name and that no example holds: of a relation one clause says that
+    it holds, and one that it does not, or what follows from it; of a number one says it; anything else stands in what
+    one computes. What is seen of a value of the code, a law on its `==` holds."""
+    of_files = lambda name: [it for path, file in SOURCES.items() if name in path for it in file.items.values()]
+    named = [call for crate in CRATES if crate not in TRIALS for call in public_calls(crate)[0].values()]
+    named += [it for name in ("/laws.rt", "/theorems.rt", "/comparing.rt") for it in of_files(name)]
+    clauses = [*said_by(of_files("/examples.rt"))]
+    holds = set().union(*(said for text, said in clauses if not text.endswith("→ ⊥")))
+    computed = {*closed(holds)}
+    for item in sorted(set().union(*(said for _, said in said_by(named))), key=lambda it: (it.file.path, it.place)):
+        kind = re.split(r":(?=\s)", item.head)[-1].replace("where", "").strip()
+        of = item.file.said(item.file.names, item.head)[0]
+        is_relation = kind.endswith("Type 0") and re.search(r"[({→]", " ".join([*item.around, item.head]))
+        is_view = not is_relation and (kind == "Type 0" or of and isinstance(of[0], Declared))
+        if {item.file.crate, item.name} & NOT_YET or is_view:
+            continue
+        if item not in (holds if kind == "ℕ" or is_relation else computed):
+            yield f"{item.file.path}: no example says {item.name}"
+        as_premise = re.compile(rf"→ ⊥$|→ {item.name}\b[^→]*→")
+        if is_relation and not any(item in said and as_premise.search(text) for text, said in clauses):
+            yield f"{item.file.path}: no example refuses anything by {item.name}"
+
+
 def unused_or_gone():
     """The names that a file brings in, and that it does not say, or that are not there."""
     kinds = ("src/**/*.rt", "specs/**/*.antt", "proofs/**/*.antt")
@@ -175,7 +217,7 @@ def main(arguments):
         PROBLEMS.extend(f"{one} is no public call with a clause" for one in arguments if one not in every)
         print("\n".join(listed(closed([every[one] for one in arguments if one in every]), comments=True)))
     else:
-        PROBLEMS.extend([*compare(texts, sizes), *rooms(), *unused_or_gone()])
+        PROBLEMS.extend([*compare(texts, sizes), *rooms(), *unheld(), *unused_or_gone()])
     if PROBLEMS or not arguments:
         well = f"tests/documents/reading.py: {len(texts)} pages of {FOLDER} agree with the tree"
         print("\n".join(PROBLEMS) or well)

@@ -12,7 +12,8 @@ sys.path.insert(0, os.path.dirname(__file__) + "/..")
 from tree import TOOLS, TOP, left_out, same, shown, text_of, verdict
 
 PROGRAM = os.path.realpath(sys.argv[1])
-BASH = """for line in "${@:2}"; do
+BASH = """compopt() { offered=($([ $2 = default ] && compgen -f -- "$current" || compgen -d -- "$current")); }
+for line in "${@:2}"; do
     tool=${line%% *}; [[ $tool == bacsite ]] || tool=bactool
     source "$1/$tool.bash"
     COMP_LINE=$line COMP_POINT=${#line}; "_$tool"
@@ -35,7 +36,7 @@ def options(*words):
 def rows():
     """Lines that are being typed, and what may follow each: those of the table, and options of tools and commands."""
     site = ["python3", TOP + "/site/bacsite"]
-    commands = re.findall(r"(?m)^    ([a-z]+)(?: .*)?$", shown(*site, "--help"))
+    commands = re.findall(r"(?m)^    ([a-z-]+)(?: .*)?$", shown(*site, "--help"))
     lists = {"TOOLS": TOOLS, "COMMANDS": commands, "TAGS": [str(tag) for tag in range(13)]}
     for line, words in re.findall(r"(?m)^([^#\n].*)\|(.*)$", text_of("tests/package/completions.txt")):
         yield line, [it for word in words.split() for it in lists.get(word, [word])]
@@ -51,7 +52,7 @@ def completed(shell, folder, lines):
     how = {"stdout": subprocess.PIPE, "stderr": subprocess.STDOUT, "text": True, "cwd": folder}
     said = subprocess.run([*SHELLS[shell], folder, *lines], check=False, **how).stdout
     parts = re.split(r"(?m)^of (.*)\n", said)
-    return {line: sorted(filter(None, (it.split("\t")[0] for it in told.split("\n"))))
+    return {line: sorted({it.split("\t")[0].rstrip("/") for it in told.split("\n") if it})
             for line, told in zip(parts[1::2], parts[2::2])}
 
 
@@ -59,6 +60,7 @@ def main():
     wanted = dict(rows())
     with tempfile.TemporaryDirectory() as folder:
         subprocess.run([TOP + "/completions/make.py", folder], check=True)
+        os.mkdir(f"{folder}/empty")
         for shell in SHELLS:
             if not left_out(shell):
                 found = completed(shell, folder, wanted)

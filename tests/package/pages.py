@@ -16,7 +16,7 @@ import tempfile
 
 sys.path.insert(0, os.path.dirname(__file__) + "/..")
 from tree import TOOLS, TOP, device, left_out, local_socket, plain, put_tools, same, says, sections_of, shown, text_of
-from tree import verdict
+from tree import verdict, write
 
 sys.path.append(TOP + "/man")
 import tables
@@ -29,7 +29,7 @@ SETTINGS = {
     "SILENT": "--mac 127.0.0.1:9 --apdu-timeout 20 --apdu-retries 0",
 }
 SECTIONS = {title: rows[1:] for title, _, _, rows in tables.sections()}
-SHARED = ["--tools", "--apdu-timeout", "--apdu-retries", "--at-once"]  # options of each command of bacsite that asks
+SHARED = ["--tools", "--apdu-timeout", "--apdu-retries", "--at-once", "--window", "--journal"]  # of all that ask
 # The fields of Wireshark that have the numbers of a section, and what it spells in a way of its own.
 FIELDS = {"Object types": "objectType", "Properties": "property_identifier", "Error classes": "error_class"}
 FIELDS.update({"Error codes": "error_code", "Reject reasons": "reject_reason", "Abort reasons": "abort_reason"})
@@ -109,7 +109,7 @@ def words_and_options():
 def bacsite():
     """The options of each command, and what is told of each in numbers."""
     options, told = [], set()
-    for command in re.findall(r"(?m)^    ([a-z]+)(?: .*)?$", help_of("python3", "site/bacsite")):
+    for command in re.findall(r"(?m)^    ([a-z-]+)(?: .*)?$", help_of("python3", "site/bacsite")):
         text = help_of("python3", "site/bacsite", command)
         options += [f"{command} {it}" for it in re.findall(r"(?m)^  (--?[A-Za-z-]+)(?: .*)?$", text)]
         rows = re.findall(r"(?m)^  (--[a-z-]+) [A-Z]+ +(.*[0-9].*)$", text)
@@ -143,15 +143,13 @@ def statuses():
 
 
 def what_is_said_twice():
-    for tool in TOOLS[:3]:  # what a fixed port may bring
+    for tool in [*TOOLS[:3], "bacrun"]:  # what a fixed port may bring
         told = " ".join(re.search(r"(?ms)^ *--port.*?(?=^$|\Z)", help_of(PROGRAM, tool))[0].split())
-        told = re.search(r"; (at a fixed.*?)(?: -h| --help|$)", told)
+        told = re.search(r"; (at a fixed.*?)(?: -h| --[a-z]|$)", told)
         says(f"man/{tool}.1", told[1] if told else "")
-    doubt = "After any status but 0{}, and after Ctrl-C, the write may have been made: read the property back."
-    same("help of bacwp", doubt.format("") in plain(help_of(PROGRAM, "bacwp")), True)
-    says("man/bacwp.1", doubt.format(""))
-    for document in ("SECURITY.md", "docs/GUIDE.md"):
-        says(document, doubt.format(" of `bacwp`")[: -len("roperty back.")])
+    doubt = "".join(re.findall(r"Status 2, status 4 .*? read the property back\.", plain(help_of(PROGRAM, "bacwp"))))
+    for document in ("man/bacwp.1", "SECURITY.md"):
+        says(document, doubt)
     says("SECURITY.md", section("bactool", "BUGS"))
 
 
@@ -216,11 +214,14 @@ def known(rows):
     """What a pattern finds in a file or in what a command prints, by its name, and what follows from that."""
     found = {}
     for name, place, pattern in (row.split(" | ") for row in rows):
-        text = run(place)[1] if place.endswith("--help") else text_of(place)
-        found[name] = int(re.search(pattern, text, re.M)[1])
+        text = run(place)[1] if " " in place else text_of(place)
+        same(f"how often {place} has {pattern}", bool(re.search(pattern, text, re.M)), True)
+        found[name] = int((re.findall(pattern, text, re.M) or [0])[0])
     sends = [found["timeout"] // 1000 * time for time in range(found["retries"] + 2)]
     found.update({"seconds": sends[1], "early": ", ".join(map(str, sends[:-2])), "last": sends[-2], "whole": sends[-1]})
     found.update({"hours": found["turns"] // 3600, "last port": found["first port"] + found["ports"] - 1})
+    found.update((f"{title.split()[0]} {row[1]}", row[0]) for title in FIELDS for row in SECTIONS[title])
+    found["others"] = 256 - found["most"]
     times = ["once", "twice", "three times", "four times"][found["site retries"]]
     return {**found, "site tries": times, "ports of Linux": round(60999 - 32768, -3)}
 
@@ -248,16 +249,6 @@ def request():
     return {"number": octets[8], "octets": len(octets)}
 
 
-def values():
-    """Of a number that is written, the least and the greatest on the page are taken, and what is past them is not."""
-    status = lambda tag, value: run(f"bacwp 1 1 1 85 0 -1 {tag} $SILENT -- {value}")[0]
-    page = plain(text_of("man/bacwp.1")).replace("\\", "")
-    for tag, kind in [("2", "Unsigned"), ("3", "Signed"), ("9", "Enumerated")]:
-        least, most = map(int, re.search(rf"\b{tag} {kind} (-?\d+) to (\d+)", page).groups())
-        ends = [status(tag, value) for value in (least - 1, least, most, most + 1)]
-        same(f"man/bacwp.1: {kind} from {least} to {most}", ends, [2, 1, 1, 2])
-
-
 def tables_of_the_guide(on):
     """The status beside each line and each message."""
     lines, messages = text_of("docs/GUIDE.md").split("\n### What a message can mean\n")
@@ -268,16 +259,6 @@ def tables_of_the_guide(on):
     for message, status in re.findall(row, messages.split("\n## ")[0]):
         is_late = re.search(r" failed|turns spent", message)
         same(f"the status beside {message}", status, str(on["bind"] if is_late else on["words"]))
-
-
-def ranges():
-    """What bacsite checks by a number alone, and that both ends belong to a range: by the valve at 0.5 and at -0.5."""
-    found = []
-    for octets, of_range in [("3f000000", "0.5"), ("3f000000", "0.5:2"), ("3f000000", "0:0.4"), ("bf000000", "0.5")]:
-        run(f"bacwp 1234 1 1 85 8 -1 4 {octets} --mac $DEV")
-        found.append(run(f"bacsite check $DEV 1 1 85 -c {of_range}")[0])
-    run("bacwp 1234 1 1 85 8 -1 0 null --mac $DEV")
-    same("checks of 0.5 and -0.5", found, [0, 0, 2, 2])
 
 
 def points():
@@ -300,7 +281,7 @@ def tools_of_readme():
     """Each command of README's table prints the lines that stand beside it; `..` is any text."""
     table = text_of("README.md").partition("\n## The tools\n")[2].partition("\n## ")[0]
     for command, cell in re.findall(r"(?m)^\| `(?!bacdev).*?` \| [^|]* \| `([^`]*)` \| (.*) \|$", table):
-        status, said = run(command.replace("192.0.2.7", "$DEV"))
+        status, said = run(command.replace("192.0.2.7", "$DEV").replace("\\|", "|"))
         lines = re.findall("`([^`]*)`", cell.replace("192.0.2.7:47808", SETTINGS["DEV"]))
         there = [bool(re.search("(?m)^" + re.escape(it).replace(r"\.\.", ".*") + "$", said)) for it in lines]
         same(f"README.md: {command}: {said.strip()}", (status, there), (0, [True] * len(lines)))
@@ -316,6 +297,33 @@ def unit():
     same("what systemd-analyze says of it", [it for it in told.splitlines() if "bacdev.service" in it], [])
 
 
+def properties():
+    """The rules name each property that the device and its points have, and no other, with the numbers that it has."""
+    rules = text_of("docs/PROTOCOL.md").partition("\nEvery point has")[2].partition("\n## ")[0]
+    printed = [run(f"bacsite properties $DEV {it} --last 160")[1] for it in ("8 1234", "0 5", "3 3", "14 1")]
+    there = {(name, number) for number, name in re.findall(r"(?m)^(\d+) ([a-z-]+) ", "".join(printed))}
+    same("properties of the device and its points", {*re.findall(r"([a-z-]+) \((\d+)", rules)}, there)
+    found = dict(re.findall(r"(?m)^(\d+) \S+ (\d+)(?: \(.*\))?$", printed[0]))
+    for named, value in re.findall(r"(?m)^\| (\S.*\)) \| (.*) \|$", rules):
+        numbers = [found[it] for it in re.findall(r"\((\d+)\)", named) if it in found]
+        same(f"the value of {named}", re.findall(r"\d+", value), numbers)
+
+
+def examples():
+    """What the pages show is run against the small device, and prints what they show, where they show it; and the pages
+    that they refer to are there."""
+    for path in sorted(glob.glob(f"{TOP}/man/*.[17]")):
+        text = text_of(path).replace("\\", "").replace("/var/lib/prometheus/node-exporter", ROOM.name)
+        for name in {*re.findall(r"\bXr (\S+ [0-9])", text)}:
+            same(f"{path}: {name} is a page", os.path.isfile(f"{TOP}/man/{name.replace(' ', '.')}"), True)
+        text = re.sub(r"(192\.0\.2|127\.0\.0)\.[0-9](:[0-9]+)?", SETTINGS["DEV"], text.partition("\n.Sh EXAMPLES\n")[2])
+        for command, printed in re.findall(r"(?m)^\$ (.*[^&\n])\n((?:[^.$\n].*\n)*)", text.partition("\n.Sh ")[0]):
+            if command.startswith("cat "):
+                write(f"{ROOM.name}/{command[4:]}", printed)
+            status, said = run(f"cd {ROOM.name}; {command}")
+            same(f"{path}: {command}", (status, said if printed else ""), (0, printed))
+
+
 def facts():
     """What is measured stands in the documents, by the sentences of facts.txt."""
     put_tools(PROGRAM, ROOM.name)
@@ -323,13 +331,13 @@ def facts():
     with device(program=[PROGRAM]) as (_, port):
         SETTINGS["DEV"] = f"127.0.0.1:{port}"
         measured = {"points": points(), **request(), **known(rows.pop("Numbers"))}
-        ranges()
+        properties()
+        examples()
         tools_of_readme()
         measured.update(seen(rows.pop("Statuses")))
     for document, sentences in rows.items():
         says(document, *(sentence.format_map(measured) for sentence in sentences))
     tables_of_the_guide(measured)
-    values()
 
 
 def main():

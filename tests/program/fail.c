@@ -1,18 +1,22 @@
-/* Loaded in front of the C library, it says on the descriptor 3, where that is open, each call of a program that opens
-   a socket, sends, receives, reads or writes, and of a wait that is set its microseconds. The call with the number
-   FAILED, from 1, fails by the error with the number ERRNO. Where SHORT is set, a send that fails sends all, and says
-   that it sent an octet less. Where ONE_OCTET is set, a read gives at most one octet. The request for memory that has
-   the number REFUSED among those fails, and is said. */
+/* Loaded in front of the C library, it says on the descriptor 3, where that is open, each call of a program that has to
+   do with sockets, copies a descriptor, reads, writes or reads the clock, and of a wait that is set its microseconds.
+   The call with the number FAILED, from 1, fails by the error with the number ERRNO. Where SHORT is set, a send that
+   fails sends all, and says that it sent an octet less. Where ONE_OCTET is set, a read gives at most one octet. The
+   request for memory that has the number REFUSED among those fails, and is said. */
 #define _GNU_SOURCE
 #include <dlfcn.h>
 #include <errno.h>
+#include <poll.h>
 #include <stdio.h>
 #include <stdlib.h>
 #include <string.h>
 #include <sys/socket.h>
 #include <sys/syscall.h>
 #include <sys/time.h>
+#include <time.h>
 #include <unistd.h>
+
+static int sees_clock;
 
 static long setting(const char *name)
 {
@@ -69,8 +73,16 @@ static int is_refused(void)
         return fails ? failed : next words; \
     }
 
-CALL(int, socket, (int domain, int type, int protocol), fails("socket"), -1, (domain, type, protocol))
+CALL(int, socket, (int domain, int type, int protocol), (sees_clock = 1, fails("socket")), -1, (domain, type, protocol))
 CALL(int, bind, (int fd, const struct sockaddr *at, socklen_t length), fails("bind"), -1, (fd, at, length))
+CALL(int, connect, (int fd, const struct sockaddr *to, socklen_t length), fails("connect"), -1, (fd, to, length))
+CALL(int, fcntl, (int fd, int command, long with), fails("fcntl"), -1, (fd, command, with))
+CALL(int, ioctl, (int fd, unsigned long request, void *with), fails("ioctl"), -1, (fd, request, with))
+CALL(int, poll, (struct pollfd *files, nfds_t count, int wait), fails("poll"), -1, (files, count, wait))
+CALL(int, getsockname, (int fd, struct sockaddr *at, socklen_t *length), fails("getsockname"), -1, (fd, at, length))
+CALL(int, getpeername, (int fd, struct sockaddr *to, socklen_t *length), fails("getpeername"), -1, (fd, to, length))
+CALL(int, getsockopt, (int fd, int level, int name, void *value, socklen_t *length), fails("getsockopt"), -1,
+     (fd, level, name, value, length))
 CALL(int, setsockopt, (int fd, int level, int name, const void *value, socklen_t length),
      fails_to_set(level, name, value), -1, (fd, level, name, value, length))
 CALL(ssize_t, sendto,
@@ -79,6 +91,9 @@ CALL(ssize_t, sendto,
      (fd, octets, count, flags, to, length))
 CALL(ssize_t, recvfrom, (int fd, void *octets, size_t count, int flags, struct sockaddr *from, socklen_t *length),
      fails("recvfrom"), -1, (fd, octets, count, flags, from, length))
+CALL(ssize_t, send, (int fd, const void *octets, size_t count, int flags), fails("send"), -1,
+     (fd, octets, count, flags))
+CALL(ssize_t, recv, (int fd, void *octets, size_t count, int flags), fails("recv"), -1, (fd, octets, count, flags))
 CALL(ssize_t, read, (int fd, void *octets, size_t count), fails("read"), -1,
      (fd, octets, count > 1 && getenv("ONE_OCTET") ? 1 : count))
 CALL(ssize_t, write, (int fd, const void *octets, size_t count), fails(fd == 2 ? "tell" : "write"), -1,
@@ -87,3 +102,15 @@ CALL(void *, malloc, (size_t size), is_refused(), NULL, (size))
 CALL(void *, realloc, (void *old, size_t size), is_refused(), NULL, (old, size))
 CALL(int, posix_memalign, (void **place, size_t alignment, size_t size), is_refused(), ENOMEM, (place, alignment, size))
 CALL(void *, aligned_alloc, (size_t alignment, size_t size), is_refused(), NULL, (alignment, size))
+
+/* Not by dlsym: what watches the memory of a program reads the clock before this library can be asked. It does so for
+   requests for memory, too, so of a program with TRIED the clock is seen once it has opened a socket. */
+__attribute__((constructor)) static void begin(void)
+{
+    sees_clock = !getenv("TRIED");
+}
+
+int clock_gettime(clockid_t clock, struct timespec *now)
+{
+    return sees_clock && fails("clock_gettime") ? -1 : (int)syscall(SYS_clock_gettime, clock, now);
+}

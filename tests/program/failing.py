@@ -2,8 +2,9 @@
 """Refuses each request for memory that the program makes, one in each run: it has to end with `out of memory` and
 status 4. And has each call of the program to the system fail so, by each of the errors below: opening a socket,
 sending, receiving, reading, writing. Every such run has to end with status 3 and the line of its fault, after a front
-of what it prints otherwise. But where a receive fails by what is silence, it goes on as if nothing had come; a device
-goes on where it can't send a reply, too. Where none fails, the program makes the calls that are wanted, and no others.
+of what it prints otherwise. But where a receive fails by what is silence, it goes on as if nothing had come, and where
+the clock fails later, as if no time had passed; a device goes on where it can't send a reply, too. Each run, also one
+that goes on, makes the calls that are wanted (RUNS, SERVED), each as often, and no others.
 
 Usage: tests/program/failing.py PROGRAM [tried]; it needs cc, and says so where there is none. Of a program that
 `rt try` has made (`tried`) no request for memory is refused, since it has its memory from elsewhere. But there it shows
@@ -14,6 +15,7 @@ import errno
 import glob
 import itertools
 import os
+import re
 import subprocess
 import sys
 import tempfile
@@ -30,7 +32,8 @@ REFUSALS = ["ECONNREFUSED", "ECONNRESET", "ENETUNREACH", "EHOSTUNREACH"]
 SILENCE = ["EINTR", "EAGAIN", "ETIMEDOUT"]
 ERRORS = FAULTS + REFUSALS + SILENCE
 # What standard error has behind `bactool: ` once a call of this kind has failed.
-LINES = {"socket": "bind failed", "bind": "bind failed", "memory": "out of memory"}
+LINES = {it: "bind failed" for it in ("socket", "bind", "fcntl", "clock_gettime")}
+LINES["memory"] = "out of memory"
 LINES.update({"setsockopt": "receiving failed", "recvfrom": "receiving failed", "sendto": "sending failed"})
 LINES.update({"read": "reading failed", "write": "writing failed"})
 SCRIPT = "read 127.0.0.1:47808 0 5 85\ntick 3000\ntick 6000\ntick 9000\ntick 12000\n"
@@ -38,32 +41,45 @@ NO_LINE_FEED = "read 127.0.0.1:47808 0 5 85\ntick 3000"
 PORT = str(free_port())
 SILENT = ["--mac", "127.0.0.1:" + PORT, "--apdu-timeout", "7"]
 READ, WRITE = ["bacrp", "1234", "0", "5", "85"], ["bacwp", "1234", "1", "1", "85", "8", "-1", "4", "41a00000"]
-DEVICE = ["bacdev", "1234", "--port", PORT, "--count"]
-OPENED = "socket bind sendto setsockopt 7000 recvfrom"
-# What is run: the status where nothing fails, the calls that are made then, words, and a script. What the lines of one
-# read print goes out at once.
+BATCH, LINE = ["bacrun", "--apdu-timeout", "7"], f"read 127.0.0.1:{PORT} 0 5 85\n"
+BOUND = "socket bind fcntl clock_gettime"
+OPENED = f"{BOUND} clock_gettime sendto setsockopt 7000 recvfrom clock_gettime"
+BATCHED = f"{BOUND} write read clock_gettime sendto write setsockopt 7000 recvfrom clock_gettime"
+# What is run: the status where nothing fails, the calls that are made then, words, and what is read. What the lines of
+# one read print goes out at once.
 RUNS = [
+    (0, "write", ["bacrun", "--help"], ""),
     (0, "read", ["bactrace"], ""),
     (0, "read write read", ["bactrace"], SCRIPT),
     (0, "read write read write", ["bactrace"], NO_LINE_FEED),
     (1, f"{OPENED} write", [*READ, *SILENT, "--apdu-retries", "0"], ""),
-    (1, f"{OPENED} sendto recvfrom write", [*READ, *SILENT, "--apdu-retries", "1"], ""),
+    (1, f"{OPENED} sendto recvfrom clock_gettime write", [*READ, *SILENT, "--apdu-retries", "1"], ""),
     (1, f"{OPENED} write", [*WRITE, *SILENT, "--apdu-retries", "0"], ""),
-    (1, f"{OPENED} sendto recvfrom write", [*WRITE, *SILENT, "--apdu-retries", "1"], ""),
+    (1, f"{OPENED} sendto recvfrom clock_gettime write", [*WRITE, *SILENT, "--apdu-retries", "1"], ""),
     (1, OPENED, ["bacwi", *SILENT], ""),
+    (0, f"{BOUND} write read", ["bacrun"], ""),
+    (0, f"{BATCHED} write read", [*BATCH, "--apdu-retries", "0"], LINE),
+    (0, f"{BATCHED} sendto write recvfrom clock_gettime write read", [*BATCH, "--apdu-retries", "1"], LINE),
+    (2, f"{BOUND} write read tell", ["bacrun"], "no line\n"),
+    (2, "tell", [*READ, "--mac", "1.2.3"], ""),
 ]
+# A device that waits for a second at a time, and its calls until it hears something.
+DEVICE = ["bacdev", "1234", "--port", PORT, "--count"]
+SERVED = f"{BOUND} setsockopt 1000000 recvfrom"
 PROGRAM, ROOM = os.path.realpath(sys.argv[1]), tempfile.TemporaryDirectory()
-Ended = namedtuple("Ended", "status output error said")
+Ended = namedtuple("Ended", "status output error said words")
 
 
 def run(words, given="", error="EIO", **settings):
     """How the words end, and what fail.c says, by these settings; a call that fails does so by this error."""
     settings["ERRNO"] = getattr(errno, error)
+    settings.update({"TRIED": 1} if sys.argv[2:] else {})
     environment = {**os.environ, **{name: str(number) for name, number in settings.items()}}
     command = ["sh", "-c", f'exec env LD_PRELOAD={ROOM.name}/fail.so "$0" "$@" 3>{ROOM.name}/said', PROGRAM, *words]
     how = {"input": given, "capture_output": True, "text": True, "timeout": 200}
     it = subprocess.run(command, check=False, env=environment, **how)
-    return Ended(it.returncode, it.stdout, it.stderr, text_of(f"{ROOM.name}/said").split())
+    output = re.sub(r"tick \d+\n", "", it.stdout)  # when a run of many requests was told the time
+    return Ended(it.returncode, output, it.stderr, text_of(f"{ROOM.name}/said").split(), words)
 
 
 def expect(is_so, what, ended):
@@ -73,9 +89,12 @@ def expect(is_so, what, ended):
 
 
 def is_fault(ended, call, whole="", status=3):
-    """The last call but the telling is this one, the fault is its, and what was printed is a front of the whole."""
-    is_told = ended.error == f"bactool: {LINES[call]}\n" and ended.said[-2:] == [call, "tell"]
-    return ended.status == status and is_told and whole.startswith(ended.output)
+    """The last calls are this one and the telling; between them the clock is read where no socket could be copied, and
+    many requests write what was still to be printed. The fault is its, and what was printed is a front of the whole."""
+    is_told = ended.error == f"bactool: {LINES[call]}\n"
+    more = ["clock_gettime"] * (call == "fcntl"), ["write"] * (ended.words[:1] == ["bacrun"])
+    is_last = any(ended.said[-2 - len(it):] == [call, *it, "tell"] for it in more)
+    return ended.status == status and is_told and is_last and whole.startswith(ended.output)
 
 
 def memory_refused(status, words, given=""):
@@ -97,39 +116,48 @@ def memory():
     print(f"tests/program/failing.py: {requests} requests for memory refused, each told as it is to be", flush=True)
 
 
+def errors_of(call):
+    """The errors by which a call is tried: one, where what it does by each is the same code of the system's library."""
+    return ERRORS[:1] if call in ("fcntl", "clock_gettime") else ERRORS
+
+
 def in_turn(status, calls, words, given):
     """The words make these calls and no others, with this status; then each of them fails, by each error."""
-    whole = run(words, given)
+    whole, tried = run(words, given), 0
     expect((whole.status, " ".join(whole.said)) == (status, calls), words, whole)
-    names = [it for it in calls.split() if not it.isdigit()]
-    for error, (number, call) in itertools.product(ERRORS, enumerate(names, 1)):
-        ended = run(words, given, error, FAILED=number)
-        if call == "recvfrom" and error in SILENCE:
-            is_right = ended[:3] == whole[:3]
-        else:
-            is_right = is_fault(ended, call, whole.output if "write" in names[:number] else "")
-        expect(is_right, f"{error} at call {number} of {words}", ended)
-    return len(ERRORS) * len(names)
+    names = [it for it in calls.split() if it != "tell" and not it.isdigit()]
+    for number, call in enumerate(names, 1):
+        for error in errors_of(call):
+            ended = run(words, given, error, FAILED=number)
+            if (call == "recvfrom" and error in SILENCE) or (call == "clock_gettime" and number > 4):
+                is_right = ended[:3] == whole[:3]
+            else:
+                is_right = is_fault(ended, call, whole.output if "write" in names[:number] else "")
+            expect(is_right, f"{error} at call {number} of {words}", ended)
+            tried += 1
+    return tried
 
 
 def devices():
-    """Three calls open the socket of a device, which waits for a second at a time; then each turn is a receive and a
-    send. Where it goes on it answers a later request, and has then taken so many datagrams."""
+    """Of a device each call fails once; where it goes on it answers a later request, by the calls that are wanted."""
     client = [PROGRAM, *READ, "--mac", "127.0.0.1:" + PORT, "--apdu-timeout", "300", "--apdu-retries", "9"]
-    opened = ["socket", "bind", "setsockopt", "1000000", "recvfrom"]
-    for error, (number, call) in itertools.product(ERRORS, enumerate([*opened[:3], "recvfrom", "sendto"], 1)):
-        goes_on = call == "sendto" or call == "recvfrom" and error not in FAULTS
-        with subprocess.Popen(client, stdout=subprocess.PIPE, text=True) as asking:
-            ended = run([*DEVICE, str(max(1, number - 3))], error=error, FAILED=number)
-            if not goes_on:
-                asking.kill()
-            heard = asking.stdout.read()
-        if goes_on:
-            is_right = (heard, ended.status) == ("4290999a\n", 0)
-        else:
-            is_right = is_fault(ended, call) and ended.said == opened[: opened.index(call) + 1] + ["tell"]
-        expect(is_right, f"a device by {error} at call {number}, heard {heard!r}", ended)
-    return 5 * len(ERRORS)
+    names, tried = [it for it in f"{SERVED} sendto".split() if not it.isdigit()], 0
+    for number, call in enumerate(["", *names]):
+        for error in errors_of(call):
+            goes_on = not call or call == "sendto" or call == "recvfrom" and error not in FAULTS
+            with subprocess.Popen(client, stdout=subprocess.PIPE, text=True) as asking:
+                ended = run([*DEVICE, str(2 if call == "sendto" else 1)], error=error, FAILED=number)
+                if not goes_on:
+                    asking.kill()
+                heard = asking.stdout.read()
+            if goes_on:
+                again = {"sendto": "sendto recvfrom sendto", "recvfrom": "recvfrom sendto"}.get(call, "sendto")
+                is_right = (heard, ended.status, " ".join(ended.said)) == ("4290999a\n", 0, f"{SERVED} {again}")
+            else:
+                is_right = is_fault(ended, call) and SERVED.startswith(" ".join(ended.said[:-1]))
+            expect(is_right, f"a device by {error} at call {number}, heard {heard!r}", ended)
+            tried += 1
+    return tried
 
 
 def calls_of_the_system():
@@ -138,11 +166,9 @@ def calls_of_the_system():
     front = run(["bactrace"], NO_LINE_FEED).output.splitlines(keepends=True)[0]
     ended = run(["bactrace"], NO_LINE_FEED, FAILED=3)
     expect(is_fault(ended, "read", front) and ended.output, "a last line without its line feed", ended)
-    # A send of fewer octets than there are has failed. It is the third call, after those that open the socket.
-    ended = run([*READ, *SILENT], FAILED=3, SHORT=1)
+    # A send of fewer octets than there are has failed. It is the sixth call.
+    ended = run([*READ, *SILENT], FAILED=6, SHORT=1)
     expect(is_fault(ended, "sendto"), "a short send", ended)
-    ended = run([*READ, "--mac", "1.2.3"])
-    expect(ended.said == ["tell"], "words that are refused", ended)
     print(f"tests/program/failing.py: {calls} calls failed in turn, each told as it is to be, or taken for silence")
 
 

@@ -18,8 +18,8 @@ sys.path[:0] = [os.path.dirname(__file__) + "/..", os.path.dirname(__file__) + "
 from building import pcap, udp
 from tree import PROGRAM, device, left_out, local_socket, same, sections_of, text_of, verdict
 
-from bacsite.frames import Passed, datagram_of
-from bacsite.pcap import Packet
+from bacsite.capture.frames import Passed, datagram_of
+from bacsite.capture.pcap import Packet
 
 RAW = 101  # the link type of packets that begin with IP
 ETH_P_IP = 0x0800

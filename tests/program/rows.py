@@ -15,17 +15,18 @@ Rows are parted by blank lines. The mark at the front of a line says what the re
     N   the least and the greatest value of the number N of these command lines: the row holds of both, and one past
         either is refused
     X   what stands for each X of the other lines and, behind ` = `, for each Y: with several it is several rows
-    >   a line of standard output
+    >   a line of standard output, but for those of the time, which nobody can know, in the journal of bacrun
     ~   what stands somewhere in standard output, which is the same text for all command lines of the row and ends with
         a line feed
     !   the status, where it is not 0, and standard error behind `bactool: `; or what it begins with, if it ends with
         two full stops
     @   a redirection, as a shell has it: with several the row is run with each alone
 
-In a line, P, Q, M, V and A as whole words stand for the texts below, S for options by which a tool asks where nobody
-answers, {93*x} for 93 times x, [0100..] for the datagram whose link header has these octets behind it, and \\n, \\r,
-\\t and \\xff for octets. {1..300*x} is x for each of these numbers, which stands for each # of it, and for each ## as
-one octet, the last of the number; and {cut 810a0017*x} is x for each front of these octets, which stands for each #.
+In a line, P, Q, M, V and A as whole words stand for the texts below, Z for an address where nobody answers, S for
+options by which a tool asks there, {93*x} for 93 times x, [0100..] for the datagram whose link header has these octets
+behind it, and \\n, \\r, \\t and \\xff for octets. {1..300*x} is x for each of these numbers, which stands for each # of
+it, and for each ## as one octet, the last of the number; and {cut 810a0017*x} is x for each front of these octets,
+which stands for each #.
 A backslash at the end of a line says that no line feed follows.
 """
 import glob
@@ -47,8 +48,9 @@ LETTERS = {
     "M": "810a001101040005010c0c000000051955",
     "V": "810a0017010030010c0c0000000519553e444290999a3f",
     "A": "810a001501001000c4020004d22205c49103220104",
-    "S": f"--mac 127.0.0.1:{free_port()} --apdu-timeout 20",
+    "Z": f"127.0.0.1:{free_port()}",
 }
+LETTERS["S"] = f"--mac {LETTERS['Z']} --apdu-timeout 20"
 SCRIPT = ["bactool", "bactrace"]
 
 # What is run, and what is to come. An `error` may end with two full stops, as a row does; where there are `parts`,
@@ -67,9 +69,14 @@ def repeated(found):
     return "".join(text.replace("##", f"{it % 256:02x}").replace("#", str(it)) for it in numbers)
 
 
+def braced(text):
+    """The text with what stands in braces in their place."""
+    return re.sub(r"\{(?:(\d+)(?:\.\.(\d+))?|cut (\w+))\*(.*?)\}", repeated, text)
+
+
 def spelled(text):
-    text = re.sub(r"\{(?:(\d+)(?:\.\.(\d+))?|cut (\w+))\*(.*?)\}", repeated, text)
-    text = re.sub(r"\b[PQMVAS]\b", lambda found: LETTERS[found[0]], text)
+    text = braced(text)
+    text = re.sub(r"\b[PQMVASZ]\b", lambda found: LETTERS[found[0]], text)
     text = re.sub(r"\[(01[0-9a-f]+)\]", lambda found: "810a%04x%s" % (4 + len(found[1]) // 2, found[1]), text)
     return text.encode("ascii").decode("unicode_escape")
 
@@ -156,6 +163,8 @@ def run(room, case, library):
     except subprocess.TimeoutExpired:
         return case._replace(status="none in a minute", output="", error="")
     output, error = ended.stdout.decode("latin-1"), ended.stderr.decode("latin-1")
+    if "bacrun" in case.words:
+        output = re.sub(r"(?m)^tick \d+\n", "", output)
     return case._replace(status=ended.returncode, output=output, error=error)
 
 

@@ -50,7 +50,7 @@ def devices():
         has_ended(process)
     with device("--count", "3", program=[PROGRAM]) as (process, port):
         for words in ("bacdev 1234", "bacwi --mac 127.0.0.1", "bacrp 1234 0 5 85 --mac 127.0.0.1",
-                      "bacwp 1234 1 1 85 8 -1 0 x --mac 127.0.0.1"):
+                      "bacwp 1234 1 1 85 8 -1 0 x --mac 127.0.0.1", "bacrun"):
             same(f"{words} at a taken port", told(*words.split(), "--port", str(port)), (3, "bactool: bind failed\n"))
         is_found(port, "127.0.0.1", "127.0.0.2")
         same("what a device has", told(*READ, f"127.0.0.1:{port}"), (0, "00000000\n"))

@@ -4,7 +4,7 @@ import struct
 from typing import Dict, Iterable, List, Optional, Tuple
 
 import harness  # noqa: F401  it makes bacsite known
-from bacsite.frames import Datagram
+from bacsite.messages import Datagram
 
 DEVICE, CLIENT = "127.0.0.1:47808", "127.0.0.1:50000"
 Step = Tuple[float, str, str, str]  # milliseconds, sender, receiver, octets in hexadecimal
@@ -61,12 +61,14 @@ def section(order: str) -> bytes:
     return block(order, 0x0A0D0D0A, struct.pack(order + "IHHq", 0x1A2B3C4D, 1, 0, -1))
 
 
-def interface(order: str, link: int = 101, options: Optional[Dict[int, bytes]] = None) -> bytes:
+def interface(
+    order: str, link: int = 101, options: Optional[Dict[int, bytes]] = None, kept: int = 0
+) -> bytes:
     more = b"".join(
         struct.pack(order + "HH", number, len(it)) + it + bytes(-len(it) % 4)
         for number, it in (options or {}).items()
     )
-    return block(order, 1, struct.pack(order + "HHI", link, 0, 0) + more)
+    return block(order, 1, struct.pack(order + "HHI", link, 0, kept) + more)
 
 
 def enhanced(order: str, units: int, octets: bytes, which: int = 0) -> bytes:

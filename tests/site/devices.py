@@ -4,6 +4,11 @@ import struct
 
 from stand_ins import an_object, bits, enumerated, real, string, tagged, unsigned
 
+# A week of days with two changes, but for the last, which has none.
+DAY = b"\x0e\xb4\x06\x1e\0\0" + real("41ac0000") + b"\xb4\x12\0\0\0\0\x0f"
+WEEK = DAY * 2 + b"\x0e\x0f"
+SHOWN_WEEK = "[0]{06:30:00.00, 21.5, 18:00:00.00, null}, " * 2 + "[0]{}"
+
 ODD = {
     (0, 1): [
         (77, string("Öl,\x1b[2J"), r"Öl,\x1b[2J"),
@@ -23,7 +28,7 @@ ODD = {
         (85, real("42290000"), "42.25"),
         (111, bits("1001"), "B'1001' (in-alarm, out-of-service)"),
         (117, enumerated(999), "999"),
-        (9998, real("40000000"), "untyped:40000000"),
+        (9998, real("40000000"), "2"),
     ],
     (1, 3): [
         (28, string(b"\xff"), r'"\xff"'),
@@ -32,12 +37,12 @@ ODD = {
         (57, tagged(11, b"\x0c\xff\0\0"), "T'0cff0000'"),
         (65, real("ff800000"), "no number: -Inf"),
         (77, string(b"\0Z\0\xfc", 4), "Zü"),
-        (85, unsigned(1), "no real: 1"),
+        (85, unsigned(1), "no real: unsigned 1"),
         (87, b"\0" + real("41a00000"), "{null, 20}"),
         (9999, unsigned(62), "62"),
     ],
     (4, 1): [
-        (33, real("00000000"), "no integer: 00000000"),
+        (33, real("00000000"), "no integer: real 0"),
         (40, enumerated(7), "no state: 7"),
         (46, string("Aus"), "Aus"),
         (85, enumerated(1), "1 (active)"),
@@ -49,8 +54,8 @@ ODD = {
         (85, unsigned(2), "2"),
         (110, string("At home") + string('a,"b\\'), '{"At home", "a,"b\\"}'),
     ],
-    (17, 1): [(85, real("40000000"), "untyped:40000000")],
-    (39, 1): [(23, b"\x0e\x0f", "hex 0e0f"), (85, bits("01"), "B'01'")],
+    (17, 1): [(85, real("40000000"), "2"), (123, WEEK, SHOWN_WEEK)],
+    (39, 1): [(23, b"\x0e\x0f", "[0]{}"), (85, bits("01"), "B'01'")],
     (23, 1): [(45, unsigned(12345678), "12345678"), (85, unsigned(40000000), "40000000")],
     (45, 1): [
         (59, tagged(3, b"\x80\0"), "-32768"),
@@ -58,14 +63,14 @@ ODD = {
         (87, b"", "{}"),
     ],
     (46, 1): [
-        (22, real("40000000"), "no double: 40000000"),
+        (22, real("40000000"), "no double: real 2"),
         (45, tagged(5, struct.pack(">d", 20)), "20"),
         (85, tagged(5, struct.pack(">d", 72.3)), "72.3"),
     ],
     (300, 1): [
-        (45, real("40000000"), "untyped:40000000"),
+        (45, real("40000000"), "2"),
         (77, string("A|B"), "A|B"),
-        (85, real("40000000"), "untyped:40000000"),
+        (85, real("40000000"), "2"),
     ],
 }
 OWN = (75, 77, 79)  # which no property-list has

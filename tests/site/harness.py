@@ -41,6 +41,14 @@ class World:
         with local_socket() as found:
             port = str(found.getsockname()[1])
         self.device = subprocess.Popen([TOOL, "bacdev", "1000", "--port", port])
+        try:
+            self.meet(port)
+        except BaseException:
+            self.close()
+            raise
+
+    def meet(self, port):
+        """Begins the stand-ins, and waits for the device."""
         self.odd, self.dead = StandIn(77, ODD_VALUES), local_socket()
         dead = "127.0.0.1:%d" % self.dead.getsockname()[1]
         self.names = {

@@ -1,8 +1,8 @@
-"""Polls devices that answer late, where few ports are free, and tells whose values came.
+"""Two polls at once of devices that answer late, where few ports are free: whose values come?
 
-Usage: late.py BACSITE, in a network of its own (alone.py), where it may set the range of ports that
-the system gives. Each of 100 devices has 25 points, whose values are their instances. It answers
-350 ms after a request; bacsite asks again after 70 ms, and later after up to 280.
+Usage: late.py BACSITE [OPTION ..], in a network of its own (alone.py), where it may set the range
+of ports that the system gives. Each of 60 devices has 25 points, whose values are their instances.
+It answers 350 ms after a request; bacsite asks again after 70 ms, and later after up to 280.
 """
 
 import re
@@ -13,7 +13,7 @@ import sys
 import alone
 from stand_ins import LateStandIn, unsigned
 
-DEVICES, POINTS = 100, 25
+DEVICES, POINTS = 60, 25
 
 
 def socket_at(address):
@@ -22,7 +22,7 @@ def socket_at(address):
     return found
 
 
-def main(bacsite):
+def main(bacsite, *options):
     alone.bring_up()
     with open("/proc/sys/net/ipv4/ip_local_port_range", "w", encoding="ascii") as ports:
         ports.write("40000 40199")
@@ -32,18 +32,18 @@ def main(bacsite):
     points = [
         "%d %s 23 %d 85\n" % (it, device.address, it) for device in devices for it in range(POINTS)
     ]
-    done = subprocess.run(
-        [sys.executable, bacsite, "poll", "-", "--at-once", str(DEVICES)]
-        + ["--apdu-timeout", "70", "--apdu-retries", "9"],
-        input="".join(points),
-        encoding="ascii",
-        stdout=subprocess.PIPE,
-        check=False,
-    )
-    rows = re.findall(r"(?m)^\S+\t(.*)\t(.*)\t-$", done.stdout)
+    words = [sys.executable, bacsite, "poll", "-", "--at-once", str(DEVICES), *options]
+    words += ["--apdu-timeout", "70", "--apdu-retries", "9"]
+    pipe = subprocess.PIPE
+    polls = [subprocess.Popen(words, stdin=pipe, stdout=pipe, encoding="ascii") for _ in range(2)]
+    for poll in polls:
+        poll.stdin.write("".join(points))
+        poll.stdin.close()
+    outs = "".join(poll.stdout.read() for poll in polls)
+    rows = re.findall(r"(?m)^\S+\t(.*)\t(.*)\t-$", outs)
     wrong = [row for row in rows if row[0] != row[1]]
-    late = sum(it.heard for it in devices) > len(points) * 1.1
+    late = sum(it.heard for it in devices) > 2 * len(points) * 1.1
     print(len(rows), "values,", len(wrong), "of another point,", "late" if late else "in time")
 
 
-main(sys.argv[1])
+main(*sys.argv[1:])

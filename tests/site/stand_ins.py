@@ -181,6 +181,43 @@ class LateStandIn(StandIn):
                 datagram, client = self.socket.recvfrom(2048)
                 self.heard += 1
                 self.ports.append(client[1])
+                self.times.append(time.monotonic())
                 waiting.append((time.monotonic() + self.delay, self.reply(datagram[6:]), client))
             while waiting and waiting[0][0] <= time.monotonic():
                 self.send(*waiting.popleft()[1:])
+
+
+class RouterStandIn(StandIn):
+    """A router, itself a device, with stations behind it: `stations` has, by ROUTE, as 5/01, a StandIn.
+
+    It answers a Who-Is for all of them. What is sent to a station that it does not have is lost.
+    """
+
+    stations = {}
+
+    def serve(self):
+        while True:
+            datagram, client = self.socket.recvfrom(2048)
+            self.heard += 1
+            control, at, route = datagram[5], 6, ""
+            if control & 0x20:
+                length = datagram[8]
+                station = datagram[9 : 9 + length].hex()
+                route, at = "%d/%s" % (int.from_bytes(datagram[6:8], "big"), station), 10 + length
+            apdu, asked = datagram[at:], {"": self, **self.stations}
+            who_is = apdu[:2] == b"\x10\x08"
+            for name, device in asked.items() if who_is else [(route, asked.get(route))]:
+                if self.delay:
+                    time.sleep(self.delay)
+                    self.count_early()
+                self.send_from(name, device.reply(apdu) if device else b"", client)
+
+    def send_from(self, route, reply, client):
+        """Sends the reply of a station, which is named as the source."""
+        network, _, station = route.partition("/")
+        octets = bytes.fromhex(station)
+        source = struct.pack(">HB", int(network), len(octets)) + octets if route else b""
+        head = b"\x01\x08" + source if route else b"\x01\x00"
+        if reply:
+            length = struct.pack(">H", 4 + len(head) + len(reply))
+            self.socket.sendto(b"\x81\x0a" + length + head + reply, client)

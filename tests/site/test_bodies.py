@@ -4,7 +4,8 @@ import unittest
 from building import CLIENT, DEVICE, datagrams, wrapped
 from bacsite.bodies import error_body, read_ack, read_body, region_text, write_body
 from bacsite.messages import message_of
-from bacsite.talk import outcome_of
+from bacsite.names import form_of
+from bacsite.answers import outcome_of
 
 VALUES = """
 00 null
@@ -46,6 +47,9 @@ d100 hex d100
 f900 hex f900
 2105ff hex 2105ff
 6502ab00 X'ab00'
+65fe0001ab X'ab'
+65ff00000001ab X'ab'
+65ffffffffab hex 65ffffffffab
 7502003f "?"
 """
 
@@ -103,6 +107,7 @@ class Values(unittest.TestCase):
             20010f ok
             30010c0c0000000519553e444290999a3f value 4290999a
             30010c0c bad-ack
+            30010c0c4b00000119553b0e393f bad-ack
             380100010c segmented
             50010c91029120 error 2 32
             50010c bad-error
@@ -124,6 +129,27 @@ class Values(unittest.TestCase):
         self.assertIsNone(error_body(bytes.fromhex("21029120")))
 
 
+class Forms(unittest.TestCase):
+    def test_forms(self):
+        for what, tags, is_list in (
+            ((13, 1, 7), (2,), True),
+            ((13, 1, 7, 1), (2,), False),
+            ((13, 1, 7, 0), (2,), False),
+            ((3, 1, 6), (9,), False),
+            ((0, 1, 22), (4,), False),
+            ((45, 1, 22), (2,), False),
+            ((45, 1, 25), (2,), False),
+            ((45, 1, 65), (3,), False),
+            ((48, 1, 25), (2,), False),
+            ((46, 1, 25), (5,), False),
+            ((1, 1, 87), (4, 0), True),
+            ((1, 1, 87, 8), (4, 0), False),
+        ):
+            with self.subTest(what=what):
+                form = form_of(what)
+                self.assertEqual((form.tags, form.is_list), (tags, is_list))
+
+
 class Headers(unittest.TestCase):
     def test_peers(self):
         rows = [
@@ -132,6 +158,7 @@ class Headers(unittest.TestCase):
             ("8104000f0a000001bac00100" + "20010f", "10.0.0.1:47808", CLIENT, ""),
             ("810a000d010800050107" + "20010f", DEVICE + "/5/07", CLIENT, ""),
             ("810a000e012000050107ff" + "20010f", DEVICE, CLIENT + "/5/07", ""),
+            ("810a00140128000501070006020809ff" + "20010f", DEVICE + "/6/0809", CLIENT + "/5/07", ""),
             ("810b000c0120ffff00ff" + "1008", DEVICE, CLIENT + "/65535/*", ""),
             ("810a0007018000", DEVICE, CLIENT, "network message 0"),
             ("810a000601" + "00", DEVICE, CLIENT, "an APDU that can't be read: none"),

@@ -1,42 +1,138 @@
-"""Calls: a port of its own for each, late answers, busy and slow controllers, tools that fail."""
+"""Calls: late answers, those about other points, busy and slow controllers, tools that fail."""
 
 import os
+import struct
 import subprocess
 import sys
 import time
 import unittest
-from unittest import mock
 
 import alone
 import harness
-from bacsite import calls
-from stand_ins import LateStandIn, real, string, unsigned
+from bacsite import calls, session
+from building import wrapped
+from stand_ins import LateStandIn, StandIn, real, string, unsigned
 
 
-class PortNumbers(unittest.TestCase):
-    def test_none_comes_again_soon(self):
-        ports = calls.Ports()
-        found = [ports.next() for _ in range(16384)]
-        self.assertEqual((len(set(found)), min(found), max(found)), (16384, 49152, 65535))
+class OtherStandIn(StandIn):
+    """A device that answers so many times about the object whose instance is one more."""
 
-    def test_programs_side_by_side_begin_far_apart(self):
-        begins = []
-        for process in range(700):
-            with mock.patch("os.getpid", return_value=process):
-                begins.append(calls.Ports().next())
-        near = sorted(begins)
-        gaps = [after - at for at, after in zip(near, [*near[1:], near[0] + 16384])]
-        self.assertGreaterEqual(min(gaps), 8)
+    wrong = 1
+
+    def reply(self, apdu):
+        found = super().reply(apdu)
+        if self.wrong and found[:1] == b"\x30":
+            self.wrong -= 1
+            found = found[:7] + bytes([found[7] + 1]) + found[8:]
+        return found
+
+
+FORTY = real("42290000")
+
+
+def ack(what, value=FORTY, head="0100"):
+    """A whole datagram that acknowledges a read."""
+    body = b"\x0c" + struct.pack(">I", what[0] << 22 | what[1]) + b"\x19" + bytes(what[2:3])
+    body += b"\x29" + bytes(what[3:]) if what[3:] else b""
+    apdu = b"\x30\x01\x0c" + body + b"\x3e" + value + b"\x3f"
+    return bytes.fromhex(wrapped(apdu.hex(), head))
+
+
+class WhoseAnswer(harness.SiteTest):
+    def test_a_value_is_taken_only_for_what_the_answer_is_about(self):
+        good, strange = (FORTY, ""), (b"", session.STRANGE)
+        for asked, told, wanted in (
+            ((0, 1, 85), (0, 1, 85), good),
+            ((0, 1, 85), (0, 2, 85), strange),
+            ((0, 1, 85), (1, 1, 85), strange),
+            ((0, 1, 85), (0, 1, 77), strange),
+            ((0, 1, 85), (0, 1, 85, 1), strange),
+            ((1, 1, 87, 8), (1, 1, 87, 8), good),
+            ((1, 1, 87, 8), (1, 1, 87, 9), strange),
+            ((1, 1, 87, 8), (1, 1, 87), strange),
+            ((8, 4194303, 75), (8, 77, 75), good),
+            ((8, 4194303, 75), (8, 77, 77), strange),
+            ((8, 4194303, 75), (0, 77, 75), strange),
+            ((8, 77, 75), (8, 78, 75), strange),
+        ):
+            for head in "0100", "01080005010a", "0120ffff00ff":
+                with self.subTest(asked=asked, told=told, head=head):
+                    ended = session.Ended("value 42290000", ack(told, head=head))
+                    self.assertEqual(session.answer_of(ended, asked), wanted)
+        for outcome, apdu, wanted in (
+            ("ok", "20010c", "bad-ack"),
+            ("bad-ack", "30010c0c", "bad-ack"),
+            ("segmented", "380100010c0c", "segmented"),
+            ("error 2 32", "50010c91029120", "error 2 32"),
+            ("bad-error", "50010c01", "bad-error"),
+            ("reject 9", "600109", "reject 9"),
+            ("abort 4", "710104", "abort 4"),
+        ):
+            ended = session.Ended(outcome, bytes.fromhex(wrapped(apdu)))
+            self.assertEqual(session.answer_of(ended, (0, 1, 85)), (b"", wanted))
+        self.assertEqual(session.answer_of(session.Ended("timeout"), (0, 1, 85)), (b"", "timeout"))
+
+    def test_the_reader_is_compared_with_the_proved_printer(self):
+        octets = ack((0, 1, 85))
+        for outcome, datagram, told in (
+            ("value 42290001", octets, "it reads value 42290000 and bactool value 42290001 in "),
+            ("value 3", octets, "it reads value 42290000 and bactool value 3 in "),
+            ("error 2 32", octets, "it reads value 42290000 and bactool error 2 32 in "),
+            ("bad-ack", octets, "it reads value 42290000 and bactool bad-ack in "),
+            ("value 3", b"", "it reads no answer and bactool value 3 in nothing"),
+            ("value 3", b"\x81\x0a\0\4", "it reads no answer and bactool value 3 in 810a0004"),
+        ):
+            found = session.answer_of(session.Ended(outcome, datagram), (0, 1, 85))
+            self.assertEqual((found.region, found.reason[:20]), (b"", "a fault of bacsite: "))
+            end = datagram.hex() if told.endswith("in ") else ""
+            self.assertEqual(found.reason[20:], told + end)
+
+    def test_a_difference_is_told_as_a_fault_of_the_program(self):
+        os.mkdir(self.world.folder + "/differing")
+        lines = "data 127.0.0.1:9 %s\\n# done 0 value 3\\n" % ack((0, 1, 85)).hex()
+        path = self.path("differing/bactool", "#!/bin/sh\nprintf '%s'\ncat >/dev/null" % lines)
+        os.chmod(path, 0o755)
+        told = "a fault of bacsite: it reads value 42290000 and bactool value 3 in 810a"
+        for words, status, line in (
+            (["read"], 1, told),
+            (["check"], 3, "BACNET UNKNOWN - " + told),
+        ):
+            words += ["--tools", "IN/differing", "DEV", "0", "1", "85"]
+            found, out, _ = self.run_site(*words)
+            self.assertEqual((found, out[: len(line)]), (status, line))
+        words = ["write", "--tools", "IN/differing", "DEV", "0", "1", "5"]
+        self.assertIn("a fault of bacsite: ", self.run_site(*words)[2])
+
+    def test_a_number_of_another_type_is_none(self):
+        values = {(0, 1, 85): unsigned(42290000), (300, 1, 85): unsigned(42290000)}
+        self.stand_in({**values, (23, 1, 85): FORTY, (13, 1, 85): real("00000001")})
+        self.rows(
+            """
+            read HERE 0 1 85 => 1 no real: unsigned 42290000
+            check HERE 0 1 85 => 3 BACNET UNKNOWN - no real: unsigned 42290000
+            read HERE 300 1 85 => 0 42290000
+            read HERE 23 1 85 => 1 no integer: real 42.25
+            read HERE 13 1 85 => 1 no integer: real 1e-45
+            """
+        )
+
+    def test_it_is_asked_for_again(self):
+        values = {(0, 1, 85): real("42290000")}
+        device = self.stand_in(values, kind=OtherStandIn)
+        self.rows("read HERE 0 1 85 => 0 42.25")
+        self.assertEqual(device.asked, [(0, 1, 85)] * 2)
+        device = self.stand_in(values, kind=OtherStandIn)
+        device.wrong = 9
+        self.rows("read HERE 0 1 85 => 1 an answer about another point")
+        self.assertEqual(device.asked, [(0, 1, 85)] * 3)
 
     @unittest.skipUnless(alone.way(), "no network namespace can be made")
     def test_no_value_is_that_of_another_point(self):
-        bacsite = harness.world().command[1]
+        late = [sys.executable, os.path.dirname(__file__) + "/late.py"]
         done = subprocess.run(
-            [*alone.way(), sys.executable, os.path.dirname(__file__) + "/late.py", bacsite],
-            stdout=subprocess.PIPE,
-            encoding="ascii",
+            [*alone.way(), *late, self.world.command[1]], stdout=subprocess.PIPE, encoding="ascii"
         )
-        self.assertRegex(done.stdout, r"\A2\d\d\d values, 0 of another point, late\n\Z")
+        self.assertRegex(done.stdout, r"\A[2-5]\d\d\d values, 0 of another point, late\n\Z")
 
 
 class Calls(harness.SiteTest):
@@ -46,14 +142,6 @@ class Calls(harness.SiteTest):
         ended.write([])
         self.assertEqual(ended.writes, 1)
 
-    def test_a_port_that_somebody_has_is_passed_over(self):
-        tool = self.path("taken", "")
-        os.mkdir(self.world.folder + "/busy")
-        text = "#!/bin/sh\necho x >>%s\n[ $(wc -l <%s) -gt 3 ] && echo 42290000 && exit\n"
-        text += "echo bactool: bind failed >&2; exit 3\n"
-        os.chmod(self.path("busy/bactool", text % (tool, tool)), 0o755)
-        self.rows("read --tools IN/busy DEV 0 5 85 => 0 42.25")
-
     def test_busy_controllers_are_asked_again(self):
         for reason in (3, 8, 9):
             device = self.stand_in(
@@ -61,6 +149,8 @@ class Calls(harness.SiteTest):
             )
             self.rows("read HERE 0 1 85 => 0 42.25")
             self.assertEqual(device.asked, [(0, 1, 85)] * 3)
+        device = self.stand_in({(0, 1, 85): [("error", 0, 3), real("42290000")]})
+        self.rows("read HERE 0 1 85 => 0 42.25")
         device = self.stand_in({(0, 1, 85): ("abort", 9)})
         self.rows("read HERE 0 1 85 --apdu-timeout 1500 --apdu-retries 1 => 1 abort 9")
         first, second = device.times
@@ -101,20 +191,41 @@ class Calls(harness.SiteTest):
             self.rows("read HERE 13 1 110 => 1 " + text)
             self.assertLessEqual(len(device.asked), 3)
 
+    def test_journals(self):
+        device = self.stand_in({(0, at, 85): real("42290000") for at in range(9)}, lose=5)
+        folder = self.world.folder + "/journals"
+        os.mkdir(folder)
+        path = self.path("noted", "".join("p HERE 0 %d 85\n" % at for at in range(9)))
+        self.assertEqual(self.run_site("poll", path, "--journal", folder)[0], 0)
+        names, sends = sorted(os.listdir(folder)), 0
+        self.assertEqual(names[0], device.address.replace(":", "_") + "-1.trace")
+        for name in names:
+            with open(folder + "/" + name, encoding="ascii") as file:
+                told = file.read()
+            replayed = subprocess.run(
+                [harness.TOOL, "bactrace"], input=told, stdout=subprocess.PIPE, encoding="ascii"
+            )
+            said = [line[2:] for line in told.splitlines() if line.startswith("# ")]
+            self.assertEqual((replayed.returncode, replayed.stdout.splitlines()), (0, said))
+            sends += told.count("# send")
+        self.assertEqual(sends, device.heard)
+        self.rows("read HERE 0 1 85 --journal IN/none => 3 !no folder: IN/none")
+
     def test_tools_that_fail(self):
         os.mkdir(self.world.folder + "/odd")
         for text, wanted in (
-            ("kill -9 $$", "no line of bacrp, status -9"),
-            ("exit 0", "no line of bacrp, status 0"),
+            ("kill -9 $$", "no line of bacrun, status -9"),
+            ("exit 0", "no line of bacrun, status 0"),
             ("echo 'bactool: sending failed' >&2; exit 3", "bactool: sending failed"),
-            ("echo 1; echo 2", "no line of bacrp, status 0"),
-            ("printf '\\377'", "no real: \\xff"),
+            ("echo 'bactool: no such thing' >&2; exit 3", "bactool: no such thing"),
+            ("echo 1; echo 2", "no line of bacrun, status 0"),
+            ("printf '\\377'", "no line of bacrun, status 0"),
+            ("printf '# done 7 ok\\n# send x\\ndata x\\n\\n'", "no line of bacrun, status 0"),
         ):
             os.chmod(self.path("odd/bactool", "#!/bin/sh\n%s\n" % text), 0o755)
             self.rows("read --tools IN/odd DEV 0 5 85 => 1 " + wanted)
-            self.assertEqual(
-                self.run_site("check", "--tools", "IN/odd", "DEV", "0", "5", "85")[0], 3
-            )
+            status, _, _ = self.run_site("check", "--tools", "IN/odd", "DEV", "0", "5", "85")
+            self.assertEqual(status, 2 if "sending failed" in wanted else 3)
         self.path("odd/bactool", "#!/nowhere\n")
         self.rows(
             "read --tools IN/odd DEV 0 5 85 => 1 cannot run IN/odd/bactool: No such file or directory"

@@ -5,7 +5,7 @@ import os
 import subprocess
 import unittest
 
-from building import ether, exchange, pcap, udp
+from building import CLIENT, DEVICE, ether, exchange, pcap, udp, wrapped
 from harness import SiteTest
 from test_trace import ends_of, printed
 from tshark import compared
@@ -81,6 +81,17 @@ class Command(SiteTest):
             done = subprocess.run(command, stdin=file, stdout=subprocess.PIPE)
         self.assertEqual((done.returncode, done.stdout[:10]), (0, b"1 request "))
 
+    def test_a_snap_length_of_60(self):
+        octets = [ether(udp(one, two, bytes.fromhex(it))) for _, one, two, it in exchange(0, 1)]
+        cut = pcap([(at * 10**6, it[:60]) for at, it in enumerate(octets)], 1)
+        status, text, _ = self.told(cut)
+        self.assertIn("(0 5 85): answered, cut by the capture  1.00 ms\n", text)
+        told = "cut by the capture: 1 datagram, told by their first octets\n"
+        self.assertEqual((status, text[-len(told) :]), (0, told))
+        self.assertEqual(json.loads(self.told(cut, "--json")[1].splitlines()[-1])["cut"], 1)
+        self.assertIn("a datagram that the capture has cut", self.told(cut, "--trace")[1])
+        self.assertNotIn("\ndata ", self.told(cut, "--trace")[1])
+
     def test_trace(self):
         said = "bacsite: no read or write of 127.0.0.7 to any\n"
         found = self.told(exchange(0, 1), "--trace", "--client", "127.0.0.7")
@@ -112,6 +123,15 @@ device           requests  answered  refused  unanswered  sent again  slow  medi
 """
         self.assertEqual(self.told(steps + exchange(9000, 9002, 4), "--summary")[1], summary)
 
+    def test_summary_of_several(self):
+        """The device that failed most stands first; answers to nothing are counted."""
+        steps = exchange(0, 1) + exchange(10, 11, 2, "600209", to="127.0.0.9:47808")
+        steps += [(20, DEVICE, CLIENT, wrapped("20090f"))]
+        text = self.told(steps, "--summary")[1]
+        devices = [it.split(" ")[0] for it in text.splitlines()[3:5]]
+        self.assertEqual(devices, ["127.0.0.9:47808", DEVICE])
+        self.assertIn("\nalso seen: answers to nothing seen 1\n", text)
+
     def test_only(self):
         steps = exchange(0, 1) + exchange(10, 11, 2, "600209") + exchange(20, 1500, 3)
         for words, numbers in (("failed", ["2"]), ("slow", ["3"])):
@@ -127,12 +147,30 @@ device           requests  answered  refused  unanswered  sent again  slow  medi
             self.assertEqual(self.told(steps, *words)[1].split(" ")[0:1], [""])
             text = self.told(steps, *words, "--summary")[1]
             self.assertEqual(text[:9], "%d request" % count)
+        other = [(6, "127.0.0.3:47808", "127.0.0.1:50000", wrapped("1008"))]
+        for words, count in (
+            (["--client", "127.0.0.1"], 3),
+            (["--client", "127.0.0.1", "--device", "127.0.0.3"], 1),
+            (["--client", "127.0.0.1", "--device", "127.0.0.9"], 1),
+        ):
+            text = self.told(steps + other, *words)[1].split("\n\n")[0]
+            self.assertEqual(len(text.splitlines()), count, words)
+        for words, told in (
+            (("--client", "127.0.0.4"), "127.0.0.4 and any"),
+            (("--client", "127.0.0.l", "--json"), "127.0.0.l and any"),
+            (("--device", "127.0.0.1:4780"), "any and 127.0.0.1:4780"),
+        ):
+            found = self.told(steps, *words)
+            self.assertEqual(found, (2, "", "bacsite: nothing between %s\n" % told))
 
     def test_json(self):
         rows = [json.loads(it) for it in self.told(exchange(0, 1), "--json")[1].splitlines()]
         self.assertEqual([it["kind"] for it in rows], ["talk", "summary"])
         self.assertEqual(rows[0]["shown"], "72.3")
         self.assertEqual(rows[1]["all"]["answered"], 1)
+        empty = wrapped("0005010f0c0000000a19553e71003f", "0104")
+        rows = self.told([(0, CLIENT, DEVICE, empty), *exchange(1, 2, 2)], "--json")[1].splitlines()
+        self.assertEqual([json.loads(it)["written"] for it in rows[:2]], ["", None])
 
 
 if __name__ == "__main__":

@@ -9,7 +9,8 @@ import time
 import unittest
 
 import harness
-from bacsite.check import OK, CRITICAL, UNKNOWN, WARNING, range_of, verdict_on_flags
+import bacsite
+from bacsite.check import OK, CRITICAL, UNKNOWN, WARNING, range_of, verdict_on, verdict_on_flags
 from bacsite.failures import Failure
 from bacsite.poll import Reading
 from bacsite.points import Point
@@ -45,7 +46,7 @@ class Poll(harness.SiteTest):
                     "name Outdoor temperature -",
                     "fan 0 -",
                     "boiler - error 1 31",
-                    "mode - no real: 1",
+                    "mode - no real: unsigned 1",
                     "attic - timeout",
                     "attic-fan - not asked",
                     "cellar - no address: 1.2.3.256",
@@ -67,7 +68,7 @@ class Poll(harness.SiteTest):
                     "c 0 -",
                     "d - another device: 8:1000",
                     "e - no number: NaN",
-                    "f untyped:40000000 -",
+                    "f 2 -",
                     "h - wanted: [INSTANCE@]ADDRESS [real|double|integer] TYPE INSTANCE PROPERTY [INDEX]",
                 ],
             ),
@@ -119,7 +120,7 @@ class Poll(harness.SiteTest):
                         'no real: "n/a"',
                         "no real: null",
                         "no real: {}",
-                        "no real: {1,1}",
+                        "no real: {1, 1}",
                         "no integer: D'12345678'",
                         "no state: 42480000",
                         "no state: 7",
@@ -127,6 +128,22 @@ class Poll(harness.SiteTest):
                     )
                 ],
             ),
+        )
+
+    def test_a_line_ends_at_its_line_feed_alone(self):
+        for mark in ("\u2028", "\x0b", "\x1c", "\x85"):
+            status, rows = self.poll("a%sb DEV 0 5 85\nc DEV 0 5 85\n" % mark)
+            self.assertEqual((status, rows[0][:4], len(rows)), (1, "a - ", 2))
+
+    def test_words(self):
+        self.path("check", "a DEV 0 5 85\n")
+        self.rows(
+            """
+            read check 0 5 85 => 2 !no address: check
+            poll IN/check --sort => 2 !unrecognized arguments: --sort
+            poll --at-once 257 IN/check => 2 !argument --at-once: not 1 to 256: 257
+            poll IN/check IN/check => 2 !unrecognized arguments: IN/check
+            """
         )
 
     def test_files(self):
@@ -203,22 +220,30 @@ class Ranges(unittest.TestCase):
                 range_of(word)
 
     def test_flags(self):
+        def flagged(*bits):
+            return Value(Kind.OTHER, ", ".join(bits), bits=bits)
+
         value = Value(Kind.NUMBER, "1")
         for flags, wanted in (
             (NOTHING, (OK, "")),
             (Value(Kind.OTHER, "normal"), (OK, "")),
-            (Value(Kind.OTHER, "in-alarm, overridden"), (OK, "in-alarm, overridden")),
-            (Value(Kind.OTHER, "fault"), (CRITICAL, "fault")),
-            (Value(Kind.OTHER, "fault, out-of-service"), (CRITICAL, "fault, out-of-service")),
-            (Value(Kind.OTHER, "out-of-service"), (WARNING, "out-of-service")),
+            (flagged("in-alarm", "overridden"), (OK, "in-alarm, overridden")),
+            (flagged("fault"), (CRITICAL, "fault")),
+            (flagged("fault", "out-of-service"), (CRITICAL, "fault, out-of-service")),
+            (flagged("out-of-service"), (WARNING, "out-of-service")),
             (fault("timeout"), (UNKNOWN, "status-flags: timeout")),
         ):
             self.assertEqual(verdict_on_flags(Reading(Point(""), value, "", flags)), wanted)
+        unread = Reading(Point(""), value, "", fault("timeout"))
+        for warning, status in (("0", WARNING), ("1", UNKNOWN)):
+            found = verdict_on(unread, range_of(warning), range_of(""))
+            self.assertEqual(found.status, status)
 
 
 class Check(harness.SiteTest):
     def test_rows(self):
-        self.stand_in({(0, 3, 85): ("abort", 4), (0, 4, 85): real("7f7fffff")})
+        values = {(0, 3, 85): ("abort", 4), (0, 4, 85): real("7f7fffff")}
+        self.stand_in({**values, (0, 5, 85): real("3dcccccd")})
         self.rows(
             """
             check -w 60:70 -c 50:90 DEV real 0 5 85 => 1 BACNET WARNING - 72.3 | value=72.3;60:70;50:90
@@ -235,9 +260,9 @@ class Check(harness.SiteTest):
             check DEAD 0 1 85 => 2 BACNET CRITICAL - timeout
             check DEV 0 99 85 => 3 BACNET UNKNOWN - error 1 31
             check HERE 0 3 85 => 3 BACNET UNKNOWN - abort 4
-            check ODD 1 3 85 => 3 BACNET UNKNOWN - no real: 1
+            check ODD 1 3 85 => 3 BACNET UNKNOWN - no real: unsigned 1
             check 78@HERE 0 1 85 => 3 BACNET UNKNOWN - another device: 8:77
-            check ODD 300 1 85 => 3 BACNET UNKNOWN - no number: untyped:40000000
+            check ODD 300 1 85 => 0 BACNET OK - 2 | value=2;~:;~:
             check ODD 300 1 77 => 3 BACNET UNKNOWN - no number: A/B
             check nobody.invalid 0 5 85 => 3 BACNET UNKNOWN - no address: nobody.invalid
             check 9 0 5 85 => 3 BACNET UNKNOWN - no address: 9
@@ -247,11 +272,43 @@ class Check(harness.SiteTest):
             check -w :80 DEV 0 5 85 => 0 BACNET OK - 72.3 | value=72.3;:80;~:
             check -w 5:: DEV => 3 BACNET UNKNOWN - no range: 5::
             check --tools /nowhere DEV 0 5 85 => 3 BACNET UNKNOWN - no bactool in /nowhere
+            check -c 0.1 HERE 0 5 85 => 0 BACNET OK - 0.1 | value=0.1;~:;0.1
             """
         )
         self.assertEqual(
             [self.run_site("check", *it)[0] for it in (["--help"], [], ["-c"])], [3, 3, 3]
         )
+        told = "BACNET UNKNOWN - argument -t/--timeout: expected one argument; see bacsite check --help\n"
+        self.assertEqual(self.run_site("check", "-t"), (3, told, ""))
+
+    def test_numbers_past_those_of_a_double_are_exact(self):
+        self.stand_in({(23, 1, 85): unsigned(2**53 + 1)})
+        for limit, status in ((2**53, 2), (2**53 + 1, 0)):
+            found = self.run_site("check", "-c", str(limit), "HERE", "23", "1", "85")
+            self.assertEqual(found[0], status)
+            self.assertIn(" - 9007199254740993 | value=9007199254740993;", found[1])
+
+    def test_the_version(self):
+        found = self.run_site("check", "-V")
+        self.assertEqual(found, (3, "bacsite %s\n" % bacsite.VERSION, ""))
+        self.assertEqual(self.run_site("check", "--version"), found)
+
+    def test_a_name_server_that_is_silent(self):
+        code = (
+            "import socket, sys, time\n"
+            "sys.path.insert(0, %r)\n"
+            "socket.getaddrinfo = lambda *_: time.sleep(60)\n"
+            "sys.argv[1:] = ['check', '-t', '1', 'host.example', '0', '5', '85']\n"
+            "from bacsite.main import run\n"
+            "run()\n"
+        )
+        begun = time.monotonic()
+        done = subprocess.run(
+            [sys.executable, "-c", code % (harness.TOP + "/site")], stdout=subprocess.PIPE
+        )
+        wanted = (2, b"BACNET CRITICAL - not done in time\n")
+        self.assertEqual((done.returncode, done.stdout), wanted)
+        self.assertLess(time.monotonic() - begun, 20)
 
     def test_a_host_name(self):
         port = self.names["DEV"].split(":")[1]
@@ -271,6 +328,7 @@ class Check(harness.SiteTest):
             {
                 (0, 5, 85): real("42290000"),
                 (0, 5, 111): unsigned(15),
+                (0, 1, 85, 1): real("42290000"),
                 (0, 6, 85): real("42290000"),
                 (0, 7, 85): real("42290000"),
                 (0, 7, 111): "silent",
@@ -287,13 +345,18 @@ class Check(harness.SiteTest):
             check HERE 0 3 85 => 0 BACNET OK - 42.25, in-alarm, overridden | value=42.25;~:;~:
             check HERE 0 3 85 -w 1 => 1 BACNET WARNING - 42.25, in-alarm, overridden | value=42.25;1;~:
             check HERE 0 4 85 => 2 BACNET CRITICAL - 42.25, fault, overridden | value=42.25;~:;~:
-            check HERE 0 5 85 => 3 BACNET UNKNOWN - 42.25, status-flags: no bits: 15 | value=42.25;~:;~:
+            check HERE 0 5 85 => 3 BACNET UNKNOWN - 42.25, status-flags: no bits: unsigned 15 | value=42.25;~:;~:
             check HERE 0 6 85 => 0 BACNET OK - 42.25 | value=42.25;~:;~:
             check HERE 0 7 85 => 3 BACNET UNKNOWN - 42.25, status-flags: timeout | value=42.25;~:;~:
             check HERE real 300 1 85 => 2 BACNET CRITICAL - 42.25, fault | value=42.25;~:;~:
+            check HERE 0 1 85 1 => 0 BACNET OK - 42.25 | value=42.25;~:;~:
             check HERE 0 1 85 --no-flags => 0 BACNET OK - 42.25 | value=42.25;~:;~:
             """
         )
+        for reliability, told in ((enumerated(0), "fault"), (enumerated(999), "fault: 999")):
+            values[0, 1, 103] = reliability
+            self.stand_in(values)
+            self.rows("check HERE 0 1 85 => 2 BACNET CRITICAL - 42.25, %s | value=42.25;~:;~:" % told)
 
     def test_a_deadline(self):
         begun = time.monotonic()
@@ -326,6 +389,9 @@ class Prometheus(harness.SiteTest):
         )
         self.rows("prometheus IN/points IN/new.prom => 1 ", before=lambda: os.umask(0o077))
         self.assertEqual(oct(os.stat(self.world.folder + "/new.prom").st_mode), "0o100644")
+        os.chmod(self.world.folder + "/new.prom", 0o640)
+        self.rows("prometheus IN/points IN/new.prom => 1 ")
+        self.assertEqual(oct(os.stat(self.world.folder + "/new.prom").st_mode), "0o100640")
         self.assertEqual(
             self.file("new.prom"),
             self.spelled(
@@ -369,12 +435,13 @@ bacnet_flag{point="held",address="HERE",flag="overridden"} 1
             "sys.path.insert(0, %r)\n"
             "from bacsite.files import replace_file\n"
             "def parts():\n"
+            "    assert any(it.startswith('whole.prom.') for it in os.listdir(%r))\n"
             "    yield 'new'\n"
             "    os.kill(os.getpid(), signal.SIGTERM)\n"
             "    yield ' and whole'\n"
             "replace_file(%r, parts())\n"
         )
-        code %= (harness.TOP + "/site", path)
+        code %= (harness.TOP + "/site", self.world.folder, path)
         done = subprocess.run([sys.executable, "-c", code])
         self.assertEqual((done.returncode, self.file("whole.prom")), (-15, "new and whole"))
 

@@ -1,11 +1,12 @@
 """Tries the page of a survey; browser.py tries it in a browser."""
+import os
 import re
 import unittest
 from html.parser import HTMLParser
 
 import harness  # noqa: F401  it makes bacsite known
 from bacsite.page import SCRIPT, STYLE, hash_of, page_of, safe
-from bacsite.survey import Device, SiteObject
+from bacsite.device import Device, SiteObject
 from bacsite.values import Kind, Value
 
 HERE = "192.0.2.7:47808"
@@ -64,15 +65,15 @@ def an_object(kind=0, text="1", **more):
 class Pages(unittest.TestCase):
     def test_hostile(self):
         """No text of a device becomes markup, and each stays legible."""
-        found = SiteObject(300, 1, "b", Value(Kind.TEXT, "c"), "d", "e", "f, g", ["h"])
-        _, wanted = read([Device(HERE, 1, "b", "c", "d", [found], ["e"], asked="f")])
+        found = SiteObject(300, 1, "b", Value(Kind.TEXT, "c"), "d", "e", ("f", "g"), reasons=["h"])
+        _, wanted = read([Device(HERE, 1, "b", "c", "d", objects=[found], reasons=["e"], asked="f")])
         for text in HOSTILE:
             with self.subTest(text=ascii(text)):
                 found = SiteObject(
-                    300, 1, text, Value(Kind.TEXT, text), text, text, "f, " + text, [text]
+                    300, 1, text, Value(Kind.TEXT, text), text, text, ("f", text), reasons=[text]
                 )
                 page, reader = read(
-                    [Device(HERE, 1, text, text, text, [found], [text], asked=text)]
+                    [Device(HERE, 1, text, text, text, objects=[found], reasons=[text], asked=text)]
                 )
                 self.assertEqual((reader.tags, reader.names), (wanted.tags, wanted.names))
                 self.assertEqual(page.encode("utf-8").decode(), page)
@@ -91,11 +92,11 @@ class Pages(unittest.TestCase):
         self.assertIsNone(re.search(r'(src|href)="(?!#)|url\(|style="| on[a-z]+="', page))
 
     def test_cells(self):
-        found = an_object(name="T", text="-72.3", unit="degrees-celsius", flags="in-alarm, strange")
+        found = an_object(name="T", text="-72.3", unit="degrees-celsius", flags=("in-alarm", "strange"))
         page, _ = read(
             [
                 Device(
-                    "192.0.2.7:47808", 1234, "Small", objects=[found, an_object(flags="normal")]
+                    "192.0.2.7:47808", 1234, "Small", objects=[found, an_object(flags=())]
                 ),
                 Device("192.0.2.8:47808", reasons=["timeout"]),
             ]
@@ -113,12 +114,30 @@ class Pages(unittest.TestCase):
             "2 devices, of which 1 are silent; 2 objects, of which 1 have a flag set",
         ):
             self.assertIn(part, page)
+        self.assertIn('<td class="count" data-n="2">2</td>', page)
+        self.assertIn('<td class="count" data-n="0"></td>', page)
         self.assertEqual(safe("a<b\u202e"), "a&lt;b\\u202e")
+
+    def test_what_was_asked_for_beside_that(self):
+        """Text of a device, so no markup either."""
+        more = {"held": "8 (<b>)", "description": "On <the> roof"}
+        found = an_object(name="T", text="1", unit="", flags=None)
+        found.held, found.description = more["held"], more["description"]
+        page, _ = read([Device(HERE, 9, objects=[found], changes=["name was <i>", "gone: 0:6"])])
+        for part in (
+            '<bdi>T</bdi> <span class="soft"><bdi>On &lt;the&gt; roof</bdi></span>',
+            '<span class="soft">priority 8 (&lt;b&gt;)</span>',
+            '<p class="soft">since: name was &lt;i&gt;; gone: 0:6</p>',
+        ):
+            self.assertIn(part, page)
 
     def test_addresses_are_sorted_as_numbers(self):
         page, _ = read([Device("10.0.0.9:47808"), Device("10.0.0.10:1")])
         numbers = re.findall(r'<td class="id"( data-n="([0-9]+)")?><a', page)
         self.assertLess(int(numbers[0][1]), int(numbers[1][1]))
+        page, _ = read([Device("10.0.0.9:47808/5/07"), Device("10.0.0.9:47808")])
+        numbers = re.findall(r'<td class="id"( data-n="([0-9]+)")?><a', page)
+        self.assertEqual(numbers[0], numbers[1])
 
 
 class Survey(harness.SiteTest):
@@ -133,6 +152,16 @@ class Survey(harness.SiteTest):
         self.assertEqual(self.run_site("survey", "DEV", "--html", "IN")[:2], (2, ""))
         status, out, err = self.run_site("survey", "DEV", "--html", "IN/none/page")
         self.assertEqual((status, out, err[:24]), (3, "", "bacsite: writing failed:"))
+
+    def test_who_may_read_the_page(self):
+        """A new one whom the umask lets; one that is replaced the same as before."""
+        path = self.world.folder + "/own.html"
+        for mask, before, after in ((0o077, None, 0o600), (0o022, 0o604, 0o604), (0, 0o640, 0o640)):
+            if before:
+                os.chmod(path, before)
+            words = ["survey", "DEV", "--html", path]
+            self.run_site(*words, before=lambda mask=mask: os.umask(mask))
+            self.assertEqual(os.stat(path).st_mode & 0o777, after)
 
 
 if __name__ == "__main__":

@@ -16,8 +16,8 @@ from building import (
     udp,
     wrapped,
 )
-from bacsite.frames import Passing
-from bacsite.pcap import Damage, Packet, packets_of
+from bacsite.capture.frames import Passing
+from bacsite.capture.pcap import Damage, Packet, packets_of
 
 OCTETS = bytes.fromhex(wrapped(read_apdu(1)))
 INNER = udp(CLIENT, DEVICE, OCTETS)
@@ -73,6 +73,18 @@ class Files(unittest.TestCase):
                     )
                     self.assertLess(abs(packets[0].nanos - TIME), 2 * 10**9 // units + 1)
 
+    def test_packets_without_a_time(self):
+        for order in "<>":
+            file = section(order) + interface(order, 101, kept=40) + interface(order, 1)
+            short = block(order, 3, struct.pack(order + "I", 30) + INNER[:30])
+            long = block(order, 3, struct.pack(order + "I", 99) + INNER[:40])
+            packets, damage = read(file + short + enhanced(order, 5, b"abcd", 1) + long)
+            found = [(it.nanos, it.link, it.octets) for it in packets]
+            wanted = [(0, 101, INNER[:30]), (5000, 1, b"abcd"), (5000, 101, INNER[:40])]
+            self.assertEqual((found, damage), (wanted, ""))
+        packets, _ = read(section("<") + interface("<") + block("<", 3, b"\5\0\0\0hello"))
+        self.assertEqual([it.octets for it in packets], [b"hello"])
+
     def test_offset_and_sections(self):
         file = (
             section("<")
@@ -117,7 +129,15 @@ class Files(unittest.TestCase):
                 "the file is cut at octet %d, within block 4 at octet %d" % (len(ng) - 1, at),
             ),
             (ng[:-4] + b"\0\0\0\0", 1, "block 4 at octet %d has two lengths" % at),
+            (ng[:at] + block("<", 3, b"abc"), 1, "block 4 at octet %d holds fewer octets than it says: 6513249" % at),
+            (ng[:at] + block("<", 3, b""), 1, "block 4 at octet %d is too short" % at),
+            (
+                section("<") + block("<", 3, bytes(8)),
+                0,
+                "block 2 at octet 28 is of the interface 0, which is not there",
+            ),
             (ng[: at + 4] + b"\x0b\0\0\0", 1, "block 4 at octet %d has a length of 11 octets" % at),
+            (ng[: at + 4] + b"\x0d\0\0\0", 1, "block 4 at octet %d has a length of 13 octets" % at),
             (
                 ng[:at] + enhanced("<", 2, INNER, 3),
                 1,
@@ -201,7 +221,6 @@ class Frames(unittest.TestCase):
             (101, bytes(tcp), "not UDP"),
             (101, udp(CLIENT, DEVICE, OCTETS, 0x2000), "fragments"),
             (101, udp(CLIENT, DEVICE, OCTETS, 0x00B9), "fragments"),
-            (101, INNER[:-1], "cut by the capture"),
             (101, INNER[:24], "cut by the capture"),
             (101, udp(CLIENT, DEVICE, b"hello"), "UDP of something else"),
             (101, udp(CLIENT, DEVICE, OCTETS + b"\0"), "UDP of something else"),
@@ -212,6 +231,13 @@ class Frames(unittest.TestCase):
         for link, octets, why in rows:
             with self.subTest(why=why, octets=octets.hex()):
                 self.assertEqual(self.found(Packet(TIME, link, 0, octets)), ([], {why: 1}))
+
+    def test_cut(self):
+        for lost in (1, 5):
+            octets = INNER[:-lost]
+            found, passed = self.found(Packet(TIME, 101, 0, octets), Packet(TIME, 101, 0, INNER))
+            self.assertEqual([it.is_cut for it in found], [True, False])
+            self.assertEqual((found[0].octets, passed), (OCTETS[:-lost], {}))
 
     def test_copies(self):
         """Of a datagram on two interfaces one is a copy; what comes again on the same one is none."""

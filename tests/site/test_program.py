@@ -1,5 +1,7 @@
 """The program as such: its streams, signals and surroundings, and the one file that is built."""
 
+import ast
+import glob
 import os
 import pty
 import re
@@ -14,13 +16,27 @@ from concurrent.futures import ThreadPoolExecutor
 from contextlib import suppress
 
 import harness
+import bacsite
 from stand_ins import local_socket, real, string
 
 SIGNALS = (signal.SIGINT, signal.SIGHUP, signal.SIGTERM)
+# The names that stand in front of each line of the package's text.
+LINES = re.findall(r"(?m)^    ([a-z_/]+(?:, [a-z_/]+)*)", bacsite.__doc__)
+MODULES = [name for line in LINES for name in line.split(", ")]
 WRITING_FAILED = (3, "bacsite: writing failed\n")
 
 
 LONG = str(20000 + os.getpid() % 40000)  # milliseconds; a word that no other run of the tests has
+
+
+def imported(name, node):
+    """The modules of the package that an import in a module names."""
+    inner = "capture/" if name.startswith("capture/") and node.level == 1 else ""
+    if node.module:
+        return {inner + node.module}
+    folder = f"{harness.TOP}/site/bacsite/{inner}"
+    there = [it.name for it in node.names if os.path.isfile(f"{folder}{it.name}.py")]
+    return {inner + it for it in there}
 
 
 def still_running(word):
@@ -176,6 +192,19 @@ class Signals(harness.SiteTest):
             (left, [name for name in os.listdir(folder) if "s.prom" in name]), ([], [])
         )
 
+    def test_those_of_a_terminal_reach_no_tool(self):
+        slow = self.stand_in({(0, 1, 85): real("42290000")}, delay=1)
+        words = ["read", slow.address, "0", "1", "85", "--apdu-timeout", "9000"]
+        with subprocess.Popen([*self.world.command, *words], stdout=subprocess.PIPE) as process:
+            while not slow.asked:
+                time.sleep(0.01)
+            tools = []
+            for path in glob.glob("/proc/%d/task/*/children" % process.pid):
+                with open(path, encoding="ascii") as file:
+                    tools += map(int, file.read().split())
+            self.assertEqual([os.getsid(it) for it in tools], tools)
+            self.assertEqual((len(tools), process.communicate()[0]), (1, b"42.25\n"))
+
     def test_one_that_is_ignored_stays_so(self):
         slow = self.stand_in({(0, 1, 85): real("42290000")}, delay=1)
         process = subprocess.Popen(
@@ -198,6 +227,7 @@ class OneFile(harness.SiteTest):
             shutil.copytree(harness.TOP + "/packaging", tree + "/packaging")
             os.makedirs(tree + "/site/bacsite/__pycache__", exist_ok=True)
             for top in (harness.TOP, tree):
+                time.sleep(2.1 * bool(found))  # an archive knows times of two seconds
                 words = [sys.executable, top + "/packaging/onefile.py", folder + "/made"]
                 subprocess.run(words, check=True)
                 with open(folder + "/made", "rb") as file:
@@ -224,6 +254,17 @@ class OneFile(harness.SiteTest):
         os.chmod(self.path("other/bactool", "#!/bin/sh\necho 42290000\n"), 0o755)
         words = [*self.world.command, "read", self.names["DEV"], "0", "5", "85"]
         env = {"PATH": self.world.folder + "/other:" + os.environ["PATH"]}
+        alone = shutil.copy(self.world.folder + "/bacsite", self.world.folder + "/other/alone")
+        none = [self.world.command[0], alone, "read", "DEV", "0", "5", "85", "--tools", "/nowhere"]
+        for given, told in (
+            (none, b"no bactool in /nowhere\n"),
+            (none[:-2], b"no bactool in PATH nor beside bacsite; --tools FOLDER says where it is\n"),
+        ):
+            os.rename(self.world.folder + "/other/bactool", self.world.folder + "/other/hidden")
+            given[3] = self.names["DEV"]
+            done = subprocess.run(given, stderr=subprocess.PIPE, env={"PATH": "/nowhere"})
+            self.assertEqual((done.returncode, done.stderr), (3, b"bacsite: " + told))
+            os.rename(self.world.folder + "/other/hidden", self.world.folder + "/other/bactool")
         done = subprocess.run(words, stdout=subprocess.PIPE, env=env)
         self.assertEqual(done.stdout, b"72.3\n", "the one beside it comes before those of PATH")
         done = subprocess.run(
@@ -233,12 +274,20 @@ class OneFile(harness.SiteTest):
         )
         self.assertTrue(re.fullmatch(rb"bacsite [0-9.]+\n", done.stdout))
 
-    def test_modules_are_short(self):
-        folder = harness.TOP + "/site/bacsite/"
-        for name in os.listdir(folder):
-            if name.endswith(".py"):
-                with open(folder + name, encoding="utf-8") as file:
-                    self.assertLess(len(file.readlines()), 250, name)
+    def test_modules_rest_on_those_below(self):
+        """The package says its modules from below: each imports from those above it alone."""
+        below = []
+        for name in MODULES:
+            path = f"{harness.TOP}/site/bacsite/{name}.py"
+            with open(path, encoding="utf-8") as file:
+                found = ast.walk(ast.parse(file.read()))
+            for node in found:
+                if isinstance(node, ast.ImportFrom) and node.level:
+                    self.assertLessEqual(imported(name, node), set(below), name)
+            below.append(name)
+        there = glob.glob(harness.TOP + "/site/bacsite/**/*.py", recursive=True)
+        names = {os.path.relpath(it, harness.TOP + "/site/bacsite")[:-3] for it in there}
+        self.assertEqual(names - set(below), {"__init__", "__main__", "capture/__init__"})
 
 
 if __name__ == "__main__":

@@ -87,7 +87,7 @@ class Survey(harness.SiteTest):
                 for row in (
                     r'0,1,analog-input,"Öl,\x1b[2J",,,degrees-celsius,fault,present-value: no number: NaN',
                     r"13,2,multi-state-input,\u202eMode,2,Away,,,",
-                    "300,1,,A|B,untyped:40000000,,,,units: error 1 27",
+                    "300,1,,A|B,2,,,,units: error 1 27",
                     "15,1,notification-class,,,,,,object-name: error 2 32",
                     "4,1,binary-output,'@Fan,1,Läuft,,,",
                 )
@@ -111,7 +111,7 @@ class Survey(harness.SiteTest):
                 r"""HERE;device 77;Dach "1", Süd;Maker;=M1
 ;0:1;analog-input;Öl,\x1b[2J;-;fault;present-value: no number: NaN
 ;13:2;multi-state-input;\u202eMode;2 (Away);-
-;300:1;-;A|B;untyped:40000000;-;units: error 1 27
+;300:1;-;A|B;2;-;units: error 1 27
 ;15:1;notification-class;-;-;-;object-name: error 2 32
 ;4:1;binary-output;@Fan;1 (Läuft);-
 DEAD;device -;timeout
@@ -132,7 +132,7 @@ DEAD;device -;timeout
         )
         self.assertEqual(
             [it["kind"] for it in device["objects"]],
-            ["other", "number", "untyped", "other", "number"],
+            ["other", "number", "number", "other", "number"],
         )
         self.assertEqual(device["objects"][1]["meaning"], "Away")
         self.assertEqual(
@@ -192,10 +192,10 @@ DEAD;device -;timeout
 
     def test_flags_that_cannot_be_read(self):
         for flags, told in (
-            (unsigned(15), "no bits: 15"),
-            (b"\x09\x01", "no bits: hex 0901"),
+            (unsigned(15), "no bits: unsigned 15"),
+            (b"\x09\x01", "no bits: [0]X'01'"),
             (b"", "no bits: {}"),
-            (bits("0000") * 2, "no bits: {B'0000',B'0000'}"),
+            (bits("0000") * 2, "no bits: {B'0000', B'0000'}"),
             (bits("000"), "no four bits: B'000'"),
         ):
             self.stand_in({**NAMED, **sensors(1), (0, 1, 111): flags})
@@ -251,6 +251,11 @@ DEAD;device -;timeout
             out, r"of 99999 elements not asked; \d+ of \d+ objects not asked; deadline\n"
         )
 
+    def test_a_number_of_objects_that_is_none(self):
+        self.stand_in({**NAMED, (8, 77, 76): ("abort", 4), (8, 77, 76, 0): string("x")})
+        out = self.run_site("survey", "HERE")[1]
+        self.assertIn('object-list: number of elements: "x"\n', out)
+
     def test_objects_that_are_none(self):
         self.stand_in(
             {**NAMED, **sensors(1), (8, 77, 76): an_object(0, 1) + string("0:2") + unsigned(5)}
@@ -305,13 +310,144 @@ DEAD;device -;timeout
         self.assertNotIn((8, 77, 76), device.asked)
 
     def test_ranges_hide_who_is_silent(self):
-        port = self.names["DEV"].split(":")[1]
-        status, out, _ = self.run_site("survey", "--devices", "127.0.0.1-4:" + port)
-        self.assertEqual((status, out.count("\n")), (0, 1))
+        self.stand_in(NAMED)
+        port = self.names["HERE"].split(":")[1]
+        found = self.run_site("survey", "--devices", "127.0.0.1-4:" + port)
+        wanted = self.spelled("HERE  device 77  D  V  M\n")
+        self.assertEqual(found, (0, wanted, "4 asked, 1 devices, 3 silent\n"))
         status, out, _ = self.run_site("survey", "--devices", "--silent", "127.0.0.0/29:" + port)
         self.assertEqual((status, out.count("\n"), out.count("timeout")), (0, 6, 5))
         port = self.names["DEAD"].split(":")[1]
-        self.assertEqual(self.run_site("survey", "127.0.0.1-2:" + port), (1, "", ""))
+        found = self.run_site("survey", "127.0.0.1-2:" + port)
+        self.assertEqual(found, (1, "", "2 asked, 0 devices, 2 silent\n"))
+
+    def test_a_range_hides_nobody_who_answers_a_who_is(self):
+        port = self.names["DEV"].split(":")[1]
+        status, out, err = self.run_site("survey", "--devices", "--sorted", "127.0.0.1-2:" + port)
+        odd = "127.0.0.2:%s  device -  timeout; device 1000 answers a Who-Is from 127.0.0.1:%s"
+        self.assertEqual((status, out.splitlines()[1]), (1, odd % (port, port)))
+        told = "2 asked, 1 devices, 0 silent, 1 for another reason without a device\n"
+        self.assertEqual(err, told)
+        own = {(8, 4194303, 75): "silent", (8, 77, 75): "silent"}
+        self.stand_in({**NAMED, **own})
+        status, out, _ = self.run_site("survey", "127.0.0.1-1:" + self.names["HERE"].split(":")[1])
+        told = "HERE  device -  timeout; device 77 answers a Who-Is, and no read\n"
+        self.assertEqual((status, out), (1, self.spelled(told)))
+
+    def test_a_lost_race_does_not_cost_the_device(self):
+        for word in "HERE", "127.0.0.1-1:":
+            own = an_object(8, 77)
+            self.stand_in({**NAMED, (8, 77, 76): own, (8, 4194303, 75): ["silent"] * 3 + [own]})
+            word += self.names["HERE"].split(":")[1] if word[-1] == ":" else ""
+            wanted = self.spelled("HERE  device 77  D  V  M\n")
+            self.assertEqual(self.run_site("survey", word)[:2], (0, wanted))
+
+    def test_a_device_that_becomes_another_is_told(self):
+        for words in [], ["--devices"]:
+            own = [an_object(8, 77), an_object(8, 78)]
+            self.stand_in({**NAMED, (8, 77, 76): own[0], (8, 4194303, 75): own})
+            line = "HERE  device 77  D  V  M  at the end another device: 8:78\n"
+            self.assertEqual(self.run_site("survey", "HERE", *words)[:2], (1, self.spelled(line)))
+
+    def test_lists_that_are_cut_or_change(self):
+        listed, three = sensors(3)[8, 77, 76], unsigned(3)
+        for values, told in (
+            ({(8, 77, 76, 0): three}, ""),
+            ({(8, 77, 76, 0): ("error", 2, 42)}, ""),
+            ({(8, 77, 76, 0): unsigned(4)}, "  object-list: 3 listed, 4 at the end"),
+            ({(8, 77, 76): listed + an_object(8, 5)}, "  object-list: another device: 8:5"),
+            ({(8, 77, 155): unsigned(9)}, ""),
+            ({(8, 77, 155): [unsigned(9), unsigned(10)]}, "  database-revision: 9, 10 at the end"),
+        ):
+            self.stand_in({**NAMED, **sensors(3), **values})
+            status, out, _ = self.run_site("survey", "HERE")
+            wanted = (bool(told), self.spelled("HERE  device 77  D  V  M" + told))
+            self.assertEqual((status, out.splitlines()[0]), wanted)
+
+    def test_a_present_value_that_is_refused_is_told(self):
+        values = {**NAMED, **sensors(1), (0, 1, 85): ("error", 2, 32), (300, 1, 77): string("Own")}
+        values[8, 77, 76] += an_object(300, 1)
+        self.stand_in(values)
+        found = json.loads(self.run_site("survey", "HERE", "--json")[1])["objects"]
+        self.assertEqual([it["reasons"] for it in found], [["present-value: error 2 32"], []])
+
+    def commanded(self):
+        """A device with an input, and outputs: by the program, by hand, by an unknown one, by none."""
+        values = {**NAMED, **sensors(1)}
+        for at, array in (
+            (1, b"\0" * 15 + real("42290000")),
+            (2, b"\0" * 7 + real("42290000") + b"\0" * 8),
+            (3, b"\0" * 2 + real("42290000") * 6 + b"\0" * 8),
+            (4, ("error", 1, 27)),
+            (5, ("error", 2, 32)),
+        ):
+            values[8, 77, 76] += an_object(1, at)
+            values.update({(1, at, 77): string("Out"), (1, at, 85): real("42290000"), (1, at, 87): array})
+        return self.stand_in(values)
+
+    def test_what_is_held_by_hand(self):
+        device = self.commanded()
+        status, out, _ = self.run_site("survey", "HERE", "--held")
+        wanted = """HERE;device 77;D;V;M
+;1:2;analog-output;Out;42.25;-;8 (manual-operator)
+;1:3;analog-output;Out;42.25;-;3
+;1:4;analog-output;Out;42.25;-;-;priority-array: error 1 27
+"""
+        self.assertEqual((status, re.sub("  +", ";", out)), (1, self.spelled(wanted)))
+        self.assertFalse([it for it in device.asked if it[:2] in ((0, 1), (1, 1)) and it[2] != 87])
+        rows = self.run_site("survey", "HERE", "--held", "--csv", "--window", "4")[1].splitlines()
+        self.assertEqual(rows[0], HEAD.replace(",reason", ",held,reason"))
+        self.assertTrue(rows[1].endswith(",42.25,,,,8 (manual-operator),"), rows[1])
+
+    def test_details(self):
+        more = {(0, 1, 28): string("On the roof"), (0, 1, 36): enumerated(3)}
+        self.stand_in({**NAMED, **sensors(2), **more})
+        rows = self.run_site("survey", "HERE", "--details", "--csv")[1].splitlines()
+        self.assertEqual(rows[0], HEAD.replace(",reason", ",description,event_state,reason"))
+        self.assertTrue(rows[1].endswith(",normal,On the roof,above-the-high-limit,"), rows[1])
+        self.assertTrue(rows[2].endswith(",normal,,,"), rows[2])
+
+    def test_a_list_for_poll(self):
+        more = {(15, 1, 77): string("None"), (0, 2, 77): string("S1"), (0, 3, 85): real("7fc00000")}
+        values = {**NAMED, **sensors(3), **more}
+        values[8, 77, 76] += an_object(15, 1)
+        self.stand_in(values)
+        text = self.run_site("survey", "HERE", "--list")[1]
+        names = [line.split()[0] for line in text.splitlines()]
+        self.assertEqual(names, ["#", "77.S1", "77.S1.0.2", "77.S3"])
+        status, out, _ = self.run_site("poll", self.path("made", text))
+        rows = [line.split("\t")[1:] for line in out.splitlines()]
+        self.assertEqual((status, rows[0]), (1, ["77.S1", "42.25", "-"]))
+        self.assertEqual((len(rows), rows[2]), (3, ["77.S3", "-", "no number: NaN"]))
+
+    def test_since_an_earlier_survey(self):
+        values = {**NAMED, **sensors(3), (8, 77, 155): unsigned(7)}
+        device = self.stand_in(values)
+        before = self.path("before.json", self.run_site("survey", "HERE", "--json")[1])
+        del device.asked[:]
+        status, out, _ = self.run_site("survey", "HERE", "--since", before)
+        self.assertEqual((status, out.count("S1"), out.count("since")), (0, 1, 0))
+        self.assertFalse([it for it in device.asked if it[0] == 0 and it[2] == 77], "names are known")
+        device.values.update({(8, 77, 155): unsigned(8), (0, 2, 77): string("T2"), (8, 77, 77): string("E")})
+        device.values.update({(0, 1, 117): enumerated(5), (0, 4, 77): string("S4"), (0, 4, 85): real("00000000")})
+        device.values[8, 77, 76] = b"".join(an_object(0, at) for at in (1, 2, 4))
+        out = self.run_site("survey", "HERE", "--since", before)[1]
+        told = ["name was D", "gone: 0:3 S3", "unit of 0:1 S1 was degrees-celsius"]
+        told += ["name of 0:2 T2 was S2", "new: 0:4 S4"]
+        self.assertEqual(out.splitlines()[-5:], ["  since: " + it for it in told])
+        found = json.loads(self.run_site("survey", "HERE", "--since", before, "--json")[1])
+        self.assertEqual(found["changes"], told)
+        device.values.update({**listed((0, 1), (0, 2), (0, 3)), (8, 77, 76, 3): ("error", 2, 42)})
+        out = self.run_site("survey", "HERE", "--since", before)[1]
+        self.assertNotIn("gone", out, "an element is lost, and may be the one that was there")
+        device.values[8, 4194303, 75] = "silent"
+        device.reply = lambda apdu: b""
+        word = "127.0.0.1-1:" + self.names["HERE"].split(":")[1]
+        out = self.run_site("survey", word, "--since", before)[1]
+        self.assertEqual(out, self.spelled("HERE  device -  timeout\n  since: was device 77 D\n"))
+        self.rows("survey DEV --since IN/none => 3 !cannot read")
+        self.path("no.json", "[1]\n")
+        self.rows("survey DEV --since IN/no.json => 2 !no survey by --json")
 
     def test_who_is_ready_is_printed(self):
         self.stand_in({**NAMED, (8, 77, 76): b""})

@@ -3,12 +3,14 @@ import unittest
 
 from building import CLIENT, DEVICE, ack, datagrams, exchange, read_apdu, wrapped
 from bacsite.messages import message_of
-from bacsite.pairing import Pairing
-from bacsite.talk import MILLI, Talk
-from bacsite.tally import Group, marks_of
-from bacsite.wording import json_of, line_of, millis
+from bacsite.capture.pairing import Pairing
+from bacsite.capture.talks import MILLI, Talk
+from bacsite.capture.tally import Group, marks_of
+from bacsite.capture.lines import json_of, line_of, millis
 
 OTHER = "127.0.0.2:47808"
+# Of the standard's examples of encoding: 65.0 of analog-input 10 of device 4, and status flags.
+CHANGE = "09121c020000042c0000000a39004e09552e44428200002f096f2e8204002f4f"
 READ = "2026-01-01T00:00:00.000Z  %s > %s  #1 read analog-input 5 present-value (0 5 85): " % (
     CLIENT,
     DEVICE,
@@ -44,7 +46,9 @@ class Pairs(unittest.TestCase):
             ("710163", "abort 99"),
             ("50010c", "bad-error"),
             ("30010c0c", "bad-ack"),
-            ("380100010c", "segmented"),
+            ("380100010c", "bad-ack, in 1 part"),
+            ("380100010c" + ack(1)[6:], "72.3, in 1 part"),
+            ("3c0100010c" + ack(1)[6:], "answered in parts, of which some are missing"),
         ]
         for apdu, end in rows:
             with self.subTest(apdu=apdu):
@@ -121,6 +125,11 @@ class Pairs(unittest.TestCase):
         self.assertIsNone(first.again)
         self.assertIn("AGAIN, 2999 ms after its answer", line_of(second))
 
+    def test_a_minute_later(self):
+        """After a minute without an answer the same octets are a new request."""
+        for gap, count in ((59000, 1), (61000, 2)):
+            self.assertEqual(len(entries(exchange(0, None) + resend(gap))), count)
+
     def test_number_used_again(self):
         """Another request under the number of an open one ends that; a late answer is that of the new one."""
         other = (10, CLIENT, DEVICE, wrapped(read_apdu(1, "0c000000061955"), "0104"))
@@ -166,6 +175,11 @@ class Pairs(unittest.TestCase):
             ("1000c4000004d22205c49103220104", "unconfirmed service 0 (I-Am)"),
             ("1063", "unconfirmed service 99"),
             ("1002", "unconfirmed service 2 (UnconfirmedCOVNotification)"),
+            (
+                "1002" + CHANGE,
+                "change at device 4: analog-input 10 present-value (0 10 85) = 65, "
+                "analog-input 10 status-flags (0 10 111) = B'0000'",
+            ),
             ("400100", "#1 acknowledgement of a part"),
             ("700104", "#1 abort 4 of the client"),
         ]
@@ -177,13 +191,54 @@ class Pairs(unittest.TestCase):
 
     def test_parts(self):
         """The parts of a long answer are no second answers."""
-        steps = exchange(0, 1, 1, "3c0100010c00") + [
-            (2, CLIENT, DEVICE, wrapped("40010001")),
-            (3, DEVICE, CLIENT, wrapped("380101010c00")),
-        ]
-        first, second = lines(steps)
-        self.assertEqual(first, READ + "segmented  1.00 ms")
-        self.assertTrue(second.endswith("#1 acknowledgement of a part"))
+        body = ack(1)[6:]
+        first, second, last = body[:8], body[8:20], body[20:]
+        whole, missing = "72.3, in 3 parts", "answered in parts, of which some are missing"
+        for parts, end in (
+            (((0, first), (1, second), (2, last)), whole),
+            (((0, first), (1, second), (1, second), (2, last)), whole),
+            (((0, first), (2, last)), missing),
+            (((0, first), (1, second)), missing),
+            (((0, first), (1, second[:-4] + "ff42"), (2, last)), "bad-ack, in 3 parts"),
+        ):
+            sent = [(it, "%s01%02x010c%s" % ("38" if it[1] is last else "3c", *it)) for it in parts]
+            steps = exchange(0, 1, 1, sent[0][1])
+            for at, (part, apdu) in enumerate(sent[1:], 2):
+                steps += [(at, CLIENT, DEVICE, wrapped("4001%02x01" % (part[0] - 1)))]
+                steps += [(at + 0.5, DEVICE, CLIENT, wrapped(apdu))]
+            with self.subTest(parts=[it[0] for it in parts]):
+                self.assertEqual(lines(steps), [READ + end + "  1.00 ms"])
+                mark = "!" if "bad" in end else " "
+                self.assertEqual(line_of(entries(steps)[0])[0], mark)
+        lone = [(2, CLIENT, DEVICE, wrapped("40010001"))]
+        self.assertIn("#1 acknowledgement of a part", lines(exchange(0, 1) + lone)[1])
+        server = [(2, CLIENT, DEVICE, wrapped("41010001"))]
+        parted = exchange(0, 1, 1, "3c0100010c" + first)
+        self.assertIn("#1 acknowledgement of a part", lines(parted + server)[1])
+
+    def test_what_a_capture_has_cut(self):
+        """Of a datagram that is cut the first octets tell what it is, and nothing else."""
+        found = datagrams(exchange(0, 1))
+        error = datagrams(exchange(0, 1, 1, "50010c91029120"))
+        for asked, answer, lost, end in (
+            (found[0], found[1], 6, READ + "answered, cut by the capture  1.00 ms"),
+            (found[0], error[1], 1, READ + "answered, cut by the capture  1.00 ms"),
+            (found[0], error[1], 0, READ + "error 2 32 (property, unknown-property)  1.00 ms"),
+        ):
+            answer = answer._replace(octets=answer.octets[: len(answer.octets) - lost], is_cut=True)
+            pairing = Pairing()
+            pairing.take(message_of(asked))
+            self.assertEqual(pairing.take(message_of(answer)).kind, "answer")
+            (talk,) = pairing.rest(answer.nanos)
+            self.assertEqual(line_of(talk)[2:], end)
+            self.assertEqual(talk.has_failed, "error" in end or answer.octets[6] == 0x50)
+        cut = found[0]._replace(octets=found[0].octets[:-1], is_cut=True)
+        pairing = Pairing()
+        pairing.take(message_of(cut))
+        (talk,) = pairing.rest(cut.nanos)
+        self.assertIn("#1 service 12 (ReadProperty), cut by the capture: no answer", line_of(talk))
+        cut = found[0]._replace(octets=found[0].octets[:9], is_cut=True)
+        self.assertEqual(message_of(cut).words, "an APDU that is cut: 000501")
 
     def test_routes(self):
         """Stations behind a router are told apart."""
@@ -196,11 +251,11 @@ class Pairs(unittest.TestCase):
 
     def test_services(self):
         steps = [
-            (0, CLIENT, DEVICE, wrapped("0005010e0c000000051e0955" + "1f", "0104")),
-            (1, DEVICE, CLIENT, wrapped("30010e0c")),
+            (0, CLIENT, DEVICE, wrapped("0005011a0c000000051e0955" + "1f", "0104")),
+            (1, DEVICE, CLIENT, wrapped("30011a0c")),
         ]
         self.assertTrue(
-            lines(steps)[0].endswith("#1 service 14 (ReadPropertyMultiple): answered  1.00 ms")
+            lines(steps)[0].endswith("#1 service 26 (ReadRange): answered  1.00 ms")
         )
         self.assertTrue(
             lines([(0, CLIENT, DEVICE, wrapped("0005010c0c"))])[0].endswith(

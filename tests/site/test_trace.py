@@ -9,10 +9,11 @@ from harness import TOOL
 from simulated import World
 from bacsite.failures import Failure
 from bacsite.messages import message_of
-from bacsite.pairing import Pairing
-from bacsite.script import is_askable
-from bacsite.talk import GRACE, MILLI, outcome_of
-from bacsite.trace import Choice, traced
+from bacsite.capture.pairing import Pairing
+from bacsite.capture.requests import is_askable
+from bacsite.capture.talks import GRACE, MILLI
+from bacsite.answers import outcome_of
+from bacsite.capture.trace import Choice, traced
 
 SEEDS = int(os.environ.get("SEEDS", "20"))
 
@@ -92,12 +93,23 @@ class Lines(unittest.TestCase):
             ("0c0040000119553e0e0f3f", "write %s 1 1 85 0 -1 0 null"),
             ("0c0040000119553e7502" + "00ff" + "3f", "write %s 1 1 85 0 -1 0 null"),
             ("0c0040000119553e75fe01f4" + "00" + "41" * 499 + "3f", "write %s 1 1 85 0 -1 0 null"),
+            (
+                "0c0040000119553e75fe01cf" + "00" + "41" * 462 + "3f",
+                "write %s 1 1 85 0 -1 7 " + "A" * 462,
+            ),
+            ("0c0040000119553e75fe01d0" + "00" + "41" * 463 + "3f", "write %s 1 1 85 0 -1 0 null"),
         ]
         for body, line in rows:
             with self.subTest(body=body):
                 script = lines([(0, CLIENT, DEVICE, wrapped("0005010f" + body, "0104"))])
                 self.assertEqual(script[1], line % DEVICE)
                 self.assertEqual(printed(script[:2])[0][:7], "send 0 ")
+
+    def test_long_remarks_are_cut(self):
+        body = "0c0040000119553e75fe01f4" + "00" + "41" * 499 + "3f"
+        steps = [(0, CLIENT, DEVICE, wrapped("0005010f" + body, "0104"))]
+        datagrams_ = [message_of(it) for it in datagrams(steps)]
+        self.assertLessEqual(max(map(len, traced(datagrams_, Choice(), None, None))), 400)
 
     def test_routes(self):
         for head, peer in (

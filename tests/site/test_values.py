@@ -1,118 +1,174 @@
-"""What bacrp prints, in plain form, and which values a property may have."""
+"""Octets of values in plain form, and which values a property may have."""
 
+import random
 import re
+import struct
 import unittest
 
 import harness
 from bacsite import names
-from bacsite.names import Form, form_of
-from bacsite.values import Kind, fault, flags_of, parts_of, value_of
-from devices import ODD
+from bacsite.names import form_of
+from bacsite.points import FORMS
+from bacsite.values import Kind, fault, flags_of, value_of, values_of
+from devices import ODD, SHOWN_WEEK, WEEK
+from stand_ins import an_object, bits, enumerated, real, string, tagged, unsigned
 
-NUMBER, TEXT, OTHER, UNTYPED, FAULT = Kind.NUMBER, Kind.TEXT, Kind.OTHER, Kind.UNTYPED, Kind.FAULT
+NUMBER, TEXT, OTHER, FAULT = Kind.NUMBER, Kind.TEXT, Kind.OTHER, Kind.FAULT
 ANALOG, BINARY, MODE, VENDOR = (0, 1, 85), (4, 1, 85), (13, 1, 85), (300, 1, 85)
+ODD_SHAPE = "[0]{[0]X'070a1f04'}, [2]{}, [3]X'10'"
 
-# What was asked for, what bacrp printed, and of what kind and how it is shown.
+
+def double(number):
+    return tagged(5, struct.pack(">d", number))
+
+
+def date(octets):
+    return tagged(10, bytes.fromhex(octets))
+
+
+def time(octets):
+    return tagged(11, bytes.fromhex(octets))
+
+
+# What was asked for, which octets came, and of what kind and how they are shown.
 ROWS = (
-    (ANALOG, "42290000", NUMBER, "42.25"),
-    (ANALOG, "72", FAULT, "no real: 72"),
-    (ANALOG, '"n/a"', FAULT, 'no real: "n/a"'),
-    (ANALOG, "null", FAULT, "no real: null"),
-    (ANALOG, "{}", FAULT, "no real: {}"),
-    (ANALOG, "{42290000,42290000}", FAULT, "no real: {42290000,42290000}"),
-    (ANALOG, "true", FAULT, "no real: true"),
-    (ANALOG, "7f800000", FAULT, "no number: Inf"),
-    (ANALOG, "4034000000000000", FAULT, "no real: 4034000000000000"),
-    (BINARY, "1", NUMBER, "1 (active)"),
-    (BINARY, "0", NUMBER, "0 (inactive)"),
-    (BINARY, "2", FAULT, "no state: 2"),
-    (BINARY, "42480000", FAULT, "no state: 42480000"),
-    (BINARY, "true", FAULT, "no integer: true"),
-    (BINARY, "01", FAULT, "no integer: 01"),
-    (MODE, "3", NUMBER, "3"),
-    (MODE, "0", FAULT, "no state: 0"),
-    (MODE, "D'12345678'", FAULT, "no integer: D'12345678'"),
-    (MODE, "42480000", FAULT, "no state: 42480000"),
-    (VENDOR, "40600000", UNTYPED, "untyped:40600000"),
-    (VENDOR, "4034000000000000", UNTYPED, "untyped:4034000000000000"),
-    (VENDOR, "4290999a", UNTYPED, "untyped:4290999a"),
-    (VENDOR, "62", UNTYPED, "62"),
-    (VENDOR, '"62"', TEXT, "62"),
-    (VENDOR, "{1,40600000}", OTHER, "{1, untyped:40600000}"),
-    (VENDOR, "B'01'", OTHER, "B'01'"),
-    ((0, 1, 111), "B'0110'", OTHER, "B'0110' (fault, overridden)"),
-    ((0, 1, 111), "15", FAULT, "no bits: 15"),
-    ((0, 1, 111), "hex 0901", FAULT, "no bits: hex 0901"),
-    ((0, 1, 111), "{B'0000',B'0000'}", FAULT, "no bits: {B'0000',B'0000'}"),
-    ((0, 1, 111), "{}", FAULT, "no bits: {}"),
-    ((0, 1, 77), '"Room \\"5\\""', TEXT, 'Room "5"'),
-    ((0, 1, 77), "5", FAULT, "no text: 5"),
-    ((0, 1, 117), "62", NUMBER, "62 (degrees-celsius)"),
-    ((12, 1, 82), "98", NUMBER, "98 (percent)"),
-    ((12, 1, 20), "62", NUMBER, "62 (degrees-celsius)"),
-    ((0, 1, 35), "B'1001'", OTHER, "B'1001' (to-off-normal, bit 3)"),
-    ((0, 1, 77), '3:"\\x00\\x00\\x00Z\\x00\\x00\\x00\\xfc"', TEXT, "Zü"),
-    ((0, 1, 77), '4:"\\x00Z\\x00\\xfc"', TEXT, "Zü"),
-    ((0, 1, 77), '5:"Z\\xfc"', TEXT, "Zü"),
-    ((1, 1, 87), "{null,41a00000}", OTHER, "{null, 20}"),
-    ((1, 1, 87), "{null,20}", FAULT, "no real: 20"),
-    ((1, 1, 87, 2), "null", OTHER, "null"),
-    ((1, 1, 87, 2), "41a00000", NUMBER, "20"),
-    ((1, 1, 87, 0), "16", NUMBER, "16"),
-    ((4, 1, 87), "{null,1}", OTHER, "{null, 1 (active)}"),
-    ((44, 1, 85), "{D'7c0a1f04',T'0c1e0000'}", OTHER, "{2024-10-31, 12:30:00.00}"),
-    ((44, 1, 85), "D'7c0a1f04'", FAULT, "no date and time: D'7c0a1f04'"),
-    ((44, 1, 85), "{D'7c0a1f04',T'0c1e0000',1}", FAULT, "no date: {D'7c0a1f04',T'0c1e0000',1}"),
-    ((23, 1, 45), "12345678", NUMBER, "12345678"),
-    ((46, 1, 45), "4034000000000000", NUMBER, "20"),
-    ((45, 1, 85), "-5", NUMBER, "-5"),
-    ((17, 1, 85), "null", OTHER, "null"),
-    ((8, 1, 76), "{8:1,0:5}", OTHER, "{8:1 (device), 0:5 (analog-input)}"),
-    ((8, 1, 76), "8:1", OTHER, "8:1 (device)"),
-    ((13, 1, 110), '{"a","b,c"}', OTHER, '{"a", "b,c"}'),
-    ((0, 1, 4194303), "hex 0e0f", UNTYPED, "hex 0e0f"),
-    ((8, 1, 56), "D'7c0d1f04'", OTHER, "D'7c0d1f04'"),
-    ((8, 1, 57), "T'18000000'", OTHER, "T'18000000'"),
-    ((13, 1, 7), "{1,2}", OTHER, "{1, 2}"),
-    ((0, 1, 45), "41a00000", NUMBER, "20"),
-    ((0, 1, 81), "true", OTHER, "true"),
-    ((7, 1, 2), "hex 0e0f", UNTYPED, "hex 0e0f"),
-    ((12, 1, 2), "1", NUMBER, "1 (reverse)"),
-    ((0, 1, 81), "1", FAULT, "no boolean: 1"),
+    (ANALOG, real("42290000"), NUMBER, "42.25"),
+    (ANALOG, unsigned(72), FAULT, "no real: unsigned 72"),
+    (ANALOG, unsigned(42290000), FAULT, "no real: unsigned 42290000"),
+    (ANALOG, enumerated(40600000), FAULT, "no real: enumerated 40600000"),
+    (ANALOG, string("n/a"), FAULT, 'no real: "n/a"'),
+    (ANALOG, b"\0", FAULT, "no real: null"),
+    (ANALOG, b"", FAULT, "no real: {}"),
+    (ANALOG, real("42290000") * 2, FAULT, "no real: {42.25, 42.25}"),
+    (ANALOG, b"\x11", FAULT, "no real: true"),
+    (ANALOG, real("7f800000"), FAULT, "no number: Inf"),
+    (ANALOG, double(20), FAULT, "no real: double 20"),
+    (ANALOG, b"\x09\x05", FAULT, "no real: [0]X'05'"),
+    (BINARY, enumerated(1), NUMBER, "1 (active)"),
+    (BINARY, enumerated(0), NUMBER, "0 (inactive)"),
+    (BINARY, unsigned(1), NUMBER, "1 (active)"),
+    (BINARY, enumerated(2), FAULT, "no state: 2"),
+    (BINARY, real("00000001"), FAULT, "no integer: real 1e-45"),
+    (BINARY, b"\x11", FAULT, "no integer: true"),
+    (MODE, unsigned(3), NUMBER, "3"),
+    (MODE, unsigned(0), FAULT, "no state: 0"),
+    (MODE, tagged(3, b"\xff"), FAULT, "no integer: signed -1"),
+    ((13, 1, 74), tagged(3, b"\xfb"), FAULT, "no integer: signed -5"),
+    ((13, 1, 74), tagged(3, b"\5"), NUMBER, "5"),
+    (MODE, date("12345678"), FAULT, "no integer: D'12345678'"),
+    (MODE, real("42480000"), FAULT, "no integer: real 50"),
+    (VENDOR, real("40600000"), NUMBER, "3.5"),
+    (VENDOR, unsigned(40600000), NUMBER, "40600000"),
+    (VENDOR, double(20), NUMBER, "20"),
+    (VENDOR, real("7fc00000"), FAULT, "no number: NaN"),
+    (VENDOR, string("NaN"), TEXT, "NaN"),
+    (VENDOR, unsigned(62), NUMBER, "62"),
+    (VENDOR, string("62"), TEXT, "62"),
+    (VENDOR, unsigned(1) + real("40600000"), OTHER, "{1, 3.5}"),
+    (VENDOR, bits("01"), OTHER, "B'01'"),
+    (VENDOR, tagged(6, b"\1\xff"), OTHER, "X'01ff'"),
+    ((0, 1, 111), bits("0110"), OTHER, "B'0110' (fault, overridden)"),
+    ((0, 1, 111), unsigned(15), FAULT, "no bits: unsigned 15"),
+    ((0, 1, 111), b"\x0e\x0f", FAULT, "no bits: [0]{}"),
+    ((0, 1, 111), bits("0000") * 2, FAULT, "no bits: {B'0000', B'0000'}"),
+    ((0, 1, 111), b"", FAULT, "no bits: {}"),
+    ((0, 1, 77), string('Room "5"'), TEXT, 'Room "5"'),
+    ((0, 1, 77), unsigned(5), FAULT, "no text: unsigned 5"),
+    ((0, 1, 117), enumerated(62), NUMBER, "62 (degrees-celsius)"),
+    ((12, 1, 82), enumerated(98), NUMBER, "98 (percent)"),
+    ((12, 1, 20), enumerated(62), NUMBER, "62 (degrees-celsius)"),
+    ((0, 1, 35), bits("1001"), OTHER, "B'1001' (to-off-normal, bit 3)"),
+    ((0, 1, 77), string(b"\0\0\0Z\0\0\0\xfc", 3), TEXT, "Zü"),
+    ((0, 1, 77), string(b"\0Z\0\xfc", 4), TEXT, "Zü"),
+    ((0, 1, 77), string(b"Z\xfc", 5), TEXT, "Zü"),
+    ((0, 1, 77), string(b"\xfc", 0), TEXT, '"\\xfc"'),
+    ((0, 1, 77), string("Rab", 1), TEXT, '1:"Rab"'),
+    ((1, 1, 87), b"\0" + real("41a00000"), OTHER, "{null, 20}"),
+    ((1, 1, 87), b"\0" + unsigned(20), FAULT, "no real: unsigned 20"),
+    ((1, 1, 87, 2), b"\0", OTHER, "null"),
+    ((1, 1, 87, 2), real("41a00000"), NUMBER, "20"),
+    ((1, 1, 87, 0), unsigned(16), NUMBER, "16"),
+    ((4, 1, 87), b"\0" + enumerated(1), OTHER, "{null, 1 (active)}"),
+    ((44, 1, 85), date("7c0a1f04") + time("0c1e0000"), OTHER, "{2024-10-31, 12:30:00.00}"),
+    ((44, 1, 85), date("7c0a1f04"), FAULT, "no date and time: 2024-10-31"),
+    ((44, 1, 85), time("0c1e0000") + date("7c0a1f04"), FAULT, "no date: 12:30:00.00"),
+    (
+        (44, 1, 85),
+        date("7c0a1f04") + time("0c1e0000") + unsigned(1),
+        FAULT,
+        "no date and time: {2024-10-31, 12:30:00.00, 1}",
+    ),
+    ((23, 1, 45), unsigned(12345678), NUMBER, "12345678"),
+    ((23, 1, 45), real("42280000"), FAULT, "no integer: real 42"),
+    ((46, 1, 45), double(20), NUMBER, "20"),
+    ((45, 1, 85), tagged(3, b"\xfb"), NUMBER, "-5"),
+    ((17, 1, 85), b"\0", OTHER, "null"),
+    ((17, 1, 123), WEEK, OTHER, SHOWN_WEEK),
+    ((17, 1, 123, 1), b"\x0e\x0f", OTHER, "[0]{}"),
+    ((17, 1, 38), b"\x0e\x0c\7\x0a\x1f\4\x0f\x2e\x2f\x39\x10", OTHER, ODD_SHAPE),
+    ((8, 1, 76), an_object(8, 1) + an_object(0, 5), OTHER, "{8:1 (device), 0:5 (analog-input)}"),
+    ((8, 1, 76), an_object(8, 1), OTHER, "8:1 (device)"),
+    ((13, 1, 110), string("a") + string("b,c"), OTHER, '{"a", "b,c"}'),
+    ((0, 1, 4194303), b"\xd1\x05", OTHER, "13:X'05'"),
+    ((0, 1, 4194303), b"\x43\1\2\3" + unsigned(1), OTHER, "4:X'010203', 1"),
+    ((8, 1, 56), date("7c0d1f04"), OTHER, "D'7c0d1f04'"),
+    ((8, 1, 57), time("18000000"), OTHER, "T'18000000'"),
+    ((13, 1, 7), unsigned(1) + unsigned(2), OTHER, "{1, 2}"),
+    ((0, 1, 45), real("41a00000"), NUMBER, "20"),
+    ((0, 1, 81), b"\x11", OTHER, "true"),
+    ((7, 1, 2), b"\x0e\x0f", OTHER, "[0]{}"),
+    ((12, 1, 2), enumerated(1), NUMBER, "1 (reverse)"),
+    ((0, 1, 81), unsigned(1), FAULT, "no boolean: unsigned 1"),
 )
 
 
 class Values(unittest.TestCase):
     def test_rows(self):
-        for what, text, kind, shown in ROWS:
-            with self.subTest(what=what, text=text):
-                value = value_of(text, form_of(what))
+        for what, octets, kind, shown in ROWS:
+            with self.subTest(what=what, octets=octets):
+                value = value_of(octets, form_of(what))
                 self.assertEqual((value.kind, value.shown()), (kind, shown))
                 self.assertEqual(value.number is not None, kind is NUMBER)
                 self.assertEqual(value.fault, shown if kind is FAULT else "")
 
     def test_a_form_that_is_told(self):
-        self.assertEqual(value_of("40600000", Form((names.REAL,))).text, "3.5")
-        self.assertEqual(value_of("40600000", Form(names.INTEGERS)).text, "40600000")
-        self.assertEqual(value_of("-5", Form(names.INTEGERS)).text, "-5")
-        self.assertEqual(value_of("3", Form((names.REAL,))).fault, "no real: 3")
+        for octets, form, wanted in (
+            (real("40600000"), "real", "3.5"),
+            (unsigned(40600000), "real", "no real: unsigned 40600000"),
+            (unsigned(40600000), "integer", "40600000"),
+            (tagged(3, b"\xfb"), "integer", "-5"),
+            (real("40600000"), "integer", "no integer: real 3.5"),
+            (double(3.5), "double", "3.5"),
+            (real("40600000"), "double", "no double: real 3.5"),
+        ):
+            self.assertEqual(value_of(octets, FORMS[form]).text, wanted)
+
+    def test_any_octets_are_shown(self):
+        dice, some = random.Random(135), b"\0\1\x0e\x0f\x3e\x3f\x21\x44\x75\x82\xff"
+        for _ in range(4000):
+            octets = bytes(dice.choice(some) for _ in range(1 + dice.randrange(9)))
+            for what in ANALOG, VENDOR, (1, 1, 87), (44, 1, 85):
+                value = value_of(octets, form_of(what))
+                self.assertTrue(value.shown().isprintable() and value.told(), octets)
 
     def test_flags(self):
         for text, wanted in (
-            ("B'0000'", "normal"),
-            ("B'1001'", "in-alarm, out-of-service"),
-            ("B'00000'", None),
-            ("B''", None),
+            ("0000", "normal"),
+            ("1001", "in-alarm, out-of-service"),
+            ("00000", None),
+            ("", None),
         ):
-            value = flags_of(value_of(text, form_of((0, 1, 111))))
+            value = flags_of(value_of(bits(text) if text else b"\x81\0", form_of((0, 1, 111))))
             self.assertEqual((value.text if not value.fault else None), wanted)
         self.assertEqual(flags_of(fault("timeout")).fault, "timeout")
 
-    def test_parts(self):
-        self.assertEqual(parts_of("{8:1,0:5}"), ["8:1", "0:5"])
-        self.assertEqual(parts_of("8:1"), ["8:1"])
-        self.assertEqual(parts_of("{}"), [])
-        self.assertEqual(parts_of('{"a,\\"b",null}'), ['"a,\\"b"', "null"])
+    def test_each_of_a_list(self):
+        form = form_of((1, 1, 87, 1))
+        found = values_of(b"\0" + real("7fc00000") + unsigned(1), form)
+        wanted = ["null", "no number: NaN", "no real: unsigned 1"]
+        self.assertEqual([it.text for it in found], wanted)
+        self.assertEqual(values_of(b"", form), [])
+        self.assertEqual(values_of(b"\x0e\x0f", form), [])
 
     def test_every_name_of_the_tables_is_there(self):
         with open(harness.TOP + "/site/bacsite/numbers.txt", encoding="utf-8") as file:
@@ -162,14 +218,15 @@ class Devices(harness.SiteTest):
             read 255.255.255.255 0 5 85 => 1 bactool: sending failed
             read ODD 1 3 87 2 => 0 20
             read ODD real 300 1 85 => 0 2
-            read ODD integer 300 1 85 => 0 40000000
-            read ODD 300 1 85 => 0 untyped:40000000
+            read ODD integer 300 1 85 => 1 no integer: real 2
+            read ODD 300 1 85 => 0 2
             read ODD 0 1 85 => 1 no number: NaN
-            read ODD double 300 1 85 => 1 no double: 40000000
+            read ODD double 300 1 85 => 1 no double: real 2
             read nobody.invalid 0 5 85 => 2 !no address: nobody.invalid
             read 127.0.0.256 0 5 85 => 2 !no address: 127.0.0.256
             read 127.0.0.1:65536 0 5 85 => 2 !no address
-            read 127.0.0.1/5/07 0 5 85 => 2 !no address: 127.0.0.1/5/07
+            read 127.0.0.1/5/7 0 5 85 => 2 !no address: 127.0.0.1/5/7
+            read 127.0.0.1/0/07 0 5 85 => 2 !no address: 127.0.0.1/0/07
             read \x1b[2J 0 5 85 => 2 !no address: \\x1b[2J
             read DEV 0 5 => 2 !wanted: [INSTANCE@]ADDRESS
             read DEV 0 5 85 1 1 => 2 !wanted: [INSTANCE
@@ -182,6 +239,7 @@ class Devices(harness.SiteTest):
             read DEV 0 5 85 -x => 2 !unrecognized arguments: -x
             read --apdu-retries 10 DEV 0 5 85 => 2 !argument --apdu-retries: not 0 to 9: 10
             read --tools /nowhere DEV 0 5 85 => 3 !no bactool in /nowhere
+            read DEV 0 5 85 -x => 2 !unrecognized arguments: -x; see bacsite --help; a value as -x stands behind --
             bad => 2 !argument COMMAND
             --version => 0 bacsite 0.4.0
             -V => 0 bacsite 0.4.0
@@ -214,7 +272,7 @@ class Devices(harness.SiteTest):
         self.stand_in(
             {(0, 1, 371): listed, (0, 1, 85): b"\x21\x05", (0, 1, 75): b"\xc4\0\0\0\1", **silent}
         )
-        wanted = "75 object-identifier 0:1 (analog-input)\n85 present-value no real: 5\n"
+        wanted = "75 object-identifier 0:1 (analog-input)\n85 present-value no real: unsigned 5\n"
         wanted += "103 reliability timeout\n111 status-flags timeout\n1 of 7 properties not asked\n"
         status, out, _ = self.run_site("properties", "HERE", "0", "1")
         self.assertEqual((status, out), (1, wanted))

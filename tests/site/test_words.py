@@ -7,6 +7,7 @@ import unittest
 from unittest import mock
 
 import harness
+import bacsite
 from bacsite import addresses, points, words
 from bacsite.failures import Failure
 from bacsite.output import put
@@ -21,18 +22,32 @@ class Addresses(unittest.TestCase):
             ("1234@192.0.2.7", (1234, "192.0.2.7:47808")),
             ("0@10.0.0.1:0", (0, "10.0.0.1:0")),
             ("010.0.0.1", (None, "10.0.0.1:47808")),
+            ("192.0.2.7/5/07", (None, "192.0.2.7:47808/5/07")),
+            ("9@192.0.2.7:9/065/0A0b0C", (9, "192.0.2.7:9/65/0a0b0c")),
         ):
             self.assertEqual(addresses.one(word), wanted)
         for word in (
             "",
             "1.2.3",
             "1.2.3.4.5",
+            "0x7f.0.2.31",
+            "0x7f000001",
+            "ahu.1",
+            "ahu.0x1f:47808",
             "1.2.3.256",
             "1.2.3.4:65536",
             "12345678@1.2.3.4",
             "1.2.3.4:",
             "1.2.3.4 ",
-            "1.2.3.4/5/07",
+            "1.2.3.4/5",
+            "1.2.3.4/5/",
+            "1.2.3.4/0/07",
+            "1.2.3.4/65535/07",
+            "1.2.3.4/5/7",
+            "1.2.3.4/5/0102030405060708",
+            "/5/07",
+            "1.2.3.4/5/07:47808",
+            "1.2.3.4/5/07/1",
             "-1@1.2.3.4",
             "::1",
             "4194303@1.2.3.4",
@@ -45,7 +60,11 @@ class Addresses(unittest.TestCase):
         with mock.patch("socket.getaddrinfo", return_value=found) as lookup:
             self.assertEqual(addresses.one("7@ahu.example:47809"), (7, "192.0.2.9:47809"))
             self.assertEqual(addresses.one("ahu.example"), (None, "192.0.2.9:47808"))
+            self.assertEqual(addresses.one("ahu.example/5/01"), (None, "192.0.2.9:47808/5/01"))
             self.assertEqual(addresses.one("192.0.2.7"), (None, "192.0.2.7:47808"))
+            for word in "0x7f.0.2.31 0x7f000001 1.2.3.0X4 a.0x 0177.1 127.1 a.9. 7:80".split():
+                with self.subTest(word=word), self.assertRaises(Failure):
+                    addresses.one(word)
         self.assertEqual(lookup.call_count, 1)
         with mock.patch("socket.getaddrinfo", side_effect=OSError) as lookup:
             for word in ("no.example", "8@no.example", "no.example:99999", "a b", "no/example"):
@@ -178,7 +197,7 @@ class Words(unittest.TestCase):
         told = subprocess.run(
             [harness.TOOL, "--help"], stdout=subprocess.PIPE, encoding="utf-8"
         ).stdout
-        self.assertTrue(told.startswith("bactool %s:" % words.VERSION), told)
+        self.assertTrue(told.startswith("bactool %s:" % bacsite.VERSION), told)
 
 
 if __name__ == "__main__":

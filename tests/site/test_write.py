@@ -1,16 +1,23 @@
 """Writes: what is refused before anything is sent, what is sent, and what is told of it."""
 
+import os
+import resource
 import signal
 import subprocess
 import unittest
+from unittest import mock
 
 import harness
-from bacsite import names
-from bacsite.calls import Outcome
+from bacsite import names, write
+from bacsite.calls import Calls, Outcome
+from bacsite.controller import Controller
 from bacsite.encode import encode
 from bacsite.failures import Failure
+from bacsite.target import Place
 from bacsite.write import ending_of
-from stand_ins import NULL, enumerated, real, string, tagged, unsigned
+from stand_ins import NULL, an_object, enumerated, real, string, tagged, unsigned
+
+PATIENT = "1 1 20 --priority 8 --apdu-timeout 900".split()
 
 VALVE = {
     (1, 1, 77): string("Valve"),
@@ -35,6 +42,38 @@ FAN = {
     (5, 3, 4): string("Läuft"),
     (5, 3, 46): string("Steht"),
 }
+NO_LIMITS = {
+    (2, 7, 77): string("Flow"),
+    (2, 7, 85): real("00000000"),
+    (2, 7, 65): real("00000000"),
+    (2, 7, 69): real("00000000"),
+    (2, 8, 77): string("Most"),
+    (2, 8, 85): real("00000000"),
+    (2, 8, 22): real("3f800000"),
+    (2, 8, 65): real("42c80000"),
+    (2, 9, 77): string("Least"),
+    (2, 9, 85): real("00000000"),
+    (2, 9, 65): real("7fc00000"),
+    (2, 9, 69): real("40a00000"),
+    (45, 1, 77): string("Steps"),
+    (45, 1, 85): tagged(3, b"\x05"),
+    (45, 1, 22): unsigned(1),
+}
+# States whose names are numbers of others, names that are those of the standard for another state.
+CROSSED = {
+    (14, 5, 77): string("Stage"),
+    (14, 5, 85): unsigned(1),
+    (14, 5, 74): unsigned(4),
+    (14, 5, 110): string("Off") + string("1") + string("2") + string("3"),
+    (14, 6, 77): string("Unnamed"),
+    (14, 6, 85): unsigned(1),
+    (14, 6, 74): unsigned(2),
+    (14, 6, 110): string("") + string("On"),
+    (5, 6, 77): string("Door"),
+    (5, 6, 85): enumerated(0),
+    (5, 6, 4): string("Inactive"),
+    (5, 6, 46): string("Active"),
+}
 VENDOR = {(300, 1, 77): string("X"), (300, 1, 85): unsigned(5)}
 TEXT = {
     (40, 1, 77): string("Note"),
@@ -46,7 +85,7 @@ TEXT = {
     (0, 9, 85): real("7fc00000"),
     (0, 9, 111): b"\x82\x04\0",
 }
-ALL = {**VALVE, **MODE, **FAN, **VENDOR, **TEXT}
+ALL = {**VALVE, **MODE, **FAN, **NO_LIMITS, **VENDOR, **TEXT}
 
 
 class Write(harness.SiteTest):
@@ -56,12 +95,22 @@ class Write(harness.SiteTest):
             ("1 1 20 --priority 8", (1, 1, 85), real("41a00000"), 8),
             ("analog-output 1 -2.5 --priority 9", (1, 1, 85), real("c0200000"), 9),
             ("1 1 null --priority 9", (1, 1, 85), NULL, 9),
+            ("2 8 150 --property cov-increment", (2, 8, 22), real("43160000"), 0),
             ("14 2 3", (14, 2, 85), unsigned(3), 0),
             ("14 2 heat", (14, 2, 85), unsigned(2), 0),
             ("5 3 läuft", (5, 3, 85), enumerated(1), 0),
             ("5 3 Inactive", (5, 3, 85), enumerated(0), 0),
             ("300 1 6 --type unsigned", (300, 1, 85), unsigned(6), 0),
             ("40 1 -x", (40, 1, 85), string("-x"), 0),
+            ("40 1 -5", (40, 1, 85), string("-5"), 0),
+            ("40 1 -.5°", (40, 1, 85), string("-.5°"), 0),
+            ("40 1 a\\x1bb", (40, 1, 85), string("a\\x1bb"), 0),
+            ("40 1 null --type text", (40, 1, 85), string("null"), 0),
+            ("14 2 Off", (14, 2, 85), unsigned(1), 0),
+            ("14 2 4 --type unsigned", (14, 2, 85), unsigned(4), 0),
+            ("2 7 1e6", (2, 7, 85), real("49742400"), 0),
+            ("45 1 3 --property cov-increment", (45, 1, 22), unsigned(3), 0),
+            ("45 1 -3", (45, 1, 85), tagged(3, b"\xfd"), 0),
             ("0 9 true --property out-of-service", (0, 9, 81), b"\x11", 0),
             ("0 9 Öl --property 28", (0, 9, 28), string("Öl"), 0),
             ("0 9 degrees-fahrenheit --property units", (0, 9, 117), enumerated(64), 0),
@@ -100,6 +149,7 @@ class Write(harness.SiteTest):
                     head
                     + "before: 20\nwrite 30 at priority 10: ok\nnow: 20\npriority 8 (manual-operator): 20\n"
                     "priority 10: 30\nrelinquish-default: 0\n"
+                    "priority 8 (manual-operator) holds it: what is written at 10 waits\n"
                 ),
             ),
         )
@@ -115,6 +165,19 @@ class Write(harness.SiteTest):
             ),
         )
 
+    def test_a_held_point(self):
+        """A higher priority that holds it is told, where something waits below."""
+        self.stand_in(VALVE)
+        for words, last in (
+            ("20 --priority 8", "relinquish-default: 0"),
+            ("null --priority 10", "relinquish-default: 0"),
+            ("30 --priority 16", "priority 8 (manual-operator) holds it: what is written at 16 waits"),
+            ("30 --priority 5", "relinquish-default: 0"),
+        ):
+            out = self.run_site("write", "HERE", "1", "1", *words.split(" "))[1]
+            with self.subTest(words=words):
+                self.assertEqual(out.splitlines()[-1], last)
+
     def test_what_is_refused_before_anything_is_sent(self):
         device = self.stand_in(ALL)
         self.rows(
@@ -127,10 +190,12 @@ class Write(harness.SiteTest):
             write HERE 1 1 1e40 --priority 8 => 2 !past the range: 1e40; nothing was sent
             write HERE 1 1 100.5 --priority 8 => 2 !1:1 analog-output takes -10 to 100, not 100.5; nothing was sent
             write HERE 1 1 -11 --priority 8 => 2 !1:1 analog-output takes -10 to 100, not -11; nothing was sent
+            write HERE 2 8 100.5 => 2 !2:8 analog-value takes up to 100, not 100.5; nothing was sent
+            write HERE 2 9 4 => 2 !2:9 analog-value takes 5 and more, not 4; nothing was sent
             write HERE 14 2 0 => 2 !14:2 multi-state-output takes 1 to 4, not 0; nothing was sent
             write HERE 14 2 5 => 2 !14:2 multi-state-output takes 1 to 4, not 5; nothing was sent
             write HERE 14 2 1.5 => 2 !no number and no state: 1.5; it has off, heat; nothing was sent
-            write HERE 14 2 both => 2 !no number and no state: both; it has off, heat; nothing was sent
+            write HERE 14 2 both => 2 !both may be 3 (Both) or 4 (both): give its number; nothing was sent
             write HERE 5 3 2 => 2 !5:3 binary-value takes 0 to 1, not 2; nothing was sent
             write HERE 5 3 null => 2 !null lets go of a priority: 5:3 binary-value has no priority array
             write HERE 300 1 6 => 2 !the type of 300:1 is not known: name it by --type; nothing was sent
@@ -142,12 +207,17 @@ class Write(harness.SiteTest):
             write HERE 0 9 x --property 12 => 1 !application-software-version: error 2 32; nothing was sent
             write HERE 1 1 20 --priority 6 => 2 !priority 6 is the device's own
             write HERE 1 1 20 --priority 17 => 2 !argument --priority: not 1 to 16: 17
+            write HERE 1 1 20 --priority -5 => 2 !argument --priority: not 1 to 16: -5; see
             write HERE 1 1 20 --priority 0 => 2 !argument --priority: not 1 to 16: 0
             write HERE 1 1 20 --property pv => 2 !no property: pv
             write HERE 1 1 => 2 !the following arguments are required: VALUE
+            write HERE 40 1 null => 2 !null lets go of a priority: 40:1 characterstring-value has no priority array
+            write HERE 45 1 -3 --property cov-increment => 2 !past the range: -3; nothing was sent
             write DEAD 1 1 20 --priority 8 => 1 !timeout; nothing was sent
             """
         )
+        told = self.run_site("write", "HERE", "40", "1", "-x")[2]
+        self.assertTrue(told.endswith("--help; a value as -x stands behind --\n"), told)
         self.assertEqual(device.written, [])
 
     def test_an_object_that_is_another(self):
@@ -157,15 +227,69 @@ class Write(harness.SiteTest):
         )
         self.stand_in({**VALVE, (1, 1, 85): unsigned(20)})
         self.rows(
-            "write HERE 1 1 20 --priority 8 => 1 !present-value: no real: 20; nothing was sent"
+            "write HERE 1 1 20 --priority 8 => 1 !present-value: no real: unsigned 20; nothing was sent"
         )
         self.stand_in({**VALVE, (1, 1, 69): "silent"})
         self.rows("write HERE 1 1 20 --priority 8 => 1 !min-pres-value: timeout; nothing was sent")
-        self.stand_in({**VALVE, (1, 1, 87): ("error", 2, 27)})
+        self.stand_in({**VALVE, (1, 1, 87): "silent"})
+        self.rows("write HERE 1 1 20 --priority 8 => 1 !priority-array: timeout; nothing was sent")
+        self.stand_in({**MODE, (14, 2, 110): "silent"})
+        self.rows("write HERE 14 2 1 => 1 !state-text: timeout; nothing was sent")
+        self.stand_in({**FAN, (5, 3, 4): "silent"})
+        self.rows("write HERE 5 3 1 => 1 !the text of state 1: timeout; nothing was sent")
+        self.assertEqual(device.written, [])
+
+    def test_a_word_that_may_be_two_states(self):
+        device = self.stand_in(CROSSED)
         self.rows(
-            "write HERE 1 1 20 --priority 8 => 1 !priority-array: error 2 27; nothing was sent"
+            """
+            write HERE 14 5 1 => 2 !1 may be 1 (Off) or 2 (1): by --type unsigned it is the number; nothing was sent
+            write HERE 14 6 '' => 2 !no number and no state: ; it has on; nothing was sent
+            write HERE 5 6 active => 2 !active may be 0 (Active) or 1 (Inactive): give its number; nothing was sent
+            write HERE 5 6 INACTIVE => 2 !INACTIVE may be 0 (Active) or 1 (Inactive): give its number; nothing was sent
+            """
         )
         self.assertEqual(device.written, [])
+        for words, line in (
+            ("14 5 4", "write 4 (3): ok"),
+            ("14 5 1 --type unsigned", "write 1 (Off): ok"),
+            ("14 5 off", "write 1 (Off): ok"),
+            ("5 6 1", "write 1 (Inactive): ok"),
+        ):
+            status, out, _ = self.run_site("write", "HERE", *words.split(" "))
+            with self.subTest(words=words):
+                now = line[6:-4]
+                self.assertEqual((status, out.splitlines()[3:]), (0, [line, "now: " + now]))
+
+    def test_states_have_the_texts_of_the_object_everywhere(self):
+        array = {(14, 2, 87): NULL * 16, (14, 2, 104): unsigned(2), (14, 2, 85): unsigned(2)}
+        self.stand_in({**MODE, **array})
+        status, out, _ = self.run_site("write", "HERE", "14", "2", "1", "--priority", "8")
+        wanted = ["before: 2 (Heat)", "write 1 (Off) at priority 8: ok", "now: 1 (Off)"]
+        wanted += ["priority 8 (manual-operator): 1 (Off)", "relinquish-default: 2 (Heat)"]
+        self.assertEqual((status, out.splitlines()[2:]), (0, wanted))
+        words = ["14", "2", "off", "--property", "relinquish-default", "--dry-run"]
+        out = self.run_site("write", "HERE", *words)[1].splitlines()[2:]
+        self.assertEqual(out[0], "before: 2 (Heat)")
+        self.assertEqual(out[1], "write 1 (Off): nothing was sent, as was asked for")
+        self.stand_in({**MODE, (14, 2, 110): ("error", 2, 27)})
+        out = self.run_site("write", "HERE", "14", "2", "3")[1].splitlines()[2:]
+        self.assertEqual(out, ["before: 1", "write 3: ok", "now: 3"])
+
+    def test_a_priority_array_that_can_not_be_read(self):
+        for fault, told in ((("error", 2, 27), "error 2 27"), (b"\x2e\x2f", "no list")):
+            device = self.stand_in({**VALVE, (1, 1, 87): fault})
+            device.keep = lambda key, value, _: device.values.update({key: value})
+            out = self.run_site("write", "HERE", "1", "1", "20", "--priority", "8")
+            wanted = ["before: 0", "priority-array: " + told, "write 20 at priority 8: ok"]
+            wanted += ["now: 20", "priority-array: " + told]
+            self.assertEqual((out[0], out[1].splitlines()[2:]), (0, wanted))
+        self.rows("write HERE 1 1 null => 2 !null lets go of a priority")
+        device.keep = lambda *_: None
+        found = self.run_site("write", "HERE", "1", "1", "null", "--priority", "8")
+        self.assertEqual(device.written[-1], ((1, 1, 85), NULL, 8))
+        last = "not sure, since no priority is read: 20"
+        self.assertEqual((found[0], found[1].splitlines()[-1]), (1, last))
 
     def test_a_dry_run(self):
         device = self.stand_in(VALVE)
@@ -215,7 +339,60 @@ class Write(harness.SiteTest):
         device = self.stand_in(VALVE)
         with open("/dev/full", "w", encoding="utf-8") as full:
             found = self.run_site("write", "HERE", "1", "1", "20", "--priority", "8", stdout=full)
-        self.assertEqual((found[0], found[2], device.written), (3, "bacsite: writing failed\n", []))
+        told = "bacsite: writing failed; nothing was sent\n"
+        self.assertEqual((found[0], found[2], device.written), (3, told, []))
+        out, into = os.pipe()
+        os.close(out)
+        found = self.run_site("write", "HERE", "1", "1", "20", "--priority", "8", stdout=into)
+        os.close(into)
+        told = "bacsite: nothing was sent\n"
+        self.assertEqual((found[0], found[2], device.written), (3, told, []))
+
+    def test_a_tool_that_sends_nothing(self):
+        device = self.stand_in(VALVE)
+        os.mkdir(self.world.folder + "/bound")
+        script = '#!/bin/sh\n[ "$1" = bacwp ] && echo "bactool: bind failed" >&2 && exit 3\nexec %s "$@"\n'
+        os.chmod(self.path("bound/bactool", script % harness.TOOL), 0o755)
+        words = ["write", "--tools", "IN/bound", "HERE", "1", "1", "20", "--priority", "8"]
+        status, out, _ = self.run_site(*words)
+        last = "write 20 at priority 8: nothing was sent: bactool: bind failed"
+        self.assertEqual((status, out.splitlines()[3:], device.written), (3, [last], []))
+
+    def test_an_output_that_fails_behind_the_write_says_how_that_ended(self):
+        for mode, how in (("", "ok"), ("silent", "outcome not known: the write may have been made")):
+            for limit, why in ((100, "writing failed"), (None, "nobody reads on")):
+                device = self.stand_in(VALVE, writes=mode, delay=0.2)
+                reader, pipe = os.pipe()
+                path = self.path("out", b"")
+                with open(path if limit else pipe, "w", encoding="utf-8") as out:
+                    process = subprocess.Popen(
+                        [*self.world.command, "write", device.address, *PATIENT],
+                        stdout=out,
+                        stderr=subprocess.PIPE,
+                        preexec_fn=lambda: limit
+                        and resource.setrlimit(resource.RLIMIT_FSIZE, (limit, limit)),
+                    )
+                while not device.written:
+                    self.assertIsNone(process.poll())
+                os.close(reader)
+                err = process.communicate(timeout=20)[1].decode()
+                told = "bacsite: write 20 at priority 8: " + how
+                with self.subTest(mode=mode, why=why):
+                    self.assertEqual((process.returncode, err[: len(told)]), (3, told))
+                    self.assertIn("; " + why, err)
+
+    def test_a_device_that_becomes_another(self):
+        for after, told in (
+            (("error", 1, 31), "error 1 31"),
+            (an_object(8, 78), "it says another number"),
+            ("silent", "timeout"),
+        ):
+            own = {(8, 77, 75): after}
+            self.stand_in({**VALVE, **own}, writes="refuse" if after == "silent" else "")
+            out = self.run_site("write", "HERE", "1", "1", "20", "--priority", "8")
+            last = "not sure that it is device 77 still: " + told
+            with self.subTest(told=told):
+                self.assertEqual((out[0], out[1].splitlines()[-1]), (1, last))
 
     def test_a_signal_says_that_the_write_may_have_been_made(self):
         device = self.stand_in(VALVE, writes="silent")
@@ -230,15 +407,20 @@ class Write(harness.SiteTest):
             "--apdu-timeout",
             "20000",
         ]
-        process = subprocess.Popen(
-            [*self.world.command, *words], stdout=subprocess.PIPE, stderr=subprocess.PIPE
-        )
-        while not device.written:
-            self.assertIsNone(process.poll())
-        process.send_signal(signal.SIGTERM)
-        err = process.communicate(timeout=20)[1]
         told = b"bacsite: ended by a signal: the write may have been made; read it back\n"
-        self.assertEqual((process.returncode, err), (-signal.SIGTERM, told))
+        for number, whom in ((signal.SIGTERM, os.kill), (signal.SIGINT, os.killpg)):
+            device.written.clear()
+            process = subprocess.Popen(
+                [*self.world.command, *words],
+                stdout=subprocess.PIPE,
+                stderr=subprocess.PIPE,
+                start_new_session=True,
+            )
+            while not device.written:
+                self.assertIsNone(process.poll())
+            whom(process.pid, number)
+            err = process.communicate(timeout=20)[1]
+            self.assertEqual((process.returncode, err), (-number, told))
 
     def test_the_device_of_the_package(self):
         for words, wanted in (
@@ -249,7 +431,7 @@ class Write(harness.SiteTest):
             ),
             (
                 "1000@DEV 4 4 active --priority 5 => 0",
-                "object 4:4 binary-output Fan;before: 0 (inactive);write 1 at priority 5: ok;"
+                "object 4:4 binary-output Fan;before: 0 (inactive);write 1 (active) at priority 5: ok;"
                 "now: 1 (active);priority 5 (critical-equipment-control): 1 (active);"
                 "relinquish-default: 0 (inactive)",
             ),
@@ -260,6 +442,78 @@ class Write(harness.SiteTest):
             ),
         ):
             self.rows(f"write {words} device 1000 at DEV;{wanted}")
+
+
+class Faults(harness.SiteTest):
+    def test_whatever_fails_behind_a_sent_write_is_told(self):
+        device, asking = self.stand_in(VALVE), Calls(harness.TOOL, 300, 2, 1)
+        place = Place(device.address, (1, 1, 85), is_present_value=True)
+        order = write.Order(None, place, "20", None, 8, dry=False)
+        for part, told in (("_sent", write.NOT_KNOWN), ("_read_back", "ok")):
+            with mock.patch("bacsite.write." + part, side_effect=OSError("no space")):
+                with mock.patch("bacsite.write.put"), self.assertRaises(Failure) as caught:
+                    with Controller(asking, device.address) as controller:
+                        write.written(controller, order)
+            wanted = "write 20 at priority 8: %s; no space" % told
+            self.assertEqual((str(caught.exception), caught.exception.status), (wanted, 3))
+
+
+class List(harness.SiteTest):
+    LINES = """\
+# the plant
+77@HERE analog-output 1 20 --priority 8  # a valve
+
+HERE 40 1 "Room  5" --dry-run
+HERE 40 1 -5
+HERE 1 1 -11 --priority 9
+HERE 1 1 30 --priority 10
+"""
+
+    def test_it_stops_at_the_first_that_is_not_sure(self):
+        device = self.stand_in(ALL)
+        path = self.path("writes", self.LINES)
+        status, out, err = self.run_site("write-list", path)
+        told = "bacsite: line 6: 1:1 analog-output takes -10 to 100, not -11; nothing was sent; "
+        self.assertEqual((status, err), (2, told + "3 of 5 were done before\n"))
+        written = [((1, 1, 85), real("41a00000"), 8), ((40, 1, 85), string("-5"), 0)]
+        self.assertEqual(device.written, written)
+        parts = out.split("\n\n")
+        self.assertEqual([it.split("\n")[3] for it in parts[:3]], [
+            "write 20 at priority 8: ok",
+            'write "Room  5": nothing was sent, as was asked for',
+            'write "-5": ok',
+        ])
+
+    def test_a_write_that_is_refused_stops_it(self):
+        device = self.stand_in(ALL, writes="refuse")
+        lines = "HERE 14 2 heat\nHERE 14 2 off\n"
+        status, out, _ = self.run_site("write-list", "-", stdin=self.spelled(lines))
+        last = "stopped at line 1: 0 of 2 were done before"
+        self.assertEqual((status, out.splitlines()[-1]), (1, last))
+        self.assertEqual(len(device.written), 1)
+
+    def test_all_lines_are_right_before_any_is_sent(self):
+        device = self.stand_in(ALL)
+        for line, why in (
+            ("HERE 14 2", "the following arguments are required: VALUE"),
+            ("HERE 14 2 2 --priority 6", "priority 6 is the device's own"),
+            ("HERE 14 2 -h", "the following arguments are required: VALUE"),
+            ("HERE 40 1 'x", "no closing quotation"),
+            ("HERE 40 1 a\0", "no word has the character 0"),
+        ):
+            found = self.run_site("write-list", "-", stdin=self.spelled("HERE 14 2 2\n" + line))
+            with self.subTest(line=line):
+                self.assertEqual((found[:2], found[2][: 17 + len(why)]), ((2, ""), "bacsite: line 2: " + why))
+                self.assertTrue(found[2].endswith("; nothing was sent\n"))
+        self.rows("write-list /dev/null => 2 !no write in /dev/null")
+        self.assertEqual(device.written, [])
+
+    def test_a_dry_run_sends_nothing(self):
+        device = self.stand_in(ALL)
+        path = self.path("dry", "HERE 14 2 heat\nHERE 14 2 off\n")
+        status, out, _ = self.run_site("write-list", path, "--dry-run")
+        self.assertEqual((status, out.count("nothing was sent, as was asked for")), (0, 2))
+        self.assertEqual(device.written, [])
 
 
 class Endings(unittest.TestCase):
@@ -332,18 +586,20 @@ class Encode(unittest.TestCase):
             ("20.5", names.DOUBLE, "4034800000000000", "20.5"),
             ("007", names.UNSIGNED, "7", "7"),
             ("-7", names.SIGNED, "-7", "-7"),
-            ("on", names.ENUMERATED, "1", "1"),
-            ("ON", names.ENUMERATED, "1", "1"),
             ("true", names.BOOLEAN, "true", "true"),
             ("0101", names.BITS, "0101", "B'0101'"),
             ("01ff", names.OCTETS, "01ff", "X'01ff'"),
             ("2024-10-31", names.DATE, "7c0a1f04", "2024-10-31"),
+            ("1900-01-01", names.DATE, "00010101", "1900-01-01"),
+            ("2154-12-31", names.DATE, "fe0c1f02", "2154-12-31"),
             ("12:30", names.TIME, "0c1e0000", "12:30:00.00"),
             ("9:30:05.07", names.TIME, "091e0507", "09:30:05.07"),
             ("analog-input:5", names.OBJECT, "0:5", "0:5"),
             ("8:1234", names.OBJECT, "8:1234", "8:1234"),
             (" x ", names.STRING, " x ", " x "),
             ("a\x1b[2J", names.STRING, "a\x1b[2J", "a\\x1b[2J"),
+            ("a\\x1b[2J", names.STRING, "a\\x1b[2J", "a\\\\x1b[2J"),
+            ("A1\\Fan", names.STRING, "A1\\Fan", "A1\\Fan"),
             (
                 "18446744073709551615",
                 names.UNSIGNED,
@@ -353,7 +609,7 @@ class Encode(unittest.TestCase):
             ("null", names.NULL, "null", "null"),
         ):
             with self.subTest(word=word, tag=tag):
-                found = encode(word, tag, lambda: {"on": 1})
+                found = encode(word, tag)
                 self.assertEqual(found, (tag, wanted, text))
 
     def test_words_that_are_none(self):
@@ -372,6 +628,7 @@ class Encode(unittest.TestCase):
             ("f", names.OCTETS),
             ("2024-02-30", names.DATE),
             ("1899-01-01", names.DATE),
+            ("2155-12-31", names.DATE),
             ("2200-01-01", names.DATE),
             ("24:00", names.TIME),
             ("12:60", names.TIME),
@@ -383,7 +640,7 @@ class Encode(unittest.TestCase):
             ("maybe", names.ENUMERATED),
         ):
             with self.subTest(word=word, tag=tag), self.assertRaises(Failure):
-                encode(word, tag, lambda: {"on": 1})
+                encode(word, tag)
 
 
 if __name__ == "__main__":

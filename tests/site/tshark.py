@@ -12,11 +12,11 @@ import sys
 
 import harness  # noqa: F401  it makes bacsite known
 from bacsite.bodies import error_body, read_ack, read_body, write_body
-from bacsite.frames import Passed, datagram_of
+from bacsite.capture.frames import Passed, datagram_of
 from bacsite.messages import ABORT, COMPLEX, CONFIRMED, ERROR, REJECT, SEGMENT, UNCONFIRMED
 from bacsite.messages import message_of
-from bacsite.pcap import packets_of
-from bacsite.talk import READ, WRITE
+from bacsite.capture.pcap import packets_of
+from bacsite.answers import READ, WRITE
 
 TYPES = "type invoke_id confirmed_service unconfirmed_service".split()
 PLACES = "objectType instance_number property_identifier".split()

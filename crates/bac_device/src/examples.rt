@@ -1,6 +1,14 @@
 //! Examples of what the device replies, worked out by computation. They show what the definitions mean.
 
-ghost use Rattle.std.specs.Prelude.{[], ◌∷◌, replicate};
+ghost use Rattle.std.specs.Prelude.{◌≡◌, [], ◌∷◌, replicate, codes, Some, None, Ok, Err};
+ghost use Rattle.bac_device.specs.declared.device.AddFault.TheVariants.{Twice, NameTwice, BadPoint};
+ghost use Rattle.bac_device.specs.declared.kind.{Family.TheVariants.Analog, Role.TheVariants.Output};
+ghost use Rattle.bac_device.specs.{Demo.demo_points, Info.IsInfo, Limits.{device_room, longest_name}};
+ghost use Rattle.bac_device.specs.Device.{Holds, add_point, place_after, points_of, present_after};
+ghost use Rattle.bac_device.specs.{Places.{NoneTo, standing_after}, Reply.with_write, Size.{RepliesFit, ReplyFits}};
+ghost use Rattle.bac_device.specs.Turns.{AreDefined, RepliesInTurn};
+ghost use Rattle.bac_device.specs.Inner.Examples.{desk, datagram, small, asked, fifty, fifty_one, valve_id, other_id};
+ghost use Rattle.bac_device.specs.Inner.Examples.{twenty_at_8, release_at_8, empty, after, given_as};
 ghost use Rattle.bac_device.specs.Inner.Examples.{Exchanges, outdoor, long_named, valve, fan, season, nothing, own};
 ghost use Rattle.bac_device.specs.Inner.Examples.{any_device, of, element_of, read, read_for_50, is, write, write_at};
 ghost use Rattle.bac_device.specs.Inner.Examples.{aborted, has, has_no, makes, refuses, real_72_3, twenty, thirty};
@@ -55,4 +63,72 @@ fn examples_of_writes()
         (refuses (write outdoor twenty) 2 40 ∷ refuses (write_at 6 valve twenty) 2 40
         ∷ refuses (write valve (unsigned 5)) 2 9 ∷ refuses (write season (unsigned 5)) 2 37
         ∷ has (of 85 season) (unsigned 1) ∷ []) }
+{}
+
+// Which replies fit a request, and what is said of replies and of writes.
+#[tactic(none)]
+fn examples_of_fitting()
+    // To a requester that takes 50 octets the reply has 50, or it is the Abort, and it goes back to the desk.
+    ensures fits { ReplyFits desk asked.datagram (desk, datagram 0x00 fifty) }
+    ensures aborted { ReplyFits desk asked.datagram (desk, datagram 0x00 aborted) }
+    ensures too_long { ReplyFits desk asked.datagram (desk, datagram 0x00 fifty_one) → ⊥ }
+    ensures no_datagram { ReplyFits desk asked.datagram (desk, []) → ⊥ }
+    ensures each { RepliesFit (asked ∷ []) (Some (desk, datagram 0x00 fifty) ∷ []) }
+    ensures each_too_long { RepliesFit (asked ∷ []) (Some (desk, datagram 0x00 fifty_one) ∷ []) → ⊥ }
+    ensures too_few { RepliesFit (asked ∷ []) [] → ⊥ }
+
+    // None of the writes is to analog-output 1.
+    ensures none { NoneTo valve_id (twenty_at_8 other_id ∷ []) }
+    ensures one { NoneTo valve_id (twenty_at_8 other_id ∷ twenty_at_8 valve_id ∷ []) → ⊥ }
+
+    // A device holds the writes that it has had, and no others.
+    ensures held { Holds (after (twenty_at_8 valve_id ∷ [])) (twenty_at_8 valve_id ∷ []) }
+    ensures not_held { Holds (after []) (twenty_at_8 valve_id ∷ []) → ⊥ }
+    ensures in_turn { RepliesInTurn empty [] [] empty }
+    ensures left_out { RepliesInTurn empty (asked ∷ []) [] empty → ⊥ }
+    ensures changed { RepliesInTurn empty [] [] (after []) → ⊥ }
+    ensures replied { AreDefined empty [] [] [] empty }
+    ensures one_more { AreDefined empty [] [] (None ∷ []) empty → ⊥ }
+    ensures written { AreDefined empty [] [] [] (after []) → ⊥ }
+{}
+
+// What a device has and keeps, and what can be added to it.
+#[tactic(none)]
+fn examples_of_devices()
+    ensures points { points_of (after (twenty_at_8 valve_id ∷ [])) ≡ demo_points }
+    ensures with_none { with_write (after []) None ≡ after [] }
+    ensures with_one { with_write (after []) (Some (twenty_at_8 valve_id)) ≡ after (twenty_at_8 valve_id ∷ []) }
+    ensures room { device_room ≡ 32 }
+    ensures longest { longest_name ≡ 64 }
+
+    // The most urgent place that is not NULL is present, and what there was to begin with where all are.
+    ensures present { present_after demo_points (twenty_at_8 valve_id ∷ []) valve_id ≡ Some 0x41a00000 }
+    ensures let_go { present_after demo_points (twenty_at_8 valve_id ∷ release_at_8 valve_id ∷ []) valve_id ≡ Some 0 }
+    ensures no_point { present_after demo_points [] (record { kind = 1; instance = 99 }) ≡ None }
+    ensures place { place_after demo_points (twenty_at_8 valve_id ∷ []) valve_id 8 ≡ Some (Some 0x41a00000) }
+    ensures other_place { place_after demo_points (twenty_at_8 valve_id ∷ []) valve_id 9 ≡ Some None }
+    ensures no_place { place_after demo_points [] valve_id 17 ≡ None }
+    ensures zeroth { place_after demo_points [] valve_id 0 ≡ None }
+
+    // What a device can be known by.
+    ensures known { IsInfo small }
+    ensures last { IsInfo (record small { instance = 4194302 }) }
+    ensures every { IsInfo (record small { instance = 4194303 }) → ⊥ }
+    ensures nameless { IsInfo (record small { name = [] }) → ⊥ }
+    ensures long { IsInfo (record small { name = replicate 65 0x61 }) → ⊥ }
+
+    // Why a point can't be added.
+    ensures added { add_point empty (given_as valve_id (codes "valve")) ≡ Ok (record empty {
+      standings =
+          standing_after [] (record {
+            kind = record { family = Analog; role = Output };
+            object = valve_id;
+            name = codes "valve";
+            start = 0;
+            extra = 98;
+          }) ∷ [];
+    }) }
+    ensures twice { add_point (after []) (given_as valve_id (codes "other")) ≡ Err Twice }
+    ensures name_twice { add_point empty (given_as valve_id (codes "Small device")) ≡ Err NameTwice }
+    ensures unnamed { add_point empty (given_as valve_id []) ≡ Err BadPoint }
 {}

@@ -5,3 +5,4 @@ pub mod CallSteps
 pub mod Search
 pub mod SearchSteps
 pub mod ServeSteps
+pub mod Examples

@@ -55,7 +55,8 @@ pub fn a_server_sends_its_replies<L: Link>()
         (sent_in gained) result }
 {}
 
-/// No server hears more datagrams than it is to answer, and one that is over with an answer heard that many.
+/// No server hears more datagrams than it is to answer, and one that is over with an answer heard that many. (One that
+/// heard as many ends with a fault where its last reply could not be sent.)
 pub fn a_server_hears_as_many<L: Link>()
     ensures { (count : ℕ) (before after : DeviceState) (seen left : Account L.Origin) (result : Result ℕ Fault)
         (gained : List Entry) → Serves count before after seen left result → left.history ≡ seen.history ++ gained
@@ -64,7 +65,7 @@ pub fn a_server_hears_as_many<L: Link>()
 
 /// No call waits for ever. Take any clock whose times are those that the link told, as the link's own: where by it no
 /// turn takes longer than so long, the call ends, its last wait with it, within the timeout and so long, for each time
-/// that the request is sent (clause 5.4.4).
+/// that the request is sent (clause 5.4.4). Of a clock that stands that says nothing: then the turns run out.
 pub fn a_call_ends_in_time<L: Link, W: Write>()
     ensures { (purpose : Purpose) (call : Call) (before after : Checked W) (seen left : Account L.Origin)
         (result : Result ExitValue Fault) (gained : List Entry) (time_behind : ℕ → ℕ) (longest : ℕ)
@@ -100,8 +101,8 @@ pub fn a_search_sends_one_who_is<L: Link, W: Write>()
         → AllSent ((station search.to, who_is_to search) ∷ []) (sent_in gained) result }
 {}
 
-/// No call ends with an exit over a link, a socket or another, whose history gained nothing.
-pub fn no_call_ends_unheard<L: Link, W: Write>()
+/// No call ends with an exit over a link, a socket or another, that it asked nothing: the history gained something.
+pub fn no_call_ends_unasked<L: Link, W: Write>()
     ensures { (purpose : Purpose) (call : Call) (before after : Checked W) (seen : Account L.Origin) (exit : ExitValue)
         → Tells purpose call W.contents before after seen seen (Ok exit) → ⊥ }
 {}

@@ -7,13 +7,13 @@
 //!
 //! Whole runs over links in memory, with what they send and print, are tests of `tool_trials` (`src/tests/links`).
 //!
-//! A call, of `bac_uses` (`src/links.rt`), where it is proved that with a status below 3 the writer took the line of
-//! how the read ended, and that this is the status of that end:
+//! A call, of `bac_uses` (`src/links.rt`), where it is proved that the read was made and nothing else, that with a
+//! status below 3 the writer took the line of how it ended, and that this is the status of that end:
 //!
 //! ```rust
 //! match UdpLink::bind_with(rt, alloc, anywhere, OnRefusal::Fails) {
-//!     Ok(mut link) => status(&run_read(call, &mut link, writer)),
-//!     Err(_) => 3,
+//!     Ok(mut link) => (status(&run_read(call, &mut link, writer)), Ok(link)),
+//!     Err(none) => (3, Err(none)),
 //! }
 //! ```
 #![tactic(auto)]
@@ -21,6 +21,7 @@
 mod call;
 mod datagram;
 mod ending;
+mod examples;
 mod exit;
 mod fault;
 mod history;

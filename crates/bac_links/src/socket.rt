@@ -53,12 +53,13 @@ impl fmt::Debug for NoSocket {
 
 /// A UDP socket of the system, and its clock.
 ///
-/// This is what is trusted of a socket: that each of these five functions makes the one call of `std` which has its
-/// name, with its own arguments, notes that, and answers what it answered.
+/// This is what is trusted of a socket: that `bind` binds one, copies its descriptor and the runtime, and reads the
+/// clock, each once; that each of the four calls of [`Socket`] makes the one call of `std` which has its name, with its
+/// own arguments; and that they note that, and answer what it answered.
 #[derive(Drop)]
-pub struct SystemSocket<R: Clock + Drop> {
+pub struct SystemSocket<R: Drop, S: Drop = UdpSocket> {
     rt: R,
-    socket: UdpSocket,
+    socket: S,
     made: Instant,
     log: Log,
 }
@@ -87,8 +88,11 @@ impl<R: Net + Clock + Clone + Drop> SystemSocket<R> {
             log,
         })
     }
+}
 
-    /// Lets the socket go. What it was asked, and answered, is kept.
+impl<R: Drop, S: Drop> SystemSocket<R, S> {
+    /// Lets the socket go. What it was asked, and answered, is kept. Of any runtime and any socket the log is handed on
+    /// alone: they have no calls here, so none is made.
     pub fn into_log(self) -> Log
         ensures { result ≡ self.log }
     {

@@ -1,14 +1,22 @@
 //! Examples of whole datagrams and service bodies, worked out by computation. They show what the definitions mean.
 
-ghost use Rattle.std.specs.Prelude.{◌≡◌, [], ◌∷◌, ◌++◌, Some, None, Ok, Err, true, false};
+ghost use Rattle.std.specs.Prelude.{◌≡◌, ◌-◌, ◌^◌, [], ◌∷◌, ◌++◌, Some, None, Ok, Err, true, false};
 ghost use Rattle.bac_pdu.specs.declared.discovery.WhoIs.TheVariants.{All, Range};
 ghost use Rattle.bac_pdu.specs.declared.reject.RejectReason.TheVariants.{InvalidTag, MissingParameter, OutOfRange};
 ghost use Rattle.bac_pdu.specs.declared.reject.RejectReason.TheVariants.{TooMany};
+ghost use Rattle.bac_pdu.specs.declared.apdu.Apdu.TheVariants.{SimpleAck};
 ghost use Rattle.bac_pdu.specs.Apdu.{confirmed, unconfirmed, simple_ack, complex_ack, error, reject, abort};
-ghost use Rattle.bac_pdu.specs.{Datagram.wrapped, DatagramReading.carried, Discovery.{i_am_octets, who_is_octets}};
-ghost use Rattle.bac_pdu.specs.{Failure.error_octets, Property.read_octets};
+ghost use Rattle.bac_pdu.specs.Apdu.{segment_ack};
+ghost use Rattle.bac_pdu.specs.Apdu.{IsLaidOut, IsWritable, announced_size, longest_body, message};
+ghost use Rattle.bac_pdu.specs.{Datagram.{Carries, Takes, wrapped, front_count}, DatagramReading.carried};
+ghost use Rattle.bac_pdu.specs.{Discovery.{IsIAmBody, IsWhoIsBody, i_am_octets, who_is_octets}, Peer.IsRoutable};
+ghost use Rattle.bac_pdu.specs.{Failure.{IsErrorBody, error_octets}, Parameter.{IsParameter, numbered, value}};
+ghost use Rattle.bac_pdu.specs.Property.{IsAckBody, IsPriority, IsReadBody, IsWriteBody, read_octets, ack_front};
+ghost use Rattle.bac_pdu.specs.Property.{ack_end};
+ghost use Rattle.bac_pdu.specs.Reject.{IsOutcome, ReadFault, WriteFault};
 ghost use Rattle.bac_pdu.specs.{PropertyReading.{ack_of, read_of, write_of}, ValueReading.{introduction_of, who_is_of}};
-ghost use Rattle.bac_pdu.specs.Inner.Examples.{WritesApdu, desk, far, from_desk, present_value, small_device};
+ghost use Rattle.bac_pdu.specs.Inner.Examples.{WritesApdu, desk, far, from_desk, present_value, small_device, to_all};
+ghost use Rattle.bac_pdu.specs.Inner.Examples.{present_octets, ack_octets_of_1, second_part, last_part, release};
 
 // A ReadProperty request, from the inside to the outside: the body, the APDU and the datagram (ANSI/ASHRAE 135, 15.5,
 // 20.1.2 and J.2).
@@ -81,4 +89,118 @@ fn examples_of_discovery()
     // The whole datagram, of 21 octets (15). No reply is expected (00).
     ensures datagram { wrapped None false (0x10 ∷ 0x00 ∷ i_am_octets small_device) ≡
         0x81 ∷ 0x0a ∷ 0x00 ∷ 0x15 ∷ 0x01 ∷ 0x00 ∷ 0x10 ∷ 0x00 ∷ i_am_octets small_device }
+{}
+
+// What a datagram carries, and what takes an APDU to a station (Annex J.2 and clause 6.2).
+#[tactic(none)]
+fn examples_of_carrying()
+    // The length counts the whole datagram.
+    ensures carried { Carries desk (0x81 ∷ 0x0a ∷ 0x00 ∷ 0x09 ∷ 0x01 ∷ 0x00 ∷ ack_octets_of_1)
+        (from_desk ack_octets_of_1) }
+    ensures other_length { Carries desk (0x81 ∷ 0x0a ∷ 0x00 ∷ 0x08 ∷ 0x01 ∷ 0x00 ∷ ack_octets_of_1)
+        (from_desk ack_octets_of_1) → ⊥ }
+    ensures not_to_all { Carries desk (0x81 ∷ 0x0a ∷ 0x00 ∷ 0x09 ∷ 0x01 ∷ 0x00 ∷ ack_octets_of_1)
+        (to_all ack_octets_of_1) → ⊥ }
+
+    // A destination is all networks, perhaps with an address there. That and the hop count are not looked at.
+    ensures all_networks { Carries desk
+        (0x81 ∷ 0x0a ∷ 0x00 ∷ 0x0d ∷ 0x01 ∷ 0x20 ∷ 0xff ∷ 0xff ∷ 0x00 ∷ 0x00 ∷ ack_octets_of_1)
+        (to_all ack_octets_of_1) }
+    ensures all_with_address { Carries desk
+        (0x81 ∷ 0x0a ∷ 0x00 ∷ 0x0e ∷ 0x01 ∷ 0x20 ∷ 0xff ∷ 0xff ∷ 0x01 ∷ 0x07 ∷ 0xff ∷ ack_octets_of_1)
+        (to_all ack_octets_of_1) }
+    ensures one_network { Carries desk
+        (0x81 ∷ 0x0a ∷ 0x00 ∷ 0x0d ∷ 0x01 ∷ 0x20 ∷ 0x00 ∷ 0x05 ∷ 0x00 ∷ 0xff ∷ ack_octets_of_1)
+        (to_all ack_octets_of_1) → ⊥ }
+
+    // A reply is expected where the control octet says so (04).
+    ensures taken { Takes None true (0x10 ∷ 0x08 ∷ []) (0x81 ∷ 0x0a ∷ 0x00 ∷ 0x08 ∷ 0x01 ∷ 0x04 ∷ 0x10 ∷ 0x08 ∷ []) }
+    ensures not_expected { Takes None true (0x10 ∷ 0x08 ∷ [])
+        (0x81 ∷ 0x0a ∷ 0x00 ∷ 0x08 ∷ 0x01 ∷ 0x00 ∷ 0x10 ∷ 0x08 ∷ []) → ⊥ }
+    ensures other_apdu { Takes None true (0x10 ∷ 0x07 ∷ [])
+        (0x81 ∷ 0x0a ∷ 0x00 ∷ 0x08 ∷ 0x01 ∷ 0x04 ∷ 0x10 ∷ 0x08 ∷ []) → ⊥ }
+
+    // The stations that a route leads to.
+    ensures routable { IsRoutable (record { network = 65534; address = 0x07 ∷ [] }) }
+    ensures local { IsRoutable (record { network = 0; address = 0x07 ∷ [] }) → ⊥ }
+    ensures everywhere { IsRoutable (record { network = 65535; address = 0x07 ∷ [] }) → ⊥ }
+    ensures no_address { IsRoutable (record { network = 5; address = [] }) → ⊥ }
+    ensures eight { IsRoutable (record { network = 5; address = 1 ∷ 2 ∷ 3 ∷ 4 ∷ 5 ∷ 6 ∷ 7 ∷ 8 ∷ [] }) → ⊥ }
+    ensures front { front_count None ≡ 6 }
+    ensures routed_front { front_count far.route ≡ 11 }
+{}
+
+// Which octets are an APDU (clause 20.1), and which can be written.
+#[tactic(none)]
+fn examples_of_layouts()
+    // What stands behind a SimpleACK is not looked at, nor are the low bits of its first octet.
+    ensures simple { IsLaidOut (0x2f ∷ 0x01 ∷ 0x0f ∷ 0x00 ∷ []) (simple_ack 1 15) }
+    ensures other_id { IsLaidOut (0x20 ∷ 0x02 ∷ 0x0f ∷ []) (simple_ack 1 15) → ⊥ }
+
+    // Bit 3 says that this is a part, and bit 2 that more follow.
+    ensures part { IsLaidOut (0x3c ∷ 0x01 ∷ 0x01 ∷ 0x04 ∷ 0x0c ∷ []) (complex_ack (Some second_part) 1 12 []) }
+    ensures last { IsLaidOut (0x38 ∷ 0x01 ∷ 0x01 ∷ 0x04 ∷ 0x0c ∷ []) (complex_ack (Some last_part) 1 12 []) }
+    ensures other_part { IsLaidOut (0x38 ∷ 0x01 ∷ 0x01 ∷ 0x04 ∷ 0x0c ∷ []) (complex_ack (Some second_part) 1 12 [])
+        → ⊥ }
+    ensures from_client { IsLaidOut (0x70 ∷ 0x01 ∷ 0x04 ∷ []) (abort true 1 4) → ⊥ }
+    ensures code { IsWritable (confirmed None 15 1 12 []) }
+    ensures no_code { IsWritable (confirmed None 16 1 12 []) → ⊥ }
+    ensures not_written { IsWritable segment_ack → ⊥ }
+
+    // The greatest APDU that a code announces.
+    ensures least { announced_size 0 ≡ 50 }
+    ensures most { announced_size 5 ≡ 1476 }
+    ensures unknown { announced_size 6 ≡ 50 }
+    ensures longest { longest_body ≡ 476 }
+    ensures seen { message (SimpleAck 1 15) ≡ simple_ack 1 15 }
+{}
+
+// What the bodies of services say (clause 21), and which can be written.
+#[tactic(none)]
+fn examples_of_bodies()
+    ensures read { IsReadBody present_octets present_value }
+    ensures read_more { IsReadBody (present_octets ++ 0x00 ∷ []) present_value → ⊥ }
+    ensures ack { IsAckBody (present_octets ++ (0x3e ∷ 0x00 ∷ 0x3f ∷ []))
+        (record { reference = present_value; value = 0x00 ∷ [] }) }
+    ensures other_ack { IsAckBody (present_octets ++ (0x3e ∷ 0x00 ∷ 0x3f ∷ []))
+        (record { reference = present_value; value = [] }) → ⊥ }
+    ensures write { IsWriteBody (present_octets ++ (0x3e ∷ 0x00 ∷ 0x3f ∷ 0x49 ∷ 0x10 ∷ [])) (release 16) }
+    ensures other_write { IsWriteBody (present_octets ++ (0x3e ∷ 0x00 ∷ 0x3f ∷ 0x49 ∷ 0x10 ∷ [])) (release 15) → ⊥ }
+    ensures no_write { IsWriteBody (present_octets ++ (0x3e ∷ 0x00 ∷ 0x3f ∷ 0x49 ∷ 0x11 ∷ [])) (release 17) → ⊥ }
+    ensures first { IsPriority 1 }
+    ensures sixteenth { IsPriority 16 }
+    ensures zeroth { IsPriority 0 → ⊥ }
+    ensures seventeenth { IsPriority 17 → ⊥ }
+    ensures all { IsWhoIsBody [] All }
+    ensures not_all { IsWhoIsBody (0x09 ∷ 0x01 ∷ 0x19 ∷ 0x02 ∷ []) All → ⊥ }
+    ensures range { IsWhoIsBody (0x09 ∷ 0x01 ∷ 0x19 ∷ 0x02 ∷ []) (Range 1 2) }
+    ensures other_range { IsWhoIsBody (0x09 ∷ 0x01 ∷ 0x19 ∷ 0x02 ∷ []) (Range 2 1) → ⊥ }
+
+    // Analog-input (0) 1234 says nothing of a device.
+    ensures i_am { IsIAmBody (0xc4 ∷ 0x02 ∷ 0x00 ∷ 0x04 ∷ 0xd2 ∷ 0x22 ∷ 0x05 ∷ 0xc4 ∷ 0x91 ∷ 0x03 ∷ 0x22 ∷ 0x01 ∷ 0x04
+        ∷ []) small_device }
+    ensures no_device { IsIAmBody (0xc4 ∷ 0x00 ∷ 0x00 ∷ 0x04 ∷ 0xd2 ∷ 0x22 ∷ 0x05 ∷ 0xc4 ∷ 0x91 ∷ 0x03 ∷ 0x22 ∷ 0x01
+        ∷ 0x04 ∷ []) (record small_device { device = record { kind = 0; instance = 1234 } }) → ⊥ }
+
+    // An Error says its class and its code; what follows is not looked at.
+    ensures error { IsErrorBody (0x91 ∷ 0x02 ∷ 0x91 ∷ 0x20 ∷ 0x00 ∷ []) (2, 32) }
+    ensures other_error { IsErrorBody (0x91 ∷ 0x02 ∷ 0x91 ∷ 0x20 ∷ []) (32, 2) → ⊥ }
+
+    // The reason of a Reject is the first that applies.
+    ensures missing { IsOutcome IsReadBody ReadFault [] (Err MissingParameter) }
+    ensures other_reason { IsOutcome IsReadBody ReadFault [] (Err InvalidTag) → ⊥ }
+    ensures out_of_range { IsOutcome IsWriteBody WriteFault
+        (present_octets ++ (0x3e ∷ 0x00 ∷ 0x3f ∷ 0x49 ∷ 0x11 ∷ [])) (Err OutOfRange) }
+    ensures not_missing { IsOutcome IsWriteBody WriteFault
+        (present_octets ++ (0x3e ∷ 0x00 ∷ 0x3f ∷ 0x49 ∷ 0x11 ∷ [])) (Err MissingParameter) → ⊥ }
+
+    // The parameters that can be written.
+    ensures greatest { IsParameter (numbered 254 (2 ^ 32 - 1)) }
+    ensures no_tag { IsParameter (numbered 255 0) → ⊥ }
+    ensures no_number { IsParameter (numbered 1 (2 ^ 32)) → ⊥ }
+    ensures left_open { IsParameter (value (0x1e ∷ [])) → ⊥ }
+
+    // What stands round the value of an answer.
+    ensures before { ack_front present_value ≡ present_octets ++ 0x3e ∷ [] }
+    ensures behind { ack_end ≡ 0x3f ∷ [] }
 {}

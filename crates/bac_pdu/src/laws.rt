@@ -4,7 +4,7 @@
 ghost use Rattle.std.specs.Prelude.{◌≡◌, ◌↔◌, ◌+◌, ◌<◌, ◌^◌, ◌++◌, ℕ, Bool, false, List, [], ◌∷◌, length, Option, Some};
 ghost use Rattle.std.specs.{Prelude.{None, IfSome, Result, Ok}, List.AllByRecursion};
 ghost use Rattle.bac_wire.specs.{Datum.{IsDatum, enumerated}, Copies.{MakesCopies, EqualsBy}};
-ghost use Rattle.bac_pdu.specs.{declared.discovery.WhoIs.WhoIs, declared.discovery.WhoIs.TheVariants.Range};
+ghost use Rattle.bac_pdu.specs.{declared.discovery.WhoIs.WhoIs, declared.discovery.WhoIs.TheVariants.{All, Range}};
 ghost use Rattle.bac_pdu.specs.declared.reject.RejectReason.{RejectReason};
 ghost use Rattle.bac_pdu.specs.Peer.{Station, NetworkAddress, IsRoutable, network_address, station};
 ghost use Rattle.bac_pdu.specs.{Datagram.{Delivery, Carries, Takes, front_count, wrapped}, DatagramReading.carried};
@@ -55,6 +55,7 @@ pub fn come_back()
     ensures write { (o : Order) → AllByRecursion IsParameter (order_parameters o)
         → IfSome o.priority IsPriority → write_of (write_octets o) ≡ Ok o }
     ensures ack { (a : ReadAck) → AllByRecursion IsParameter (ack_parameters a) → ack_of (ack_octets a) ≡ Some a }
+    ensures all { who_is_of (who_is_octets All) ≡ Some All }
     ensures limits { (low high : ℕ) → low < 2 ^ 32 → high < 2 ^ 32
         → who_is_of (who_is_octets (Range low high)) ≡ Some (Range low high) }
     ensures i_am { (i : Introduction) → i.device.kind ≡ 8

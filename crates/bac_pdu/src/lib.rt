@@ -18,10 +18,11 @@
 //! (`is_region` of `bac_wire`), a priority 1 to 16, and the object of an I-Am a device. Octets that are read may be
 //! any.
 //!
-//! Calls, of `asking` of `bac_uses` (`src/pdu.rt`), where it is proved which datagram comes of them:
+//! Calls, of `asking` of `bac_uses` (`src/pdu.rt`), where it is proved that there is room, and which datagram comes of
+//! them:
 //!
 //! ```rust
-//! write_read(&mut body, &request)?;
+//! write_read(&mut body, &request).unwrap();
 //! let apdu = Apdu::Confirmed {
 //!     part: None,
 //!     code: 5,
@@ -29,8 +30,8 @@
 //!     service: READ_PROPERTY,
 //!     body: body.as_slice(),
 //! };
-//! write_apdu(&mut octets, &apdu)?;
-//! wrap(to, true, octets.as_slice(), &mut frame)?;
+//! write_apdu(&mut octets, &apdu).unwrap();
+//! wrap(to, true, octets.as_slice(), &mut frame).unwrap();
 //! ```
 #![tactic(auto)]
 

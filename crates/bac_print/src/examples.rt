@@ -1,8 +1,10 @@
 //! Examples of texts, worked out by computation. They show what the definitions mean.
 
 ghost use Rattle.std.specs.Prelude.{◌≡◌, [], ◌∷◌, codes, replicate};
+ghost use Rattle.bac_print.specs.{Checked.{TookOrFailed, fresh}, Page.Writes};
+ghost use Rattle.bac_print.specs.Inner.Examples.{unknown, written, failed};
 ghost use Rattle.bac_print.{
-  specs.{Inner.Examples.{PrintsAs, device, far_device}, Page.{folded, left_after}},
+  specs.{Inner.Examples.{PrintsAs, device, far_device}, Page.{folded, folded_line, left_after}},
   specs.{PeerTexts.peer_text, Values.region_text},
 };
 
@@ -44,10 +46,21 @@ fn examples_of_peers()
     ensures routed { peer_text far_device ≡ codes "127.0.0.1:47808/5/07" }
 {}
 
+// A writer took a text where it has it now, or a front of it where it failed. A page holds what was not written yet.
+#[tactic(none)]
+fn examples_of_writers()
+    ensures took { TookOrFailed unknown (fresh 0) (fresh 0) [] written }
+    ensures took_less { TookOrFailed unknown (fresh 0) (fresh 0) (1 ∷ []) written → ⊥ }
+    ensures took_front { TookOrFailed unknown (fresh 0) (fresh 0) (1 ∷ []) failed }
+    ensures held { Writes unknown (fresh 0) (fresh 0) (1 ∷ []) (1 ∷ 2 ∷ []) (2 ∷ []) }
+    ensures dropped { Writes unknown (fresh 0) (fresh 0) (1 ∷ []) [] (2 ∷ []) → ⊥ }
+{}
+
 // A text of just the room in its line, one of an octet more, and one with a line feed at the edge. The room is known
 // behind them.
 #[tactic(none)]
 fn examples_of_folding()
+    ensures longest { folded_line ≡ 4_096 }
     ensures just { folded 3 (codes "abc") ≡ codes "abc" }
     ensures one_more { folded 3 (codes "abcd") ≡ codes "abc\n#+d" }
     ensures feed { folded 3 (codes "abc\nd") ≡ codes "abc\nd" }

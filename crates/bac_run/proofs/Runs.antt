@@ -5,7 +5,7 @@ use Rattle.bac_tsm.specs.Client.{Client}
 use Rattle.bac_print.specs.{declared.{checked.Checked.Checked, page.Page.Page}, Checked.{has_failed, octets_of, Gave}}
 use Rattle.bac_print.specs.Page.{folded_line, held, room_of, writer_of, Prints, Writes}
 use Rattle.bac_print.proofs.{Printed.{◌⨾◌, prints_nothing}, Shown.folded_out, Known.Gave-none}
-use Rattle.bac_script.specs.{Input.ReaderStands, Line.{Said}, Inner.{Input.{TakesAndKeeps, IsLineCut}, Limits.line_room}, declared.line.LineFault.LineFault, declared.input.Reading.{Reading, TheVariants.{Open, AtEnd, Failed}}}
+use Rattle.bac_script.specs.{Input.ReaderStands, Line.{Said}, NextLine.{TakesAndKeeps, IsLineCut}, Limits.line_room, declared.line.LineFault.LineFault, declared.input.Reading.{Reading, TheVariants.{Open, AtEnd, Failed}}}
 use Rattle.bac_script.specs.declared.tracing.{TraceEnd.TraceEnd, TraceFault.{TraceFault, TheVariants.{BadLine, LineTooLong, ReadFailed, WriteFailed}}}
 use Rattle.bac_text.specs.Limits.{longest_line}
 use Rattle.bac_links.specs.History.{Account, Entry}

@@ -3,7 +3,7 @@
 ghost use Rattle.std.specs.Prelude.{◌≡◌, ◌≢◌, ◌⊎◌, ◌-◌, ◌<◌, [], ◌∷◌, Some, false, true, Err, IfErr, IfOk};
 ghost use Rattle.bac_wire.specs.Steps.{result_seen};
 ghost use Rattle.bac_pdu.specs.Peer.{station};
-ghost use Rattle.bac_script.specs.Inner.LineSeen.{line_seen};
+ghost use Rattle.bac_script.specs.LineSeen.{line_seen};
 ghost use Rattle.bac_tsm.specs.Events.{Ask};
 ghost use Rattle.bac_print.specs.{Checked.has_failed, Page.{held, writer_of}};
 ghost use Rattle.bac_run.specs.{Fault.{is_at_link, is_of_link, send_failed, stopped, write_failed}};

@@ -11,7 +11,7 @@ use Rattle.std.specs.{List.{slice_range, copy_within}, Io.KnownBytes.{Consumes, 
 use borrow.Rule.Slice.PartMut.{put_mid}
 use Rattle.bac_print.specs.{declared.checked.Checked.Checked, Checked.{inner_of, octets_of}}
 use Rattle.bac_script.{
-  specs.Inner.{Feeds.HasNoFeed, Limits.{line_room, chunk_room}, Input.{TakesAndKeeps, HasNoLine, IsLineCut, IsUnread}},
+  specs.{Feeds.HasNoFeed, Limits.{line_room, chunk_room}, NextLine.{TakesAndKeeps, HasNoLine, IsLineCut, IsUnread}},
   specs.declared.input.Reading.TheVariants.Open,
   proofs.Taken.{no_feed, no_feed_on, feed_at},
 }

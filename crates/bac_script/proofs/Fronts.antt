@@ -5,7 +5,7 @@ use Rattle.std.proofs.{Common.{◌&&◌, ◌==◌, nat_lt, length-append, eqb-tr
 use Rattle.bac_text.specs.Limits.{longest_line}
 use Rattle.bac_script.{
   specs.{declared.{input.Reading.{Reading, TheVariants.Open}, line.LineFault.LineFault}, Alike.IsFrontOf},
-  specs.{Line.{Said, said}, Script.{lines, is_nothing, text}, Inner.{Feeds.HasNoFeed, Running.{Stage, ran}}},
+  specs.{Line.{Said, said}, Script.{lines, is_nothing, text}, Feeds.HasNoFeed, Inner.Running.{Stage, ran}},
   proofs.Courses.{and_on, course, course_on, runs_text},
   proofs.{Machine.first_stage, Pieces.{pieces-open, ends_with_feed-none, said-long, lines-ended}},
 }

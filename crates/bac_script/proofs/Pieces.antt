@@ -3,7 +3,7 @@ use Rattle.std.proofs.Common.{◌≡◌, ◌≢◌, ℕ, ◌<◌, Bool, true, fa
 use Rattle.std.proofs.Common.{ap, append_assoc, arith, Err, ◌||◌, nat_lt, filter, append-nil, length-append, ne_eqb}
 use Rattle.std.{proofs.lemmas.{Grind.common_steps, Bool.Decides.nat_tests}, specs.List.onto_first}
 use Rattle.bac_text.specs.Limits.{longest_line}
-use Rattle.bac_script.specs.{Inner.{Limits.line_room, Feeds.HasNoFeed}, Script.{pieces, lines, is_line}}
+use Rattle.bac_script.specs.{Limits.line_room, Feeds.HasNoFeed, Script.{pieces, lines, is_line}}
 use Rattle.bac_script.specs.declared.input.Reading.{Reading, TheVariants.{AtEnd, Failed}}
 use Rattle.bac_script.specs.{declared.line.LineFault.TheVariants.TooLong, Line.{ends_with_feed, without_feed, said}}
 

@@ -15,8 +15,8 @@ use Rattle.bac_script.{
   specs.declared.{input.Reading.{Reading, TheVariants.{Open, AtEnd, Failed}}, line.LineFault.LineFault},
   specs.declared.tracing.{TraceEnd.TraceEnd, TraceFault.{TraceFault, TheVariants.{ReadFailed, WriteFailed}}},
   specs.{Input.{ReadsNoMore, ReaderStands}, Line.{Said, said}},
-  specs.Inner.{Input.{HasNotEnded, TakesAndKeeps, ReadForLine, empty_reads, IsLineCut}, Feeds.HasNoFeed},
-  specs.Inner.{Limits.line_room, Tracing.RunsOn, Running.{Stage, Stands, new_client, device_with, ran}},
+  specs.{NextLine.{TakesAndKeeps, ReadForLine, empty_reads, IsLineCut}, Feeds.HasNoFeed, Limits.line_room},
+  specs.Inner.{Input.HasNotEnded, Tracing.RunsOn, Running.{Stage, Stands, new_client, device_with, ran}},
   specs.Script.{lines, is_nothing, fault_at, first_fault, text, EndsAs, Runs},
   specs.Tracing.{LastIsNeeded, Traces, IsToldFirst},
   proofs.Pieces.{NextLine, next_ended, next_long, next_last, lines-rest, lines-last, lines-ended, said-whole_long},
@@ -33,7 +33,8 @@ unfolding Wrote laid_out
 out_so_far {contents = contents} {page} {between} {printed} prints empty whole good =
     let same = ap (λ (room : Option ℕ). laid_out room printed) whole in
     let writes : Writes contents (writer_of page) (writer_of between) (on_page page) (on_page between) printed =
-    subst (λ (said : List ℕ). Writes contents (writer_of page) (writer_of between) (on_page page) (on_page between) said)
+    subst
+    (λ (said : List ℕ). Writes contents (writer_of page) (writer_of between) (on_page page) (on_page between) said)
     same prints.wrote.writes in
     grind (arith, append_assoc, writes)
 

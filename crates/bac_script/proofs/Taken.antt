@@ -5,11 +5,13 @@ use Rattle.std.{
   proofs.Common.{[], ◌∷◌, ◌++◌, length, take, drop, get_or, Option, Some, None, inl, inr, true},
   proofs.Common.{append_assoc, length-append, arith, ◌==◌, position, eqb-true, take-append-drop, take_all, append-nil},
 }
-use Rattle.bac_print.{proofs.{Folding.laid_out-none, Printed.◌⨾◌}, specs.{declared.{page.Page.Page, checked.Checked.Checked}, Checked.reads_of}}
-use Rattle.bac_print.specs.{Checked.{last_of, octets_of, has_failed}, Page.{held as on_page, room_of, writer_of, Wrote, Prints}}
+use Rattle.bac_print.proofs.{Folding.laid_out-none, Printed.◌⨾◌}
+use Rattle.bac_print.specs.declared.{page.Page.Page, checked.Checked.Checked}
+use Rattle.bac_print.specs.Checked.{last_of, octets_of, has_failed, reads_of}
+use Rattle.bac_print.specs.Page.{held as on_page, room_of, writer_of, Wrote, Prints}
 use Rattle.bac_script.{
-  specs.Inner.{Feeds.HasNoFeed, Input.{HasNotEnded, TakesAndKeeps, ReadForLine, IsNext, IsTurnedIn, IsUnread}},
-  specs.{Inner.Limits.line_room, Input.ReaderStands, declared.input.Reading.{Reading, TheVariants.Open}},
+  specs.{Feeds.HasNoFeed, NextLine.{TakesAndKeeps, ReadForLine, IsNext, IsTurnedIn, IsUnread}, Inner.Input.HasNotEnded},
+  specs.{Limits.line_room, Input.ReaderStands, declared.input.Reading.{Reading, TheVariants.Open}},
 }
 
 pub Takes-more : {R : Type 0} {remaining : R → Option (List ℕ)} {a b c : Checked R} {held mid kept xs ys : List ℕ}

@@ -1,5 +1,10 @@
+pub mod Feeds
+pub mod Limits
 pub mod Input
+pub mod NextLine
 pub mod Line
+pub mod LongBody
+pub mod LineSeen
 pub mod Text
 pub mod Running
 pub mod Script

@@ -1,10 +1,11 @@
 //! Examples of scripts, worked out by computation. They show what the definitions mean.
 
-ghost use Rattle.std.specs.Prelude.{[], ◌∷◌, codes, replicate, Err};
+ghost use Rattle.std.specs.Prelude.{◌≡◌, [], ◌∷◌, codes, replicate, Err};
 ghost use Rattle.bac_script.{
   specs.declared.input.Reading.TheVariants.{Open, AtEnd, Failed},
-  specs.declared.tracing.TraceFault.TheVariants.{BadLine, LineTooLong, ReadFailed},
+  specs.declared.tracing.TraceFault.TheVariants.{BadLine, LineTooLong, ReadFailed, WriteFailed},
   specs.{Inner.Examples.{IsTraced, ended, read, sent, answer}, Script.Runs},
+  specs.{Alike.{AreAlike, IsFrontOf, IsWrittenOf}, Input.most_reads, Tracing.trace_status_of},
 };
 
 // What is printed of a client's events.
@@ -63,4 +64,21 @@ fn examples_of_ends()
     // The last line may lack its line feed; where reading failed, it is no line.
     ensures without_feed { Runs (codes "tick 5") AtEnd [] (ended 1) }
     ensures cut { Runs (codes "tick x") Failed [] (Err ReadFailed) }
+{}
+
+// What two scripts have in common, the status of each end, and the limit of reads.
+#[tactic(none)]
+fn examples_of_limits()
+    ensures reads { most_reads ≡ 4294967295 }
+    ensures front { IsFrontOf (1 ∷ []) (1 ∷ 2 ∷ []) }
+    ensures no_front { IsFrontOf (2 ∷ []) (1 ∷ 2 ∷ []) → ⊥ }
+    ensures written { IsWrittenOf (1 ∷ 2 ∷ []) (1 ∷ 2 ∷ []) (ended 2) }
+    ensures cut_off { IsWrittenOf (1 ∷ []) (1 ∷ 2 ∷ []) (Err WriteFailed) }
+    ensures not_written { IsWrittenOf (1 ∷ []) (1 ∷ 2 ∷ []) (ended 2) → ⊥ }
+    ensures alike { AreAlike (1 ∷ []) (Err WriteFailed) (1 ∷ 2 ∷ []) (ended 2) }
+    ensures unlike { AreAlike (1 ∷ []) (ended 2) (1 ∷ 2 ∷ []) (ended 2) → ⊥ }
+    ensures ended_otherwise { AreAlike [] (ended 1) [] (ended 2) → ⊥ }
+    ensures whole { trace_status_of (ended 2) ≡ 0 }
+    ensures bad_line { trace_status_of (Err (BadLine 2)) ≡ 2 }
+    ensures failed { trace_status_of (Err WriteFailed) ≡ 3 }
 {}

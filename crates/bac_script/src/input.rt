@@ -4,8 +4,8 @@ ghost use Rattle.std.specs.Prelude.{◌≡◌, ◌≢◌, ◌==◌, ◌+◌, ◌
 ghost use Rattle.std.specs.Prelude.{[], length, take, drop, position, true, false, IfNone, MatchOption, MatchResult};
 ghost use Rattle.bac_print.specs.{Checked.{has_failed, reads_of, last_of}, Page.{writer_of, Prints}};
 ghost use Rattle.bac_script.{
-  specs.Inner.{Feeds.HasNoFeed, Input.{most_to_come, may_read, empty_reads, TakesAndKeeps}},
-  specs.{Inner.Input.{ReadForLine, HasNoLine, IsLineCut, IsNext, IsUnread}, Input.{ReaderStands, ReadsNoMore}},
+  specs.{Feeds.HasNoFeed, NextLine.{most_to_come, may_read, empty_reads, TakesAndKeeps}},
+  specs.{NextLine.{ReadForLine, HasNoLine, IsLineCut, IsNext, IsUnread}, Input.{ReaderStands, ReadsNoMore}},
 };
 
 use bac_print::{Checked, Page, WriteFailed};
@@ -48,7 +48,7 @@ pub enum Reading {
 
 impl Model for Chunk {
     ghost use Rattle.std.specs.Prelude.{ℕ, ◌≤◌, List, slice_range};
-    ghost use Rattle.bac_script.specs.Inner.Limits.{chunk_room};
+    ghost use Rattle.bac_script.specs.Limits.{chunk_room};
 
     ghost Value = { List ℕ };
 

@@ -10,7 +10,7 @@ ghost use Rattle.bac_text.{
 ghost use Rattle.bac_script.{
   specs.Line.{Happens, settings_of, property_in},
   specs.Line.{index_in, reading_of, priority_of, writing_of, arrival_of, tick_of, said_by, text_of_line, said},
-  specs.{Inner.{Line.IsLeft, LineSeen.{arrival_seen, line_seen}}, Script.is_nothing},
+  specs.{Inner.Line.IsLeft, LineSeen.{arrival_seen, line_seen}, Script.is_nothing},
 };
 
 use crate::long_write::LongWrite;

@@ -3,7 +3,7 @@
 ghost use Rattle.std.specs.Prelude.{IsTrue};
 ghost use Rattle.bac_wire.specs.Identifier.{identifier};
 ghost use Rattle.bac_text.specs.Pairs.{whole_body_of};
-ghost use Rattle.bac_script.specs.Inner.LongBody.{is_long};
+ghost use Rattle.bac_script.specs.LongBody.{is_long};
 
 use bac_pdu::Peer;
 use bac_text::Words;

@@ -5,7 +5,7 @@ ghost use Rattle.bac_pdu.specs.Peer.{station};
 ghost use Rattle.bac_tsm.specs.{Events.{Ask, Data, Tick}, Client.keeping};
 ghost use Rattle.bac_device.specs.Places.{Write};
 ghost use Rattle.bac_print.specs.Page.{Prints};
-ghost use Rattle.bac_script.specs.{Text.notes_text, Inner.LineSeen.{arrival_seen, line_seen}};
+ghost use Rattle.bac_script.specs.{Text.notes_text, LineSeen.{arrival_seen, line_seen}};
 ghost use Rattle.bac_script.specs.Inner.Running.{Stage, Stands, step_of, device_with, writes_with, reply_after, ran};
 
 use crate::line::{Line, Received};

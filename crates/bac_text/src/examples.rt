@@ -1,7 +1,8 @@
 //! Examples of words, worked out by computation. They show what the definitions mean.
 
-ghost use Rattle.std.specs.Prelude.{◌≡◌, [], ◌∷◌, codes, replicate, Some, None, Ok, Err};
+ghost use Rattle.std.specs.Prelude.{◌≡◌, ℕ, [], ◌∷◌, codes, replicate, Some, None, Ok, Err};
 ghost use Rattle.bac_text.specs.{declared.pairs.PairFault.TheVariants.{Bad, TooLong}, Address.peer_of};
+ghost use Rattle.bac_text.specs.{Limits.longest_line, Pairs.words_behind};
 ghost use Rattle.bac_text.specs.{Inner.Examples.{WritesPair, device, far_device, body_with_words}, Words.words_of};
 
 // A value of each kind: the number of its tag and a word, and the octets that they write (ANSI/ASHRAE 135, 20.2).
@@ -40,4 +41,12 @@ fn examples_of_words()
     // The second pair has no value.
     ensures bad { body_with_words (codes "3" ∷ codes "-5" ∷ codes "4" ∷ codes "21.0" ∷ []) ≡ Err (Bad 2) }
     ensures too_long { body_with_words (codes "7" ∷ replicate 600 120 ∷ []) ≡ Err TooLong }
+{}
+
+// The limit of a line, and the words that stand behind those that were read where a pair is bad.
+#[tactic(none)]
+fn examples_of_limits()
+    ensures line { longest_line ≡ 4096 }
+    ensures behind { words_behind {A = ℕ} (Err (Bad 1)) (codes "2" ∷ codes "x" ∷ codes "3" ∷ []) ≡ codes "3" ∷ [] }
+    ensures whole { words_behind {A = ℕ} (Ok 0) (codes "2" ∷ []) ≡ [] }
 {}

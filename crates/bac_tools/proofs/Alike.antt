@@ -21,7 +21,7 @@ use Rattle.bac_words.{
 }
 use Rattle.bac_tools.{
   specs.{Program.{RunsAsRead, IsGiven}, Binding.asked_by, declared.{running.Binding.Binding, report.Report.Report}},
-  specs.{Outside.Outside, Report.{report_of, tool_report}, Runs.{Runs, RunsOpened, RunsOver, RunsScript, ToolRuns}},
+  specs.{Outside.Outside, Report.{report_of, tool_report}, Runs.{Runs, RunsOver, RunsScript, ToolRuns}},
   specs.Alike.{AreAlike, AreGivenAlike, EndAlike, Gained, IsCutOff, IsPrinted, PrintAlike, ProgramRun, is_socket},
 }
 use Rattle.bac_tools.specs.declared.report.Fault.TheVariants as faults
@@ -242,7 +242,8 @@ module _ {N Origin L R W M Other K S V : Type 0} {gives : N → Binding → Resu
       ]
     ]
 
-  jobs : (job : Job) → ((batch : Batch) → job ≡ Run batch → ⊥) → (o p : Option (Result L NoSocket)) (o' p' : Option (Result K NoSocket))
+  jobs : (job : Job) → ((batch : Batch) → job ≡ Run batch → ⊥)
+      → (o p : Option (Result L NoSocket)) (o' p' : Option (Result K NoSocket))
       → IsGiven gives out one.network (asked_by job) o → IsGiven gives' out' other.network (asked_by job) o' →
       Mine one job o p → Mine other job o' p' → Gained out.seen o p one.gained → Gained out'.seen o' p' other.gained
       → BothHad o o' → Alike
@@ -262,12 +263,12 @@ module _ {N Origin L R W M Other K S V : Type 0} {gives : N → Binding → Resu
       → OtherGiven (Err g) → (one.ran.report ≡ other.ran.report) ⊎ Refused → Alike
   both_refused f g r s given given' told = grind (arith, none_asked, ungained, unprinted)
 
-  same_answer : (r : Result Job UsageFault) → one.program.answer ≡ r → Given r → OtherGiven r → MyEnd one r one.program.opened
-      → MyEnd other r other.program.opened → Alike
+  same_answer : (r : Result Job UsageFault) → one.program.answer ≡ r → Given r → OtherGiven r
+      → MyEnd one r one.program.opened → MyEnd other r other.program.opened → Alike
   same_answer (Err f) is given given' r s = grind (arith, both_refused, reported)
   same_answer (Ok j) is given given' r s =
-      jobs j (λ batch same. h.no_batch batch (is ∙ ap Ok same)) one.program.opened one.ran.socket other.program.opened other.ran.socket given given' r s one.gains
-      other.gains h.socket
+      jobs j (λ batch same. h.no_batch batch (is ∙ ap Ok same)) one.program.opened one.ran.socket other.program.opened
+      other.ran.socket given given' r s one.gains other.gains h.socket
 
   compared : (r s : Result Job UsageFault) → one.program.answer ≡ r → other.program.answer ≡ s
       → IsErrAnd r (IsRefusal words) ⊎ Answers words r → IsErrAnd s (IsRefusal words) ⊎ Answers words s → Given r

@@ -1,20 +1,22 @@
 -- A run over a socket is the calls of the system for it.
-use Rattle.std.proofs.Common.{◌≡◌, ◌⊎◌, ℕ, Bool, refl, sym, inl, inr, List, [], Option, Some}
+use Rattle.std.proofs.Common.{◌≡◌, ◌⊎◌, ℕ, Bool, ap, refl, inl, inr, List, [], Option, Some, None, IfNone}
 use Rattle.std.{proofs.Common.{Result, Ok, Err, arith, subst, IsErrAnd, option_and_then}, specs.Result.result_ok}
+use Rattle.std.specs.declared.io.ErrorKind.{ErrorKind}
 use Rattle.clap.specs.Words.{Text}
 use Rattle.bac_print.specs.declared.checked.Checked.{Checked}
-use Rattle.bac_script.specs.declared.tracing.TraceEnd.{TraceEnd}
+use Rattle.bac_script.specs.declared.tracing.{TraceEnd.TraceEnd, TraceFault.TraceFault}
 use Rattle.bac_links.specs.{History.Account, SystemCall.SystemCall}
 use Rattle.bac_links.specs.declared.{exit.Exit.Exit, fault.ToolFault.ToolFault, socket.NoSocket.NoSocket}
 use Rattle.bac_run.specs.declared.fault.RunFault.{RunFault}
-use Rattle.bac_words.specs.{Called.words_called, Line.{Answers, IsRefusal}, declared.faults.UsageFault.UsageFault}
+use Rattle.bac_words.specs.{Called.words_called, Line.{Answers, IsRefusal}}
+use Rattle.bac_words.specs.declared.faults.UsageFault.{UsageFault, TheVariants.Memory}
 use Rattle.bac_words.specs.declared.job.{Batch.Batch, Job.{Job, TheVariants.{Over, Run, Trace}}, Tool.Tool}
 use Rattle.bac_tools.{
-  specs.Calls.{AsksAtMostOnce, GivesSockets, JobCalled, RunsAsCalls, RunsWithout},
-  specs.Program.{RunsAsRead, IsGiven, IsRun},
+  specs.Calls.{AsksAtMostOnce, GiveNoJob, GivesSockets, JobCalled, RunsAsCalls, RunsUnasked, RunsWithout},
+  specs.Program.{Only, RunsAsRead, IsGiven, IsRun},
   specs.{declared.{running.Binding.Binding, report.Report.Report, program.Ran.Ran}, Binding.{asked_by}},
-  specs.{Outside.Outside, Report.{run_report, tool_report}, Runs.{BatchRuns, Runs, ToolRuns}},
-  specs.Telling.{IsTold, on_output, once_given},
+  specs.{Outside.Outside, Report.{run_report, tool_report, trace_report}},
+  specs.{Runs.{BatchRuns, Runs, ToolRuns}, Telling.{IsTold, on_output, once_given}},
 }
 
 -- What a job leaves of a link was made of the same.
@@ -40,6 +42,11 @@ batch_unhelped : {W : Type 0} (contents : W → Option (List ℕ)) (before after
     → IsTold contents before after (on_output (run_report answer).fault) → after ≡ before
 batch_unhelped = grind arith
 
+script_unhelped : {W : Type 0} (contents : W → Option (List ℕ)) (before after : Checked W)
+    (answer : Result TraceEnd TraceFault)
+    → IsTold contents before after (on_output (trace_report answer).fault) → after ≡ before
+script_unhelped = grind arith
+
 same_report : (answer : Result Exit ToolFault) (failed : Bool) (report : Report)
     → once_given (tool_report answer).fault failed report ≡ report
 same_report = grind arith
@@ -47,6 +54,10 @@ same_report = grind arith
 batch_same_report : (answer : Result TraceEnd RunFault) (failed : Bool) (report : Report)
     → once_given (run_report answer).fault failed report ≡ report
 batch_same_report = grind arith
+
+script_same_report : (answer : Result TraceEnd TraceFault) (failed : Bool) (report : Report)
+    → once_given (trace_report answer).fault failed report ≡ report
+script_same_report = grind arith
 
 module _ {N Origin L R W E : Type 0} {gives : N → Binding → Result L NoSocket → Type 0} {out : Outside Origin L R W}
     {error_contents : E → Option (List ℕ)} {network : N} {reader reader' : Checked R} {writer writer' : Checked W}
@@ -194,3 +205,66 @@ module _ {N Origin L R W E : Type 0} {gives : N → Binding → Result L NoSocke
         none'.log.items
     run_without had =
         let it = had_job had in without_so it.job it.answered it.binding it.wanted it.given it.gave it.did
+
+module _ {N Origin L R W E : Type 0} (gives : N → Binding → Result L NoSocket → Type 0) (out : Outside Origin L R W)
+    (error_contents : E → Option (List ℕ)) (network : N) (reader reader' : Checked R) (writer writer' : Checked W)
+    (errors errors' : Checked E) (ran : Ran N L) where
+  -- What a run does that asks for no socket.
+  abbrev Unasked : Result (List Text) ErrorKind → Type 0
+  Unasked typed =
+      RunsUnasked out.remaining out.contents error_contents network reader reader' writer writer' errors errors' ran
+      typed
+
+  abbrev Ends : Result (List Text) ErrorKind → Type 0
+  Ends typed = IsRun gives out error_contents network reader reader' writer writer' errors errors' ran typed
+
+  only_so : (typed : Result (List Text) ErrorKind) (run : Ends typed) (reports : Report) → GiveNoJob typed reports
+      → Only gives out network reader reader' writer run.unhelped (record ran { report = run.report }) reports
+      → Unasked typed
+  only_so typed run reports gives (unread, unprinted, ended) =
+      let is : run.report ≡ reports = ap (λ (r : Ran N L). r.report) ended in
+      record {
+        unasked = ap (λ (r : Ran N L). r.unasked) ended;
+        did = inr (
+          reports,
+          gives,
+          record { unread = unread; helped = simp (← unprinted, ← is) run.help; reported = simp (← is) run.reported },
+        );
+        told = run.fault;
+      }
+
+  program_unasked : {typed : List Text} (run : Ends (Ok typed)) → ran.socket ≡ None
+      → (answer : Result Job UsageFault) (opened : Option (Result L NoSocket))
+      → (IsErrAnd answer (IsRefusal (words_called typed)) ⊎ Answers (words_called typed) answer)
+      → IsGiven gives out network (option_and_then asked_by (result_ok answer)) opened
+      → RunsAsRead gives out network reader reader' writer run.unhelped (record ran { report = run.report }) answer
+      opened → IfNone opened (ran.unasked ≡ Some network) → Unasked (Ok typed)
+  program_unasked run none (Ok Trace) None (inr answered) _ (script, _) unasked =
+      let kept : writer' ≡ run.unhelped = grind (arith, script_unhelped, script.reported, run.help) in
+      record {
+        unasked = unasked;
+        did = inl (
+          answered,
+          record {
+            answer = script.answer;
+            script = simp kept script.script;
+            reported = grind (arith, script_same_report, script.reported, run.reported);
+          },
+        );
+        told = run.fault;
+      }
+  program_unasked run none (Ok Trace) (Some _) (inr answered) gave _ _ = grind arith
+  program_unasked run none (Ok (Run batch)) (Some _) (inr answered) gave over _ = grind arith
+  program_unasked run none (Ok (Over tool)) (Some _) (inr answered) gave over _ = grind arith
+  program_unasked run none (Ok (Run batch)) None (inr answered) gave _ _ = absurd gave
+  program_unasked run none (Ok (Over tool)) None (inr answered) gave _ _ = absurd gave
+  program_unasked run none (Ok job) _ (inl refused) _ _ _ = absurd refused
+  program_unasked run none (Err fault) _ (inl refused) _ only _ = only_so _ run _ (fault, inl refused, refl) only
+  program_unasked run none (Err fault) _ (inr answered) _ only _ = only_so _ run _ (fault, inr answered, refl) only
+
+  pub run_unasked : (typed : Result (List Text) ErrorKind) → Ends typed → ran.socket ≡ None → Unasked typed
+  run_unasked (Ok typed) run none = elim run.called [
+    | inl p ↦ program_unasked run none p.answer p.opened p.answered p.given p.ends p.unasked
+    | inr only ↦ only_so _ run _ (Memory, inl tt, refl) only
+  ]
+  run_unasked (Err kind) run none = only_so _ run _ refl run.called

@@ -9,7 +9,8 @@ use Rattle.bac_script.specs.declared.tracing.TraceFault.TheVariants as stops
 use Rattle.bac_links.specs.Answered.{answers_of, GoOnAlike}
 use Rattle.bac_links.specs.{History.{Account, Entry}, declared.socket.NoSocket.NoSocket}
 use Rattle.bac_links.specs.declared.fault.ToolFault.TheVariants as tools
-use Rattle.bac_words.specs.{Line.IsRefusal, declared.{faults.UsageFault.TheVariants.Memory, job.{Batch.Batch, Job.TheVariants.Run}}}
+use Rattle.bac_words.specs.{Line.IsRefusal, declared.faults.UsageFault.TheVariants.Memory}
+use Rattle.bac_words.specs.declared.job.{Batch.Batch, Job.TheVariants.Run}
 use Rattle.bac_tools.specs.{Outside.Outside, Program.{IsRun, Program}}
 use Rattle.bac_tools.specs.declared.{running.Binding.Binding, program.Ran.Ran, report.{Fault.Fault, Report.Report}}
 use Rattle.bac_tools.specs.declared.report.Fault.TheVariants as faults
@@ -83,9 +84,10 @@ module _ {N Origin L R W M Other K S V : Type 0} {gives : N → Binding → Resu
       × IsPrinted (octets_of other.writer') text other_report
 
   module _ (first rest other_first other_rest : List Entry) where
-    -- The words do not ask for many requests (`bacrun`): it is not said when these ask what. Where both asked for a socket, both had one or neither; so far the sockets were answered alike; and the readers
-    -- gave the same octets and met their end as often, or that of a run that was cut off gave a front of what the other
-    -- gave and did not meet its end.
+    -- The words do not ask for many requests (`bacrun`): it is not said when these ask what. Where both asked for a
+    -- socket, both had one or neither; so far the sockets were answered alike; and the readers gave the same octets and
+    -- met their end as often, or that of a run that was cut off gave a front of what the other gave and did not meet
+    -- its end.
     pub record AreGivenAlike : Type 0 where
       pub no_batch : (batch : Batch) → one.program.answer ≡ Ok (Run batch) → ⊥
       pub socket : IsTrue (is_some one.program.opened) → IsTrue (is_some other.program.opened)

@@ -1,18 +1,24 @@
 -- From the words to the calls of the system.
-use Rattle.std.specs.Prelude.{◌≡◌, ℕ, List, [], ◌∷◌, Option, Some, Result, Ok, Err}
-use Rattle.std.specs.declared.net.socket_addr.SocketAddr.{SocketAddr}
+use Rattle.std.specs.Prelude.{◌≡◌, ◌⊎◌, ℕ, List, [], ◌∷◌, Option, Some, Result, Ok, Err}
+use Rattle.std.specs.declared.{io.ErrorKind.ErrorKind, net.socket_addr.SocketAddr.SocketAddr}
 use Rattle.clap.specs.Words.{Text}
 use Rattle.bac_pdu.specs.Peer.{station}
-use Rattle.bac_print.specs.declared.checked.Checked.{Checked}
+use Rattle.bac_print.specs.{Checked.has_failed, declared.checked.Checked.Checked}
 use Rattle.bac_links.{
   specs.{History.{Account, Entry}, Socket.{AreCallsFor, Binds, BindsAtMost, IsAddressOf, Logs}},
   specs.{SystemCall.{SystemCall, Bind}, declared.{exit.Exit.Exit, fault.ToolFault.ToolFault, socket.NoSocket.NoSocket}},
 }
-use Rattle.bac_script.specs.declared.tracing.TraceEnd.{TraceEnd}
+use Rattle.bac_script.specs.{Tracing.Traces, declared.tracing.{TraceEnd.TraceEnd, TraceFault.TraceFault}}
 use Rattle.bac_run.specs.declared.fault.RunFault.{RunFault}
-use Rattle.bac_words.specs.{Line.Answers, declared.job.{Batch.Batch, Job.{Job, TheVariants.{Over, Run, Trace}}, Tool.Tool}}
-use Rattle.bac_tools.specs.{Binding.asked_by, Report.{report_of, run_report, tool_report}, Runs.{BatchRuns, ToolRuns}}
-use Rattle.bac_tools.specs.{Telling.{IsTold, on_error}, declared.{running.Binding.Binding, report.Report.Report}}
+use Rattle.bac_words.specs.{Called.words_called, Line.{Answers, IsRefusal}, declared.faults.UsageFault.UsageFault}
+use Rattle.bac_words.specs.declared.job.{Batch.Batch, Job.{Job, TheVariants.{Over, Run, Trace}}, Tool.Tool}
+use Rattle.bac_tools.specs.{
+  Binding.asked_by,
+  Report.{report_of, run_report, tool_report, trace_report, unread_report},
+  Runs.{BatchRuns, ToolRuns},
+  Telling.{IsTold, on_error, on_output, once_given},
+  declared.{program.Ran.Ran, running.Binding.Binding, report.Report.Report},
+}
 use Rattle.bac_tools.specs.declared.report.Fault.TheVariants as faults
 
 -- A network gives sockets. Where it gives a link, the system was asked for a socket at the address, and for nothing
@@ -52,9 +58,9 @@ module _ {Origin R W : Type 0} (remaining : R → Option (List ℕ)) (contents :
   JobCalled (Run batch) = BatchCalled batch
   JobCalled (Over tool) = ToolCalled tool
 
--- These words asked for a job that has a socket, which ran over a link. Its writer was given its lines, `errors` what is
--- told of its fault, and the report says how it ended. The system was asked for one socket, at the address that the job
--- wants; then for what the job asked of its link, one thing after another; and for nothing else.
+-- These words asked for a job that has a socket, which ran over a link. Its writer was given its lines, `errors` what
+-- is told of its fault, and the report says how it ended. The system was asked for one socket, at the address that the
+-- job wants; then for what the job asked of its link, one thing after another; and for nothing else.
 pub record RunsAsCalls (Origin : Type 0) {R W E : Type 0} (remaining : R → Option (List ℕ))
     (contents : W → Option (List ℕ)) (error_contents : E → Option (List ℕ)) (reader reader' : Checked R)
     (writer writer' : Checked W) (errors errors' : Checked E) (report : Report) (words : List Text)
@@ -87,3 +93,43 @@ pub record RunsWithout {R W E : Type 0} (error_contents : E → Option (List ℕ
   pub binding : Binding
   pub wanted : asked_by job ≡ Some binding
   pub asked : BindsAtMost binding.at log
+
+-- The words ask for a script.
+abbrev pub AskForScript : Result (List Text) ErrorKind → Type 0
+AskForScript (Ok typed) = Answers (words_called typed) (Ok Trace)
+AskForScript (Err kind) = ⊥
+
+-- This is reported of words that give no job: that they could not be had; that memory ran out, or `clap` asks for help
+-- or refuses them; or their first fault.
+abbrev pub GiveNoJob : Result (List Text) ErrorKind → Report → Type 0
+GiveNoJob (Ok typed) report =
+    (fault : UsageFault) × (IsRefusal (words_called typed) fault ⊎ Answers (words_called typed) (Err fault))
+    × (report ≡ report_of (faults.Usage fault))
+GiveNoJob (Err kind) report = report ≡ unread_report kind
+
+module _ {R W : Type 0} (remaining : R → Option (List ℕ)) (contents : W → Option (List ℕ)) (reader reader' : Checked R)
+    (writer writer' : Checked W) (report : Report) where
+  -- A script was run: its text was printed, and the report says how it ended.
+  pub record ScriptCalled : Type 0 where
+    pub answer : Result TraceEnd TraceFault
+    pub script : Traces remaining contents reader reader' writer writer' answer
+    pub reported : report ≡ trace_report answer
+
+  -- Nothing was read, and nothing printed but help that was asked for. This was to report, and is, where such help
+  -- could be written.
+  pub record OnlyReported (reports : Report) : Type 0 where
+    pub unread : reader' ≡ reader
+    pub helped : IsTold contents writer writer' (on_output reports.fault)
+    pub reported : report ≡ once_given reports.fault (has_failed writer') reports
+
+-- These words asked for no socket: the network is there as it was, so the system was asked for nothing by it. Either
+-- they asked for a script, which was run; or they gave no job, and nothing was done but to report it. `errors` was
+-- given what is told of the fault.
+pub record RunsUnasked {N L R W E : Type 0} (remaining : R → Option (List ℕ)) (contents : W → Option (List ℕ))
+    (error_contents : E → Option (List ℕ)) (network : N) (reader reader' : Checked R) (writer writer' : Checked W)
+    (errors errors' : Checked E) (ran : Ran N L) (typed : Result (List Text) ErrorKind) : Type 0 where
+  pub unasked : ran.unasked ≡ Some network
+  pub did : (AskForScript typed × ScriptCalled remaining contents reader reader' writer writer' ran.report)
+      ⊎ (reports : Report) × GiveNoJob typed reports
+      × OnlyReported remaining contents reader reader' writer writer' ran.report reports
+  pub told : IsTold error_contents errors errors' (on_error ran.report.fault)

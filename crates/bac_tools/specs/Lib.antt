@@ -6,3 +6,4 @@ pub mod Runs
 pub mod Program
 pub mod Calls
 pub mod Alike
+pub mod Inner

@@ -8,8 +8,8 @@ use Rattle.bac_words.specs.{Fault.usage_status_of, declared.faults.UsageFault.Th
 use Rattle.bac_tools.specs.declared.report.{Fault.Fault, Report.Report}
 use Rattle.bac_tools.specs.declared.report.Fault.TheVariants as faults
 
--- The status of each fault: 0 where help was asked for; 2 where words, or a line of a script or of requests, are wrong; 3 where a
--- socket, a reader, a writer or the turns gave out; 4 without memory.
+-- The status of each fault: 0 where help was asked for; 2 where words, or a line of a script or of requests, are wrong;
+-- 3 where a socket, a reader, a writer or the turns gave out; 4 without memory.
 abbrev pub fault_status : Fault → ℕ
 fault_status faults.NoText = 2
 fault_status (faults.Usage fault) = usage_status_of fault

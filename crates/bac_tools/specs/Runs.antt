@@ -10,7 +10,8 @@ use Rattle.bac_links.specs.declared.{exit.Exit.TheVariants.Good, fault.ToolFault
 use Rattle.bac_run.specs.{Fault.{is_at_link, is_of_link, write_failed}, Run.{Runs as Requested}}
 use Rattle.bac_run.specs.declared.{fault.RunFault.RunFault, session.Session.Session}
 use Rattle.bac_words.specs.declared.{
-  job.{Batch.Batch, Job.{Job, TheVariants.{Over, Run, Trace}}, Serve.Serve, Tool.{Tool, TheVariants.{Read, Write, WhoIs, Device}}},
+  job.{Batch.Batch, Job.{Job, TheVariants.{Over, Run, Trace}}, Serve.Serve},
+  job.Tool.{Tool, TheVariants.{Read, Write, WhoIs, Device}},
 }
 use Rattle.bac_tools.{
   specs.{Outside.Outside, Report.{report_of, run_report, tool_report, trace_report}, declared.report.Report.Report},

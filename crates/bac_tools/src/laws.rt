@@ -1,13 +1,13 @@
 //! What holds of the definitions that the contracts cite, and of the public types: the clause of a function with an
 //! empty body is the law.
-ghost use Rattle.std.specs.{Prelude.{◌≡◌, List, Some, Result, Ok, Err}, declared.io.ErrorKind.ErrorKind};
+ghost use Rattle.std.specs.{Prelude.{◌≡◌, List, Some, None, Result, Ok, Err}, declared.io.ErrorKind.ErrorKind};
 ghost use Rattle.clap.specs.Words.{Text};
 ghost use Rattle.bac_wire.specs.Copies.{MakesCopies};
 ghost use Rattle.bac_print.specs.{Checked.has_failed, declared.checked.Checked.Checked};
 ghost use Rattle.bac_links.specs.{History.Entry, SystemCall.SystemCall, declared.socket.NoSocket.NoSocket};
 ghost use Rattle.bac_words.specs.Called.{words_called};
 ghost use Rattle.bac_tools.specs.Alike.{ProgramRun, CalledRun, AreGivenAlike, AreAlike};
-ghost use Rattle.bac_tools.specs.Calls.{AsksAtMostOnce, GivesSockets, RunsAsCalls, RunsWithout};
+ghost use Rattle.bac_tools.specs.Calls.{AsksAtMostOnce, GivesSockets, RunsAsCalls, RunsUnasked, RunsWithout};
 ghost use Rattle.bac_tools.specs.{Program.{IsRun, Program}, Report.IsStatusOf, declared.program.Ran.Ran};
 
 use crate::program::Network;
@@ -15,16 +15,17 @@ use crate::running::Binding;
 use std::io::{Read, Write};
 
 /// The program is a function of its words, of what its socket answers and of what it reads; but for many requests
-/// (`bacrun`), of which it is not said when they ask what. Take two runs with the same words, which do not ask for those;
-/// where both asked for a socket, both had one or neither; and the readers gave the same octets, and met their
+/// (`bacrun`), of which it is not said when they ask what. Take two runs with the same words, which do not ask for
+/// those; where both asked for a socket, both had one or neither; and the readers gave the same octets, and met their
 /// end as often, or where one run was cut off, its reader gave a front of what the other's gave and did not meet its
 /// end. As far as the sockets were answered alike, the runs asked and sent the same. Then they ask the same next; or
 /// both are over with the same report; or one was cut off, since there was no memory for its words, or its writer
-/// failed. However that is, both printed one text, or a front of it where they were cut off. Where `clap` does not take
-/// the words, each report tells of an error that `clap` may give at these.
+/// failed. Where one or both are over, both printed one text, or a front of it where they were cut off. Where `clap`
+/// does not take the words, each report tells of an error that `clap` may give at these.
 ///
-/// What the program that is called with words reports last, and so what it tells on `errors`, is a function of the
-/// report of the words and of whether its writer has failed.
+/// Two calls with the same `typed` run the same words, `words_called typed`, or lack memory for them (`IsCalled`). What
+/// the program that is called with words reports last is a function of the report of the words and of whether its
+/// writer has failed. What it tells on `errors` is said by that report, but for a text of `clap`.
 pub fn the_program_is_a_function<
     M: Network,
     N: Network,
@@ -72,10 +73,12 @@ pub fn the_status_is_that_of_the_fault<N: Network, R: Read, W: Write, E: Write>(
 {}
 
 /// From the words to the calls of the system, over any network that gives sockets. Where the program had one, its words
-/// asked for a tool or for many requests, and what its definition says was printed, told on `errors` and reported; for a
-/// tool the reader was not read. The system was asked for one socket, at the address that is wanted; then for what was
-/// asked of the link, one thing after another; and for nothing else. Where there was none to be had, nothing was read or printed,
-/// and the system was asked for one socket at most, and for nothing else.
+/// asked for a tool or for many requests, and what its definition says was printed, told on `errors` and reported; for
+/// a tool the reader was not read. The system was asked for one socket, at the address that is wanted; then for what
+/// was asked of the link, one thing after another; and for nothing else. Where there was none to be had, nothing was
+/// read or printed, and the system was asked for one socket at most, and for nothing else. Where no socket was asked
+/// for, the network is handed back as it was: a script was run, or nothing was done but to report why the words give no
+/// job.
 pub fn a_run_is_its_calls<N: Network, R: Read, W: Write, E: Write>()
     ensures had { (log : N.Socket → List SystemCall) (network : N) (reader reader' : Checked R)
         (writer writer' : Checked W) (errors errors' : Checked E) (ran : Ran N N.Socket) (typed : List Text)
@@ -84,8 +87,8 @@ pub fn a_run_is_its_calls<N: Network, R: Read, W: Write, E: Write>()
         → IsRun N.gives
         record { seen = N.Socket.seen; failed = N.Socket.has_failed; remaining = R.remaining; contents = W.contents }
         E.contents network reader reader' writer writer' errors errors' ran (Ok typed) → ran.socket ≡ Some (Ok link)
-        → RunsAsCalls N.Socket.Origin R.remaining W.contents E.contents reader reader' writer writer' errors errors' ran.report
-        (words_called typed) (log link) }
+        → RunsAsCalls N.Socket.Origin R.remaining W.contents E.contents reader reader' writer writer' errors errors'
+        ran.report (words_called typed) (log link) }
     ensures none { (network : N) (reader reader' : Checked R) (writer writer' : Checked W) (errors errors' : Checked E)
         (ran : Ran N N.Socket) (typed : List Text) (none : NoSocket)
         → AsksAtMostOnce N.gives
@@ -94,6 +97,12 @@ pub fn a_run_is_its_calls<N: Network, R: Read, W: Write, E: Write>()
         E.contents network reader reader' writer writer' errors errors' ran (Ok typed) → ran.socket ≡ Some (Err none)
         → RunsWithout E.contents reader reader' writer writer' errors errors' ran.report (words_called typed)
         none.log.items }
+    ensures unasked { (network : N) (reader reader' : Checked R) (writer writer' : Checked W)
+        (errors errors' : Checked E) (ran : Ran N N.Socket) (typed : Result (List Text) ErrorKind)
+        → IsRun N.gives
+        record { seen = N.Socket.seen; failed = N.Socket.has_failed; remaining = R.remaining; contents = W.contents }
+        E.contents network reader reader' writer writer' errors errors' ran typed → ran.socket ≡ None
+        → RunsUnasked R.remaining W.contents E.contents network reader reader' writer writer' errors errors' ran typed }
 {}
 
 /// A clone is what it was cloned from, and takes no memory.

@@ -12,6 +12,7 @@
 //! Whole runs, from the words to the status, are tests of `tool_trials` (`src/tests/tools.rt`).
 #![tactic(auto)]
 
+mod examples;
 pub mod laws;
 mod program;
 mod report;

@@ -5,7 +5,8 @@ ghost use Rattle.clap.specs.Walk.{texts};
 ghost use Rattle.bac_print.specs.Checked.{fresh, has_failed};
 ghost use Rattle.bac_links.specs.declared.socket.NoSocket.{NoSocket};
 ghost use Rattle.bac_words.specs.{Job.CanOpen, declared.job.Job.TheVariants.{Run}};
-ghost use Rattle.bac_tools.specs.{Program.{IsCalled, IsRun, Program, RunsJob, texts_of}, declared.running.Binding.Binding};
+ghost use Rattle.bac_tools.specs.Program.{IsCalled, IsRun, Program, RunsJob, texts_of};
+ghost use Rattle.bac_tools.specs.declared.running.Binding.{Binding};
 
 use crate::report::{Report, tell};
 use crate::running::{Binding, binding_for, client_at, run_batch, run_tool};

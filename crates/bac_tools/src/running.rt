@@ -4,7 +4,8 @@ ghost use Rattle.bac_print.specs.Checked.{has_failed};
 ghost use Rattle.bac_links.specs.Fault.{is_link_fault, is_write_fault};
 ghost use Rattle.bac_run.specs.Fault.{is_at_link, is_of_link, write_failed};
 ghost use Rattle.bac_words.specs.Job.{CanOpen, IsReady};
-ghost use Rattle.bac_tools.specs.{Binding.{binding_of, client_at}, Runs.{BatchRuns, DevicePlays, IsSessionOf, ToolRuns}};
+ghost use Rattle.bac_tools.specs.Binding.{binding_of, client_at};
+ghost use Rattle.bac_tools.specs.Runs.{BatchRuns, DevicePlays, IsSessionOf, ToolRuns};
 
 use bac_device::demo;
 use bac_links::{Exit, Link, OnRefusal, ToolFault, run_read, run_whois, run_write, serve};

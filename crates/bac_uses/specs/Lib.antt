@@ -1,2 +1,3 @@
+pub mod Anywhere
 pub mod Heating
 pub mod TwoReads

@@ -1,17 +1,18 @@
 //! A request, from its words to the octets of its datagram.
 
-ghost use Rattle.std.specs.Prelude.{◌≡◌, None, IfOk, true};
+ghost use Rattle.std.specs.Prelude.{◌≡◌, None, true};
 ghost use Rattle.bac_wire.specs.Identifier.{identifier};
 ghost use Rattle.bac_pdu.specs.{Apdu.{confirmed, laid_out}, Datagram.wrapped, Peer.station, Property.read_octets};
 
 use bac_pdu::{Apdu, Peer, READ_PROPERTY, ReadRequest, wrap, write_apdu, write_read};
-use bac_wire::{Frame, Full, ObjectId};
+use bac_wire::{Frame, ObjectId};
 
-/// The datagram that asks a peer for the present value (85) of an object, under the invoke id 1.
-pub fn asking(to: Peer, object: ObjectId) -> Result<Frame, Full>
+/// The datagram that asks a peer for the present value (85) of an object, under the invoke id 1. There is room for it
+/// in a frame, whatever the object and the route are, so no caller has to ask.
+pub fn asking(to: Peer, object: ObjectId) -> Frame
     // A reply is expected; the one who asks takes up to 1476 octets (5) of ReadProperty (12) in one part.
-    ensures { IfOk result (λ frame. frame ≡ wrapped (station to).route true (laid_out (confirmed None 5 1 12
-        (read_octets (record { object = identifier object; property = 85; index = None }))))) }
+    ensures { result ≡ wrapped (station to).route true (laid_out (confirmed None 5 1 12
+        (read_octets (record { object = identifier object; property = 85; index = None })))) }
 {
     let request = ReadRequest {
         object,
@@ -19,7 +20,7 @@ pub fn asking(to: Peer, object: ObjectId) -> Result<Frame, Full>
         index: None,
     };
     let (mut body, mut octets, mut frame) = (Frame::new(), Frame::new(), Frame::new());
-    write_read(&mut body, &request)?;
+    write_read(&mut body, &request).unwrap();
     let apdu = Apdu::Confirmed {
         part: None,
         code: 5,
@@ -27,7 +28,7 @@ pub fn asking(to: Peer, object: ObjectId) -> Result<Frame, Full>
         service: READ_PROPERTY,
         body: body.as_slice(),
     };
-    write_apdu(&mut octets, &apdu)?;
-    wrap(to, true, octets.as_slice(), &mut frame)?;
-    Ok(frame)
+    write_apdu(&mut octets, &apdu).unwrap();
+    wrap(to, true, octets.as_slice(), &mut frame).unwrap();
+    frame
 }

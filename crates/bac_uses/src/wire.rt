@@ -1,7 +1,7 @@
 //! A value, written and read back.
 
-ghost use Rattle.std.specs.Prelude.{◌≡◌, IfOk, length};
-ghost use Rattle.bac_wire.specs.Datum.{datum, IsSound};
+ghost use Rattle.std.specs.Prelude.{◌≡◌, ◌<◌, [], IfOk, IfErr, length};
+ghost use Rattle.bac_wire.specs.{Datum.{datum, plain, IsSound}, Limits.frame_room};
 
 use bac_wire::{Frame, Full, Value, read_value, write_value};
 
@@ -9,7 +9,9 @@ use bac_wire::{Frame, Full, Value, read_value, write_value};
 /// is too long; that there is a value to read back needs no check.
 pub fn written_alone(frame: &mut Frame, value: &Value<'_>) -> Result<usize, Full>
     requires { IsSound (datum value.now) }
-    ensures { IfOk result (λ count. count ≡ length frame.new) }
+    ensures written { IfOk result (λ _. frame.new ≡ plain (datum value.now)) }
+    ensures count { IfOk result (λ count. count ≡ length frame.new) }
+    ensures full { IfErr result (λ _. (frame.new ≡ []) × (frame_room < length (plain (datum value.now)))) }
 {
     frame.clear();
     write_value(frame, value)?;

@@ -1,4 +1,5 @@
 pub mod Readers
+pub mod Spelled
 pub mod Writing
 pub mod TagLaws
 pub mod DatumLaws

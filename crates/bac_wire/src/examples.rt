@@ -1,11 +1,21 @@
 //! Examples of the octets of values and of parameters, worked out by computation. They show what the definitions mean.
 
-ghost use Rattle.std.specs.Prelude.{◌≡◌, [], ◌∷◌, Some, None, negsuc, true};
+ghost use Rattle.std.specs.Prelude.{◌≡◌, ◌-◌, ◌^◌, [], ◌∷◌, Some, None, negsuc, true, nat_eq};
+ghost use Rattle.bac_wire.specs.declared.{tag.Shape.TheVariants.App, value.Value.TheVariants.Unsigned};
 ghost use Rattle.bac_wire.specs.Datum.{null, boolean, unsigned, signed, real, char_string, bit_string, enumerated};
-ghost use Rattle.bac_wire.specs.{Datum.object, DatumReading.value_at, ItemReading.region_at};
+ghost use Rattle.bac_wire.specs.Datum.{object, datum, IsDatum, IsSound, Spells};
+ghost use Rattle.bac_wire.specs.{DatumReading.value_at, ItemReading.region_at, Identifier.IsIdentifier};
+ghost use Rattle.bac_wire.specs.Limits.{deepest, frame_room};
 ghost use Rattle.bac_wire.specs.Parameter.{enclosed_octets, number_octets, object_octets};
+ghost use Rattle.bac_wire.specs.Parameter.{SpellsContext, SpellsIn, SpellsEnclosed};
 ghost use Rattle.bac_wire.specs.ParameterReading.{enclosed_at, number_at, object_at};
-ghost use Rattle.bac_wire.specs.Inner.Examples.{WritesValue, input, device};
+ghost use Rattle.bac_wire.specs.{Tag.{SpellsTag, IsTag}, Writing.Appends, Copies.{MakesCopies, EqualsBy}};
+ghost use Rattle.bac_wire.specs.Front.{IsPrefixFree, IsReader, FindsFront, SpellsAll, IsShortest, IsReadBack};
+ghost use Rattle.bac_wire.specs.Front.{AreOctets};
+ghost use Rattle.bac_wire.specs.Region.{IsItem, IsRegion, IsClosedRegion, FindsRegion, LeavesRest, SpellsClosed, Opens};
+ghost use Rattle.bac_wire.specs.Inner.Examples.{WritesValue, input, device, unsigned_tag, SpellsOne, SpellsAny};
+ghost use Rattle.bac_wire.specs.Inner.Examples.{first_at, nothing_at, zero_at, always, never, Same, Any, Free, Costly};
+ghost use Rattle.bac_wire.specs.Inner.Examples.{written, refused};
 
 // What is written of a value, and read back (ANSI/ASHRAE 135, 20.2.2 to 20.2.14).
 #[tactic(none)]
@@ -69,4 +79,135 @@ fn examples_of_parameters()
     ensures contents { region_at 3 (0x21 ∷ 0x3f ∷ 0x3f ∷ []) ≡ Some (0x21 ∷ 0x3f ∷ [], []) }
     ensures inner { region_at 3 (0x1e ∷ 0x21 ∷ 0x05 ∷ 0x1f ∷ 0x3f ∷ []) ≡ Some (0x1e ∷ 0x21 ∷ 0x05 ∷ 0x1f ∷ [], []) }
     ensures other_end { region_at 3 (0x21 ∷ 0x05 ∷ 0x1f ∷ []) ≡ None }
+{}
+
+// Which octets spell a tag (20.2.1) or a value, and which tags, values and identifiers there are.
+#[tactic(none)]
+fn examples_of_spellings()
+    // The tag before a number of one octet, in its shortest form and in a longer one. A length in two octets or in four
+    // has the high one first.
+    ensures tag { SpellsTag (0x21 ∷ []) (unsigned_tag 1) }
+    ensures long_tag { SpellsTag (0x25 ∷ 0x01 ∷ []) (unsigned_tag 1) }
+    ensures two_octets { SpellsTag (0x25 ∷ 0xfe ∷ 0x01 ∷ 0x00 ∷ []) (unsigned_tag 256) }
+    ensures four_octets { SpellsTag (0x25 ∷ 0xff ∷ 0x00 ∷ 0x01 ∷ 0x00 ∷ 0x02 ∷ []) (unsigned_tag 65538) }
+    ensures other_length { SpellsTag (0x21 ∷ []) (unsigned_tag 2) → ⊥ }
+    ensures low_octet_first { SpellsTag (0x25 ∷ 0xff ∷ 0x02 ∷ 0x00 ∷ 0x01 ∷ 0x00 ∷ []) (unsigned_tag 65538) → ⊥ }
+
+    // Numbers up to 254, and lengths that four octets hold.
+    ensures greatest { IsTag (record { number = 254; shape = App (2 ^ 32 - 1) }) }
+    ensures mark { IsTag (record { number = 255; shape = App 1 }) → ⊥ }
+    ensures five_octets { IsTag (unsigned_tag (2 ^ 32)) → ⊥ }
+
+    // The number 5, also in two octets; what has one octet too many; a Boolean of neither 0 nor 1.
+    ensures value { Spells (0x21 ∷ 0x05 ∷ []) (unsigned 5) }
+    ensures wide { Spells (0x22 ∷ 0x00 ∷ 0x05 ∷ []) (unsigned 5) }
+    ensures other { Spells (0x21 ∷ 0x05 ∷ []) (unsigned 6) → ⊥ }
+    ensures more { Spells (0x21 ∷ 0x05 ∷ 0x00 ∷ []) (unsigned 5) → ⊥ }
+    ensures not_boolean { Spells (0x12 ∷ []) (boolean true) → ⊥ }
+
+    // The values that there are, and those that can be written.
+    ensures most { IsDatum (unsigned (2 ^ 64 - 1)) }
+    ensures past { IsDatum (unsigned (2 ^ 64)) → ⊥ }
+    ensures sound { IsSound (bit_string 7 (0x80 ∷ [])) }
+    ensures no_bit { IsSound (bit_string 8 (0x00 ∷ [])) → ⊥ }
+    ensures no_octet { IsSound (bit_string 1 []) → ⊥ }
+
+    // The greatest identifier, and one past it in each of its two numbers.
+    ensures last { IsIdentifier (record { kind = 1023; instance = 4194303 }) }
+    ensures kind_past { IsIdentifier (record { kind = 1024; instance = 0 }) → ⊥ }
+    ensures instance_past { IsIdentifier (record { kind = 0; instance = 4194304 }) → ⊥ }
+{}
+
+// What is said of readers and of writers, whatever they read or write.
+#[tactic(none)]
+fn examples_of_readers()
+    // No octet begins another; the empty list begins any.
+    ensures apart { IsPrefixFree SpellsOne }
+    ensures begun { IsPrefixFree SpellsAny → ⊥ }
+
+    // A reader takes what is spelled, and nothing else.
+    ensures reader { IsReader SpellsOne first_at }
+    ensures takes_none { IsReader SpellsOne nothing_at → ⊥ }
+    ensures takes_more { IsReader SpellsOne zero_at → ⊥ }
+
+    // What is found at the front, how many octets it has, and that it may not be passed over.
+    ensures found { FindsFront SpellsOne (7 ∷ 8 ∷ []) (Some (7, 1)) }
+    ensures other_found { FindsFront SpellsOne (7 ∷ 8 ∷ []) (Some (8, 1)) → ⊥ }
+    ensures more_found { FindsFront SpellsOne (7 ∷ 8 ∷ []) (Some (7, 2)) → ⊥ }
+    ensures passed { FindsFront SpellsOne (7 ∷ 8 ∷ []) None → ⊥ }
+
+    // One spelling after another, and nothing behind them.
+    ensures all { SpellsAll SpellsOne (7 ∷ 8 ∷ []) (7 ∷ 8 ∷ []) }
+    ensures left { SpellsAll SpellsOne (7 ∷ 8 ∷ []) (7 ∷ []) → ⊥ }
+
+    // The shortest spelling, and what is read back.
+    ensures shortest { IsShortest SpellsTag (0x21 ∷ []) (unsigned_tag 1) }
+    ensures longer { IsShortest SpellsTag (0x25 ∷ 0x01 ∷ []) (unsigned_tag 1) → ⊥ }
+    ensures read_back { IsReadBack SpellsOne (7 ∷ []) 7 }
+    ensures other_back { IsReadBack SpellsOne (7 ∷ []) 8 → ⊥ }
+
+    // Octets are below 256.
+    ensures octets { AreOctets (0 ∷ 255 ∷ []) }
+    ensures not_octets { AreOctets (256 ∷ []) → ⊥ }
+
+    // A writer appends; where there is room it does.
+    ensures appended { Appends (1 ∷ []) (2 ∷ []) (1 ∷ 2 ∷ []) written }
+    ensures not_appended { Appends (1 ∷ []) (2 ∷ []) (1 ∷ []) written → ⊥ }
+    ensures has_room { Appends (1 ∷ []) (2 ∷ []) (1 ∷ []) refused → ⊥ }
+{}
+
+// Items and regions (20.2.1.3.2), and parameters under context tags.
+#[tactic(none)]
+fn examples_of_regions()
+    // The number 5, and the same in brackets, one deep.
+    ensures item { IsItem 0 (0x21 ∷ 0x05 ∷ []) }
+    ensures bracketed { IsItem 1 (0x1e ∷ 0x21 ∷ 0x05 ∷ 0x1f ∷ []) }
+    ensures too_short { IsItem 0 (0x22 ∷ 0x05 ∷ []) → ⊥ }
+    ensures too_deep { IsItem 0 (0x1e ∷ 0x21 ∷ 0x05 ∷ 0x1f ∷ []) → ⊥ }
+
+    // Whole items; a bracket that stays open, and one too many.
+    ensures region { IsRegion 1 (0x21 ∷ 0x05 ∷ 0x1e ∷ 0x1f ∷ []) }
+    ensures left_open { IsRegion 32 (0x1e ∷ []) → ⊥ }
+    ensures region_too_deep { IsRegion 0 (0x1e ∷ 0x1f ∷ []) → ⊥ }
+
+    // What whole items leave: a closing tag, and no other item.
+    ensures leaves { LeavesRest 32 (0x21 ∷ 0x05 ∷ 0x3f ∷ []) (0x3f ∷ []) }
+    ensures leaves_item { LeavesRest 32 (0x21 ∷ 0x05 ∷ 0x21 ∷ 0x06 ∷ []) (0x21 ∷ 0x06 ∷ []) → ⊥ }
+
+    // A region that the closing tag 3 ends, and one that another ends.
+    ensures closed { SpellsClosed 3 (0x21 ∷ 0x05 ∷ 0x3f ∷ []) (0x21 ∷ 0x05 ∷ []) }
+    ensures other_closed { SpellsClosed 3 (0x21 ∷ 0x05 ∷ 0x1f ∷ []) (0x21 ∷ 0x05 ∷ []) → ⊥ }
+    ensures ends { IsClosedRegion 32 3 (0x21 ∷ 0x05 ∷ 0x3f ∷ 0x00 ∷ []) (0x21 ∷ 0x05 ∷ []) }
+    ensures other_end { IsClosedRegion 32 3 (0x21 ∷ 0x05 ∷ 0x1f ∷ 0x00 ∷ []) (0x21 ∷ 0x05 ∷ []) → ⊥ }
+    ensures size { FindsRegion 32 3 (0x21 ∷ 0x05 ∷ 0x3f ∷ []) (Some 2) }
+    ensures no_size { FindsRegion 32 3 (0x21 ∷ 0x05 ∷ 0x3f ∷ []) None → ⊥ }
+    ensures other_size { FindsRegion 32 3 (0x21 ∷ 0x05 ∷ 0x3f ∷ []) (Some 0) → ⊥ }
+
+    // Past the number 5 one bracket is open.
+    ensures opens { Opens 1 (0x1e ∷ 0x21 ∷ 0x05 ∷ []) }
+    ensures opens_more { Opens 2 (0x1e ∷ 0x21 ∷ 0x05 ∷ []) → ⊥ }
+
+    // The octet 55 under the context tag 1, as contents and as a number; and the number 5 between two tags 3.
+    ensures context { SpellsContext 1 (0x19 ∷ 0x55 ∷ []) (0x55 ∷ []) }
+    ensures other_context { SpellsContext 2 (0x19 ∷ 0x55 ∷ []) (0x55 ∷ []) → ⊥ }
+    ensures number { SpellsIn enumerated 1 (0x1a ∷ 0x00 ∷ 0x55 ∷ []) 85 }
+    ensures other_number { SpellsIn enumerated 1 (0x19 ∷ 0x55 ∷ []) 84 → ⊥ }
+    ensures enclosed { SpellsEnclosed 3 (0x3e ∷ 0x21 ∷ 0x05 ∷ 0x3f ∷ []) (0x21 ∷ 0x05 ∷ []) }
+    ensures other_enclosed { SpellsEnclosed 3 (0x3e ∷ 0x21 ∷ 0x05 ∷ 0x1f ∷ []) (0x21 ∷ 0x05 ∷ []) → ⊥ }
+{}
+
+// What a copy is, and what it is to compare.
+#[tactic(none)]
+fn examples_of_copies()
+    ensures copied { MakesCopies Same Free }
+    ensures changed { MakesCopies Any Free → ⊥ }
+    ensures costly { MakesCopies Same Costly → ⊥ }
+    ensures compared { EqualsBy (λ n. n) nat_eq }
+    ensures always_equal { EqualsBy (λ n. n) always → ⊥ }
+    ensures never_equal { EqualsBy (λ n. n) never → ⊥ }
+
+    // A value of the code, and the limits.
+    ensures seen { datum (Unsigned 5) ≡ unsigned 5 }
+    ensures room { frame_room ≡ 1497 }
+    ensures depth { deepest ≡ 32 }
 {}

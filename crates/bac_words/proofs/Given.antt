@@ -8,7 +8,8 @@ use Rattle.bac_wire.specs.Steps.{◌>>=◌}
 use Rattle.bac_pdu.specs.{Peer.{Station, network_address, station}, declared.{peer.Peer.Peer, route.Route.Route}}
 use Rattle.bac_text.specs.Address.{address_of, cut_at, plain_peer_of, short_number, station_at}
 use Rattle.bac_words.specs.Command.{bacrp, bacrun, bacwp, bacwi}
-use Rattle.bac_words.specs.{Job.peer_in, Marks.unmarked, Inner.Job.{IsClient, IsGiven, IsNumberWord, IsRequest, IsSender, bounds}}
+use Rattle.bac_words.specs.{Job.peer_in, Marks.unmarked}
+use Rattle.bac_words.specs.Inner.Job.{IsClient, IsGiven, IsNumberWord, IsRequest, IsSender, bounds}
 
 -- What the getters of words read.
 pub ruleset first_words = (first_value-rows)

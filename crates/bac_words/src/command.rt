@@ -4,7 +4,8 @@ ghost use Rattle.std.specs.{Prelude.{◌≡◌, false, IfOk, codes, map}, List.{
 ghost use Rattle.clap.specs.Words.{App, new_app, new_rule, rule_of, with_rule, with_subcommand};
 ghost use Rattle.clap_laws.specs.Commands.{IsCommand, number, needed, by_name, several};
 ghost use Rattle.bac_words.{
-  specs.Command.{mac_rule, timeout_rule, retries_rule, port_rule, bacrp, bacwp, bacwi, bacdev, bacrun, bactrace, bactool},
+  specs.Command.{mac_rule, timeout_rule, retries_rule, port_rule},
+  specs.Command.{bacrp, bacwp, bacwi, bacdev, bacrun, bactrace, bactool},
 };
 
 use crate::help;

@@ -1,6 +1,9 @@
 //! Examples of what command lines order, worked out by computation. They show what the definitions mean.
 
-ghost use Rattle.std.specs.Prelude.{[], ◌∷◌, codes, Ok, Err};
+ghost use Rattle.std.specs.Prelude.{◌≡◌, ℕ, List, [], ◌∷◌, codes, Some, None, Ok, Err};
+ghost use Rattle.bac_words.specs.{Called.{tool_named, words_called}, Job.{CanOpen, CanRun, IsReady}};
+ghost use Rattle.bac_words.specs.Line.{Answers, IsRefusal};
+ghost use Rattle.bac_words.specs.declared.{faults.UsageFault.TheVariants.Memory, job.{Batch.Batch, Serve.Serve}};
 ghost use Rattle.bac_pdu.specs.declared.discovery.WhoIs.TheVariants.{All, Range};
 ghost use Rattle.bac_words.{
   specs.declared.job.{Job.TheVariants.{Over, Run, Trace}, Tool.TheVariants.{Read, Write, WhoIs, Device}},
@@ -67,4 +70,27 @@ fn examples_of_other_tools()
     ensures window { IsOrdered (codes "bactool bacrun --window 8 --apdu-timeout 500 --apdu-retries 1 --port 47810")
         (Ok (Run (record { timeout = 500; retries = 1; port = 47810; window = 8 }))) }
     ensures script { IsOrdered (codes "bactool bactrace") (Ok Trace) }
+{}
+
+// Which words are run, which faults refuse them, and which jobs can be.
+#[tactic(none)]
+fn examples_of_words()
+    // A program that is called by a tool's name runs that tool.
+    ensures tool { (program : List ℕ) → tool_named program ≡ Some (codes "bacrp") →
+        words_called (program ∷ codes "1" ∷ []) ≡ [] ∷ codes "bacrp" ∷ codes "1" ∷ [] }
+    ensures no_tool { (program : List ℕ) → tool_named program ≡ None →
+        words_called (program ∷ codes "1" ∷ []) ≡ program ∷ codes "1" ∷ [] }
+
+    // Memory may run out at any words; a fault of ours refuses none before it is looked for, and no words are none.
+    ensures memory { IsRefusal [] Memory }
+    ensures bad_mac { IsRefusal [] BadMac → ⊥ }
+    ensures no_words { Answers [] (Err BadMac) → ⊥ }
+
+    // A device that is to answer something, and one that is to answer nothing.
+    ensures ready { (serve : Serve) → serve.count ≡ 1 → IsReady (Device serve) }
+    ensures unready { (serve : Serve) → serve.count ≡ 0 → IsReady (Device serve) → ⊥ }
+    ensures script { CanRun Trace }
+    ensures no_device { (serve : Serve) → serve.count ≡ 0 → CanRun (Over (Device serve)) → ⊥ }
+    ensures opens { (batch : Batch) → batch.timeout ≡ 1 → batch.window ≡ 1 → CanOpen batch }
+    ensures shut { (batch : Batch) → batch.window ≡ 0 → CanOpen batch → ⊥ }
 {}

@@ -29,7 +29,7 @@ pub(crate) const TYPICAL: &str = "A typical line of each tool:
   bactool bacdev 1234
       is the device 1234 at UDP port 47808
   bactool bacrun < requests
-      makes many requests, and prints a script of what came of them
+      makes many requests over one socket, and prints a journal of them, which bactrace replays
   bactool bactrace < session.trace
       runs a script, with no network
 
@@ -87,10 +87,10 @@ Status 2: a word is refused, and nothing was sent. The message shows which one, 
   bad value N       the N-th tag is past 12, or its value is missing or not spelled as above, as 4 20.0;
                     or the index was forgotten, so that the tag was taken for it
   body too long     object, property and values have more than 476 octets together
-After any status but 0, and after Ctrl-C, the write may have been made: read the property back. Only
-status 2 says that nothing was sent. An answer from another address than that of --mac is not taken,
-so it is a timeout; but one that says that it is forwarded from there is taken from anyone: see
-SECURITY.md.";
+Status 2, status 4 and bind failed alone say that nothing was sent. After any other status but 0, and
+after Ctrl-C, the write may have been made: read the property back. An answer from another address than
+that of --mac is not taken, so it is a timeout; but one that says that it is forwarded from there is
+taken from anyone: see SECURITY.md.";
 
 pub(crate) const SEARCH_LINES: &str = "Examples:
   bactool bacwi --mac 192.0.2.7
@@ -114,28 +114,32 @@ Status: 0 it has taken --count datagrams, or help; 2 wrong words; 3 no such port
 that failed, or turns spent; 4 out of memory";
 
 pub(crate) const RUN_LINES: &str = "Example:
-  bactool bacrun < requests
+  bactool bacrun < requests > journal
       where requests has: read 192.0.2.7 0 5 85
 
-Lines of the input, each with what is done of it:
-  read PEER TYPE INSTANCE PROPERTY [INDEX]    a request, once fewer than --window are open
+Lines of the input:
+  read PEER TYPE INSTANCE PROPERTY [INDEX]
   write PEER TYPE INSTANCE PROPERTY PRIORITY INDEX TAG VALUE [TAG VALUE ..]
-                                              the same
-An empty line waits until no request is open. A line that begins with # is skipped. What each word may be:
-man bactrace. The first line of the input is number 1, and the first request has the ticket 0.
+      a request, in the words of a script, see man bactrace: PEER may have a route, as 192.0.2.1/5/07
+An empty line waits until no request is open. A line that begins with # is passed over.
+A line is read once fewer than --window requests are open, and nothing is heard while a line is
+waited for: with a window above 1, end a group of requests by an empty line to have their answers.
 
-Prints a script of bactrace: client TIMEOUT RETRIES 0, then each line of the input that was done, each datagram
-that came (data PEER HEX) and each time that was told (tick MILLISECONDS). What comes of each stands behind
-it, behind a # and a space:
-  send TICKET PEER HEX, full, or too-long     a request was sent, or was not
-  done TICKET OUTCOME, or drop                what a datagram was
-  timeout TICKET                              no answer
-An answer to a request of TICKET is done TICKET and what bacrp or bacwp prints of it.
+Prints a journal, which is a script of bactrace: client TIMEOUT RETRIES 0, each line of the input
+that was done, each datagram (data PEER HEX) and each time (tick MILLISECONDS). What comes of these
+stands behind them in remarks, each # and a line as bactrace prints it:
+  send TICKET PEER HEX  a request was sent; the first has the ticket 0
+  done TICKET OUTCOME   it was answered: ok, value and the value, or what bacrp and bacwp print
+  timeout TICKET        it had no answer
+  drop                  a datagram that answers nothing
+  too-long              object, property and values have more than 476 octets together
+A remark that is too long for a line goes on in lines that begin with #+.
 
-Status 0: every line was done, whatever the answers. Status 2: a word is refused; or a line is, which is told with
-its number. Status 3: a port, a datagram or a text that failed; 4 out of memory.
-With --window above 1, the requests to one device are open together, and it may carry them out in any order: put an
-empty line between a write and what is to come after it.";
+Status 0: each line was done, whatever the answers. Status 2: a word is refused; or a line is, which is
+told by its number once what was open is over. Status 3: a port, a datagram or a text that failed, or
+turns spent. Status 4: out of memory.
+With a window above 1 a device may carry out what is open in any order: put an empty line between a
+write and what has to come after it.";
 
 pub(crate) const TRACE_LINES: &str = "Example:
   bactool bactrace < session.trace

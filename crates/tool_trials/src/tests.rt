@@ -1,6 +1,7 @@
 //! Worked rows of each crate, and readers, writers, links and memory that fail.
 
 mod links;
+mod runs;
 mod script;
 mod streams;
 mod text;

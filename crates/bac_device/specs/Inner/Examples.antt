@@ -1,7 +1,9 @@
 -- Requests to the demonstration device, for examples of what it replies.
-use Rattle.std.specs.Prelude.{◌≡◌, ℕ, ◌+◌, List, [], ◌∷◌, ◌++◌, codes, length, map, Some, None}
+use Rattle.std.specs.Prelude.{◌≡◌, ℕ, ◌+◌, List, [], ◌∷◌, ◌++◌, codes, length, map, replicate, Some, None}
 use Rattle.bac_pdu.specs.Peer.{Station}
-use Rattle.bac_device.specs.{Info.Info, Turns.replies_to, Demo.demo_points}
+use Rattle.bac_wire.specs.Identifier.{Identifier}
+use Rattle.bac_device.specs.{Info.Info, Turns.{Arrival, replies_to}, Demo.demo_points, Point.Given}
+use Rattle.bac_device.specs.{Places.Write, Device.{DeviceState, device_after}}
 
 -- The device of a script.
 abbrev pub small : Info
@@ -144,3 +146,41 @@ unsigned number = 0x21 ∷ number ∷ []
 -- An Enumerated of one octet.
 abbrev pub enumerated : ℕ → List ℕ
 enumerated number = 0x91 ∷ number ∷ []
+
+-- ---- a device by itself
+
+-- Analog-output 1 and analog-output 2 by their identifiers.
+abbrev pub valve_id : Identifier
+valve_id = record { kind = 1; instance = 1 }
+
+abbrev pub other_id : Identifier
+other_id = record { kind = 1; instance = 2 }
+
+-- A write of 20.0 to an object, at priority 8; and what lets go of it.
+abbrev pub twenty_at_8 : Identifier → Write
+twenty_at_8 object = record { object = object; priority = 8; value = Some 0x41a00000 }
+
+abbrev pub release_at_8 : Identifier → Write
+release_at_8 object = record { object = object; priority = 8; value = None }
+
+-- The device without points, and one with those of the demonstration after these writes.
+abbrev pub empty : DeviceState
+empty = record { info = small; standings = [] }
+
+abbrev pub after : List Write → DeviceState
+after writes = device_after small demo_points writes
+
+-- What is given of a point of this object, under this name: percent (98), and 0 to begin with.
+abbrev pub given_as : Identifier → List ℕ → Given
+given_as object name = record { object = object; name = name; start = 0; extra = 98 }
+
+-- What the desk asks: a name of 36 octets, for a requester that takes 50.
+abbrev pub asked : Arrival
+asked = record { from = desk; datagram = datagram 0x04 (read_for_50 (of 77 long_named)) }
+
+-- A reply of 51 octets to it, and one of 50.
+abbrev pub fifty_one : List ℕ
+fifty_one = 0x30 ∷ 0x01 ∷ 0x0c ∷ replicate 48 0
+
+abbrev pub fifty : List ℕ
+fifty = 0x30 ∷ 0x01 ∷ 0x0c ∷ replicate 47 0

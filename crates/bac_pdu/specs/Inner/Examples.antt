@@ -1,7 +1,7 @@
 -- Stations, requests and datagrams, for examples of their octets.
-use Rattle.std.specs.Prelude.{◌≡◌, ℕ, false, List, [], ◌∷◌, Some, None}
-use Rattle.bac_pdu.specs.{Peer.Station, Datagram.Delivery, Apdu.{Message, laid_out}, ApduReading.apdu_of}
-use Rattle.bac_pdu.specs.{Discovery.Introduction, Property.Reference}
+use Rattle.std.specs.Prelude.{◌≡◌, ℕ, true, false, List, [], ◌∷◌, Some, None}
+use Rattle.bac_pdu.specs.{declared.apdu.Part.Part, Peer.Station, Datagram.Delivery, Apdu.{Message, laid_out}}
+use Rattle.bac_pdu.specs.{ApduReading.apdu_of, Discovery.Introduction, Property.{Reference, Order}}
 
 -- 192.168.1.5, port 47808.
 abbrev pub desk : Station
@@ -26,3 +26,26 @@ from_desk apdu = record { peer = desk; broadcast = false; apdu = apdu }
 -- These octets are written of an APDU, and the APDU is read from them.
 abbrev pub WritesApdu : Message → List ℕ → Type 0
 WritesApdu message octets = (laid_out message ≡ octets) × (apdu_of octets ≡ Some message)
+
+-- The same datagram, sent to all.
+abbrev pub to_all : List ℕ → Delivery
+to_all apdu = record { peer = desk; broadcast = true; apdu = apdu }
+
+-- The octets of the present value of analog-input 1 in a body.
+abbrev pub present_octets : List ℕ
+present_octets = 0x0c ∷ 0x00 ∷ 0x00 ∷ 0x00 ∷ 0x01 ∷ 0x19 ∷ 0x55 ∷ []
+
+-- A SimpleACK of invoke id 1, service 15.
+abbrev pub ack_octets_of_1 : List ℕ
+ack_octets_of_1 = 0x20 ∷ 0x01 ∷ 0x0f ∷ []
+
+-- The second part of a message, which others follow; and the last one.
+abbrev pub second_part : Part
+second_part = record { more = true; sequence = 1; window = 4 }
+
+abbrev pub last_part : Part
+last_part = record { more = false; sequence = 1; window = 4 }
+
+-- A write of NULL to the present value at this priority.
+abbrev pub release : ℕ → Order
+release priority = record { reference = present_value; value = 0x00 ∷ []; priority = Some priority }

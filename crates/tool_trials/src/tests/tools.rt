@@ -4,12 +4,12 @@ ghost use Rattle.bac_links.specs.Memory.{account_of, scene_of_step};
 
 use super::*;
 use crate::tests::links::quiet;
-use bac_links::{Link, Log, MemoryLink, NoSocket, OnRefusal, Step};
-use bac_tools::{Binding, Network, Report, run_program};
+use bac_links::{Link, LinkFault, Log, MemoryLink, NoSocket, OnRefusal, Step, ToolFault};
+use bac_tools::{Binding, Network, Report, RunFault, TraceFault, run_program};
 use std::alloc::Global;
 use std::cell::Cell;
-use std::env;
 use std::io::{self, ErrorKind};
+use std::{env, fmt};
 
 /// Gives links of these steps to whoever asks for this port of every address, and what becomes of a refused reply so.
 /// Counts who asks.
@@ -71,8 +71,13 @@ fn is_told(alloc: Global, report: &Report, errors: &[u8; 96], text: &str) -> boo
     let Some(fault) = &report.fault else {
         return text.is_empty() && is_text(errors, "");
     };
-    matches!(format!(in alloc; "{fault}"), Ok(said) if said.as_str() == text)
+    is_shown(alloc, fault, text)
         && matches!(format!(in alloc; "bactool: {text}\n"), Ok(line) if is_text(errors, line.as_str()))
+}
+
+/// Whether it is shown as this text.
+fn is_shown<T: fmt::Display>(alloc: Global, it: &T, text: &str) -> bool {
+    matches!(format!(in alloc; "{it}"), Ok(said) if said.as_str() == text)
 }
 
 const READ: &str = "/usr/bin/bacrp 1234 0 5 85 --mac 127.0.0.1";
@@ -86,6 +91,14 @@ const WRITE: &str = "bactool bacwp 1234 1 1 85 16 -1 4 41a00000 --mac 127.0.0.1 
 const SEARCH: &str = "bactool bacwi --mac 127.0.0.1";
 
 const SERVE: &str = "bactool bacdev 1234 --count 2";
+
+const RUN: &str = "bacrun --apdu-timeout 10 --apdu-retries 0";
+
+const RUN_AT_9: &str = "bactool bacrun --port 9";
+
+/// What the room takes of a journal.
+const FRONT: &str = "client 10 0 0\nread 127.0.0.1:47808 0 5 85\n\
+    # send 0 127.0.0.1:47808 810a001101040005010c0c0000000";
 
 const TRACE: &str = "bactool bactrace";
 
@@ -103,11 +116,13 @@ const UNBOUND: (&str, u8, &str) = ("", 3, "bind failed");
 type Row<'a> = (&'a str, (u16, OnRefusal), (&'a str, u8, &'a str));
 
 /// Lines over a network that answers a read.
-static ANSWERED: [Row<'static>; 5] = [
+static ANSWERED: [Row<'static>; 7] = [
     (READ, CLIENT, ("4290999a\n", 0, "")),
     (WRITE, CLIENT, ("timeout\n", 1, "")),
     (READ_AT_9, CLIENT, UNBOUND),
     (READ_NOWHERE, CLIENT, ("", 2, "bad mac")),
+    (RUN, CLIENT, (FRONT, 3, "writing failed")),
+    (RUN_AT_9, CLIENT, UNBOUND),
     (TRACE, CLIENT, (SENT, 2, "line 2: bad line")),
 ];
 
@@ -180,4 +195,25 @@ fn words_that_could_not_be_had_are_told(rt: HostRuntime) {
     assert!(&rt; is_told_unread(alloc, ErrorKind::OutOfMemory, lacking));
     let no_text = ("", 2, "words that are not UTF-8");
     assert!(&rt; is_told_unread(alloc, ErrorKind::InvalidData, no_text));
+}
+
+/// What is shown of each fault of a tool.
+static SHOWN: [(ToolFault, &str); 4] = [
+    (ToolFault::SendFailed, "sending failed"),
+    (ToolFault::ReceiveFailed, "receiving failed"),
+    (ToolFault::TurnsSpent, "turns spent"),
+    (ToolFault::WriteFailed, "writing failed"),
+];
+
+#[test]
+fn faults_are_shown(rt: HostRuntime) {
+    let alloc = rt.alloc();
+    for (fault, text) in &SHOWN {
+        assert!(&rt; is_shown(alloc, fault, text), "{text}");
+        assert!(&rt; is_shown(alloc, &RunFault::Link(*fault), text), "{text}");
+    }
+    let bad = RunFault::Script(TraceFault::BadLine(2));
+    assert!(&rt; is_shown(alloc, &bad, "line 2: bad line"));
+    assert!(&rt; is_shown(alloc, &LinkFault, "bind failed"));
+    assert!(&rt; is_shown(alloc, &NoSocket { log: Log::new() }, "bind failed"));
 }

@@ -1,7 +1,7 @@
 -- A line is refused for the first of its faults.
 use Rattle.std.proofs.{Common.{◌≡◌, Option, Some, None, option_map, ap, refl, arith, ok_or}, lemmas.Grind.common_steps}
 use Rattle.bac_wire.specs.Steps.{result_seen}
-use Rattle.bac_script.specs.{Line.{said_by, said_in}, Inner.LineSeen.line_seen}
+use Rattle.bac_script.specs.{Line.{said_by, said_in}, LineSeen.line_seen}
 use Rattle.bac_script.specs.declared.line.{Line.Line, LineFault.{LineFault, TheVariants.Bad}}
 use Rattle.bac_script.proofs.line.read_line.Goals as goal
 

@@ -7,7 +7,7 @@ use Rattle.bac_tsm.specs.{declared.client.SubmitFault.TheVariants.TooLong, Event
 use Rattle.bac_text.specs.Pairs.{whole_body_of}
 use Rattle.bac_print.proofs.Printed.{printed_as}
 use Rattle.bac_script.{
-  specs.Inner.{LineSeen.line_seen, LongBody.{octets_or_none, is_long}, Running.{Stage, Turn, Stands, ran}},
+  specs.{LineSeen.line_seen, LongBody.{octets_or_none, is_long}, Inner.Running.{Stage, Turn, Stands, ran}},
   specs.{Text.notes_text, declared.{line.Line.{Line, TheVariants.LongWrite}, long_write.LongWrite.LongWrite as Write}},
 }
 use Rattle.bac_script.proofs.running.run_line.Goals as goal

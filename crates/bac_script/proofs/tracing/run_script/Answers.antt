@@ -4,7 +4,7 @@ use Rattle.std.proofs.Common.{◌≡◌, sym, ◌∙◌, ap, refl, arith, rules,
 use Rattle.bac_wire.specs.Steps.{result_seen}
 use Rattle.bac_script.{
   specs.contracts.input.Reading.the_type,
-  specs.{declared.input.Reading.TheVariants.Open, Line.said, Inner.LineSeen.line_seen, Script.is_nothing},
+  specs.{declared.input.Reading.TheVariants.Open, Line.said, LineSeen.line_seen, Script.is_nothing},
   proofs.SoFar.{SoFar-none, unwritten, unread, to_end, faulty, to_last, goes_on},
   proofs.tracing.run_script.Goals.{then-is_first, else-is_first},
 }
@@ -12,8 +12,8 @@ use Rattle.bac_script.proofs.tracing.run_script.Goals as goal
 
 pub loop-next-init : goal.loop-next-init
 loop-next-init g c = record {
-  so_far = SoFar-none _ _ _ _ _ _ _ c.requires.page c.requires.unfolded c.requires.reader c.new-chunk.ensures c.usual_client-client.ensures
-      c.small_device-device.ensures;
+  so_far = SoFar-none _ _ _ _ _ _ _ c.requires.page c.requires.unfolded c.requires.reader c.new-chunk.ensures
+      c.usual_client-client.ensures c.small_device-device.ensures;
   room = rw c.new-chunk.ensures (omega arith);
 }
 

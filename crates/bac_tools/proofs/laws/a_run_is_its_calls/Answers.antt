@@ -1,5 +1,5 @@
--- Where there was a socket, and where there was none, a lemma says so.
-use Rattle.bac_tools.proofs.Calls.{run_so, run_without}
+-- Where there was a socket, where there was none, and where none was asked for, a lemma says so.
+use Rattle.bac_tools.proofs.Calls.{run_so, run_unasked, run_without}
 use Rattle.bac_tools.proofs.laws.a_run_is_its_calls.Goals as goal
 
 pub returns-clause-had : goal.returns-clause-had
@@ -9,3 +9,7 @@ returns-clause-had g c = λ log network reader reader' writer writer' errors err
 pub returns-clause-none : goal.returns-clause-none
 returns-clause-none g c = λ network reader reader' writer writer' errors errors' ran typed none asks run had.
     run_without run asks had
+
+pub returns-clause-unasked : goal.returns-clause-unasked
+returns-clause-unasked g c = λ network reader reader' writer writer' errors errors' ran typed run none.
+    run_unasked _ _ _ _ _ _ _ _ _ _ _ typed run none

@@ -10,8 +10,8 @@ unwrap-count-requires c =
     let (_, found, _) = value_alone _ _ _ _ _ c.clear.ensures wrote.appended.ok wrote.read_back finds in
     rw found (refl {a = true})
 
-pub returns : goal.returns
-returns c =
+pub returns-clause-count : goal.returns-clause-count
+returns-clause-count c =
     let wrote = c.in_ok-write_value.ensures in
     let finds = rw c.as_slice.ensures.value at c.read_value.ensures in
     let found = value_alone _ _ _ _ _ c.clear.ensures wrote.appended.ok wrote.read_back finds in

@@ -1,7 +1,7 @@
 -- What a link over a socket keeps of its history is what the program's sockets give.
 use Rattle.std.proofs.{Common.{ap, subst, ◌∙◌}, Math.Logic.∥∥₁_map}
 use Rattle.bac_links.specs.{History.Account, Socket.{AreCallsFor, Logs, OverSocket}}
-use Rattle.bac_tools.proofs.Calls.{run_so, run_without}
+use Rattle.bac_tools.proofs.Calls.{run_so, run_unasked, run_without}
 use Rattle.bactool.proofs.laws.the_program_is_its_calls.Goals as goal
 
 pub returns-clause-had : goal.returns-clause-had
@@ -18,3 +18,7 @@ returns-clause-had g c = λ reader reader' writer writer' errors errors' typed r
 pub returns-clause-none : goal.returns-clause-none
 returns-clause-none g c = λ reader reader' writer writer' errors errors' typed none run had.
     run_without run (λ network binding none (_, asked). asked) had
+
+pub returns-clause-unasked : goal.returns-clause-unasked
+returns-clause-unasked g c = λ reader reader' writer writer' errors errors' typed run none.
+    run_unasked _ _ _ _ _ _ _ _ _ _ _ typed run none

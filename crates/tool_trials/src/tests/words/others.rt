@@ -1,4 +1,4 @@
-//! Searches, devices and scripts.
+//! Searches, devices, many requests and scripts.
 use super::*;
 use bac_device::demo;
 use bac_pdu::WhoIs;
@@ -58,4 +58,19 @@ fn devices_and_a_trace(rt: HostRuntime) {
     let last = "bactool bacdev 4194302 --port 1 --count 1";
     assert!(rt; plays(rt.alloc(), last, (1, 1), ""));
     assert!(rt; matches!(parse(rt.alloc(), "bactool bactrace"), Ok(Job::Trace)));
+}
+
+/// Whether the words ask for many requests with this timeout, these retries, this port and this window.
+fn batches(alloc: Global, line: &str, set: (u32, u8, u16, u32)) -> bool {
+    let Ok(Job::Run(batch)) = parse(alloc, line) else {
+        return false;
+    };
+    (batch.timeout, batch.retries, batch.port, batch.window) == set
+}
+
+#[test]
+fn many_requests(rt: HostRuntime) {
+    assert!(rt; batches(rt.alloc(), "bactool bacrun", (3_000, 3, 0, 1)));
+    let set = "bactool bacrun --window 64 --apdu-timeout 60000 --apdu-retries 0 --port 47808";
+    assert!(rt; batches(rt.alloc(), set, (60_000, 0, 47_808, 64)));
 }

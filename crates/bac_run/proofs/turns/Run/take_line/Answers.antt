@@ -10,7 +10,7 @@ use Rattle.std.proofs.lemmas.Bool.Decides.{nat_tests}
 use Rattle.bac_wire.specs.Identifier.{identifier}
 use Rattle.bac_pdu.specs.{Apdu.longest_body, Peer.station}
 use Rattle.bac_text.specs.Pairs.{whole_body_of}
-use Rattle.bac_script.specs.Inner.{LineSeen.long_body, LongBody.{octets_or_none, is_long}}
+use Rattle.bac_script.specs.{LineSeen.long_body, LongBody.{octets_or_none, is_long}}
 use Rattle.bac_run.proofs.Parts.{for_front, for_same, for_refused, went_at, went_failed}
 use Rattle.bac_run.proofs.turns.Run.take_line.Goals as goal
 

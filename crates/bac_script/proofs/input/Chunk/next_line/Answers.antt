@@ -1,7 +1,7 @@
 -- Several reads may be made for one line, and each is needed: none of them found a whole line held.
 use Rattle.std.proofs.Common.{◌≡◌, ◌<◌, length, List, ℕ, arith, sym, subst, rules}
 use Rattle.bac_print.proofs.Printed.{◌⨾◌, prints_nothing}
-use Rattle.bac_script.specs.{Inner.{Feeds.HasNoFeed, Limits.line_room}, declared.input.Reading.TheVariants.Open}
+use Rattle.bac_script.specs.{Feeds.HasNoFeed, Limits.line_room, declared.input.Reading.TheVariants.Open}
 use Rattle.bac_script.proofs.{Chunks.searched_on, Taken.{Takes-more, read_for_line, still_for_line, next_at_end}}
 use Rattle.bac_script.proofs.input.Chunk.next_line.Goals as goal
 

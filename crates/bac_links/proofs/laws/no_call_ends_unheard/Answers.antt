@@ -1,6 +1,0 @@
--- A call that asked nothing has not ended by its moves.
-use Rattle.bac_links.proofs.Unheard.{not_ended}
-use Rattle.bac_links.proofs.laws.no_call_ends_unheard.Goals as goal
-
-pub returns : goal.returns
-returns g c = not_ended g.W.Write.contents

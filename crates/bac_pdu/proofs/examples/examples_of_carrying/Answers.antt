@@ -1,0 +1,32 @@
+-- What a datagram carries is what is read of it, which computes once the definitions that read are opened.
+use Rattle.std.proofs.Common.{[], ◌∷◌, None, true, refl, arith}
+use Rattle.bac_pdu.specs.Datagram.{Takes, wrapped}
+use Rattle.bac_pdu.specs.DatagramReading.{address_at, header_at, link_at, carried}
+use Rattle.bac_pdu.proofs.DatagramLaws.{carried_is, wrapped_takes, one_taken}
+use Rattle.bac_pdu.proofs.examples.examples_of_carrying.Goals as goal
+
+-- what a datagram takes to a station that expects a reply
+taken : Takes None true (0x10 ∷ 0x08 ∷ []) (0x81 ∷ 0x0a ∷ 0x00 ∷ 0x08 ∷ 0x01 ∷ 0x04 ∷ 0x10 ∷ 0x08 ∷ [])
+unfolding wrapped
+taken = wrapped_takes None true (0x10 ∷ 0x08 ∷ []) tt (grind arith)
+
+pub returns : goal.returns
+unfolding address_at header_at link_at carried
+returns c = record {
+  carried = (carried_is _ _ _).0 refl;
+  other_length = λ s. let e = (carried_is _ _ _).1 s in grind arith;
+  not_to_all = λ s. let e = (carried_is _ _ _).1 s in grind arith;
+  all_networks = (carried_is _ _ _).0 refl;
+  all_with_address = (carried_is _ _ _).0 refl;
+  one_network = λ s. let e = (carried_is _ _ _).1 s in grind arith;
+  taken = taken;
+  not_expected = λ t. grind arith;
+  other_apdu = λ t. let e = one_taken _ _ _ _ _ t taken in grind arith;
+  routable = grind arith;
+  local = λ r. grind arith;
+  everywhere = λ r. grind arith;
+  no_address = λ r. grind arith;
+  eight = λ r. grind arith;
+  front = refl;
+  routed_front = refl;
+}

@@ -1,0 +1,30 @@
+-- What octets are is what is read of them, which computes once the definitions that read are opened.
+use Rattle.std.proofs.Common.{ℕ, true, List, [], ◌∷◌, Some, refl, arith}
+use Rattle.bac_pdu.specs.{Apdu.{simple_ack, complex_ack, abort}, Inner.Examples.{second_part, last_part}}
+use Rattle.bac_pdu.specs.ApduReading.{parts_at, apdu_of}
+use Rattle.bac_pdu.proofs.ApduLaws.{apdu_is}
+use Rattle.bac_pdu.proofs.examples.examples_of_layouts.Goals as goal
+
+-- a part of a ComplexACK with this first octet
+part_octets : ℕ → List ℕ
+part_octets first = first ∷ 0x01 ∷ 0x01 ∷ 0x04 ∷ 0x0c ∷ []
+
+pub returns : goal.returns
+unfolding parts_at apdu_of part_octets
+returns c = record {
+  simple = (apdu_is (0x2f ∷ 0x01 ∷ 0x0f ∷ 0x00 ∷ []) (simple_ack 1 15)).0 refl;
+  other_id = λ s. let e = (apdu_is (0x20 ∷ 0x02 ∷ 0x0f ∷ []) (simple_ack 1 15)).1 s in grind arith;
+  part = (apdu_is (part_octets 0x3c) (complex_ack (Some second_part) 1 12 [])).0 refl;
+  last = (apdu_is (part_octets 0x38) (complex_ack (Some last_part) 1 12 [])).0 refl;
+  other_part = λ s.
+      let e = (apdu_is (part_octets 0x38) (complex_ack (Some second_part) 1 12 [])).1 s in grind arith;
+  from_client = λ s. let e = (apdu_is (0x70 ∷ 0x01 ∷ 0x04 ∷ []) (abort true 1 4)).1 s in grind arith;
+  code = grind arith;
+  no_code = λ h. grind arith;
+  not_written = λ h. h;
+  least = refl;
+  most = refl;
+  unknown = refl;
+  longest = refl;
+  seen = refl;
+}

@@ -1,0 +1,24 @@
+-- A writer that was asked for nothing took nothing.
+use Rattle.std.proofs.Common.{[], ◌∷◌, refl, arith}
+use Rattle.bac_print.specs.{Checked.{Took, fresh}, Inner.Examples.unknown}
+use Rattle.bac_print.proofs.examples.examples_of_writers.Goals as goal
+
+nothing : Took unknown (fresh 0) (fresh 0) []
+nothing = record { passed = refl; known = grind arith; made = []; calls = refl; asked = refl }
+
+pub returns : goal.returns
+returns c = record {
+  took = nothing;
+  took_less = λ t. let passed = t.passed in grind arith;
+  took_front = ([], 1 ∷ [], refl, nothing);
+  held = record {
+    taken = [];
+    rest = 1 ∷ 2 ∷ [];
+    took = nothing;
+    whole = refl;
+    sound = λ sound. (refl, refl);
+    stopped = λ stopped. grind arith;
+  };
+  dropped = λ w.
+      let passed = w.took.passed in let whole = w.whole in let sound = (w.sound refl).1 in grind arith;
+}

@@ -1,0 +1,27 @@
+-- A line as the program keeps it, and what it says.
+use Rattle.std.specs.Prelude.{ℕ, List}
+use Rattle.bac_wire.specs.Identifier.{identifier}
+use Rattle.bac_pdu.specs.Peer.{station}
+use Rattle.bac_tsm.specs.Events.{Ask, Data, Tick}
+use Rattle.bac_device.specs.Turns.{Arrival}
+use Rattle.bac_text.specs.Pairs.{whole_body_of}
+use Rattle.bac_script.specs.declared.{line.{Line.Line, Received.Received}, long_write.LongWrite.LongWrite}
+use Rattle.bac_script.specs.{Line.{Said, Nothing, Settings, Happens, Asks}, LongBody.octets_or_none}
+use Rattle.bac_script.specs.declared.line.Line.TheVariants as line
+
+abbrev pub arrival_seen : Received → Arrival
+arrival_seen received = record { from = station received.from.now; datagram = received.datagram.now }
+
+-- The body of a request that is too long to be sent.
+abbrev pub long_body : LongWrite → List ℕ
+long_body write =
+    octets_or_none (whole_body_of (identifier write.object) write.property write.index write.priority write.words)
+
+abbrev pub line_seen : Line → Said
+line_seen line.Skipped = Nothing
+line_seen (line.Client config first_ticket) = Settings config.timeout config.retries first_ticket
+line_seen (line.Request peer service body) = Happens (Ask (station peer.now) service body.now)
+line_seen (line.LongWrite write) = Happens (Ask (station write.peer.now) 15 (long_body write))
+line_seen (line.Data received) = Happens (Data (station received.from.now) received.datagram.now)
+line_seen (line.Tick now) = Happens (Tick now)
+line_seen (line.Ask received) = Asks (arrival_seen received)

@@ -1,0 +1,15 @@
+-- Each is arithmetic.
+use Rattle.std.proofs.Common.{refl, arith}
+use Rattle.bac_tools.proofs.examples.examples_of_statuses.Goals as goal
+
+pub returns : goal.returns
+returns c = record {
+  good = grind arith;
+  bad = grind arith;
+  no_fault = λ h. grind arith;
+  no_text = refl;
+  other_status = λ h. grind arith;
+  unprinted = refl;
+  told = refl;
+  kept = refl;
+}

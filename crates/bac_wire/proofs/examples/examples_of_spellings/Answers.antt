@@ -1,0 +1,33 @@
+-- What is spelled is what a reader finds, which computes once the definitions that read are opened.
+use Rattle.std.proofs.Common.{refl, arith}
+use Rattle.bac_wire.specs.TagReading.{tag_number_at, long_length_at, length_at, shape_at, tag_at}
+use Rattle.bac_wire.specs.DatumReading.{contents_of, value_at}
+use Rattle.bac_wire.proofs.{Spelled.{is_spelled, is_read}, TagLaws.tag_reader, DatumLaws.value_reader}
+use Rattle.bac_wire.proofs.examples.examples_of_spellings.Goals as goal
+
+pub returns : goal.returns
+unfolding tag_number_at long_length_at length_at shape_at tag_at contents_of value_at
+returns c = record {
+  tag = is_spelled tag_reader _ _ refl;
+  long_tag = is_spelled tag_reader _ _ refl;
+  two_octets = is_spelled tag_reader _ _ refl;
+  four_octets = is_spelled tag_reader _ _ refl;
+  other_length = λ s. let e = is_read tag_reader _ _ s in grind arith;
+  low_octet_first = λ s. let e = is_read tag_reader _ _ s in grind arith;
+  greatest = grind arith;
+  mark = grind arith;
+  five_octets = grind arith;
+  value = is_spelled value_reader _ _ refl;
+  wide = is_spelled value_reader _ _ refl;
+  other = λ s. let e = is_read value_reader _ _ s in grind arith;
+  more = λ s. let e = is_read value_reader _ _ s in grind arith;
+  not_boolean = λ s. let e = is_read value_reader _ _ s in grind arith;
+  most = grind arith;
+  past = grind arith;
+  sound = grind arith;
+  no_bit = grind arith;
+  no_octet = grind arith;
+  last = grind arith;
+  kind_past = grind arith;
+  instance_past = grind arith;
+}

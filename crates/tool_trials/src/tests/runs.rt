@@ -1,0 +1,151 @@
+//! Many requests over links in memory that fail, with readers and writers that fail.
+ghost use Rattle.std.specs.Prelude.{◌≡◌, false};
+
+use super::*;
+use crate::tests::links::quiet;
+use crate::tests::streams::{Asked, Progress, printed_after, telling, with_room};
+use bac_links::{Link, MemoryLink, Step, ToolFault};
+use bac_print::Checked;
+use bac_run::{RunFault, Session, run_requests};
+use bac_script::{TraceEnd, TraceFault};
+use bac_tsm::Config;
+use std::io::{Read, Write};
+
+const LINES: &[u8] = b"read 127.0.0.1:47808 0 5 85\nread 127.0.0.1:47808 0 5 85\n";
+
+/// A line that is bad, with a request open.
+const BAD: &[u8] = b"read 127.0.0.1:47808 0 5 85\nx\nread 127.0.0.1:47808 0 5 85\n";
+
+/// The journal of both lines, where both are answered before any time has passed.
+const JOURNAL: &[u8] = b"client 100 0 0\n\
+    read 127.0.0.1:47808 0 5 85\n\
+    # send 0 127.0.0.1:47808 810a001101040005010c0c000000051955\n\
+    data 127.0.0.1:47808 810a0017010030010c0c0000000519553e444290999a3f\n\
+    # done 0 value 4290999a\n\
+    read 127.0.0.1:47808 0 5 85\n\
+    # send 1 127.0.0.1:47808 810a001101040005020c0c000000051955\n\
+    data 127.0.0.1:47808 810a0017010030020c0c0000000519553e444290999a3f\n\
+    # done 1 value 4290999a\n";
+
+/// How many octets of it there are up to each line `# send` and each line `# done`.
+const ENDS: [usize; 4] = [103, 195, 283, 375];
+
+const FIRST: Step<'static> = Step::Packet(0, CONTROLLER, VALUE);
+
+/// The answer to the second.
+const SECOND: Step<'static> = Step::Packet(
+    0,
+    CONTROLLER,
+    b"\x81\x0a\x00\x17\x01\x00\x30\x02\x0c\x0c\x00\x00\x00\x05\x19\x55\x3e\x44\x42\x90\x99\x9a\x3f",
+);
+
+type Ran = Result<TraceEnd, RunFault>;
+
+const WHOLE: Ran = Ok(TraceEnd { lines: 2 });
+
+/// Makes the requests over the link, of which so many may be open, with a timeout of 100 ms and no retry.
+fn run<L: Link, R: Read + Drop, W: Write + Drop>(
+    window: usize,
+    link: &mut L,
+    reader: R,
+    writer: W,
+) -> Option<Ran>
+    requires { L.has_failed link.old ≡ false }
+{
+    let session = Session::new(Config::new(100, 0)?, window)?;
+    let mut reader = Checked::new(reader);
+    let mut writer = Checked::new(writer);
+    Some(run_requests(session, link, &mut reader, &mut writer))
+}
+
+/// Whether a run of these lines ends so over these steps, where the send with this number fails, with so much of the
+/// journal.
+fn ends(
+    alloc: Global,
+    (window, lines): (usize, &[u8]),
+    (steps, fail): (&[Step<'_>], Option<u32>),
+    (answer, length): (Ran, usize),
+) -> bool {
+    let Ok(mut link) = MemoryLink::new(alloc, steps, fail) else {
+        return false;
+    };
+    let mut taken = Vec::new(alloc);
+    let got = run(window, &mut link, lines, with_room(&mut taken, usize::MAX, true));
+    got == Some(answer) && JOURNAL.get(..length) == Some(taken.as_slice())
+}
+
+const fn at_link(fault: ToolFault) -> Ran {
+    Err(RunFault::Link(fault))
+}
+
+// What stands in the journal is what was done before a link failed; at a bad line a fault of the wait is told instead.
+#[test]
+fn links_fail(rt: HostRuntime) {
+    let silence = quiet(&rt);
+    let (one, two) = ((1, LINES), (2, BAD));
+    let unheard = at_link(ToolFault::ReceiveFailed);
+    let unsent = at_link(ToolFault::SendFailed);
+    let spent = at_link(ToolFault::TurnsSpent);
+    let bad = Err(RunFault::Script(TraceFault::BadLine(2)));
+    let [sent, done, sent_next, done_next] = ENDS;
+    assert!(rt; ends(rt.alloc(), one, (&[FIRST, SECOND], None), (WHOLE, done_next)));
+    assert!(rt; ends(rt.alloc(), one, (&[Step::Broken], None), (unheard, sent)));
+    assert!(rt; ends(rt.alloc(), one, (&[FIRST, Step::Broken], None), (unheard, sent_next)));
+    assert!(rt; ends(rt.alloc(), one, (&[], Some(0)), (unsent, sent)));
+    assert!(rt; ends(rt.alloc(), one, (&[FIRST], Some(1)), (unsent, sent_next)));
+    assert!(rt; ends(rt.alloc(), one, (silence.as_slice(), None), (spent, sent)));
+    assert!(rt; ends(rt.alloc(), two, (&[FIRST], None), (bad, done)));
+    assert!(rt; ends(rt.alloc(), two, (&[Step::Broken], None), (unheard, sent)));
+    assert!(rt; ends(rt.alloc(), two, (silence.as_slice(), None), (spent, sent)));
+}
+
+/// Whether a writer that takes so many octets has this front of the journal, and the run tells that writing failed.
+fn leaves_front(alloc: Global, left: usize, fails: bool) -> bool {
+    let Ok(mut link) = MemoryLink::new(alloc, &[FIRST, SECOND], None) else {
+        return false;
+    };
+    let mut taken = Vec::new(alloc);
+    let got = run(1, &mut link, LINES, with_room(&mut taken, left, fails));
+    got == Some(Err(RunFault::Script(TraceFault::WriteFailed)))
+        && JOURNAL.get(..left) == Some(taken.as_slice())
+        && !link.failed()
+}
+
+#[test]
+fn writes_fail_in_turn(rt: HostRuntime) {
+    for left in 0..JOURNAL.len() {
+        for fails in &[true, false] {
+            assert!(rt; leaves_front(rt.alloc(), left, *fails), "after {left}");
+        }
+    }
+}
+
+/// Whether a reader that gives one octet at a time, and fails at the read with this number, is not asked again; at each
+/// read the journal of the lines before is written.
+fn fails_at(alloc: Global, read: usize, answer: Ran) -> bool {
+    let printed = [(0, 15), (28, 195), (56, 375)];
+    let progress = Progress::default();
+    let reader = Asked {
+        progress: &progress,
+        script: LINES,
+        ends: &printed,
+        fails_at: read,
+    };
+    let writer = telling(&progress, JOURNAL, usize::MAX, false);
+    let Ok(mut link) = MemoryLink::new(alloc, &[FIRST, SECOND], None) else {
+        return false;
+    };
+    let got = run(1, &mut link, reader, writer);
+    let is_read = progress.reads.get() == read.min(LINES.len()).saturating_add(1);
+    let is_written = progress.written.get() == printed_after(&printed, read);
+    got == Some(answer) && !progress.is_wrong.get() && is_read && is_written
+}
+
+#[test]
+fn reads_fail_in_turn(rt: HostRuntime) {
+    let unread = Err(RunFault::Script(TraceFault::ReadFailed));
+    for read in 0..=LINES.len() {
+        assert!(rt; fails_at(rt.alloc(), read, unread), "at {read}");
+    }
+    assert!(rt; fails_at(rt.alloc(), usize::MAX, WHOLE));
+}

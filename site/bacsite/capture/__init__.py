@@ -1,0 +1,1 @@
+"""What a capture file has of requests and their answers."""

@@ -1,0 +1,164 @@
+"""What other services ask and tell: several reads at once, and changes of values (COV)."""
+
+from __future__ import annotations
+
+from typing import List, NamedTuple, Optional, Tuple
+
+from ..bodies import CLOSING, OPENING, error_body, region_end, tag_at
+from ..names import THIS_DEVICE, What
+
+NOTIFY, SUBSCRIBE, READ_MULTIPLE = 1, 5, 14  # confirmed
+UNCONFIRMED_NOTIFY = 2
+OBJECT, LIST = 0, 1  # the tags of an object, and of what is asked of it or told
+
+
+class Item(NamedTuple):
+    """A context tag, with its contents, or what stands between an opening and its closing tag."""
+
+    number: int
+    contents: bytes
+    is_open: bool
+
+    @property
+    def value(self) -> int:
+        """The contents as a number."""
+        return int.from_bytes(self.contents, "big")
+
+
+class Told(NamedTuple):
+    """A property, and its value, or the class and code of why there is none."""
+
+    what: What
+    value: Optional[bytes] = None
+    error: Optional[Tuple[int, int]] = None
+
+
+class Notice(NamedTuple):
+    """A notification of changed values: of which device, and what."""
+
+    process: int
+    device: int
+    told: List[Told]
+
+
+class Subscription(NamedTuple):
+    """A request to be notified; without both it ends an earlier one."""
+
+    process: int
+    what: What
+    confirmed: Optional[bool]
+    seconds: Optional[int]
+
+
+def items_of(octets: bytes) -> Optional[List[Item]]:
+    """The context tags of a body, where it has nothing else."""
+    found, at = [], 0
+    while at < len(octets):
+        tag = tag_at(octets, at)
+        if not tag or not tag.context or tag.length == CLOSING:
+            return None
+        end, after = tag.end + max(tag.length, 0), tag.end + tag.length
+        if tag.length == OPENING:
+            inner = region_end(octets, tag.end)
+            closing = tag_at(octets, inner) if inner is not None else None
+            if inner is None or not closing or closing.number != tag.number:
+                return None
+            end, after = inner, closing.end
+        if after > len(octets):
+            return None
+        found.append(Item(tag.number, octets[tag.end : end], tag.length == OPENING))
+        at = after
+    return found
+
+
+def _object(item: Item) -> Optional[What]:
+    """The type and the instance of an object."""
+    if item.is_open or len(item.contents) != 4:
+        return None
+    return item.value >> 22, item.value & THIS_DEVICE
+
+
+def _lists(octets: bytes) -> Optional[List[Tuple[What, List[Item]]]]:
+    """Each object, with what stands in the brackets behind it."""
+    items, found = items_of(octets), []
+    if not items or len(items) % 2:
+        return None
+    for first, second in zip(items[::2], items[1::2]):
+        what, inner = _object(first), items_of(second.contents)
+        if (first.number, second.number) != (OBJECT, LIST) or not second.is_open:
+            return None
+        if what is None or inner is None:
+            return None
+        found.append((what, inner))
+    return found
+
+
+def asked_for(octets: bytes) -> Optional[List[What]]:
+    """The properties that a ReadPropertyMultiple asks for."""
+    found: List[What] = []
+    for what, items in _lists(octets) or []:
+        for item in items:
+            if item.is_open or item.number not in (0, 1) or (item.number and not found):
+                return None
+            found += [(*what, item.value)] if item.number == 0 else []
+            if item.number == 1:
+                found[-1] += (item.value,)
+    return found or None
+
+
+def told_by(octets: bytes) -> Optional[List[Told]]:
+    """What the acknowledgement of a ReadPropertyMultiple tells."""
+    found: List[Told] = []
+    for what, items in _lists(octets) or []:
+        told = _told(what, items, first=2)
+        if told is None:
+            return None
+        found += told
+    return found or None
+
+
+def _told(what: What, items: List[Item], first: int) -> Optional[List[Told]]:
+    """Properties, each by the tag `first`, an index by the next, a value and an error by those
+    behind; a priority, which a notification may have in place of the error, is passed over."""
+    found: List[Told] = []
+    for item in items:
+        at = item.number - first
+        if at not in range(4) or (at and not found) or item.is_open != (at == 2 or first + at == 5):
+            return None
+        if at == 0:
+            found.append(Told((*what, item.value)))
+        elif at == 1:
+            found[-1] = found[-1]._replace(what=(*found[-1].what, item.value))
+        elif at == 2:
+            found[-1] = found[-1]._replace(value=item.contents)
+        elif item.is_open:
+            found[-1] = found[-1]._replace(error=error_body(item.contents))
+    return None if any(it.value is None and it.error is None for it in found) else found
+
+
+def notice_of(octets: bytes) -> Optional[Notice]:
+    """What a notification of changed values tells."""
+    items = items_of(octets) or []
+    if [it.number for it in items] != [0, 1, 2, 3, 4] or not items[4].is_open:
+        return None
+    device, what, inner = _object(items[1]), _object(items[2]), items_of(items[4].contents)
+    told = _told(what, inner, first=0) if what and inner else None
+    return Notice(items[0].value, device[1], told) if device and told else None
+
+
+def subscription_of(octets: bytes) -> Optional[Subscription]:
+    """What a SubscribeCOV asks for."""
+    items = items_of(octets) or []
+    by_number = {it.number: it for it in items}
+    if [it.number for it in items] not in ([0, 1], [0, 1, 2], [0, 1, 2, 3]):
+        return None
+    what = _object(by_number[1])
+    if what is None or any(it.is_open for it in items):
+        return None
+    confirmed, seconds = by_number.get(2), by_number.get(3)
+    return Subscription(
+        by_number[0].value,
+        what,
+        bool(confirmed.value) if confirmed else None,
+        seconds.value if seconds else None,
+    )

@@ -1,0 +1,70 @@
+"""Why there is no value: what a reason is to those who go on by it."""
+
+from __future__ import annotations
+
+import enum
+import re
+from functools import lru_cache
+
+TIMEOUT, NOT_ASKED, TOO_LATE = "timeout", "not asked", "not done in time"
+STRANGE = "an answer about another point"
+
+
+class Why(enum.Enum):
+    """What a reason says, whatever its words are."""
+
+    NONE = enum.auto()  # nothing is missing
+    SILENT = enum.auto()
+    NOT_ASKED = enum.auto()
+    TOO_LATE = enum.auto()
+    UNREACHABLE = enum.auto()  # nothing can be sent there
+    BUSY = enum.auto()  # for now
+    STRANGE = enum.auto()  # the answer is about something else
+    TOO_LONG = enum.auto()  # for one datagram
+    NO_OBJECT = enum.auto()
+    NO_PROPERTY = enum.auto()
+    NO_NUMBER = enum.auto()  # a Real that is NaN or infinite
+    OTHER = enum.auto()
+
+    @property
+    def is_gone(self) -> bool:
+        """Whether nobody answered, in time or at all: the plant is gone, or its network."""
+        return self in (Why.SILENT, Why.NOT_ASKED, Why.TOO_LATE, Why.UNREACHABLE)
+
+    @property
+    def is_for_now(self) -> bool:
+        """Whether the same may be answered in another way if it is asked for again."""
+        return self in (Why.BUSY, Why.STRANGE)
+
+
+# The reasons by their words; those of bactool have numbers of the standard in them.
+WORDS = {
+    "": Why.NONE,
+    TIMEOUT: Why.SILENT,
+    NOT_ASKED: Why.NOT_ASKED,
+    TOO_LATE: Why.TOO_LATE,
+    "bactool: sending failed": Why.UNREACHABLE,
+    "error 0 3": Why.BUSY,
+    "abort 3": Why.BUSY,
+    "abort 8": Why.BUSY,
+    "abort 9": Why.BUSY,
+    STRANGE: Why.STRANGE,
+    "abort 1": Why.TOO_LONG,
+    "abort 4": Why.TOO_LONG,
+    "abort 11": Why.TOO_LONG,
+    "segmented": Why.TOO_LONG,
+}
+SPELLED = {
+    r"error [0-9]+ 31": Why.NO_OBJECT,
+    r"error [0-9]+ 32": Why.NO_PROPERTY,
+    r"no number: .*": Why.NO_NUMBER,
+}
+
+
+@lru_cache(maxsize=1024)
+def why_of(reason: str) -> Why:
+    """What a reason says."""
+    if reason in WORDS:
+        return WORDS[reason]
+    found = [why for pattern, why in SPELLED.items() if re.fullmatch(pattern, reason)]
+    return found[0] if found else Why.OTHER

@@ -1,0 +1,74 @@
+#!/usr/bin/env python3
+"""Plants faults in a copy of the tree, where each has to be told of by the script that looks for it. And makes each
+check of such a script pass always, one at a time: then a fault has to be missed. Usage: tests/false_checks.py PROGRAM
+[SCRIPT], with false_checks.txt, whose head says what its rows are.
+"""
+import contextlib
+import os
+import re
+import shutil
+import subprocess
+import sys
+import tempfile
+from concurrent.futures import ThreadPoolExecutor
+
+from tree import TOP, end_by_signals, processors, sections_of, text_of, write
+
+NOT_COPIED = shutil.ignore_patterns(".git", "out", "__pycache__", "*_cache")
+
+
+def plant(tree, path, old, new):
+    """Plants a fault in a copy of the tree, whose files are those of the tree itself until they are written anew. What
+    is not there for it is answered."""
+    text = text_of(f"{tree}/{path}") if os.path.exists(f"{tree}/{path}") else ""
+    mode = os.stat(f"{tree}/{path}").st_mode if text else 0o644
+    with contextlib.suppress(FileNotFoundError):
+        os.remove(f"{tree}/{path}")
+    write(f"{tree}/{path}", new if old == "*" else text.replace(old, new, 1) if old else text + new)
+    os.chmod(f"{tree}/{path}", mode)
+    return [] if old == "*" or old in text else [f"{path} has no {old}"]
+
+
+def missed(command, faults, check):
+    """Which of the faults the command does not tell of in a copy of the tree, where this check passes always."""
+    with tempfile.TemporaryDirectory(prefix="false-checks-", dir=f"{TOP}/out") as room:
+        tree = f"{room}/tree"
+        shutil.copytree(TOP, tree, symlinks=True, ignore=NOT_COPIED, copy_function=os.link)
+        lost = [it for row in [*faults, *check] for it in plant(tree, *row[:3])]
+        how = {"stdout": subprocess.PIPE, "stderr": subprocess.STDOUT, "errors": "replace", "timeout": 300}
+        done = subprocess.run([sys.executable, *command], cwd=tree, check=False, **how)
+    lost += [message for *_, message in faults if message not in done.stdout]
+    return lost if done.returncode else [*lost, "status 0"]
+
+
+def tries(program, only):
+    """The command of each section, its faults, and one check that passes always, or none, with a name."""
+    for head, lines in sections_of("tests/false_checks.txt"):
+        script, needed, words = re.fullmatch(r"(\S+)(?: if (\w+))?(.*)", head).groups()
+        if needed and not shutil.which(needed):
+            print(f"tests/false_checks.py: {needed}: not installed, left out")
+        elif only in head:
+            command = [script, *words.replace("PROGRAM", program).split()]
+            rows = [line.split(" || ") for line in lines]
+            faults = [[cell.replace("\\n", "\n") for cell in row] for row in rows if len(row) == 4]
+            yield f"{head}: faults", command, faults, []
+            for path, old, new in (row for row in rows if len(row) == 3):
+                for at in re.finditer(old, text_of(path), re.M):
+                    check = [(path, at[0], at.expand(new))]
+                    yield f"{head}, where {at[0].strip()} passes always", command, faults, check
+
+
+def main(words):
+    every = list(tries(os.path.realpath(words[0]), "".join(words[1:])))
+    with ThreadPoolExecutor(processors()) as pool:
+        found = list(pool.map(lambda it: missed(*it[1:]), every))
+    wrong = [f"{name}: missed: {lost}" for (name, _, _, check), lost in zip(every, found) if bool(check) != bool(lost)]
+    print("".join(f"{it}\n" for it in wrong), end="")
+    faults = sum(len(faults) for _, _, faults, check in every if not check)
+    checks = sum(bool(check) for *_, check in every)
+    print(f"tests/false_checks.py: {faults} faults and {checks} false checks, {len(wrong)} not seen")
+    return 1 if wrong or not faults or not checks else 0
+
+
+if __name__ == "__main__":
+    end_by_signals(main)

@@ -1,0 +1,183 @@
+#!/usr/bin/env python3
+"""Runs bacrun against two peers of this machine, A and B, which answer by the plans of runs.txt: datagrams that are
+lost, doubled, late or of somebody else, stations behind routers, one who is dead beside one who is busy, a run that is
+held up, values of many lines; and as many requests at once as there may be. Of each run the journal is a script by
+which bactrace prints its remarks, octet for octet; the peers heard what the remarks say was sent, and nothing else;
+each line of the input stands there as it was, until the one that ends the run; no more requests were open than the
+window says; and none took longer than timeout and retries say.
+
+Usage: tests/program/runs.py PROGRAM
+"""
+import contextlib
+import re
+import select
+import signal
+import socket
+import subprocess
+import sys
+import tempfile
+import time
+from collections import namedtuple
+from concurrent.futures import ThreadPoolExecutor
+
+sys.path[:0] = [__file__.rpartition("/")[0] + "/.."]
+from rows import blocks, braced
+from tree import TOP, local_socket, same, verdict
+
+LINE = 4096  # the most octets of a line
+# A Reject of a request that nobody made, so long that a run reads it no faster than it comes.
+STRAY = bytes.fromhex("810a03e80100606309") + bytes(991)
+SLOW = "--apdu-timeout 2000 --apdu-retries 1"
+Run = namedtuple("Run", "status fault journal heard seconds")
+
+
+def answer_to(octets, has_route):
+    """What a device answers to this request: of a read the object's instance, of an analog value so many bits, and of a
+    binary input that there is none; of a write that it was made."""
+    route = octets[6 : 9 + octets[8]] if octets[5] & 32 else b""
+    apdu = octets[6 + len(route) + bool(route) :]
+    kind, instance = divmod(int.from_bytes(apdu[5:9], "big"), 1 << 22)
+    value = b"\x24" + instance.to_bytes(4, "big")
+    if kind == 2:
+        instance %= 17000  # no datagram would have room for the most of them
+        bits = bytes([-instance % 8]) + bytes(-(-instance // 8))
+        value = b"\x85\xfe" + len(bits).to_bytes(2, "big") + bits
+    reply = b"\x30" + apdu[2:] + b"\x3e" + value + b"\x3f"
+    if kind == 3 or apdu[3] == 15:
+        reply = (b"\x50" if kind == 3 else b"\x20") + apdu[2:4] + b"\x91\x01\x91\x1f" * (kind == 3)
+    network = b"\x01\x08" + route if route and has_route else b"\x01\x00"
+    return b"\x81\x0a" + (4 + len(network + reply)).to_bytes(2, "big") + network + reply
+
+
+def act(words, heard, peers, process):
+    """Does what a plan has for the last datagram that was heard, and answers whom it floods."""
+    place, _, desk = heard[-1]
+    for how, rest in (word.rpartition(":")[::2] for word in words):
+        if how == "octets":
+            place.sendto(bytes.fromhex(rest), desk)
+        elif rest == "stop":
+            process.send_signal(signal.SIGSTOP)
+        elif rest.isdigit():
+            here, octets, there = heard[int(rest)]
+            sender = peers[1 - peers.index(here)] if how == "other" else here
+            sender.sendto(answer_to(octets, how != "plain"), there)
+    if "stop" in words:
+        time.sleep(1)
+        process.send_signal(signal.SIGCONT)
+    return [(place, desk)] * ("flood" in words)
+
+
+def play(process, peers, plan):
+    """What the peers hear until the process ends, each with its peer and its sender; they do what the plan says."""
+    heard, flooded, has_ended = [], [], False
+    while True:
+        ready = select.select(peers, [], [], 0 if has_ended or flooded else 0.02)[0]
+        for peer in ready:  # what came to A came before what is still to come to B
+            with contextlib.suppress(BlockingIOError):
+                while True:
+                    heard.append((peer, *peer.recvfrom(2048, socket.MSG_DONTWAIT)))
+                    flooded += act(next(plan, []), heard, peers, process)
+        if has_ended and not ready:
+            return heard
+        for place, desk in flooded * 200:
+            place.sendto(STRAY, desk)
+        has_ended = process.poll() is not None
+
+
+def run(program, options, text, plan):
+    """A run of this input, in which A and B stand for two peers that act by the plan."""
+    with contextlib.ExitStack() as stack:
+        peers = [stack.enter_context(local_socket()) for _ in "AB"]
+        files = [stack.enter_context(tempfile.TemporaryFile()) for _ in range(3)]
+        named = {name: "127.0.0.1:%d" % peer.getsockname()[1] for name, peer in zip("AB", peers)}
+        text = re.sub(r"(?<=[de] )[AB]\b", lambda found: named[found[0]], text)
+        files[0].write(text.encode())
+        files[0].seek(0)
+        begun = time.monotonic()
+        with subprocess.Popen([program, "bacrun", *options.split()], stdin=files[0], stdout=files[1],
+                              stderr=files[2]) as process:
+            heard = play(process, peers, iter(plan))
+        seconds = time.monotonic() - begun
+        heard = [f"127.0.0.1:{peer.getsockname()[1]} {octets.hex()}" for peer, octets, _ in heard]
+        journal, fault = (file.seek(0) or file.read().decode() for file in files[1:])
+        return text, Run(process.returncode, fault, journal, heard, seconds)
+
+
+def check(name, program, options, text, it):
+    """What holds of every run. Answers its remarks, whole, without their marks."""
+    lines = it.journal.split("\n")
+    remarks = [line[2:] for line in it.journal.replace("\n#+", "").split("\n") if line.startswith("# ")]
+    replay = subprocess.run([program, "bactrace"], input=it.journal.encode(), capture_output=True, check=False)
+    printed = "".join(f"{remark}\n" for remark in remarks).encode()
+    same(f"{name}: what bactrace prints", (replay.returncode, replay.stdout), (0, printed))
+    sent = [re.sub("/.* ", " ", remark.split(" ", 2)[2]) for remark in remarks if remark.startswith("send")]
+    same(f"{name}: what the peers heard", sorted(it.heard), sorted(sent[: len(it.heard)] if it.status == 3 else sent))
+    same(f"{name}: lines that are too long, or cut for nothing",
+         (max(map(len, lines)) > LINE, "\n#+" in it.journal), (False, any(len(one) > LINE - 2 for one in remarks)))
+    asked = [line for line in lines[1:-1] if not re.match("#|data |tick ", line)]
+    given = [line for line in text.removesuffix("\n").split("\n") if line[:1] != "#"]
+    same(f"{name}: lines of the input", asked, given[: len(asked)] if it.status else given)
+    now, most = set(), int((re.findall(r"--window (\d+)", options) or [1])[0])
+    for word, ticket in (remark.split(" ")[:2] for remark in remarks if " " in remark):
+        now = now | {ticket} if word == "send" else now - {ticket}
+        same(f"{name}: {len(now)} are open", len(now) <= most, True)
+    return remarks
+
+
+def in_short(remark):
+    """A send without its octets, and bits by their number."""
+    remark = re.sub(r"^(send \d+) .*", r"\1", remark)
+    return re.sub("B'(0+)'", lambda found: f"{len(found[1])} bits", remark)
+
+
+def tried(program, place, row):
+    """A row is as it is to be."""
+    [options], [plan], lines = row["$"], row["@"], row["<"]
+    groups = [[] if group == "-" else group.split(",") for group in plan.split()]
+    text, it = run(program, options, braced("\n".join(lines)), groups)
+    remarks = map(in_short, check(place, program, options, text, it))
+    same(place, [one for one in remarks if "flood" not in plan or one != "drop"], row[">"][0].split(", "))
+    status, _, fault = row.get("!", ["0"])[0].partition(" ")
+    same(f"{place}: the end", (it.status, it.fault), (int(status), f"bactool: {fault}\n" if fault else ""))
+    timeout, retries = map(int, re.findall(r"--apdu-\w+ (\d+)", options))
+    most = len(lines) * (timeout / 1000 + 1) * (retries + 1) + 1
+    same(f"{place}: {it.seconds:.1f} seconds", it.seconds < most, True)
+
+
+def many():
+    """A row of 130 requests, of which 64 are open: the peers answer once they have all of these, the last one first."""
+    backwards = lambda first, last: list(range(last, first - 1, -1))
+    lines = [f"read A 0 {it} 85" for it in range(130)]
+    plan = ["-"] * 130
+    for first, last in (0, 63), (64, 127), (128, 129):
+        plan[last] = ",".join(map(str, backwards(first, last)))
+    ends, later = [f"send {it}" for it in range(64)], iter(range(64, 130))
+    for it in backwards(0, 63) + backwards(64, 127) + backwards(128, 129):
+        ends += [f"done {it} value {it}", *(f"send {one}" for one in [next(later, None)] if one)]
+    return "many", {"$": [f"{SLOW} --window 64"], "<": lines, "@": [" ".join(plan)], ">": [", ".join(ends)]}
+
+
+def at_a_terminal(program):
+    """The answer to a line is there before the next one is typed."""
+    words = [program, "bacrun", *SLOW.split()]
+    with local_socket() as field, subprocess.Popen(words, stdin=subprocess.PIPE, stdout=subprocess.PIPE) as process:
+        for number in (7, 8):
+            process.stdin.write(b"read 127.0.0.1:%d 0 %d 85\n" % (field.getsockname()[1], number))
+            process.stdin.flush()
+            octets, desk = field.recvfrom(2048)
+            field.sendto(answer_to(octets, True), desk)
+            while not (line := process.stdout.readline()).startswith(b"# done"):
+                same("more is printed", line != b"", True)
+            same("what is printed before the next line", line, b"# done %d value %d\n" % (number - 7, number))
+
+
+def main(program):
+    signal.alarm(300)
+    with ThreadPoolExecutor(4) as pool:
+        list(pool.map(lambda row: tried(program, *row), [*blocks(f"{TOP}/tests/program/runs.txt"), many()]))
+    at_a_terminal(program)
+    return verdict("ends, replays and lines of runs are as they are to be")
+
+
+if __name__ == "__main__":
+    sys.exit(main(sys.argv[1]) if len(sys.argv) == 2 else __doc__)

@@ -1,0 +1,284 @@
+"""How controllers are asked: how many requests at once, in which order, and when again."""
+
+import threading
+import time
+import unittest
+import unittest.mock
+
+import harness
+from bacsite import addresses, calls, reasons, survey
+from bacsite.controller import Controller
+from bacsite.device import Bounds, Device, SiteObject
+from bacsite.earlier import Earlier
+from bacsite.reasons import Why
+from bacsite.report import Columns, Counts, PollList
+from bacsite.values import Kind, Value
+from quick import QuickCalls
+from stand_ins import LateStandIn, StandIn, an_object, bits, enumerated, real, string, unsigned
+from test_survey import sensors
+
+A, B = "192.0.2.1:47808", "192.0.2.2:47808"
+
+
+def device(instance, count=3):
+    """A device with some analog inputs."""
+    named = {(8, instance, number): string("D") for number in (70, 77, 121)}
+    own = {(8, 4194303, 75): an_object(8, instance), **named}
+    own[8, instance, 76] = an_object(8, instance) + sensors(count)[8, 77, 76]
+    return {**sensors(count), **own, (8, instance, 76, 0): unsigned(count + 1)}
+
+
+class Reasons(unittest.TestCase):
+    def test_what_they_say(self):
+        for reason, why in (
+            ("", Why.NONE),
+            ("timeout", Why.SILENT),
+            ("error 0 3", Why.BUSY),
+            ("error 0 31", Why.NO_OBJECT),
+            ("error 1 31", Why.NO_OBJECT),
+            ("error 2 32", Why.NO_PROPERTY),
+            ("error 2 320", Why.OTHER),
+            ("error 2 3", Why.OTHER),
+            ("abort 3", Why.BUSY),
+            ("abort 8", Why.BUSY),
+            ("abort 9", Why.BUSY),
+            ("abort 4", Why.TOO_LONG),
+            ("abort 2", Why.OTHER),
+            ("no number: NaN", Why.NO_NUMBER),
+            ("bactool: sending failed", Why.UNREACHABLE),
+            ("reject 9", Why.OTHER),
+        ):
+            self.assertIs(reasons.why_of(reason), why, reason)
+        gone = {Why.SILENT, Why.NOT_ASKED, Why.TOO_LATE, Why.UNREACHABLE}
+        self.assertEqual({it for it in Why if it.is_gone}, gone)
+        self.assertEqual({it for it in Why if it.is_for_now}, {Why.BUSY, Why.STRANGE})
+
+
+class Order(unittest.TestCase):
+    """Over controllers that answer at once."""
+
+    def surveyed(self, many, words=(A, B), in_order=False, bounds=Bounds()):
+        targets = addresses.targets(words)
+        found = list(survey.surveyed(many, targets, bounds, Earlier(), in_order))
+        return [(it.address, it.instance, len(it.objects), it.reasons) for it in found]
+
+    def test_as_they_are_ready_or_as_the_words_say(self):
+        targets = addresses.targets([A, B])
+        for in_order, wanted in ((False, [B, A]), (True, [A, B])):
+            gate = threading.Event()
+            many = QuickCalls({A: device(11), B: device(12)}, gates={A: gate})
+
+            def opened():
+                many.over[B].wait(10)
+                time.sleep(0.05)  # so long there is time to print it
+                gate.set()
+
+            threading.Thread(target=opened, daemon=True).start()
+            found = survey.surveyed(many, targets, Bounds(), Earlier(), in_order)
+            self.assertEqual([it.address for it in found], wanted)
+
+    def test_one_that_fails_first_leaves_the_others(self):
+        silent = {(8, 4194303, 75): "silent"}
+        for in_order in False, True:
+            many = QuickCalls({A: silent, B: device(12)}, at_once=1)
+            found = self.surveyed(many, in_order=in_order)
+            self.assertEqual(found, [(A, None, 0, ["timeout"]), (B, 12, 3, [])])
+            counts = Counts(2)
+            for it in survey.surveyed(many, addresses.targets([A, B]), Bounds(), Earlier()):
+                counts.add(it)
+            self.assertTrue(counts.missing)
+
+    def test_a_window_changes_nothing_that_is_found(self):
+        values = device(11, 40)
+        values.update({(0, 3, 85): ("error", 2, 32), (0, 9, 77): ("error", 1, 31)})
+        values.update({(0, 5, 117): [("abort", 9), enumerated(62)], (0, 7, 85): "silent"})
+        found, asked = {}, {}
+        for window in 1, 2, 4, 64:
+            many = QuickCalls({A: {key: it[:] for key, it in values.items()}}, window, timeout=50, retries=1)
+            targets = addresses.targets([A])
+            (found[window],) = survey.surveyed(many, targets, Bounds(), Earlier())
+            found[window].asked, asked[window] = "", sorted(many.asked)
+            self.assertLessEqual(many.most, window)
+            self.assertTrue(many.most == window or window == 64, many.most)
+        self.assertEqual(len(found[1].objects), 40)
+        for window in found:
+            self.assertEqual((found[window], asked[window]), (found[1], asked[1]), window)
+
+    def test_an_object_that_is_unknown_is_asked_for_its_name_alone(self):
+        many = QuickCalls({A: {**device(11), (0, 2, 77): ("error", 1, 31)}})
+        self.surveyed(many, [A])
+        self.assertEqual([it for it in many.asked if it[1:3] == (0, 2)], [(A, 0, 2, 77)])
+
+    def test_requests_are_counted(self):
+        many = QuickCalls({A: device(11, 60)})
+        self.surveyed(many, [A])
+        # Which device, 3 texts, revision and list; 4 of each object; which device and count again.
+        self.assertEqual((len(many.asked), many.count), (6 + 4 * 60 + 2, 6 + 4 * 60 + 2 + 1))
+        begun = [words[:1] + words[3:] for words in many.begun]
+        self.assertEqual([words[0] for words in many.begun], ["bacrun", "bacwi"])
+        self.assertIn("1", begun[0])
+
+    def asked(self, values, numbers, **more):
+        """Which analog inputs are asked for in turn, and the reasons that come."""
+        many = QuickCalls({A: {(0, at, 85): value for at, value in values.items()}}, **more)
+        with Controller(many, A) as controller:
+            found = controller.ask_all([(0, at, 85) for at in numbers])
+        return [it[2] for it in many.asked], [it.reason for it in found]
+
+    def test_in_turn(self):
+        good, busy = real("42290000"), ("abort", 9)
+        once = {1: [busy, good], 2: [busy, good], 3: good, 4: good}
+        more = {"window": 4, "timeout": 1, "retries": 1}
+        found = self.asked({**once, 9: good}, [9, 1, 2, 3, 4], **more)
+        self.assertEqual(found, ([9, 1, 2, 3, 4, 1, 2], [""] * 5))
+        found = self.asked({0: good, 1: [busy, good], 2: good}, range(3), timeout=1, retries=1)
+        self.assertEqual(found, ([0, 1, 1, 2], [""] * 3))
+        self.assertEqual(self.asked({1: good, 2: good}, [1, 2], taken=3), ([1, 2], ["", ""]))
+        failed = ["bactool: bind failed"] * 2
+        self.assertEqual(self.asked({}, [1, 2], taken=999), ([], failed))
+
+    def test_one_who_loses_has_half_as_many_each_time(self):
+        values = {(0, at, 85): real("42290000") for at in range(99)}
+        many = QuickCalls({A: values}, 8, lost={(0, 20, 85), (0, 50, 85)})
+        with Controller(many, A) as controller:
+            controller.ask_all(list(values))
+        windows = [words[words.index("--window") + 1] for words in many.begun]
+        self.assertEqual(windows, ["8", "4", "2"])
+
+    def test_who_has_not_answered_has_one_request_at_a_time(self):
+        good, gone = real("42290000"), "silent"
+        for window in 1, 4:
+            found = self.asked({}.fromkeys(range(4), gone), range(4), window=window)
+            self.assertEqual(found, ([0], ["timeout", *["not asked"] * 3]))
+            values = {0: good, 1: gone, 2: gone, 3: good, 4: good, 5: good, 6: good, 7: good}
+            count, reasons_ = self.asked(values, range(8), window=window)
+            self.assertEqual(len(count), {1: 3, 4: 6}[window])
+            self.assertEqual(reasons_[:3], ["", "timeout", "timeout"])
+            self.assertEqual(set(reasons_[len(count) :]), {"not asked"})
+
+    def test_silent_twice_in_a_row_is_asked_no_more(self):
+        for window in 1, 4:
+            values = device(11, 80)
+            gone = {(0, at, number): "silent" for at in range(33, 81) for number in (77, 85, 111, 117)}
+            many = QuickCalls({A: {**values, **gone}}, window)
+            (found,) = survey.surveyed(many, addresses.targets([A]), Bounds(), Earlier())
+            told = " of 80 objects not asked"
+            self.assertEqual([it.split(" ", 1)[-1] for it in found.reasons], [told[1:], "timeout"])
+            self.assertEqual(int(found.reasons[0].split()[0]), 80 - len(found.objects))
+            self.assertNotIn("object-name: not asked", sum((it.reasons for it in found.objects), []))
+
+    def test_elements_that_are_not_asked_are_counted(self):
+        for window in 1, 4:
+            elements = {(8, 11, 76, at): an_object(0, at) for at in range(1, 41)}
+            elements.update({(8, 11, 76, at): "silent" for at in (5, 6)})
+            values = {**device(11), **elements, (8, 11, 76, 0): unsigned(40), (8, 11, 76): ("abort", 4)}
+            many = QuickCalls({A: values}, window)
+            with Controller(many, A) as controller:
+                found = controller.elements(99, 8, 11, 76)
+            lost = ["element %d of 40: timeout" % at for at in (5, 6)]
+            left = 40 - len(found.found) - found.lost
+            self.assertEqual(found.reasons[:2], lost)
+            self.assertEqual(found.reasons[-1], "%d of 40 elements not asked" % left)
+            self.assertGreater(left, 30)
+
+    def test_a_remark_of_several_lines(self):
+        for text, shown in ((b"\x01" * 1400, 5604), (b"\x01" * 1019 + b"A", 4081), (b"\x01" * 1018, 4076)):
+            values = {(0, 1, 28): string(text, 6), (0, 1, 77): string("next")}
+            for window in 1, 2, 4:
+                many = QuickCalls({A: values}, window)
+                with Controller(many, A) as controller:
+                    controller.ask(0, 1, 77)
+                    whats = [(0, 1, 77), (0, 1, 28), (0, 1, 77), (0, 1, 77), (0, 1, 28)]
+                    found = controller.values(whats)
+                self.assertEqual([len(it.text) for it in found], [4, shown, 4, 4, shown])
+
+
+class Lists(unittest.TestCase):
+    def test_each_point_of_a_list_has_a_name_of_its_own(self):
+        found, names_ = PollList(), []
+        for address in "192.0.2.1:1", "192.0.2.2:1", "192.0.2.3:1":
+            point = SiteObject(0, 5, "Room 1", Value(Kind.NUMBER, "1"))
+            text = found.of(Device(address, 9, objects=[point]), Columns())
+            names_ += [line.split()[0] for line in text.splitlines()[1:]]
+        self.assertEqual(names_, ["9.Room_1", "9.Room_1.0.5", "9.Room_1.0.5'"])
+
+
+class PortNumbers(unittest.TestCase):
+    def test_none_comes_again_soon(self):
+        ports = calls.Ports()
+        found = [ports.next() for _ in range(16384)]
+        self.assertEqual((len(set(found)), min(found), max(found)), (16384, 49152, 65535))
+
+    def test_programs_side_by_side_begin_far_apart(self):
+        begins = []
+        for process in range(700):
+            with unittest.mock.patch("os.getpid", return_value=process):
+                begins.append(calls.Ports().next())
+        near = sorted(begins)
+        gaps = [after - at for at, after in zip(near, [*near[1:], near[0] + 16384])]
+        self.assertGreaterEqual(min(gaps), 8)
+
+
+class Window(harness.SiteTest):
+    """Over sockets."""
+
+    def polled(self, device, count, *options):
+        path = self.path("window", "".join("p HERE 0 %d 85\n" % at for at in range(count)))
+        status, out, _ = self.run_site("poll", path, *options)
+        return status, [line.split("\t")[2] for line in out.splitlines()]
+
+    def test_so_many_are_open(self):
+        values = {(0, at, 85): real("42290000") for at in range(24)}
+        device = self.stand_in(values, kind=LateStandIn, delay=0.1)
+        begun = {}
+        for window in "1", "4":
+            del device.times[:]
+            self.assertEqual(self.polled(device, 24, "--window", window), (0, ["42.25"] * 24))
+            begun[window] = device.times[-1] - device.times[0]
+        self.assertGreater(begun["1"], 2.2)
+        self.assertLess(begun["4"], 1.7)
+
+    def test_one_who_is_busy_has_fewer(self):
+        values = {(0, at, 85): real("42290000") for at in range(40)}
+        values[0, 2, 85] = [("abort", 9), real("42290000")]
+        device = self.stand_in(values)
+        self.assertEqual(self.polled(device, 40, "--window", "4"), (0, ["42.25"] * 40))
+        self.assertEqual(len(set(device.ports)), 2, "a bacrun with a window of its own")
+        self.assertEqual(device.asked.count((0, 2, 85)), 2)
+
+    def test_one_who_loses_has_fewer(self):
+        values = {(0, at, 85): real("42290000") for at in range(80)}
+        device = self.stand_in(values, lose=40)
+        self.assertEqual(self.polled(device, 80, "--window", "4"), (0, ["42.25"] * 80))
+        self.assertGreater(len(set(device.ports)), 1)
+
+    def test_each_bacrun_has_a_port_of_its_own(self):
+        device = self.stand_in({(0, 1, 85): real("42290000")})
+        for _ in range(3):
+            self.rows("read HERE 0 1 85 => 0 42.25")
+        self.assertEqual(len(set(device.ports)), 3)
+        self.assertTrue(all(port >= 49152 for port in device.ports))
+
+    def test_a_port_that_somebody_has_is_passed_over(self):
+        tool = self.path("taken", "")
+        self.path("tries", "")
+        harness.os.mkdir(self.world.folder + "/busy")
+        text = "#!/bin/sh\necho x >>%s\n[ $(wc -l <%s) -gt 3 ] && exec %s \"$@\"\n"
+        text += "echo bactool: bind failed >&2; exit 3\n"
+        path = self.path("busy/bactool", text % (tool, tool, harness.TOOL))
+        harness.os.chmod(path, 0o755)
+        self.rows("read --tools IN/busy DEV 0 5 85 => 0 72.3")
+
+    def test_a_debugger_is_told_where_it_failed(self):
+        env = {**harness.os.environ, "BACSITE_DEBUG": "1", "PYTHONPATH": ""}
+        broken = self.path("broken.py", "import sys\nsys.path.insert(0, sys.argv[1])\n"
+                           "from bacsite import main, words\nwords.COMMANDS['read'] = 'read.NONE'\n"
+                           "sys.argv[1:] = ['read']\nmain.run()\n")
+        for told in ({}, env):
+            done = harness.subprocess.run([self.world.command[0], broken, harness.TOP + "/site"],
+                                          stderr=-1, env=told or None, encoding="utf-8")
+            self.assertEqual((done.returncode, "Traceback" in done.stderr), (3, bool(told)))
+
+
+if __name__ == "__main__":
+    unittest.main()
