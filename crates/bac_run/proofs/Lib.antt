@@ -9,3 +9,4 @@ pub mod Lines
 pub mod Plain
 pub mod Folded
 pub mod Readable
+pub mod Lookahead

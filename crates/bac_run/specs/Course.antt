@@ -1,8 +1,8 @@
 -- The course of a run: what it is about, and which act is due by all that was done before.
-use Rattle.std.specs.Prelude.{◌≡◌, ◌==◌, ℕ, zero, suc, ◌-◌, ◌/◌, max, min, nat_lt, nat_le, Bool, false, true, ⊤}
+use Rattle.std.specs.Prelude.{◌≡◌, ◌==◌, ℕ, zero, suc, ◌+◌, ◌-◌, ◌<◌, ◌≤◌, ◌/◌, max, min, nat_lt, nat_le, Bool, false, true, ⊤}
 use Rattle.std.specs.Prelude.{List, [], ◌∷◌, ◌++◌, length, if◌then◌else◌, Option, is_some}
 use Rattle.std.specs.{List.flat_map, Option.option_map_or}
-use Rattle.bac_tsm.specs.Client.{Client}
+use Rattle.bac_tsm.specs.{Client.Client, Events.Event, Lookahead.clock}
 use Rattle.bac_links.specs.{Limits.turn_wait, History.{Heard, Silence, Arrived, Failure}}
 use Rattle.bac_links.specs.Limits.{most_turns}
 use Rattle.bac_run.specs.declared.turns.Until.{Until, TheVariants.{FewOpen, TimeTold}}
@@ -180,3 +180,9 @@ aims_in_room window reading (line ∷ later) =
 
 abbrev pub aims_of_lines : (window : ℕ) → Reading → List (List ℕ) → List Aim
 aims_of_lines window reading lines = room_for window ∷ aims_in_room window reading lines
+
+-- ---- how long a request waits
+
+-- None of the events behind this position moves the clock by more than so much.
+abbrev pub AreSteady : (longest : ℕ) → List Event → (position : ℕ) → Type 0
+AreSteady longest events i = (j : ℕ) → i < j → clock events (suc j) ≤ clock events j + longest

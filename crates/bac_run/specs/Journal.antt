@@ -41,6 +41,16 @@ turn_at client (Came wait from octets) = at_event client (Data from octets)
 turn_at client (Told time) = at_event client (Tick time)
 turn_at client _ = record { notes = []; after = client }
 
+-- The event of an act, where the client is handed one; and those of all acts, in their order.
+abbrev pub event_in : Act → List Event
+event_in (Asked line event) = event ∷ []
+event_in (Came wait from octets) = Data from octets ∷ []
+event_in (Told time) = Tick time ∷ []
+event_in _ = []
+
+abbrev pub events_of : List Act → List Event
+events_of = flat_map event_in
+
 -- The last octet of a line is a carriage return (13).
 abbrev pub ends_with_return : List ℕ → Bool
 ends_with_return line = slice_index line (length line - 1) == 13

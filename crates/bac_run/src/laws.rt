@@ -1,5 +1,6 @@
 //! What holds of every run. Each function has an empty body, and its clauses are the laws.
-ghost use Rattle.std.specs.Prelude.{◌≡◌, ◌⊎◌, [], ◌∷◌, ◌++◌, ◌<◌, ◌^◌, ◌≤◌, length, true, false, ℕ, List, None, Result, Ok};
+ghost use Rattle.std.specs.Prelude.{◌≡◌, ◌⊎◌, [], ◌∷◌, ◌++◌, ◌+◌, ◌*◌, ◌<◌, ◌^◌, ◌≤◌, length, map, suc, true, false, ℕ};
+ghost use Rattle.std.specs.Prelude.{List, None, Result, Ok};
 ghost use Rattle.std.specs.List.{flat_map};
 ghost use Rattle.bac_wire.specs.Copies.{EqualsBy, MakesCopies};
 ghost use Rattle.bac_print.specs.declared.checked.Checked.{Checked};
@@ -7,11 +8,17 @@ ghost use Rattle.bac_script.specs.{Script.{text, lines, first_fault}, Text.notes
 ghost use Rattle.bac_script.specs.declared.{input.Reading.TheVariants.AtEnd, tracing.TraceEnd.TraceEnd};
 ghost use Rattle.bac_script.specs.Line.{Happens, Settings as SettingsSaid};
 ghost use Rattle.hex.specs.Hex.{IsBytes};
-ghost use Rattle.bac_tsm.specs.Events.{Data, Event};
+ghost use Rattle.bac_tsm.specs.{
+  Client.client_rules,
+  Events.{Data, Event},
+  Laws.{outputs, state_at},
+  Lookahead.{Accepted, clock, end},
+};
 ghost use Rattle.bac_links.specs.History.{Account, Entry};
 ghost use Rattle.bac_run.specs.{
   Input.{EndsWithFeed, HasNoFeed, said_of},
-  Journal.{Asked, Paused, Told, arrival_line, new_client, notes_of, settings_line},
+  Course.AreSteady,
+  Journal.{Act, Asked, Paused, Told, arrival_line, client_after, events_of, new_client, notes_of, settings_line},
   Replay.{AreSent, IsLineOf, IsReadBack, posted_in, sent_in},
   Run.{Runs, journal_of},
 };
@@ -20,6 +27,7 @@ ghost use Rattle.bac_run.specs.declared.{session.Session.Session as Settings, fa
 use crate::fault::RunFault;
 use crate::session::Session;
 use bac_links::Link;
+use bac_tsm::client_is_lookahead;
 use std::io::{Read, Write};
 
 /// What was sent over the link is what the remarks `send` say, in their order; where a send failed, that one and those
@@ -32,6 +40,27 @@ pub fn a_run_sends_what_it_remarks<L: Link, R: Read, W: Write>()
         → AreSent result
         (flat_map sent_in (notes_of (new_client session.config.timeout session.config.retries) runs.acts))
         (flat_map posted_in gained) }
+{}
+
+/// What the client of a run tells, at each of the events that it is handed, is what the look-ahead gives there, and it
+/// keeps what that says is open: so where each request is sent, how often, and how it ends.
+pub fn a_run_tells_what_the_look_ahead_gives()
+    ensures notes { (timeout retries : ℕ) (acts : List Act) → notes_of (new_client timeout retries) acts
+        ≡ map (λ (i, note). note)
+        (outputs (client_rules timeout retries) 0 (events_of acts) 0 (length (events_of acts))) }
+    ensures kept { (timeout retries : ℕ) (acts : List Act) → (client_after (new_client timeout retries) acts).state
+        ≡ state_at (client_rules timeout retries) 0 (events_of acts) (length (events_of acts)) }
+{
+    client_is_lookahead();
+}
+
+/// Every request is over within (retries + 1) x (timeout + longest): take any events of which none, behind the request,
+/// moves the clock by more than `longest`. While it is open, no more has passed since it was sent, by the times told,
+/// than its retries take, each with the timeout and `longest`, and one timeout (clause 5.4.4).
+pub fn a_request_ends_in_time()
+    ensures { (timeout retries longest : ℕ) (events : List Event) (a : Accepted) → AreSteady longest events a.position
+        → end (client_rules timeout retries) events a ≡ None
+        → clock events (length events) ≤ clock events (suc a.position) + (retries * (timeout + longest) + timeout) }
 {}
 
 /// The journal of a run is a script, and what `bactrace` prints of it is what the client told: its remarks without
