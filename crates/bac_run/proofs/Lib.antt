@@ -10,3 +10,4 @@ pub mod Plain
 pub mod Folded
 pub mod Readable
 pub mod Lookahead
+pub mod Alike

@@ -1,0 +1,305 @@
+-- Two runs that are answered alike do the same: which act is due is a function of what was done and answered.
+use Rattle.std.specs.{Prelude.⊤, List.flat_map}
+use Rattle.std.proofs.Common.{◌≡◌, ◌⊎◌, ◌∙◌, ◌-◌, ◌/◌, ◌==◌, ℕ, zero, suc, nat_lt, Bool, false, true, List, [], ◌∷◌, ◌++◌}
+use Rattle.std.proofs.Common.{length, refl, sym, ap, subst, inl, inr, append_assoc}
+use Rattle.std.proofs.lemmas.Bool.{false≢true}
+use Rattle.bac_pdu.specs.Peer.{Station}
+use Rattle.bac_tsm.specs.Client.{Client}
+use Rattle.bac_links.specs.{
+  Answered.{Brings, LinkAnswer, answer_of, answers_of},
+  Asking.{ForDatagram, Question, question_of},
+  History.{Entry, Heard, Arrived, Silence, Failure, Posted, Timed, Unposted, Waited},
+}
+use Rattle.bac_run.specs.{
+  Course.{Aim, Does, Fresh, Goes, IsDue, Looked, Outside, Phase, Stage, Telling, Broken, DueIn, Turns, acted, freshened},
+  Course.{heard_at, is_reached, left_of, longest_row, moved, moved_in, open_in, passed_at, settled, settled_in, stage_after, wait_at, IsPassed, telling},
+  Journal.{Act, Asked, Came, Passed, Paused, Read, Told, asked_by, has_line, history_of, posts, turn_at},
+}
+
+-- ---- a stage that is about more
+
+abbrev wider : Stage → List Aim → Stage
+wider stage more = record stage { aims = stage.aims ++ more }
+
+left_wider : (client : Client) (behind : ℕ) (aims more : List Aim)
+    → (rest : List Aim) × (left_of client behind (aims ++ more) ≡ left_of client behind aims ++ rest)
+left_wider client behind [] more = (left_of client behind more, refl)
+left_wider client behind (aim ∷ aims) more = go (is_reached client behind aim) refl (left_wider client behind aims more)
+  where
+    go : (b : Bool) → is_reached client behind aim ≡ b
+        → (rest : List Aim) × (left_of client behind (aims ++ more) ≡ left_of client behind aims ++ rest)
+        → (rest : List Aim)
+        × (left_of client behind ((aim ∷ aims) ++ more) ≡ left_of client behind (aim ∷ aims) ++ rest)
+    go true e later = rw e later
+    go false e later = rw e (more, refl)
+
+-- What is settled at a stage that is about more is about more.
+abbrev IsWider : (stage other : Stage) → Type 0
+IsWider stage other = (rest : List Aim) × (other ≡ wider stage rest)
+
+settled_in_wider : (stage : Stage) (phase : Phase) (more : List Aim)
+    → IsWider (settled_in stage phase) (settled_in (wider stage more) phase)
+settled_in_wider stage Outside more =
+    let (rest, same) = left_wider stage.client stage.behind stage.aims more in
+    (rest, ap (λ (xs : List Aim). record stage { aims = xs }) same)
+settled_in_wider stage (Looked time) more = (more, refl)
+settled_in_wider stage (Telling time) more = (more, refl)
+settled_in_wider stage Broken more = (more, refl)
+
+settled_wider : (stage : Stage) (more : List Aim) → IsWider (settled stage) (settled (wider stage more))
+settled_wider stage more = settled_in_wider stage stage.phase more
+
+telling_wider : (stage : Stage) (time : ℕ) (more : List Aim)
+    → telling (wider stage more) time ≡ wider (telling stage time) more
+telling_wider stage time more = go (nat_lt stage.client.state.clock time) refl
+  where
+    go : (b : Bool) → nat_lt stage.client.state.clock time ≡ b
+        → telling (wider stage more) time ≡ wider (telling stage time) more
+    go true e = rw e refl
+    go false e = rw e refl
+
+heard_wider : (stage : Stage) (time : ℕ) (more : List Aim)
+    → heard_at (wider stage more) time ≡ wider (heard_at stage time) more
+heard_wider stage time more = go (nat_lt (suc stage.behind) longest_row) refl
+  where
+    go : (b : Bool) → nat_lt (suc stage.behind) longest_row ≡ b
+        → heard_at (wider stage more) time ≡ wider (heard_at stage time) more
+    go true e = rw e refl
+    go false e = rw e (telling_wider stage time more)
+
+passed_wider : (stage : Stage) (time : ℕ) (heard : Heard) (more : List Aim)
+    → passed_at (wider stage more) time heard ≡ wider (passed_at stage time heard) more
+passed_wider stage time Silence more = telling_wider stage time more
+passed_wider stage time (Arrived from octets) more = heard_wider stage time more
+passed_wider stage time Failure more = refl
+
+freshened_wider : (timeout : ℕ) (stage : Stage) (time : ℕ) (more : List Aim)
+    → freshened timeout (wider stage more) time ≡ wider (freshened timeout stage time) more
+freshened_wider timeout stage time more =
+    go (open_in stage.client == 0) refl (nat_lt (timeout / 10) (time - stage.client.state.clock)) refl
+  where
+    go : (none : Bool) → (open_in stage.client == 0) ≡ none → (late : Bool)
+        → nat_lt (timeout / 10) (time - stage.client.state.clock) ≡ late
+        → freshened timeout (wider stage more) time ≡ wider (freshened timeout stage time) more
+    go true e late f = rw e (telling_wider stage time more)
+    go false e true f = rw (e, f) refl
+    go false e false f = rw (e, f) refl
+
+-- The act is due in this phase, with these aims, also where the stage is about more; and so is the stage behind it.
+moved_in_wider : (timeout : ℕ) (stage : Stage) (phase : Phase) (aims more : List Aim) (act : Act)
+    → DueIn timeout stage phase aims act
+    → moved_in timeout (wider stage more) phase (aims ++ more) act ≡ wider (moved_in timeout stage phase aims act) more
+moved_in_wider timeout stage Outside (Turns until (suc left) ∷ later) more (Read time) due = refl
+moved_in_wider timeout stage Outside (Fresh ∷ later) more (Read time) due =
+    freshened_wider timeout (record stage { aims = later }) time more
+moved_in_wider timeout stage Outside (Does act ∷ later) more other due = refl
+moved_in_wider timeout stage (Looked time) aims more (Came wait from octets) due =
+    heard_wider (acted stage (Came wait from octets)) time more
+moved_in_wider timeout stage (Looked time) aims more (Passed wait heard) due = passed_wider stage time heard more
+moved_in_wider timeout stage (Telling time) aims more act due = refl
+moved_in_wider timeout stage phase aims more act due = search
+
+moved_wider : (timeout : ℕ) (stage : Stage) (more : List Aim) (act : Act) → IsDue timeout stage act
+    → IsWider (moved timeout stage act) (moved timeout (wider stage more) act)
+moved_wider timeout stage more act due =
+    rw (moved_in_wider timeout stage stage.phase stage.aims more act due)
+    (settled_wider (moved_in timeout stage stage.phase stage.aims act) more)
+
+-- ---- which act is due
+
+-- One act asks for something, and the other for the same; answered alike they are one.
+record Asking (act other : Act) : Type 0 where
+  entry : Entry
+  other_entry : Entry
+  asks : asked_by act ≡ entry ∷ []
+  other_asks : asked_by other ≡ other_entry ∷ []
+  question : question_of entry ≡ question_of other_entry
+  same : answer_of entry ≡ answer_of other_entry → act ≡ other
+
+abbrev SameDue : Act → Act → Type 0
+SameDue act other = ((act ≡ other) × (asked_by act ≡ [])) ⊎ Asking act other
+
+one_due : (act : Act) → SameDue act act
+one_due (Asked line event) = inl (refl, refl)
+one_due Paused = inl (refl, refl)
+one_due (Told time) = inl (refl, refl)
+one_due (Read time) =
+    inr (record { entry = Timed time; other_entry = Timed time; asks = refl; other_asks = refl; question = refl; same = λ _. refl })
+one_due (Came wait from octets) = inr (record {
+  entry = Waited wait (Arrived from octets);
+  other_entry = Waited wait (Arrived from octets);
+  asks = refl;
+  other_asks = refl;
+  question = refl;
+  same = λ _. refl;
+})
+one_due (Passed wait heard) =
+    inr (record { entry = Waited wait heard; other_entry = Waited wait heard; asks = refl; other_asks = refl; question = refl; same = λ _. refl })
+
+both_due : (act due other : Act) → act ≡ due → other ≡ due → SameDue act other
+both_due act due other is same = rw (is, same) (one_due due)
+
+read_due : (time other : ℕ) → SameDue (Read time) (Read other)
+read_due time other = inr (record {
+  entry = Timed time;
+  other_entry = Timed other;
+  asks = refl;
+  other_asks = refl;
+  question = refl;
+  same = λ e. cc;
+})
+
+-- A wait that brings something for which there is a line is not passed over.
+unpassed : (from : Station) (octets : List ℕ) (heard : Heard) → has_line (length octets) ≡ true → IsPassed heard
+    → Brings (Arrived from octets) ≡ Brings heard → ⊥
+unpassed from octets Silence line passed e = absurd (cc)
+unpassed from octets Failure line passed e = absurd (cc)
+unpassed from octets (Arrived peer others) line passed e =
+    let same : octets ≡ others = cc in
+    absurd (false≢true (sym passed ∙ ap (λ (xs : List ℕ). has_line (length xs)) (sym same) ∙ line))
+
+waited_due : (wait other : ℕ) (heard other_heard : Heard) (act other_act : Act)
+    → asked_by act ≡ Waited wait heard ∷ [] → asked_by other_act ≡ Waited other other_heard ∷ [] → wait ≡ other
+    → (Brings heard ≡ Brings other_heard → act ≡ other_act) → SameDue act other_act
+waited_due wait other heard other_heard act other_act asks other_asks same alike = inr (record {
+  entry = Waited wait heard;
+  other_entry = Waited other other_heard;
+  asks = asks;
+  other_asks = other_asks;
+  question = ap (λ (n : ℕ). ForDatagram n) same;
+  same = alike;
+})
+
+same_due : (timeout : ℕ) (stage : Stage) (phase : Phase) (aims more : List Aim) (act other : Act)
+    → DueIn timeout stage phase aims act → DueIn timeout (wider stage more) phase (aims ++ more) other
+    → SameDue act other
+same_due timeout stage Outside (Turns until (suc left) ∷ later) more (Read time) (Read now) due too = read_due time now
+same_due timeout stage Outside (Fresh ∷ later) more (Read time) (Read now) due too = read_due time now
+same_due timeout stage Outside (Does act ∷ later) more one other due too = both_due one act other due too
+same_due timeout stage (Looked time) aims more (Came wait from octets) (Came wait' from' octets') (is, _) (is', _) =
+    waited_due wait wait' (Arrived from octets) (Arrived from' octets') (Came wait from octets) (Came wait' from' octets')
+    refl refl (is ∙ sym is') (λ e. cc)
+same_due timeout stage (Looked time) aims more (Came wait from octets) (Passed wait' heard) (is, line) (is', passed) =
+    waited_due wait wait' (Arrived from octets) heard (Came wait from octets) (Passed wait' heard) refl refl
+    (is ∙ sym is') (λ e. absurd (unpassed from octets heard line passed e))
+same_due timeout stage (Looked time) aims more (Passed wait heard) (Came wait' from octets) (is, passed) (is', line) =
+    waited_due wait wait' heard (Arrived from octets) (Passed wait heard) (Came wait' from octets) refl refl
+    (is ∙ sym is') (λ e. absurd (unpassed from octets heard line passed (sym e)))
+same_due timeout stage (Looked time) aims more (Passed wait heard) (Passed wait' heard') (is, _) (is', _) =
+    waited_due wait wait' heard heard' (Passed wait heard) (Passed wait' heard') refl refl (is ∙ sym is') (λ e. cc)
+same_due timeout stage (Telling time) aims more act other due too = both_due act (Told time) other due too
+same_due timeout stage phase aims more act other due too = search
+
+-- ---- what is asked
+
+-- Two lists of what is asked: as far as it is answered alike it is the same, and so is what is asked next.
+abbrev Coheres : List Entry → List Entry → Type 0
+Coheres [] others = ⊤
+Coheres (entry ∷ later) [] = ⊤
+Coheres (entry ∷ later) (other ∷ others) = (question_of entry ≡ question_of other)
+    × (answer_of entry ≡ answer_of other → (entry ≡ other) × Coheres later others)
+
+same_entry : (entry other : Entry) → question_of entry ≡ question_of other → answer_of entry ≡ answer_of other
+    → entry ≡ other
+same_entry (Waited wait heard) (Waited wait' heard') asks says = cc
+same_entry (Timed time) (Timed now) asks says = cc
+same_entry (Posted to octets) (Posted to' octets') asks says = cc
+same_entry (Unposted to octets) (Unposted to' octets') asks says = cc
+same_entry entry other asks says = absurd (cc)
+
+coheres_front : (front later others : List Entry) → Coheres later others → Coheres (front ++ later) (front ++ others)
+coheres_front [] later others is = is
+coheres_front (entry ∷ front) later others is = (refl, λ _. (refl, coheres_front front later others is))
+
+-- The client at the stage behind an act is the one that the act leaves.
+settled_client : (stage : Stage) (phase : Phase) → (settled_in stage phase).client ≡ stage.client
+settled_client stage Outside = refl
+settled_client stage (Looked time) = refl
+settled_client stage (Telling time) = refl
+settled_client stage Broken = refl
+
+telling_client : (stage : Stage) (time : ℕ) → (telling stage time).client ≡ stage.client
+telling_client stage time = go (nat_lt stage.client.state.clock time) refl
+  where
+    go : (b : Bool) → nat_lt stage.client.state.clock time ≡ b → (telling stage time).client ≡ stage.client
+    go true e = rw e refl
+    go false e = rw e refl
+
+heard_client : (stage : Stage) (time : ℕ) → (heard_at stage time).client ≡ stage.client
+heard_client stage time = go (nat_lt (suc stage.behind) longest_row) refl
+  where
+    go : (b : Bool) → nat_lt (suc stage.behind) longest_row ≡ b → (heard_at stage time).client ≡ stage.client
+    go true e = rw e refl
+    go false e = rw e (telling_client stage time)
+
+freshened_client : (timeout : ℕ) (stage : Stage) (time : ℕ) → (freshened timeout stage time).client ≡ stage.client
+freshened_client timeout stage time =
+    go (open_in stage.client == 0) refl (nat_lt (timeout / 10) (time - stage.client.state.clock)) refl
+  where
+    go : (none : Bool) → (open_in stage.client == 0) ≡ none → (late : Bool)
+        → nat_lt (timeout / 10) (time - stage.client.state.clock) ≡ late
+        → (freshened timeout stage time).client ≡ stage.client
+    go true e late f = rw e (telling_client stage time)
+    go false e true f = rw (e, f) refl
+    go false e false f = rw (e, f) refl
+
+passed_client : (stage : Stage) (time : ℕ) (heard : Heard) → (passed_at stage time heard).client ≡ stage.client
+passed_client stage time Silence = telling_client stage time
+passed_client stage time (Arrived from octets) = heard_client stage time
+passed_client stage time Failure = refl
+
+moved_in_client : (timeout : ℕ) (stage : Stage) (phase : Phase) (aims : List Aim) (act : Act)
+    → DueIn timeout stage phase aims act
+    → (moved_in timeout stage phase aims act).client ≡ (turn_at stage.client act).after
+moved_in_client timeout stage Outside (Turns until (suc left) ∷ later) (Read time) due = refl
+moved_in_client timeout stage Outside (Fresh ∷ later) (Read time) due =
+    freshened_client timeout (record stage { aims = later }) time
+moved_in_client timeout stage Outside (Does act ∷ later) other due = refl
+moved_in_client timeout stage (Looked time) aims (Came wait from octets) due =
+    heard_client (acted stage (Came wait from octets)) time
+moved_in_client timeout stage (Looked time) aims (Passed wait heard) due = passed_client stage time heard
+moved_in_client timeout stage (Telling time) aims act due = refl
+moved_in_client timeout stage phase aims act due = search
+
+moved_client : (timeout : ℕ) (stage : Stage) (act : Act) → IsDue timeout stage act
+    → (moved timeout stage act).client ≡ (turn_at stage.client act).after
+moved_client timeout stage act due =
+    let before = moved_in timeout stage stage.phase stage.aims act in
+    settled_client before before.phase ∙ moved_in_client timeout stage stage.phase stage.aims act due
+
+coheres_none : (entries : List Entry) → Coheres entries []
+coheres_none [] = tt
+coheres_none (entry ∷ entries) = tt
+
+-- Acts that are due at one stage, and what comes behind them.
+act_coheres : (act other : Act) (after : Client) (acts others : List Act) (client : Client) → SameDue act other
+    → (act ≡ other → Coheres (history_of (turn_at client act).after acts) (history_of (turn_at client act).after others))
+    → Coheres (history_of client (act ∷ acts)) (history_of client (other ∷ others))
+act_coheres act other after acts others client (inl (same, none)) later =
+    subst (λ (a : Act). Coheres (history_of client (act ∷ acts)) (history_of client (a ∷ others))) same
+    (coheres_front (asked_by act ++ posts (turn_at client act).notes) _ _ (later same))
+act_coheres act other after acts others client (inr asking) later =
+    rw (asking.asks, asking.other_asks)
+    (asking.question, λ says. (same_entry asking.entry asking.other_entry asking.question says,
+    subst (λ (a : Act). Coheres
+    (posts (turn_at client act).notes ++ history_of (turn_at client act).after acts)
+    (posts (turn_at client a).notes ++ history_of (turn_at client a).after others)) (asking.same says)
+    (coheres_front (posts (turn_at client act).notes) _ _ (later (asking.same says)))))
+
+-- What some acts ask of the link, from a stage on, and what others do that begin at the same.
+abbrev asked_from : Stage → List Act → List Entry
+asked_from stage acts = history_of stage.client acts
+
+histories_cohere : (timeout : ℕ) (stage : Stage) (more : List Aim) (acts others : List Act) → Goes timeout stage acts
+    → Goes timeout (wider stage more) others → Coheres (asked_from stage acts) (asked_from stage others)
+histories_cohere timeout stage more [] others goes goes' = tt
+histories_cohere timeout stage more (act ∷ acts) [] goes goes' = coheres_none (asked_from stage (act ∷ acts))
+histories_cohere timeout stage more (act ∷ acts) (other ∷ others) (due, goes) (due', goes') =
+    let (rest, wide) = moved_wider timeout stage more act due in
+    let client = moved_client timeout stage act due in
+    act_coheres act other (turn_at stage.client act).after acts others stage.client
+    (same_due timeout stage stage.phase stage.aims more act other due due')
+    (λ same. subst (λ (c : Client). Coheres (history_of c acts) (history_of c others)) client
+    (histories_cohere timeout (moved timeout stage act) rest acts others goes
+    (subst (λ (s : Stage). Goes timeout s others) wide
+    (subst (λ (a : Act). Goes timeout (moved timeout (wider stage more) a) others) (sym same) goes'))))
