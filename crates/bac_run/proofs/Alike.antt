@@ -1,8 +1,8 @@
 -- Two runs that are answered alike do the same: which act is due is a function of what was done and answered.
 use Rattle.std.specs.{Prelude.⊤, List.flat_map}
 use Rattle.std.proofs.Common.{◌≡◌, ◌⊎◌, ◌∙◌, ◌-◌, ◌/◌, ◌==◌, ℕ, zero, suc, nat_lt, Bool, false, true, List, [], ◌∷◌, ◌++◌}
-use Rattle.std.proofs.Common.{length, refl, sym, ap, subst, inl, inr, append_assoc}
-use Rattle.std.proofs.lemmas.Bool.{false≢true}
+use Rattle.std.proofs.Common.{Option, Result, Ok, Err, length, refl, sym, ap, subst, inl, inr, append_assoc, is_some}
+use Rattle.std.proofs.lemmas.{Bool.false≢true, List.{append-nil, append_cancel_left}}
 use Rattle.bac_pdu.specs.Peer.{Station}
 use Rattle.bac_tsm.specs.Client.{Client}
 use Rattle.bac_links.specs.{
@@ -10,6 +10,15 @@ use Rattle.bac_links.specs.{
   Asking.{ForDatagram, Question, question_of},
   History.{Entry, Heard, Arrived, Silence, Failure, Posted, Timed, Unposted, Waited},
 }
+use Rattle.bac_links.specs.declared.fault.ToolFault.TheVariants.{SendFailed, ReceiveFailed, TurnsSpent, WriteFailed}
+use Rattle.bac_script.specs.{Script.lines, declared.input.Reading.{Reading, TheVariants.{Open, AtEnd, Failed}}}
+use Rattle.bac_run.specs.{Course.{aims_for, aims_of_lines, last_aims, room_for}, Input.acts_of_line, Run.first_stage}
+use Rattle.bac_run.specs.{Journal.new_client, declared.session.Session.Session}
+use Rattle.bac_print.specs.{Checked.{ends_of, fresh}, declared.checked.Checked.Checked}
+use Rattle.bac_links.specs.History.{Account}
+use Rattle.bac_script.specs.{Alike.GaveSame, Input.ReaderStands, declared.tracing.TraceEnd.TraceEnd}
+use Rattle.bac_run.specs.{Replay.AskNext, Run.Runs}
+use Rattle.bac_run.specs.{Went.IsGained, declared.fault.RunFault.{RunFault, TheVariants.{Link, Script}}}
 use Rattle.bac_run.specs.{
   Course.{Aim, Does, Fresh, Goes, IsDue, Looked, Outside, Phase, Stage, Telling, Broken, DueIn, Turns, acted, freshened},
   Course.{heard_at, is_reached, left_of, longest_row, moved, moved_in, open_in, passed_at, settled, settled_in, stage_after, wait_at, IsPassed, telling},
@@ -303,3 +312,224 @@ histories_cohere timeout stage more (act ∷ acts) (other ∷ others) (due, goes
     (histories_cohere timeout (moved timeout stage act) rest acts others goes
     (subst (λ (s : Stage). Goes timeout s others) wide
     (subst (λ (a : Act). Goes timeout (moved timeout (wider stage more) a) others) (sym same) goes'))))
+
+-- ---- what was asked
+
+-- What a link was asked of what was due: all of it; or what was due before a send that failed, and that.
+abbrev Gets : (due gained : List Entry) → Type 0
+Gets [] gained = gained ≡ []
+Gets (entry ∷ due) [] = ⊥
+Gets (entry ∷ due) (got ∷ gained) = ((got ≡ entry) × Gets due gained)
+    ⊎ ((to : Station) × (octets : List ℕ) × (entry ≡ Posted to octets) × (got ≡ Unposted to octets) × (gained ≡ []))
+
+gets_all : (due : List Entry) → Gets due due
+gets_all [] = refl
+gets_all (entry ∷ due) = inl (refl, gets_all due)
+
+gets_cut : (sent later : List Entry) (to : Station) (octets : List ℕ)
+    → Gets (sent ++ Posted to octets ∷ later) (sent ++ Unposted to octets ∷ [])
+gets_cut [] later to octets = inr (to, octets, refl, refl, refl)
+gets_cut (entry ∷ sent) later to octets = inl (refl, gets_cut sent later to octets)
+
+gets_of : {A : Type 0} (result : Result A RunFault) (due gained : List Entry) → IsGained result due gained
+    → Gets due gained
+gets_of (Ok x) due gained is = subst (λ (xs : List Entry). Gets due xs) (sym is) (gets_all due)
+gets_of (Err (Script fault)) due gained is = subst (λ (xs : List Entry). Gets due xs) (sym is) (gets_all due)
+gets_of (Err (Link SendFailed)) due gained (sent, later, to, octets, whole, was) =
+    rw (whole, was) (gets_cut sent later to octets)
+gets_of (Err (Link ReceiveFailed)) due gained is = subst (λ (xs : List Entry). Gets due xs) (sym is) (gets_all due)
+gets_of (Err (Link TurnsSpent)) due gained is = subst (λ (xs : List Entry). Gets due xs) (sym is) (gets_all due)
+gets_of (Err (Link WriteFailed)) due gained is = subst (λ (xs : List Entry). Gets due xs) (sym is) (gets_all due)
+
+-- What was asked is what was due, whether it could be sent or not.
+asked_as : (entry got : Entry) (due gained : List Entry) → Gets (entry ∷ due) (got ∷ gained)
+    → question_of got ≡ question_of entry
+asked_as entry got due gained (inl (same, _)) = ap question_of same
+asked_as entry got due gained (inr (to, octets, was, is, _)) = ap question_of is ∙ sym (ap question_of was)
+
+none_answered : (xs : List Entry) → answers_of xs ≡ [] → xs ≡ []
+none_answered [] e = refl
+none_answered (x ∷ xs) e = absurd (cc)
+
+none_both : (xs ys : List Entry) → xs ++ ys ≡ [] → (xs ≡ []) × (ys ≡ [])
+none_both [] ys e = (refl, e)
+none_both (x ∷ xs) ys e = absurd (cc)
+
+next_none : (rest : List Entry) → AskNext [] rest
+next_none [] = tt
+next_none (x ∷ rest) = tt
+
+none_next : (rest : List Entry) → AskNext rest []
+none_next [] = tt
+none_next (x ∷ rest) = tt
+
+next : (due others rest rest' : List Entry) → Coheres due others → Gets due rest → Gets others rest' → AskNext rest rest'
+next due others [] rest' coheres gets gets' = next_none rest'
+next due others (x ∷ rest) [] coheres gets gets' = tt
+next [] others (x ∷ rest) (y ∷ rest') coheres gets gets' = absurd (cc)
+next (entry ∷ due) [] (x ∷ rest) (y ∷ rest') coheres gets gets' = absurd (cc)
+next (entry ∷ due) (other ∷ others) (x ∷ rest) (y ∷ rest') (asks, then) gets gets' =
+    asked_as entry x due rest gets ∙ asks ∙ sym (asked_as other y others rest' gets')
+
+aligned : (due others gained got first rest first' rest' : List Entry) → Coheres due others → Gets due gained
+    → Gets others got → gained ≡ first ++ rest → got ≡ first' ++ rest' → answers_of first ≡ answers_of first'
+    → (first ≡ first') × AskNext rest rest'
+aligned due others gained got [] rest [] rest' coheres gets gets' is is' same =
+    (refl, next due others rest rest' coheres (subst (λ (xs : List Entry). Gets due xs) is gets)
+    (subst (λ (xs : List Entry). Gets others xs) is' gets'))
+aligned due others gained got [] rest (y ∷ first') rest' coheres gets gets' is is' same = absurd (cc)
+aligned due others gained got (x ∷ first) rest [] rest' coheres gets gets' is is' same = absurd (cc)
+aligned [] others gained got (x ∷ first) rest (y ∷ first') rest' coheres gets gets' is is' same =
+    absurd (let bad = sym gets ∙ is in cc)
+aligned (entry ∷ due) [] gained got (x ∷ first) rest (y ∷ first') rest' coheres gets gets' is is' same =
+    absurd (let bad = sym gets' ∙ is' in cc)
+aligned (entry ∷ due) (other ∷ others) gained got (x ∷ first) rest (y ∷ first') rest' (asks, then) gets gets' is is' same =
+    let here = subst (λ (xs : List Entry). Gets (entry ∷ due) xs) is gets in
+    let there = subst (λ (xs : List Entry). Gets (other ∷ others) xs) is' gets' in
+    let says : answer_of x ≡ answer_of y = cc in
+    let later : answers_of first ≡ answers_of first' = cc in
+    let one : x ≡ y = same_entry x y
+    (asked_as entry x due (first ++ rest) here ∙ asks ∙ sym (asked_as other y others (first' ++ rest') there)) says in
+    go one later here there (λ coheres here there.
+    aligned due others (first ++ rest) (first' ++ rest') first rest first' rest' coheres here there refl refl later)
+  where
+    go : x ≡ y → answers_of first ≡ answers_of first' → Gets (entry ∷ due) (x ∷ (first ++ rest))
+        → Gets (other ∷ others) (y ∷ (first' ++ rest'))
+        → (Coheres due others → Gets due (first ++ rest) → Gets others (first' ++ rest')
+        → (first ≡ first') × AskNext rest rest') → ((x ∷ first) ≡ (y ∷ first')) × AskNext rest rest'
+    go one later (inl (e, here)) (inl (f, there)) on =
+        let (alike, coheres) = then (sym (ap answer_of e) ∙ ap answer_of one ∙ ap answer_of f) in
+        let (same, more) = on coheres here there in
+        (ap (λ (z : Entry). z ∷ first) one ∙ ap (λ (zs : List Entry). y ∷ zs) same, more)
+    go one later (inr (to, octets, was, is, none)) there on =
+        let (over, out) = none_both first rest none in
+        let over' = none_answered first' (sym later ∙ ap answers_of over) in
+        (ap (λ (z : Entry). z ∷ first) one ∙ ap (λ (zs : List Entry). y ∷ zs) (over ∙ sym over'),
+        subst (λ (zs : List Entry). AskNext zs rest') (sym out) (next_none rest'))
+    go one later here (inr (to, octets, was, is, none)) on =
+        let (over', out) = none_both first' rest' none in
+        let over = none_answered first (later ∙ ap answers_of over') in
+        (ap (λ (z : Entry). z ∷ first) one ∙ ap (λ (zs : List Entry). y ∷ zs) (over ∙ sym over'),
+        subst (λ (zs : List Entry). AskNext rest zs) (sym out) (none_next rest))
+
+-- ---- whole runs
+
+-- What a run is about where its reader failed begins as where it may be read on.
+aims_open : (window : ℕ) (ls : List (List ℕ)) → (rest : List Aim)
+    × (aims_of_lines window Failed ls ≡ aims_of_lines window Open ls ++ rest)
+aims_open window [] = (last_aims Failed, refl)
+aims_open window (line ∷ later) = go (is_some (acts_of_line line)) refl (aims_open window later)
+  where
+    go : (good : Bool) → is_some (acts_of_line line) ≡ good
+        → (rest : List Aim) × (aims_of_lines window Failed later ≡ aims_of_lines window Open later ++ rest)
+        → (rest : List Aim)
+        × (aims_of_lines window Failed (line ∷ later) ≡ aims_of_lines window Open (line ∷ later) ++ rest)
+    go true e (rest, is) =
+        (rest, rw e (ap (λ (xs : List Aim). room_for window ∷ (aims_for (acts_of_line line) ++ xs)) is
+        ∙ sym (append_assoc (room_for window ∷ aims_for (acts_of_line line)) (aims_of_lines window Open later) rest)))
+    go false e (rest, is) = ([], rw e (sym (append-nil (room_for window ∷ (aims_for (acts_of_line line) ++ [])))))
+
+-- Two runs of one session, of which the second is about more.
+runs_cohere : (session : Session) (aims rest : List Aim) (acts others : List Act)
+    → Goes session.config.timeout (first_stage session aims) acts
+    → Goes session.config.timeout (first_stage session (aims ++ rest)) others
+    → Coheres (history_of (new_client session.config.timeout session.config.retries) acts)
+    (history_of (new_client session.config.timeout session.config.retries) others)
+runs_cohere session aims rest acts others goes goes' =
+    let raw : Stage = record {
+      client = new_client session.config.timeout session.config.retries;
+      behind = 0;
+      phase = Outside;
+      aims = aims;
+    } in
+    let (more, wide) = settled_wider raw rest in
+    histories_cohere session.config.timeout (settled raw) more acts others goes
+    (subst (λ (s : Stage). Goes session.config.timeout s others) wide goes')
+
+swapped : (first first' rest rest' : List Entry) → (first' ≡ first) × AskNext rest' rest
+    → (first ≡ first') × AskNext rest rest'
+swapped first first' [] rest' (is, asks) = (sym is, next_none rest')
+swapped first first' (x ∷ rest) [] (is, asks) = (sym is, tt)
+swapped first first' (x ∷ rest) (y ∷ rest') (is, asks) = (sym is, sym asks)
+
+-- How often reading met the end.
+abbrev pub ends : Reading → ℕ
+ends AtEnd = 1
+ends Open = 0
+ends Failed = 0
+
+-- The lines are the same where the octets are, and the readers met their end as often.
+module _ (session : Session) (given : List ℕ) (acts others : List Act) where
+  abbrev aims_at : Reading → List Aim
+  aims_at reading = aims_of_lines session.window reading (lines given reading)
+
+  abbrev GoesAt : Reading → List Act → Type 0
+  GoesAt reading = Goes session.config.timeout (first_stage session (aims_at reading))
+
+  abbrev asked : List Act → List Entry
+  asked = history_of (new_client session.config.timeout session.config.retries)
+
+  abbrev both_cohere : Reading → Reading → Type 0
+  both_cohere reading other = GoesAt reading acts → GoesAt other others
+      → Coheres (asked acts) (asked others) ⊎ Coheres (asked others) (asked acts)
+
+  same_reading : (reading : Reading) → both_cohere reading reading
+  same_reading reading goes goes' =
+      inl (runs_cohere session (aims_at reading) [] acts others goes
+      (subst (λ (xs : List Aim). Goes session.config.timeout (first_stage session xs) others)
+      (sym (append-nil (aims_at reading))) goes'))
+
+  cohere_either : (reading other : Reading) → ends reading ≡ ends other → both_cohere reading other
+  cohere_either Open Open e = same_reading Open
+  cohere_either AtEnd AtEnd e = same_reading AtEnd
+  cohere_either Failed Failed e = same_reading Failed
+  cohere_either Open Failed e = λ goes goes'.
+      let (rest, is) = aims_open session.window (lines given Open) in
+      inl (runs_cohere session (aims_at Open) rest acts others goes
+      (subst (λ (xs : List Aim). Goes session.config.timeout (first_stage session xs) others) is goes'))
+  cohere_either Failed Open e = λ goes goes'.
+      let (rest, is) = aims_open session.window (lines given Open) in
+      inr (runs_cohere session (aims_at Open) rest others acts goes'
+      (subst (λ (xs : List Aim). Goes session.config.timeout (first_stage session xs) acts) is goes))
+  cohere_either Open AtEnd e = absurd (cc)
+  cohere_either AtEnd Open e = absurd (cc)
+  cohere_either Failed AtEnd e = absurd (cc)
+  cohere_either AtEnd Failed e = absurd (cc)
+
+ends_as_stands : {R : Type 0} (remaining : R → Option (List ℕ)) (reading : Reading) (reader : R) (after : Checked R)
+    → ReaderStands remaining reading (fresh reader) after [] → ends_of after ≡ ends reading
+ends_as_stands remaining Open reader after stands = stands.unended
+ends_as_stands remaining AtEnd reader after stands = stands.once
+ends_as_stands remaining Failed reader after stands = stands.unended
+
+module _ {Origin Other R S V W : Type 0} {remaining : R → Option (List ℕ)} {remaining' : S → Option (List ℕ)}
+    {contents : V → Option (List ℕ)} {contents' : W → Option (List ℕ)} where
+  pub asks_alike : (session : Session) (reader : R) (other_reader : S) (reader' : Checked R) (other_reader' : Checked S)
+      (before after : Checked V) (other_before other_after : Checked W) (seen left : Account Origin)
+      (other_seen other_left : Account Other) (result other : Result TraceEnd RunFault)
+      (first rest other_first other_rest : List Entry)
+      → Runs remaining contents session (fresh reader) reader' before after seen left result
+      → Runs remaining' contents' session (fresh other_reader) other_reader' other_before other_after other_seen other_left other
+      → GaveSame reader' other_reader' → left.history ≡ seen.history ++ (first ++ rest)
+      → other_left.history ≡ other_seen.history ++ (other_first ++ other_rest)
+      → answers_of first ≡ answers_of other_first → (first ≡ other_first) × AskNext rest other_rest
+  asks_alike session reader other_reader reader' other_reader' before after other_before other_after seen left other_seen
+      other_left result other first rest other_first other_rest runs others gave is is' same =
+      let one = runs.course in
+      let two = others.course in
+      let octets : two.given ≡ one.given = sym (two.gave) ∙ sym gave.octets ∙ one.gave in
+      let met = sym (ends_as_stands remaining one.reading reader reader' one.stands) ∙ gave.ends
+      ∙ ends_as_stands remaining' two.reading other_reader other_reader' two.stands in
+      let goes' = subst (λ (xs : List ℕ). Goes session.config.timeout
+      (first_stage session (aims_of_lines session.window two.reading (lines xs two.reading))) others.acts) octets two.goes in
+      let gained : runs.asks.gained ≡ first ++ rest =
+      append_cancel_left seen.history _ _ (sym (ap (λ (a : Account Origin). a.history) runs.asks.gains) ∙ is) in
+      let got : others.asks.gained ≡ other_first ++ other_rest =
+      append_cancel_left other_seen.history _ _ (sym (ap (λ (a : Account Other). a.history) others.asks.gains) ∙ is') in
+      let gets = gets_of result _ _ runs.asks.as_due in
+      let gets' = gets_of other _ _ others.asks.as_due in
+      elim (cohere_either session one.given runs.acts others.acts one.reading two.reading met one.goes goes') [
+        | inl coheres ↦ aligned _ _ _ _ first rest other_first other_rest coheres gets gets' gained got same
+        | inr coheres ↦ swapped first other_first rest other_rest
+          (aligned _ _ _ _ other_first other_rest first rest coheres gets' gets got gained (sym same))
+      ]

@@ -1,10 +1,10 @@
 -- The journal as a script: what `bactrace` reads in its lines, and what it prints of them.
-use Rattle.std.specs.Prelude.{◌≡◌, ◌≢◌, ℕ, Bool, true, false, List, [], ◌∷◌, ◌++◌, Result, Ok, Err}
+use Rattle.std.specs.Prelude.{◌≡◌, ◌≢◌, ℕ, Bool, true, false, List, [], ◌∷◌, ◌++◌, Result, Ok, Err, ⊤}
 use Rattle.std.specs.List.{AllByRecursion}
 use Rattle.bac_pdu.specs.Peer.{Station}
 use Rattle.bac_tsm.specs.{Events.{Data, Tick, Note, Sent}}
 use Rattle.bac_script.specs.Line.{Said, Nothing, Settings, Happens, said}
-use Rattle.bac_links.specs.History.{Entry, Posted}
+use Rattle.bac_links.specs.{Asking.question_of, History.{Entry, Posted}}
 use Rattle.bac_links.specs.declared.fault.ToolFault.TheVariants.{SendFailed}
 use Rattle.bac_run.specs.declared.{session.Session.Session, fault.RunFault.{RunFault, TheVariants.Link}}
 use Rattle.bac_run.specs.Journal.{Act, Asked, Paused, Came, Told, line_of, settings_line}
@@ -42,3 +42,8 @@ sent_in _ = []
 abbrev pub AreSent : {A D : Type 0} → Result A RunFault → (due sent : List D) → Type 0
 AreSent {D} (Err (Link SendFailed)) due sent = (lost : D) × (later : List D) × (due ≡ sent ++ lost ∷ later)
 AreSent _ due sent = sent ≡ due
+
+-- Of two runs each was asked and answered this, behind what both were: where both go on, they ask the same next.
+abbrev pub AskNext : (rest other_rest : List Entry) → Type 0
+AskNext (entry ∷ later) (other ∷ others) = question_of entry ≡ question_of other
+AskNext rest other_rest = ⊤

@@ -3,8 +3,8 @@ ghost use Rattle.std.specs.Prelude.{◌≡◌, ◌⊎◌, [], ◌∷◌, ◌++�
 ghost use Rattle.std.specs.Prelude.{List, None, Result, Ok};
 ghost use Rattle.std.specs.List.{flat_map};
 ghost use Rattle.bac_wire.specs.Copies.{EqualsBy, MakesCopies};
-ghost use Rattle.bac_print.specs.declared.checked.Checked.{Checked};
-ghost use Rattle.bac_script.specs.{Script.{text, lines, first_fault}, Text.notes_text};
+ghost use Rattle.bac_print.specs.{Checked.fresh, declared.checked.Checked.Checked};
+ghost use Rattle.bac_script.specs.{Alike.GaveSame, Script.{text, lines, first_fault}, Text.notes_text};
 ghost use Rattle.bac_script.specs.declared.{input.Reading.TheVariants.AtEnd, tracing.TraceEnd.TraceEnd};
 ghost use Rattle.bac_script.specs.Line.{Happens, Settings as SettingsSaid};
 ghost use Rattle.hex.specs.Hex.{IsBytes};
@@ -14,12 +14,12 @@ ghost use Rattle.bac_tsm.specs.{
   Laws.{outputs, state_at},
   Lookahead.{Accepted, clock, end},
 };
-ghost use Rattle.bac_links.specs.History.{Account, Entry};
+ghost use Rattle.bac_links.specs.{Answered.answers_of, History.{Account, Entry}};
 ghost use Rattle.bac_run.specs.{
   Input.{EndsWithFeed, HasNoFeed, said_of},
   Course.AreSteady,
   Journal.{Act, Asked, Paused, Told, arrival_line, client_after, events_of, new_client, notes_of, settings_line},
-  Replay.{AreSent, IsLineOf, IsReadBack, posted_in, sent_in},
+  Replay.{AreSent, AskNext, IsLineOf, IsReadBack, posted_in, sent_in},
   Run.{Runs, journal_of},
 };
 ghost use Rattle.bac_run.specs.declared.{session.Session.Session as Settings, fault.RunFault.RunFault as Fault};
@@ -53,6 +53,21 @@ pub fn a_run_tells_what_the_look_ahead_gives()
 {
     client_is_lookahead();
 }
+
+/// What a run asks of its link is a function of its session, of its input, and of what the link answered. Take two runs
+/// of one session over the same input, over any two links: as far as they were answered alike, they asked alike; and
+/// where both go on, they ask the same next.
+pub fn a_run_asks_by_its_answers<K: Link, L: Link, R: Read, S: Read, V: Write, W: Write>()
+    ensures { (session : Settings) (reader : R) (other_reader : S) (reader' : Checked R) (other_reader' : Checked S)
+        (before after : Checked V) (other_before other_after : Checked W) (seen left : Account K.Origin)
+        (other_seen other_left : Account L.Origin) (result other : Result TraceEnd Fault)
+        (first rest other_first other_rest : List Entry)
+        → Runs R.remaining V.contents session (fresh reader) reader' before after seen left result
+        → Runs S.remaining W.contents session (fresh other_reader) other_reader' other_before other_after other_seen
+        other_left other → GaveSame reader' other_reader' → left.history ≡ seen.history ++ (first ++ rest)
+        → other_left.history ≡ other_seen.history ++ (other_first ++ other_rest)
+        → answers_of first ≡ answers_of other_first → (first ≡ other_first) × AskNext rest other_rest }
+{}
 
 /// Every request is over within (retries + 1) x (timeout + longest): take any events of which none, behind the request,
 /// moves the clock by more than `longest`. While it is open, no more has passed since it was sent, by the times told,
