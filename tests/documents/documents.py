@@ -129,12 +129,10 @@ def map_beside_the_crates(section):
 
 
 def scripts_are_run(section):
-    runs = "".join(text_of(file) for file in ("Makefile", "packaging.mk", "measuring.mk", "tests/parts.py"))
-    runs = re.sub(r"(?m)^#.*", "", runs)
+    runs = text_of("tests/documents/targets.txt") + text_of("tests/parts.py")
     by_hand = {name for row in tables(section) for name in names(row["What it has"].partition("by hand")[2])}
     for file in files("tests/*/*"):
-        is_run = os.path.basename(file) in by_hand or re.search(rf"{file}\b", runs)
-        if os.access(file, os.X_OK) and not is_run:
+        if os.access(file, os.X_OK) and os.path.basename(file) not in by_hand and file not in runs:
             yield f"{file}: no target of make runs it, and docs/CODE.md does not say `by hand`"
 
 
@@ -348,7 +346,7 @@ def rows_are_read_back(parts):
 
 
 def wide_lines():
-    places = [*SOURCES, "Makefile", "*.mk", "*.py", "crates/*/oracle/*.py", "site/bacsite/**/*.py"]
+    places = [*SOURCES, "Makefile", "*.mk", "*.py", "site/bacsite/**/*.py"]
     for folder in ("bench", "completions", "examples", "man", "packaging", "tests"):
         places += [f"{folder}/**/*.{ending}" for ending in "py sh c awk bash zsh fish service".split()]
     for file in files(*places):
