@@ -92,21 +92,6 @@ def servers():
     yield wide("bacdev by echo, best by best", *(f"{max(one) / max(echo):8.2f}" for one, echo in zip(ours, echoes)))
 
 
-def shares():
-    """Where the time of bacdev goes under load, where perf is installed."""
-    if left_out("perf"):
-        return
-    kept = f"{TOP}/out/perf"
-    record = ["perf", "record", "-q", "-e", "cpu-clock", "-o", kept, PROGRAM]
-    with device("--count", str(MANY_REPLIES), program=record) as (process, port):
-        load(port, 32, MANY_REPLIES)
-        process.wait()
-    words = ["perf", "report", "-i", kept, "--sort", "dso", "--stdio"]
-    report = subprocess.run(words, capture_output=True, check=False, text=True).stdout
-    found = re.findall(r"(?m)^ *([\d.]+%) +(\S+)", report)
-    yield f"{'its time by perf, 32 outstanding':34} {', '.join(f'{name} {share}' for share, name in found)}"
-
-
 def clients():
     """The median and the least of the microseconds that a command takes, run one after the other."""
     yield row(f"\nmicroseconds a run, {RUNS} runs", "median", "least")
@@ -147,7 +132,7 @@ def memory():
 
 
 def network():
-    for part in (servers, shares, clients, memory):
+    for part in (servers, clients, memory):
         yield from part()
 
 

@@ -31,8 +31,8 @@ case $1 in
 esac
 """
 SCRIPT = RULES + 'echo "$0: 5 calls as they are to be"\n'
-WRONG, SELF_TEST, DROPS = "bodies/wrong_bodies.py", "bodies/self_test.py", "bodies/let_go.py"
-EMPTIED, CHECKS = "bodies/definitions.py", "false_checks.py"
+WRONG, SELF_TEST, REFUSED = "bodies/wrong_bodies.py", "bodies/self_test.py", "bodies/refused.py"
+CHECKS = "false_checks.py"
 MAKEFILE = """
 examples:
 	@tests/one.sh
@@ -77,8 +77,8 @@ ROWS = [
     (TEST, says(WRONG, TWINS), 0, r"\n9 wrong bodies: 8 shown wrong\n40 passed, 0 " + GOOD),
     (TEST, says(WRONG, TWINS.replace("0 failed", "3 failed"), 1), 1, r"failed: wrong bodies\n37 passed, 3 " + GOOD),
     (TEST, says(WRONG, NO_TWINS.replace("9", "0")), 1, r"failed: wrong bodies"),
-    (GATE, "", 0, r"\n70 passed, 0 " + GOOD),
-    ([".ci/run"], "", 0, r"\n70 passed, 0 " + GOOD),
+    (GATE, "", 0, r"\n65 passed, 0 " + GOOD),
+    ([".ci/run"], "", 0, r"\n65 passed, 0 " + GOOD),
     (GATE, "four.sh: exit 1", 1, r"^((?!rt ci)(.|\n))*failed: documents\n\d+ passed, 1 " + GOOD),
     (GATE, says(WRONG, "9 bodies, of which 2 don't fit the code", 1, " --list"), 1, r"failed: fit\n"),
     (GATE, "wrong_bodies.py --list: true", 1, r"failed: fit\n"),
@@ -87,9 +87,8 @@ ROWS = [
     (GATE, "rt ci: echo '0 passed, 0 failed'", 1, r"failed: rt ci\n"),
     (GATE, "rt ci: echo '20 passed, 0 failed'", 1, r"failed: program\n"),
     (GATE, says(SELF_TEST, "6 bodies, 1 not told as they are to be"), 1, r"failed: self test\n"),
-    (GATE, says(DROPS, "10 drops and calls, 1 not refused", 1), 1, r"failed: drops\n\d+ passed, 1 " + GOOD),
-    (GATE, says(DROPS, "0 drops and calls, 0 not refused"), 1, r"failed: drops\n"),
-    (GATE, says(EMPTIED, "9 emptied definitions, 1 not refused", 1), 1, r"failed: definitions\n\d+ passed, 1 " + GOOD),
+    (GATE, says(REFUSED, "10 drops, 1 not refused", 1), 1, r"failed: refused\n\d+ passed, 1 " + GOOD),
+    (GATE, says(REFUSED, "0 drops, 0 not refused"), 1, r"failed: refused\n"),
     (GATE, says(CHECKS, "9 faults and 9 false checks, 1 not seen"), 1, r"failed: false checks\n"),
 ]
 
@@ -100,7 +99,7 @@ def made(room, rules, is_built=True):
     texts = {"Makefile": MAKEFILE, "HANDLES": "", "crates.txt": crates, "../bin/rt": RT}
     texts.update((path, text_of(path)) for path in ("build.py", "tests/parts.py", "tests/tree.py", ".ci/run"))
     texts.update((f"crates/{name}/src/lib.rt", "//! x\n") for name in re.findall(r"(\w+):", crates))
-    scripts = ("one.sh", "two.sh", "three.sh", "four.sh", WRONG, SELF_TEST, DROPS, EMPTIED, CHECKS)
+    scripts = ("one.sh", "two.sh", "three.sh", "four.sh", WRONG, SELF_TEST, REFUSED, CHECKS)
     texts.update((f"tests/{name}", SCRIPT) for name in scripts)
     wanted = re.search(r"for tool in (.*); do", text_of(".ci/run"))[1].split()
     texts.update((f"../bin/{name}", RULES) for name in wanted if name != "rt")

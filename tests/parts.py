@@ -183,11 +183,10 @@ def gate(room):
     yield [[documents, Part("fit", [wrong, "--list"], shown=r"^crates/|fit")]]
     tried = [gently("self test", "tests/bodies/self_test.py"), gently("wrong bodies", wrong, "--over", tree)]
     yield beside([whole_proof(room)], tried)
-    drops = Part("drops", ["tests/bodies/let_go.py", "--over", tree])
-    emptied = Part("definitions", ["tests/bodies/definitions.py", "--over", tree])
+    refused = Part("refused", ["tests/bodies/refused.py", "--over", tree])
     program = Part("program", ["install", "-D", f"{tree}/{PROGRAM}", PROGRAM], tried="")
     false = Part("false checks", ["tests/false_checks.py", PROGRAM])
-    yield [[drops, emptied, program, false, target("examples"), target("lint")]]
+    yield [[refused, program, false, target("examples"), target("lint")]]
 
 
 def main(words):

@@ -18,8 +18,7 @@ where they differ, and says in what.
 - docs/PROTOCOL.md: the texts of faults are those of the code. Each row of a table is read back from outside: named in
   pins.txt, once, with the worked row or example that would fail were it wrong in a definition and in the code at once.
   What is named there stands in the document, and the text which is named for it in its file; a number of three digits
-  or more, or one beside it, stands in these texts too, in decimal or as octets. The device has the properties of
-  its table, and no others.
+  or more, or one beside it, stands in these texts too, in decimal or as octets.
 - No type has a `Drop` that is written by hand, which could do anything when a value is let go. bac_pdu has no loop, and
   no crate from there to bac_device can begin a count of work. Each public constant, and the clone and the `==` of each
   public type, is said by a law.
@@ -129,12 +128,10 @@ def map_beside_the_crates(section):
 
 
 def scripts_are_run(section):
-    runs = "".join(text_of(file) for file in ("Makefile", "packaging.mk", "measuring.mk", "tests/parts.py"))
-    runs = re.sub(r"(?m)^#.*", "", runs)
+    runs = text_of("tests/documents/targets.txt") + text_of("tests/parts.py")
     by_hand = {name for row in tables(section) for name in names(row["What it has"].partition("by hand")[2])}
     for file in files("tests/*/*"):
-        is_run = os.path.basename(file) in by_hand or re.search(rf"{file}\b", runs)
-        if os.access(file, os.X_OK) and not is_run:
+        if os.access(file, os.X_OK) and os.path.basename(file) not in by_hand and file not in runs:
             yield f"{file}: no target of make runs it, and docs/CODE.md does not say `by hand`"
 
 
@@ -305,25 +302,6 @@ def rows_of_rules(parts):
     return [(heading, " | ".join(row.values())) for heading, section in parts.items() for row in tables(section)]
 
 
-def properties_of_the_device(section):
-    """The table has the properties that the definition has, each with its number, and its value where that is fixed."""
-    numbers = dict(re.findall(r"(?m)^(\w+) = (\d+)$", text_of("crates/bac_device/specs/Limits.antt")))
-    rows = re.findall(r"\((\d+), (.*?)\) +-- ([\w-]+)", text_of("crates/bac_device/specs/Device.antt"))
-    there = {f"{name} ({number})": value.partition(" ")[2] for number, value, name in rows}
-    told = {}
-    for row in tables(section):
-        if "Property" in row:
-            properties, values = row["Property"].split(", "), row["Value"].split("; ")
-            values = values if len(values) == len(properties) else row["Value"].split(", ")
-            told.update(zip(properties, values))
-    yield from (f"docs/PROTOCOL.md: {name} is told or defined alone" for name in sorted({*told} ^ {*there}))
-    for name in {*told} & {*there}:
-        value = there[name].removeprefix('0 (codes "').removesuffix('")')
-        fixed = value != there[name] or numbers.get(value, value).isdecimal()
-        if fixed and numbers.get(value, value) != re.sub(r"`(.*)`|(\d+).*", r"\1\2", told[name]):
-            yield f"docs/PROTOCOL.md: {name} is {value}, not {told[name]}"
-
-
 def rows_are_read_back(parts):
     rows, named = rows_of_rules(parts), set()
     for heading, key, places in pins():
@@ -348,7 +326,7 @@ def rows_are_read_back(parts):
 
 
 def wide_lines():
-    places = [*SOURCES, "Makefile", "*.mk", "*.py", "crates/*/oracle/*.py", "site/bacsite/**/*.py"]
+    places = [*SOURCES, "Makefile", "*.mk", "*.py", "site/bacsite/**/*.py"]
     for folder in ("bench", "completions", "examples", "man", "packaging", "tests"):
         places += [f"{folder}/**/*.{ending}" for ending in "py sh c awk bash zsh fish service".split()]
     for file in files(*places):
@@ -395,7 +373,6 @@ def main():
         *drops_by_hand(),
         *uncounted_work(),
         *public_names_without_a_law(),
-        *properties_of_the_device(rules["The device"]),
         *rows_are_read_back(rules),
         *links_and_lines(),
         *wide_lines(),

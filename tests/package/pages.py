@@ -2,8 +2,8 @@
 """Compares what manual pages and documents say with the programs: words, options, ranges and defaults with each tool's
 help, faults with the code's texts, and with help and documents what has to be said twice: statuses, version, the
 warnings, how a fault is reported. What they say in numbers is measured, and read back there by the sentences of
-facts.txt: statuses, times, ranges, the points of the small device. Then mandoc reads the pages, systemd the unit, and
-Wireshark, which has the standard's numbers from another hand, is asked what it calls those of site/bacsite/numbers.txt.
+facts.txt: statuses, times, ranges, the points of the small device. Then mandoc reads the pages, and Wireshark, which
+has the standard's numbers from another hand, is asked what it calls those of site/bacsite/numbers.txt.
 Usage: tests/package/pages.py PROGRAM
 """
 import datetime
@@ -15,7 +15,7 @@ import sys
 import tempfile
 
 sys.path.insert(0, os.path.dirname(__file__) + "/..")
-from tree import TOOLS, TOP, device, left_out, local_socket, plain, put_tools, same, says, sections_of, shown, text_of
+from tree import TOOLS, TOP, device, left_out, plain, put_tools, same, says, sections_of, shown, text_of
 from tree import verdict, write
 
 sys.path.append(TOP + "/man")
@@ -238,17 +238,6 @@ def seen(rows):
     return found
 
 
-def request():
-    """The number and the length of the request that bacrp sends."""
-    with local_socket() as field:
-        field.settimeout(10)
-        mac = "127.0.0.1:%d" % field.getsockname()[1]
-        with subprocess.Popen([PROGRAM, "bacrp", "1234", "0", "5", "85", "--mac", mac]) as tool:
-            octets = field.recv(2048)
-            tool.kill()
-    return {"number": octets[8], "octets": len(octets)}
-
-
 def tables_of_the_guide(on):
     """The status beside each line and each message."""
     lines, messages = text_of("docs/GUIDE.md").split("\n### What a message can mean\n")
@@ -287,16 +276,6 @@ def tools_of_readme():
         same(f"README.md: {command}: {said.strip()}", (status, there), (0, [True] * len(lines)))
 
 
-def unit():
-    """systemd finds no fault in the unit."""
-    if left_out("systemd-analyze"):
-        return
-    with open(f"{ROOM.name}/bacdev.service", "w", encoding="utf-8") as file:
-        file.write(text_of("examples/bacdev.service").replace("/usr/local/bin/bacdev", PROGRAM))
-    told = run(f"systemd-analyze verify {file.name} 2>&1")[1]
-    same("what systemd-analyze says of it", [it for it in told.splitlines() if "bacdev.service" in it], [])
-
-
 def properties():
     """The rules name each property that the device and its points have, and no other, with the numbers that it has."""
     rules = text_of("docs/PROTOCOL.md").partition("\nEvery point has")[2].partition("\n## ")[0]
@@ -330,7 +309,7 @@ def facts():
     rows = dict(sections_of("tests/package/facts.txt"))
     with device(program=[PROGRAM]) as (_, port):
         SETTINGS["DEV"] = f"127.0.0.1:{port}"
-        measured = {"points": points(), **request(), **known(rows.pop("Numbers"))}
+        measured = {"points": points(), **known(rows.pop("Numbers"))}
         properties()
         examples()
         tools_of_readme()
@@ -341,8 +320,7 @@ def facts():
 
 
 def main():
-    parts = (words_and_options, bacsite, statuses, what_is_said_twice, faults, versions, facts, unit, mandoc, wireshark)
-    for part in parts:
+    for part in (words_and_options, bacsite, statuses, what_is_said_twice, faults, versions, facts, mandoc, wireshark):
         part()
     return verdict("texts of pages and documents say what is so")
 

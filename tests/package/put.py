@@ -1,8 +1,8 @@
 #!/usr/bin/env python3
 """Tries make install in a folder of its own: what it puts, replaces, refuses to replace, and takes away, also where
 PREFIX was copied or moved. Then packs the program, and looks at the package: it has what make install puts, and says of
-itself what the tree says; lintian finds no error; and dpkg puts it over an older one, and takes it away again. Usage:
-tests/package/put.py PROGRAM; the package needs dpkg-deb, strip, objdump and gzip, and it says so.
+itself what the tree says, and lintian finds no error. Usage: tests/package/put.py PROGRAM; the package needs dpkg-deb,
+strip, objdump and gzip, and it says so.
 """
 import email.utils
 import filecmp
@@ -216,32 +216,6 @@ def lintian(package):
         same("errors that lintian finds", [line for line in found if line.startswith("E: ")], [])
 
 
-def over_an_older_one(room, package):
-    """dpkg puts the package as version 0.3.0 would have it, with a script that is gone since and another page, and this
-    one over it, in a root of its own, which has nothing: so it is told not to look at what the package depends on."""
-    if os.getuid() != 0:
-        print("tests/package/put.py: dpkg puts packages for root alone, left out")
-        return
-    older, root = room.top / "older", room.top / "root"
-    told("dpkg-deb", "-R", package, str(older))
-    control = older / "DEBIAN/control"
-    control.write_text(re.sub(r"(?m)^Version: .*", "Version: 0.3.0", control.read_text(encoding="utf-8")))
-    for path in (f"{DOC}/examples/poll.sh", "share/man/man1/bacrp.1.gz"):
-        (older / "usr" / path).write_text("as it was\n")
-    told("dpkg-deb", "--build", "--root-owner-group", "-Zgzip", str(older), f"{older}.deb")
-    for name in ("updates", "info"):
-        (root / "var/lib/dpkg" / name).mkdir(parents=True)
-    (root / "var/lib/dpkg/status").touch()
-    dpkg = ["dpkg", f"--root={root}", "--force-depends", "--log=/dev/null"]
-    told(*dpkg, "-i", f"{older}.deb")
-    same("what was put first", (root / f"usr/{DOC}/examples/poll.sh").exists(), True)
-    told(*dpkg, "-i", package)
-    same("the files after an upgrade", tree_of(root / "usr"), tree_of(room.top / "there/usr"))
-    same("what has changed since", told(*dpkg, "-V", "bactool"), "")
-    told(*dpkg, "-P", "bactool")
-    same("what is left behind", tree_of(root / "usr"), {})
-
-
 def the_package(room):
     if left_out("dpkg-deb", "dpkg", "strip", "objdump", "gzip"):
         return
@@ -254,7 +228,6 @@ def the_package(room):
         files_of_the_package(room, package)
         what_a_package_says(room, package)
         lintian(package)
-        over_an_older_one(room, package)
 
 
 def main():

@@ -1,5 +1,5 @@
 //! Every part of every datagram goes through the readers of tags, values and regions, also with octets changed. The
-//! counts that are expected come from `oracle/count.py`, a reader of the same grammar that was written apart.
+//! counts that are expected come from `tests/site/count.py`, by a reader of the same grammar that was written apart.
 
 use crate::tests::datagrams::DATAGRAMS;
 use crate::tests::octets;

@@ -1,10 +1,12 @@
 #!/usr/bin/env python3
-"""Sees that the language refuses what no contract speaks of: a `Drop` by hand of a type that holds a socket, a link, a
-stream, the runtime or a report, which could send, write or flush when a value is let go; and a call of the system where
-the runtime and the socket are out of reach.
+"""Sees that what no contract speaks of is refused. By the language, a `Drop` by hand of a type that holds a socket, a
+link, a stream, the runtime or a report, which could send, write or flush when a value is let go; and a call of the
+system where the runtime and the socket are out of reach. By the worked examples, a definition that was emptied or
+weakened, as definitions.edits has it: the example that stands beside it is not proved then, and nothing is refused but
+what stands in its answers; the code does not follow such an edit, since an example is tried without it.
 
-It needs the libraries of the crates below, as `make demo` keeps them. The status is 0 where each is refused by the
-errors that stand beside it, and by no other. Each takes some seconds, in which nothing is proved.
+Usage: tests/bodies/refused.py [--over TREE] [PATTERN]: all of them, or those in whose name the pattern is found, over
+the libraries that this tree, or another, has of the crates below, as `make demo` keeps them. Each takes some seconds.
 """
 import argparse
 import os
@@ -12,9 +14,10 @@ import re
 import subprocess
 import sys
 import tempfile
+from concurrent.futures import ThreadPoolExecutor
 
 sys.path.insert(0, os.path.dirname(__file__) + "/..")
-from tree import TOP, copy_crate, text_of, write
+from tree import TOP, copy_crate, processors, text_of, write
 from wrong_bodies import command
 
 MOVED, BOUND = {"move-out-of-place"}, {"specialized-drop"}
@@ -57,42 +60,58 @@ REACHES = [
     ("bac_links", "socket", "        self.log\n", "self.socket.recv_from(&mut [0])", UNKNOWN),
     ("bac_links", "socket", "        self.log\n", "self.made.elapsed(&self.rt)", UNBOUND),
 ]
+ENTRY = re.compile(r"(?ms)^\[(\w+)\]\n(.*?)^by: (\w+)$")
+PAIR = re.compile(r"(?m)^file: (.*)\nold: (.*)\nnew: (.*)$")
 
 
 def edits():
-    """Of each `Drop` and each call: crate, file, the text that is there, what it gives way to, and the errors."""
+    """What is tried: a name; the files, each with the text that is there and what it gives way to; the example that
+    refuses it, or the errors by which the language does."""
     for crate, file, head, given, kind, does, errors in TYPES:
-        by_hand = f"impl{given} Drop for {kind} {{ fn drop(self) {{ {does} }} }}\n{head}"
-        yield crate, file, f"#[derive(Drop)]\n{head}", by_hand, errors
+        by_hand = f"impl{given} Drop for {kind} {{ fn drop(self) {{ {does} }} }}"
+        pair = f"crates/{crate}/src/{file}.rt", f"#[derive(Drop)]\n{head}", f"{by_hand}\n{head}"
+        yield f"{crate}: {by_hand}", [pair], errors
     for crate, file, before, call, errors in REACHES:
-        yield crate, file, before, f"    let _ = {call};\n{before}", errors
+        yield f"{crate}: {call}", [(f"crates/{crate}/src/{file}.rt", before, f"    let _ = {call};\n{before}")], errors
+    for name, text, by in ENTRY.findall(text_of("tests/bodies/definitions.edits")):
+        yield f"the definition {name}", PAIR.findall(text), by
 
 
-def errors_of(crate, file, old, new, over):
-    """What a check over the libraries of this tree says of the new text, and the names of the errors in it."""
-    with tempfile.TemporaryDirectory(prefix="let-go-") as here:
-        copy_crate(crate, here)
-        source = f"{here}/src/{file}.rt"
-        write(source, text_of(source).replace(old, new))
+def fault_of(edit, over):
+    """Why this is not refused as it is to be, or ""."""
+    _, pairs, by = edit
+    crate, example = pairs[0][0].split("/")[1], by if isinstance(by, str) else "nothing"
+    with tempfile.TemporaryDirectory(prefix="refused-") as room:
+        copy_crate(crate, f"{room}/crates/{crate}")
+        for file, old, new in pairs:
+            text = text_of(f"{room}/{file}")
+            if text.count(old) != 1:
+                return f"its old text does not stand once in {file}"
+            write(f"{room}/{file}", text.replace(old, new))
         how = {"stdin": subprocess.DEVNULL, "stdout": subprocess.PIPE, "stderr": subprocess.STDOUT, "text": True}
-        said = subprocess.run([*command(crate, over), "--only=nothing"], cwd=here, check=False, **how).stdout
-    return said, set(re.findall(r"error\[([\w-]+)\]", said))
+        words = [word for word in command(crate, over) if not word.startswith("--links")] + [f"--only={example}"]
+        said = subprocess.run(words, cwd=f"{room}/crates/{crate}", check=False, **how).stdout
+    answers = f"./proofs/examples/{example}/Answers.antt"
+    places = {line.startswith(answers) for line in re.findall(r"(?m)^(\S+): error", said)}
+    if example == by:
+        is_so = f"fn {crate}::examples::{by}: not proved" in said and places == {True}
+    else:
+        is_so = {*re.findall(r"error\[([\w-]+)\]", said)} == by
+    return "" if is_so else f"it is not refused by {by} alone: {said[-600:]}"
 
 
 def main():
     parser = argparse.ArgumentParser(description=__doc__, formatter_class=argparse.RawDescriptionHelpFormatter)
     parser.add_argument("--over", default=TOP, metavar="TREE", help="take the crates below from this tree")
-    parser.add_argument("crates", nargs="*", help="try those of these crates alone")
+    parser.add_argument("pattern", nargs="?", default="", metavar="PATTERN", help="try those that it is found in alone")
     options = parser.parse_args()
-    rows, bad = [row for row in edits() if not options.crates or row[0] in options.crates], 0
-    for *row, errors in rows:
-        said, found = errors_of(*row, options.over)
-        bad += found != errors
-        told = ", ".join(sorted(errors))
-        how = told if found == errors else f"NOT {told}: {said[-600:]}"
-        print(f"{row[0]}: {row[3].splitlines()[0].strip()}\n    {how}", flush=True)
-    print(f"tests/bodies/let_go.py: {len(rows)} drops and calls, {bad} not refused")
-    return 1 if bad or not rows else 0
+    tried = [it for it in edits() if re.search(options.pattern, it[0])]
+    with ThreadPoolExecutor(processors()) as workers:
+        faults = [*workers.map(lambda edit: fault_of(edit, options.over), tried)]
+    bad = [f"{edit[0]}: {fault}" for edit, fault in zip(tried, faults) if fault]
+    print("".join(f"{line}\n" for line in bad), end="")
+    print(f"tests/bodies/refused.py: {len(tried)} drops, calls or definitions, {len(bad)} not refused")
+    return 1 if bad or not tried else 0
 
 
 if __name__ == "__main__":

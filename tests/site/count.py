@@ -1,13 +1,14 @@
-"""Counts what stands at the front of the octets that src/tests/reading.rt goes over.
+"""Counts what stands at the front of the octets that tests/reading.rt of bac_trials goes over.
 
-It reads them by bacsite's reader of the grammar of ANSI/ASHRAE 135, clause 20.2, which shares nothing with the crates:
-the counts that it prints are the ones that the tests expect. Run it as python3 oracle/count.py, in the crate's folder.
+It reads them by bacsite's reader of the grammar of ANSI/ASHRAE 135, clause 20.2, which shares nothing
+with the crates: the counts that it prints are the ones that the tests expect. By hand.
 """
 import pathlib
 import re
 import sys
 
-sys.path.insert(0, "../../site")
+HERE = pathlib.Path(__file__).resolve().parent
+sys.path.insert(0, str(HERE.parent.parent / "site"))
 from bacsite.bodies import elements_of, region_end, tag_at
 
 CHANGES = [0x00, 0x05, 0x0E, 0x3F, 0x65, 0xFD, 0xFE, 0xFF]
@@ -39,7 +40,8 @@ def tally(parts):
     return [sum(column) for column in zip(*((1, *of_tag(it), *of_value(it), *of_region(it)) for it in parts))]
 
 
-text = pathlib.Path("src/tests/datagrams.rt").read_text(encoding="utf-8")
+datagrams_rt = HERE.parent.parent / "crates/bac_trials/src/tests/datagrams.rt"
+text = datagrams_rt.read_text(encoding="utf-8")
 datagrams = [bytes.fromhex(found) for found in re.findall(r"\b81[0-9a-f]+", text)]
 changed = [
     it[:place] + bytes([octet]) + it[place + 1 :] for it in datagrams for place in range(len(it)) for octet in CHANGES
