@@ -1,22 +1,28 @@
 -- Acts one after another.
 use Rattle.std.specs.List.{AllByRecursion, flat_map}
-use Rattle.std.{proofs.{Common.{◌≡◌, ℕ, List, [], ◌∷◌, ◌++◌, Option, Result, Ok, Err, refl, subst, sym, ap, append_assoc, arith, None, Some, unwrap_or, ◌<◌, ◌+◌, length, nat_lt, true, take, drop, get_or}}, proofs.lemmas.{Bool.Decides.nat_tests, List.{append-nil, take_more, take-append-drop, Concat.flat_map-append}}}
-use Rattle.bac_pdu.specs.{Apdu.longest_body, Peer.Station}
-use Rattle.bac_tsm.{
-  specs.{declared.{client.SubmitFault.TheVariants.TooLong, due.DueEntry.DueEntry}, Lookahead.refusal_of},
-  specs.{Client.{Client, rules_of, keeping}, Events.{Ask, Event, Outcome, Refused, Note}},
-  specs.Machine.{State, Waiting, datagram, datagram_notes, due_notes, tick},
-}
-use Rattle.bac_print.{specs.{declared.page.Page.Page, Page.Prints}, proofs.Printed.{◌⨾◌, printed_as, prints_nothing}}
-use Rattle.bac_links.specs.declared.fault.ToolFault.{TheVariants.{SendFailed, ReceiveFailed}}
-use Rattle.bac_links.specs.History.{Entry, Account, Gains, Heard, Arrived, Failure, Waited, Timed}
-use Rattle.bac_run.specs.declared.fault.RunFault.{RunFault, TheVariants.{Script, Link}}
+use Rattle.std.proofs.Common.{◌≡◌, ℕ, List, [], ◌∷◌, ◌++◌, Option, Result, Ok, Err, refl, subst, sym, append_assoc}
+use Rattle.std.proofs.Common.{arith, None, Some, ◌<◌, ◌+◌, length, nat_lt, true, take, drop, get_or}
+use Rattle.std.proofs.lemmas.Bool.Decides.{nat_tests}
+use Rattle.std.proofs.lemmas.List.{append-nil, take_more, take-append-drop}
+use Rattle.std.proofs.lemmas.List.Concat.{flat_map-append}
+use Rattle.bac_pdu.specs.Apdu.{longest_body}
+use Rattle.bac_pdu.specs.Peer.{Station}
+use Rattle.bac_tsm.specs.declared.client.SubmitFault.TheVariants.{TooLong}
+use Rattle.bac_tsm.specs.declared.due.DueEntry.{DueEntry}
+use Rattle.bac_tsm.specs.Lookahead.{refusal_of}
+use Rattle.bac_tsm.specs.Client.{Client, rules_of}
+use Rattle.bac_tsm.specs.Events.{Ask, Outcome, Refused, Note}
+use Rattle.bac_tsm.specs.Machine.{State, Waiting, datagram_notes, due_notes, tick}
+use Rattle.bac_links.specs.declared.fault.ToolFault.TheVariants.{SendFailed}
+use Rattle.bac_links.specs.History.{Entry, Account}
+use Rattle.bac_run.specs.declared.fault.RunFault.{RunFault}
+use Rattle.bac_run.specs.declared.fault.RunFault.TheVariants.{Script, Link}
 use Rattle.bac_script.specs.declared.tracing.TraceFault.{TraceFault}
-use Rattle.bac_run.specs.{Fault.send_failed, Input.{inputs_in, input_in}}
-use Rattle.bac_run.specs.{
-  Journal.{Act, FitsLine, Turn, remark, Asked, Paused, Came, Passed, Told, Read, whole_line, arrival_line, time_line, client_after, journal, history_of, turn_at, at_event, remarks, posts, line_of, asked_by},
-  Went.{IsGained, GainsDue, IsWithin},
-}
+use Rattle.bac_run.specs.Inner.Went.{send_failed}
+use Rattle.bac_run.specs.Input.{inputs_in}
+use Rattle.bac_run.specs.Journal.{Act, FitsLine, Asked, Paused, Came, Passed, Told, Read, client_after, journal}
+use Rattle.bac_run.specs.Journal.{history_of, turn_at, at_event, posts}
+use Rattle.bac_run.specs.Went.{IsGained, GainsDue, IsWithin}
 
 pub client_after-append : (client : Client) (xs ys : List Act)
     → client_after client (xs ++ ys) ≡ client_after (client_after client xs) ys

@@ -1,29 +1,36 @@
 -- Two runs that are answered alike do the same: which act is due is a function of what was done and answered.
-use Rattle.std.specs.{Prelude.⊤, List.flat_map}
-use Rattle.std.proofs.Common.{◌≡◌, ◌⊎◌, ◌∙◌, ◌-◌, ◌/◌, ◌==◌, ℕ, zero, suc, nat_lt, Bool, false, true, List, [], ◌∷◌, ◌++◌}
+use Rattle.std.specs.Prelude.{⊤}
+use Rattle.std.proofs.Common.{◌≡◌, ◌⊎◌, ◌∙◌, ◌-◌, ◌/◌, ◌==◌, ℕ, suc, nat_lt, Bool, false, true, List, [], ◌∷◌, ◌++◌}
 use Rattle.std.proofs.Common.{Option, Result, Ok, Err, length, refl, sym, ap, subst, inl, inr, append_assoc, is_some}
-use Rattle.std.proofs.lemmas.{Bool.false≢true, List.{append-nil, append_cancel_left}}
+use Rattle.std.proofs.lemmas.Bool.{false≢true}
+use Rattle.std.proofs.lemmas.List.{append-nil, append_cancel_left}
 use Rattle.bac_pdu.specs.Peer.{Station}
 use Rattle.bac_tsm.specs.Client.{Client}
-use Rattle.bac_links.specs.{
-  Answered.{Brings, LinkAnswer, answer_of, answers_of},
-  Asking.{ForDatagram, Question, question_of},
-  History.{Entry, Heard, Arrived, Silence, Failure, Posted, Timed, Unposted, Waited},
-}
+use Rattle.bac_links.specs.Answered.{Brings, answer_of, answers_of}
+use Rattle.bac_links.specs.Asking.{ForDatagram, question_of}
+use Rattle.bac_links.specs.History.{Entry, Heard, Arrived, Silence, Failure, Posted, Timed, Unposted, Waited, Account}
 use Rattle.bac_links.specs.declared.fault.ToolFault.TheVariants.{SendFailed, ReceiveFailed, TurnsSpent, WriteFailed}
-use Rattle.bac_script.specs.{Script.lines, declared.input.Reading.{Reading, TheVariants.{Open, AtEnd, Failed}}}
-use Rattle.bac_run.specs.{Course.{aims_for, aims_of_lines, last_aims, room_for}, Input.acts_of_line, Run.first_stage}
-use Rattle.bac_run.specs.{Journal.new_client, declared.session.Session.Session}
-use Rattle.bac_print.specs.{Checked.{ends_of, fresh}, declared.checked.Checked.Checked}
-use Rattle.bac_links.specs.History.{Account}
-use Rattle.bac_script.specs.{Alike.GaveSame, Input.ReaderStands, declared.tracing.TraceEnd.TraceEnd}
-use Rattle.bac_run.specs.{Replay.AskNext, Run.Runs}
-use Rattle.bac_run.specs.{Went.IsGained, declared.fault.RunFault.{RunFault, TheVariants.{Link, Script}}}
-use Rattle.bac_run.specs.{
-  Course.{Aim, Does, Fresh, Goes, IsDue, Looked, Outside, Phase, Stage, Telling, Broken, DueIn, Turns, acted, freshened},
-  Course.{heard_at, is_reached, left_of, longest_row, moved, moved_in, open_in, passed_at, settled, settled_in, stage_after, wait_at, IsPassed, telling},
-  Journal.{Act, Asked, Came, Passed, Paused, Read, Told, asked_by, has_line, history_of, posts, turn_at},
-}
+use Rattle.bac_script.specs.Script.{lines}
+use Rattle.bac_script.specs.declared.input.Reading.{Reading}
+use Rattle.bac_script.specs.declared.input.Reading.TheVariants.{Open, AtEnd, Failed}
+use Rattle.bac_run.specs.Course.{aims_for, aims_of_lines, last_aims, room_for, Aim, Does, Fresh, Goes, IsDue, Looked}
+use Rattle.bac_run.specs.Course.{Outside, Phase, Stage, Telling, Broken, DueIn, Turns, acted, freshened, heard_at}
+use Rattle.bac_run.specs.Course.{is_reached, left_of, longest_row, moved, moved_in, open_in, passed_at, settled}
+use Rattle.bac_run.specs.Course.{settled_in, IsPassed, telling}
+use Rattle.bac_run.specs.Input.{acts_of_line}
+use Rattle.bac_run.specs.Run.{first_stage, Runs}
+use Rattle.bac_run.specs.Journal.{new_client, Act, Asked, Came, Passed, Paused, Read, Told, asked_by, has_line}
+use Rattle.bac_run.specs.Journal.{history_of, posts, turn_at}
+use Rattle.bac_run.specs.declared.session.Session.{Session}
+use Rattle.bac_print.specs.Checked.{ends_of, fresh}
+use Rattle.bac_print.specs.declared.checked.Checked.{Checked}
+use Rattle.bac_script.specs.Alike.{GaveSame}
+use Rattle.bac_script.specs.Input.{ReaderStands}
+use Rattle.bac_script.specs.declared.tracing.TraceEnd.{TraceEnd}
+use Rattle.bac_run.specs.Replay.{AskNext}
+use Rattle.bac_run.specs.Went.{IsGained}
+use Rattle.bac_run.specs.declared.fault.RunFault.{RunFault}
+use Rattle.bac_run.specs.declared.fault.RunFault.TheVariants.{Link, Script}
 
 -- ---- a stage that is about more
 

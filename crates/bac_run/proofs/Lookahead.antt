@@ -1,19 +1,16 @@
 -- What a run tells is what the look-ahead gives.
-use Rattle.std.specs.List.{flat_map}
-use Rattle.std.proofs.Common.{◌≡◌, ◌∙◌, ◌+◌, ◌*◌, ◌≤◌, ℕ, suc, List, [], ◌∷◌, ◌++◌, length, map, None, refl, sym, ap, arith, take}
+use Rattle.std.proofs.Common.{◌≡◌, ◌∙◌, ◌+◌, ◌*◌, ◌≤◌, ℕ, suc, List, [], ◌∷◌, ◌++◌, length, map, None, refl, sym, ap}
+use Rattle.std.proofs.Common.{arith}
 use Rattle.std.proofs.lemmas.List.{take_all}
-use Rattle.bac_tsm.specs.{
-  Client.{Client, client_rules, rules_of},
-  Events.{Event, Note, Rules},
-  Laws.{MachineIsLookahead, outputs, state_at},
-  Lookahead.{Accepted, clock, end},
-  Machine.{State, folded, initial},
-}
+use Rattle.bac_tsm.specs.Client.{Client, client_rules, rules_of}
+use Rattle.bac_tsm.specs.Events.{Event, Note, Rules}
+use Rattle.bac_tsm.specs.Laws.{MachineIsLookahead, outputs, state_at}
+use Rattle.bac_tsm.specs.Lookahead.{Accepted, clock, end}
+use Rattle.bac_tsm.specs.Machine.{folded, initial}
 use Rattle.bac_tsm.proofs.Progress.{never_due, open_soon}
-use Rattle.bac_run.specs.{
-  Course.AreSteady,
-  Journal.{Act, Asked, Came, Passed, Paused, Read, Told, client_after, events_of, new_client, notes_of, turn_at},
-}
+use Rattle.bac_run.specs.Course.{AreSteady}
+use Rattle.bac_run.specs.Journal.{Act, Asked, Came, Passed, Paused, Read, Told, client_after, events_of, new_client}
+use Rattle.bac_run.specs.Journal.{notes_of, turn_at}
 
 -- ---- notes without their positions
 

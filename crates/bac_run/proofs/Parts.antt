@@ -1,28 +1,38 @@
 -- Parts of a run, one after another.
 use Rattle.std.specs.List.{AllByRecursion, flat_map}
-use Rattle.std.proofs.Common.{◌≡◌, ◌∙◌, ◌-◌, ◌<◌, ◌≤◌, ◌^◌, ℕ, zero, suc, Bool, false, true, List, [], ◌∷◌, ◌++◌, Option, Some, None}
+use Rattle.std.proofs.Common.{◌≡◌, ◌∙◌, ◌-◌, ◌<◌, ◌^◌, ℕ, zero, suc, false, true, List, [], ◌∷◌, ◌++◌, Option, Some}
 use Rattle.std.proofs.Common.{Result, Ok, Err, IfErr, refl, subst, sym, ap, arith, unwrap_or, length}
 use Rattle.std.proofs.lemmas.List.{append-nil}
-use Rattle.bac_pdu.specs.{Apdu.longest_body, Peer.Station}
-use Rattle.bac_tsm.{
-  specs.{declared.{client.SubmitFault.TheVariants.TooLong, due.DueEntry.DueEntry}, Events.{Ask, Event, Outcome, Refused, Note}},
-  specs.{Client.{Client, rules_of, keeping}, Machine.{datagram, datagram_notes, due_notes, tick}},
-}
-use Rattle.bac_print.{specs.{declared.page.Page.Page, Page.Prints}, proofs.Printed.{◌⨾◌, printed_as, prints_nothing}}
-use Rattle.bac_links.specs.{
-  declared.fault.ToolFault.TheVariants.{SendFailed, ReceiveFailed, TurnsSpent, WriteFailed as LinkNotWritten},
-  History.{Account, Entry, Gains, Heard, Arrived, Waited, Timed},
-}
-use Rattle.bac_script.specs.declared.tracing.TraceFault.{TraceFault, TheVariants.{BadLine, LineTooLong, ReadFailed, WriteFailed}}
-use Rattle.bac_run.{
-  specs.{declared.{fault.RunFault.{RunFault, TheVariants.{Script, Link}}, turns.{Run.Run, Until.{Until, TheVariants.{FewOpen, TimeTold}}}}, Fault.send_failed},
-  specs.{Course.{Aim, Does, Fresh, Goes, IsDue, Stage, Turns, aims_for, is_reached, moved, open_in, ready, stage_after}, Input.{inputs_in, input_in}},
-  specs.Journal.{Act, FitsLine, Turn, remark, Asked, Came, Passed, Told, Read, whole_line, arrival_line, time_line, client_after},
-  specs.Journal.{journal, turn_at, remarks, posts, line_of, asked_by},
-  specs.Went.{ComesTo, GainsDue, IsGained, IsOfWait, IsSpent, IsWithin, Went, WentFor, Opened, begins_turn, outside, started},
-  proofs.Acts.{client_after-append, done, due_more, due_nothing, due_stopped, failed, fit_append, gained_err, history-append},
-  proofs.Acts.{inputs-append, journal-append, posts-answer, quiet_within, refused_long, within_more, IsQuiet},
-}
+use Rattle.bac_pdu.specs.Apdu.{longest_body}
+use Rattle.bac_pdu.specs.Peer.{Station}
+use Rattle.bac_tsm.specs.declared.client.SubmitFault.TheVariants.{TooLong}
+use Rattle.bac_tsm.specs.declared.due.DueEntry.{DueEntry}
+use Rattle.bac_tsm.specs.Events.{Ask, Event, Outcome, Refused, Note}
+use Rattle.bac_tsm.specs.Client.{Client, rules_of, keeping}
+use Rattle.bac_tsm.specs.Machine.{datagram, datagram_notes, due_notes, tick}
+use Rattle.bac_print.specs.declared.page.Page.{Page}
+use Rattle.bac_print.specs.Page.{Prints}
+use Rattle.bac_print.proofs.Printed.{◌⨾◌, printed_as, prints_nothing}
+use Rattle.bac_links.specs.declared.fault.ToolFault.TheVariants.{SendFailed, ReceiveFailed, TurnsSpent}
+use Rattle.bac_links.specs.declared.fault.ToolFault.TheVariants.{WriteFailed as LinkNotWritten}
+use Rattle.bac_links.specs.History.{Account, Entry, Gains, Heard, Arrived, Waited, Timed}
+use Rattle.bac_script.specs.declared.tracing.TraceFault.{TraceFault}
+use Rattle.bac_script.specs.declared.tracing.TraceFault.TheVariants.{BadLine, LineTooLong, ReadFailed, WriteFailed}
+use Rattle.bac_run.specs.declared.fault.RunFault.{RunFault}
+use Rattle.bac_run.specs.declared.fault.RunFault.TheVariants.{Script, Link}
+use Rattle.bac_run.specs.declared.turns.Run.{Run}
+use Rattle.bac_run.specs.declared.turns.Until.{Until}
+use Rattle.bac_run.specs.declared.turns.Until.TheVariants.{FewOpen, TimeTold}
+use Rattle.bac_run.specs.Inner.Went.{send_failed, IsOfWait, Went, WentFor, Opened, begins_turn, outside, started}
+use Rattle.bac_run.specs.Course.{Aim, Does, Fresh, Goes, IsDue, Stage, Turns, aims_for, is_reached, moved, open_in}
+use Rattle.bac_run.specs.Course.{ready, stage_after}
+use Rattle.bac_run.specs.Input.{input_in}
+use Rattle.bac_run.specs.Journal.{Act, FitsLine, Turn, remark, Asked, Came, Passed, Told, Read, whole_line}
+use Rattle.bac_run.specs.Journal.{arrival_line, time_line, turn_at, remarks, posts, line_of, asked_by}
+use Rattle.bac_run.specs.Went.{ComesTo, GainsDue, IsGained, IsSpent, IsWithin}
+use Rattle.bac_run.proofs.Acts.{client_after-append, done, due_more, due_nothing, due_stopped, failed, fit_append}
+use Rattle.bac_run.proofs.Acts.{gained_err, history-append, inputs-append, journal-append, posts-answer, quiet_within}
+use Rattle.bac_run.proofs.Acts.{refused_long, within_more, IsQuiet}
 
 -- ---- the course
 

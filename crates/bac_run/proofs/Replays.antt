@@ -1,17 +1,22 @@
 -- The journal, read as a script.
 use Rattle.std.proofs.Common.{◌≡◌, ℕ, ◌+◌, Bool, false, List, [], ◌∷◌, ◌++◌, None, refl, subst, sym, ◌∙◌, ap}
-use Rattle.std.proofs.{Common.{append_assoc, arith}, lemmas.List.Concat.flat_map-append}
+use Rattle.std.proofs.Common.{append_assoc, arith}
+use Rattle.std.proofs.lemmas.List.Concat.{flat_map-append}
 use Rattle.std.specs.List.{AllByRecursion}
-use Rattle.bac_tsm.specs.{Client.Client, Events.{Event, Data, Tick, Note}}
-use Rattle.bac_script.{
-  specs.{Line.{Said, Nothing, Happens}, Text.notes_text, Inner.Running.{Stage, ran}},
-  specs.Script.{lines, said_from, all_said, text, fault_from, first_fault},
-  specs.declared.input.Reading.TheVariants.AtEnd,
-  proofs.{Machine.{text_from, text_is}, Pieces.lines-ended, Settled.settings_first},
-}
+use Rattle.bac_tsm.specs.Client.{Client}
+use Rattle.bac_tsm.specs.Events.{Event, Data, Tick, Note}
+use Rattle.bac_script.specs.Line.{Said, Nothing, Happens}
+use Rattle.bac_script.specs.Text.{notes_text}
+use Rattle.bac_script.specs.Inner.Running.{Stage, ran}
+use Rattle.bac_script.specs.Script.{lines, said_from, all_said, text, fault_from, first_fault}
+use Rattle.bac_script.specs.declared.input.Reading.TheVariants.{AtEnd}
+use Rattle.bac_script.proofs.Machine.{text_from, text_is}
+use Rattle.bac_script.proofs.Pieces.{lines-ended}
+use Rattle.bac_script.proofs.Settled.{settings_first}
 use Rattle.bac_run.specs.declared.session.Session.{Session}
 use Rattle.bac_run.specs.Journal.{Act, Asked, Paused, Came, Passed, Told, Read, turn_at, line_of, remarks, journal}
-use Rattle.bac_run.specs.{Journal.{new_client, notes_of, settings_line}, Run.journal_of}
+use Rattle.bac_run.specs.Journal.{new_client, notes_of, settings_line}
+use Rattle.bac_run.specs.Run.{journal_of}
 use Rattle.bac_run.specs.Replay.{IsLineOf, IsReadBack, AreSettings}
 use Rattle.bac_run.proofs.Folded.{lay, line_laid, remarks_skipped}
 

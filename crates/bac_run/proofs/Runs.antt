@@ -1,28 +1,61 @@
 -- A run so far, and where it stops.
-use Rattle.std.proofs.{Common.{◌≡◌, ◌≢◌, ◌⊎◌, ℕ, ◌+◌, false, List, [], ◌∷◌, ◌++◌, ◌==◌, ◌&&◌, length, take, drop, suc, ◌≤◌, Bool, true, Option, Some, None, Result, Ok, Err}, Common.{refl, subst, sym, ◌∙◌, ap, inl, inr, append_assoc, arith, length-append, take-append-drop, unwrap_or, is_some, IfErr, IfOk}, lemmas.{Bool.{cases_Bool, false≢true}, List.{append-nil, Concat.flat_map-append}}}
-use Rattle.std.specs.{Prelude.option_and_then, Result.result_ok, List.{AllByRecursion, concat, flat_map}}
+use Rattle.std.proofs.Common.{◌≡◌, ◌≢◌, ◌⊎◌, ℕ, ◌+◌, false, List, [], ◌∷◌, ◌++◌, ◌==◌, ◌&&◌, length, take, drop, suc}
+use Rattle.std.proofs.Common.{◌≤◌, Option, Some, None, Result, Ok, Err, refl, subst, sym, ◌∙◌, ap, inl, inr}
+use Rattle.std.proofs.Common.{append_assoc, arith, length-append, take-append-drop, unwrap_or, is_some, IfErr, IfOk}
+use Rattle.std.proofs.lemmas.Bool.{cases_Bool, false≢true}
+use Rattle.std.proofs.lemmas.List.{append-nil}
+use Rattle.std.proofs.lemmas.List.Concat.{flat_map-append}
+use Rattle.std.specs.Prelude.{option_and_then}
+use Rattle.std.specs.Result.{result_ok}
+use Rattle.std.specs.List.{AllByRecursion, concat, flat_map}
 use Rattle.bac_tsm.specs.Client.{Client}
-use Rattle.bac_print.specs.{declared.{checked.Checked.Checked, page.Page.Page}, Checked.{has_failed, octets_of, Gave}}
+use Rattle.bac_print.specs.declared.checked.Checked.{Checked}
+use Rattle.bac_print.specs.declared.page.Page.{Page}
+use Rattle.bac_print.specs.Checked.{has_failed, octets_of, Gave}
 use Rattle.bac_print.specs.Page.{folded_line, held, room_of, writer_of, Prints, Writes}
-use Rattle.bac_print.proofs.{Printed.{◌⨾◌, prints_nothing}, Shown.folded_out, Known.Gave-none}
-use Rattle.bac_script.specs.{Input.ReaderStands, Line.{Said}, NextLine.{TakesAndKeeps, IsLineCut}, Limits.line_room, declared.line.LineFault.LineFault, declared.input.Reading.{Reading, TheVariants.{Open, AtEnd, Failed}}}
-use Rattle.bac_script.specs.declared.tracing.{TraceEnd.TraceEnd, TraceFault.{TraceFault, TheVariants.{BadLine, LineTooLong, ReadFailed, WriteFailed}}}
+use Rattle.bac_print.proofs.Printed.{◌⨾◌}
+use Rattle.bac_print.proofs.Shown.{folded_out}
+use Rattle.bac_print.proofs.Known.{Gave-none}
+use Rattle.bac_script.specs.Input.{ReaderStands, CanReadOn}
+use Rattle.bac_script.specs.Line.{Said, said}
+use Rattle.bac_script.specs.NextLine.{TakesAndKeeps, IsLineCut}
+use Rattle.bac_script.specs.Limits.{line_room}
+use Rattle.bac_script.specs.declared.line.LineFault.{LineFault}
+use Rattle.bac_script.specs.declared.input.Reading.{Reading}
+use Rattle.bac_script.specs.declared.input.Reading.TheVariants.{Open, AtEnd, Failed}
+use Rattle.bac_script.specs.declared.tracing.TraceEnd.{TraceEnd}
+use Rattle.bac_script.specs.declared.tracing.TraceFault.{TraceFault}
+use Rattle.bac_script.specs.declared.tracing.TraceFault.TheVariants.{BadLine, LineTooLong, ReadFailed, WriteFailed}
 use Rattle.bac_text.specs.Limits.{longest_line}
 use Rattle.bac_links.specs.History.{Account, Entry}
 use Rattle.bac_links.specs.declared.datagram.Datagram.{Datagram}
-use Rattle.bac_run.specs.declared.{session.Session.Session, fault.RunFault.{RunFault, TheVariants.{Script, Link}}, turns.Run.Run}
-use Rattle.bac_run.specs.Course.{Aim, Goes, Stage, Turns, aims_behind, aims_of, aims_for, aims_in_room, aims_of_lines, last_aims, room_for, stage_after}
-use Rattle.bac_script.specs.{Input.CanReadOn, Line.said, Script.lines, declared.line.LineFault.TheVariants.{Bad, TooLong}}
-use Rattle.bac_script.proofs.Pieces.{lines-ended, lines-last, lines-rest, next_long}
-use Rattle.bac_run.specs.{Journal.{Act, ends_with_return, new_client, settings_line}, Went.{ComesTo, IsGained, IsNamed, IsOfWait, IsOver, IsOverAt, IsWithin, Went, WentFor, started}, Replay.AreSettings, Run.{EndsAt, IsAtRest, Runs, RunsOn, first_stage}}
-use Rattle.bac_run.specs.Fault.{is_at_link, is_of_link, stopped, write_failed}
+use Rattle.bac_run.specs.declared.session.Session.{Session}
+use Rattle.bac_run.specs.declared.fault.RunFault.{RunFault}
+use Rattle.bac_run.specs.declared.fault.RunFault.TheVariants.{Script, Link}
+use Rattle.bac_run.specs.declared.turns.Run.{Run}
+use Rattle.bac_run.specs.Course.{Aim, Goes, Stage, Turns, aims_behind, aims_of, aims_for, aims_in_room, aims_of_lines}
+use Rattle.bac_run.specs.Course.{room_for, stage_after}
+use Rattle.bac_script.specs.Script.{lines}
+use Rattle.bac_script.specs.declared.line.LineFault.TheVariants.{Bad, TooLong}
+use Rattle.bac_script.proofs.Pieces.{lines-ended, lines-last, lines-rest, next_long, said-whole_long}
+use Rattle.bac_run.specs.Journal.{Act, ends_with_return, new_client, settings_line}
+use Rattle.bac_run.specs.Went.{ComesTo, IsGained, IsOver, IsOverAt, IsWithin}
+use Rattle.bac_run.specs.Inner.Went.{IsNamed, IsOfWait, Went, WentFor, started, stopped}
+use Rattle.bac_run.specs.Replay.{AreSettings}
+use Rattle.bac_run.specs.Run.{EndsAt, IsAtRest, Runs, first_stage}
+use Rattle.bac_run.specs.Inner.Run.{RunsOn}
+use Rattle.bac_run.specs.Fault.{is_at_link, is_of_link, write_failed}
 use Rattle.bac_run.proofs.Acts.{done, failed}
-use Rattle.bac_run.proofs.Parts.{quiet_went, within_at, within_both, within_fault, within_from, within_turned, went_at, went_err, went_failed, went_fault, went_from, went_more, went_still, went_stopped, went_turned}
-use Rattle.bac_links.specs.{Limits.most_turns, declared.fault.ToolFault.TheVariants.{SendFailed, ReceiveFailed, TurnsSpent, WriteFailed as LinkNotWritten}}
+use Rattle.bac_run.proofs.Parts.{quiet_went, within_at, within_both, within_fault, within_from, within_turned}
+use Rattle.bac_run.proofs.Parts.{went_at, went_err, went_failed, went_fault, went_from, went_more, went_still}
+use Rattle.bac_run.proofs.Parts.{went_stopped, went_turned}
+use Rattle.bac_links.specs.Limits.{most_turns}
+use Rattle.bac_links.specs.declared.fault.ToolFault.TheVariants.{SendFailed, ReceiveFailed, TurnsSpent}
+use Rattle.bac_links.specs.declared.fault.ToolFault.TheVariants.{WriteFailed as LinkNotWritten}
 use Rattle.bac_run.specs.declared.turns.Until.TheVariants.{FewOpen}
-use Rattle.bac_script.proofs.{Pieces.said-whole_long, Taken.{Takes-more, Takes-front}}
-use Rattle.bac_run.specs.Input.{acts_of_line, acts_of_said, acts_or_none, fault_in, fault_of_line, fault_of_said, inputs_in, said_of, AllDone, AreCut, EndsWithFeed, Takes}
-use Rattle.bac_run.specs.Input.{HasNoFeed, IsGood}
+use Rattle.bac_script.proofs.Taken.{Takes-more, Takes-front}
+use Rattle.bac_run.specs.Input.{acts_of_line, acts_of_said, acts_or_none, fault_in, fault_of_line, fault_of_said}
+use Rattle.bac_run.specs.Input.{inputs_in, said_of, AllDone, AreCut, EndsWithFeed, Takes, HasNoFeed, IsGood}
 
 -- What a run is about for lines that were taken.
 abbrev pub taken_aims : (window : ℕ) → List (List ℕ) → List Aim

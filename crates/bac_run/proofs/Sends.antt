@@ -1,19 +1,23 @@
 -- What was sent is what the notes say.
-use Rattle.std.proofs.{Common.{◌≡◌, ℕ, List, [], ◌∷◌, ◌++◌, Option, Result, Ok, Err, refl, sym, ◌∙◌, ap, arith}}
-use Rattle.std.{proofs.lemmas.List.{append-nil, append_cancel_left, Concat.flat_map-append}, specs.List.flat_map}
+use Rattle.std.proofs.Common.{◌≡◌, ℕ, List, [], ◌∷◌, ◌++◌, Option, Result, Ok, Err, refl, sym, ◌∙◌, ap, arith}
+use Rattle.std.proofs.lemmas.List.{append-nil, append_cancel_left}
+use Rattle.std.proofs.lemmas.List.Concat.{flat_map-append}
+use Rattle.std.specs.List.{flat_map}
 use Rattle.bac_pdu.specs.Peer.{Station}
-use Rattle.bac_tsm.specs.{Client.Client, Events.{Note, Sent}}
+use Rattle.bac_tsm.specs.Client.{Client}
+use Rattle.bac_tsm.specs.Events.{Note, Sent}
 use Rattle.bac_print.specs.declared.checked.Checked.{Checked}
 use Rattle.bac_script.specs.declared.tracing.TraceEnd.{TraceEnd}
 use Rattle.bac_links.specs.History.{Entry, Account}
 use Rattle.bac_links.specs.declared.fault.ToolFault.TheVariants.{SendFailed}
-use Rattle.bac_run.specs.declared.{session.Session.Session, fault.RunFault.{RunFault, TheVariants.{Script, Link}}}
-use Rattle.bac_run.specs.{
-  Journal.{Act, Asked, Paused, Came, Passed, Told, Read, asked_by, posts, history_of, new_client, notes_of, turn_at},
-  Replay.{AreSent, posted_in, sent_in},
-  Run.Runs,
-  Went.IsGained,
-}
+use Rattle.bac_run.specs.declared.session.Session.{Session}
+use Rattle.bac_run.specs.declared.fault.RunFault.{RunFault}
+use Rattle.bac_run.specs.declared.fault.RunFault.TheVariants.{Script, Link}
+use Rattle.bac_run.specs.Journal.{Act, Asked, Paused, Came, Passed, Told, Read, asked_by, posts, history_of}
+use Rattle.bac_run.specs.Journal.{new_client, notes_of, turn_at}
+use Rattle.bac_run.specs.Replay.{AreSent, posted_in, sent_in}
+use Rattle.bac_run.specs.Run.{Runs}
+use Rattle.bac_run.specs.Went.{IsGained}
 
 posts_sent : (notes : List Note) → flat_map posted_in (posts notes) ≡ flat_map sent_in notes
 posts_sent [] = refl

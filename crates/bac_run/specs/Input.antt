@@ -1,14 +1,20 @@
 -- The lines of the input, and what a run does of each.
-use Rattle.std.specs.Prelude.{◌≡◌, ◌≢◌, ℕ, Bool, false, ◌==◌, ◌||◌, List, [], ◌∷◌, ◌++◌, Option, Some, None, unwrap_or}
-use Rattle.std.specs.{Prelude.{option_and_then, length, Result, Ok, Err, if◌then◌else◌, ◌⊎◌}, Result.result_ok}
-use Rattle.std.specs.Prelude.{suc, ◌&&◌, is_some}
+use Rattle.std.specs.Prelude.{◌≡◌, ◌≢◌, ℕ, Bool, false, ◌==◌, ◌||◌, List, [], ◌∷◌, ◌++◌, Option, Some, None}
+use Rattle.std.specs.Prelude.{unwrap_or, option_and_then, length, Result, Ok, Err, if◌then◌else◌, ◌⊎◌, suc, ◌&&◌}
+use Rattle.std.specs.Prelude.{is_some}
+use Rattle.std.specs.Result.{result_ok}
 use Rattle.bac_text.specs.Limits.{longest_line}
 use Rattle.std.specs.List.{AllByRecursion, concat, flat_map}
 use Rattle.bac_tsm.specs.Events.{Ask}
-use Rattle.bac_print.specs.{declared.checked.Checked.Checked, Checked.Gave}
-use Rattle.bac_script.specs.{Line.{Said, Nothing, Happens, said}, Script.fault_at}
-use Rattle.bac_script.specs.declared.{line.LineFault.{LineFault, TheVariants.TooLong}, tracing.TraceEnd.TraceEnd}
-use Rattle.bac_script.specs.declared.tracing.TraceFault.{TraceFault, TheVariants.BadLine}
+use Rattle.bac_print.specs.declared.checked.Checked.{Checked}
+use Rattle.bac_print.specs.Checked.{Gave}
+use Rattle.bac_script.specs.Line.{Said, Nothing, Happens, said}
+use Rattle.bac_script.specs.Script.{fault_at}
+use Rattle.bac_script.specs.declared.line.LineFault.{LineFault}
+use Rattle.bac_script.specs.declared.line.LineFault.TheVariants.{TooLong}
+use Rattle.bac_script.specs.declared.tracing.TraceEnd.{TraceEnd}
+use Rattle.bac_script.specs.declared.tracing.TraceFault.{TraceFault}
+use Rattle.bac_script.specs.declared.tracing.TraceFault.TheVariants.{BadLine}
 use Rattle.bac_run.specs.declared.fault.RunFault.{RunFault}
 use Rattle.bac_run.specs.Journal.{Act, Asked, Paused, ends_with_return}
 
@@ -62,11 +68,6 @@ input_in _ = []
 
 abbrev pub inputs_in : List Act → List Act
 inputs_in = flat_map input_in
-
--- With this result all that was wanted was done, and the line was no bad one; or a front of it.
-abbrev pub IsDone : {A : Type 0} → Result A RunFault → (wanted : Option (List Act)) → (inputs : List Act) → Type 0
-IsDone (Ok x) wanted inputs = wanted ≡ Some inputs
-IsDone (Err fault) wanted inputs = (rest : List Act) × (unwrap_or wanted [] ≡ inputs ++ rest)
 
 -- None of these is a line feed (10).
 abbrev pub HasNoFeed : List ℕ → Type 0

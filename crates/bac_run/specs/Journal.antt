@@ -5,9 +5,11 @@ use Rattle.std.specs.List.{flat_map}
 use Rattle.hex.specs.Hex.{IsBytes, encode_lower}
 use Rattle.bac_pdu.specs.Peer.{Station}
 use Rattle.bac_tsm.specs.Events.{Event, Data, Tick, Note, Sent}
-use Rattle.bac_tsm.specs.{Machine.{initial, step, Stepped}, Client.{Client, rules_of, keeping}}
+use Rattle.bac_tsm.specs.Machine.{initial, step, Stepped}
+use Rattle.bac_tsm.specs.Client.{Client, rules_of, keeping}
 use Rattle.bac_print.specs.PeerTexts.{peer_text}
-use Rattle.bac_script.specs.{Line.ends_with_feed, Text.{note_text}}
+use Rattle.bac_script.specs.Line.{ends_with_feed}
+use Rattle.bac_script.specs.Text.{note_text}
 use Rattle.bac_links.specs.History.{Heard, Arrived, Entry, Waited, Timed, Posted}
 
 -- One thing that a run does: a line of its input asks for a request; a line without words was waited for; a datagram is

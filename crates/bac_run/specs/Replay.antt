@@ -2,11 +2,14 @@
 use Rattle.std.specs.Prelude.{◌≡◌, ◌≢◌, ℕ, Bool, true, false, List, [], ◌∷◌, ◌++◌, Result, Ok, Err, ⊤}
 use Rattle.std.specs.List.{AllByRecursion}
 use Rattle.bac_pdu.specs.Peer.{Station}
-use Rattle.bac_tsm.specs.{Events.{Data, Tick, Note, Sent}}
+use Rattle.bac_tsm.specs.Events.{Data, Tick, Note, Sent}
 use Rattle.bac_script.specs.Line.{Said, Nothing, Settings, Happens, said}
-use Rattle.bac_links.specs.{Asking.question_of, History.{Entry, Posted}}
+use Rattle.bac_links.specs.Asking.{question_of}
+use Rattle.bac_links.specs.History.{Entry, Posted}
 use Rattle.bac_links.specs.declared.fault.ToolFault.TheVariants.{SendFailed}
-use Rattle.bac_run.specs.declared.{session.Session.Session, fault.RunFault.{RunFault, TheVariants.Link}}
+use Rattle.bac_run.specs.declared.session.Session.{Session}
+use Rattle.bac_run.specs.declared.fault.RunFault.{RunFault}
+use Rattle.bac_run.specs.declared.fault.RunFault.TheVariants.{Link}
 use Rattle.bac_run.specs.Journal.{Act, Asked, Paused, Came, Told, line_of, settings_line}
 
 -- The text is one line, with its only line feed (10) at its end, and says this. The flag says whether it may be settings.

@@ -1,15 +1,24 @@
 -- A whole run: its journal, and what it asked of its link.
 use Rattle.std.specs.Prelude.{◌≡◌, ℕ, List, [], ◌++◌, length, Option, Some, None, Result, Ok, Err, ⊤}
-use Rattle.bac_print.specs.{declared.{checked.Checked.Checked, page.Page.Page}, Page.{folded, folded_line, Writes, Prints}}
+use Rattle.bac_print.specs.declared.checked.Checked.{Checked}
+use Rattle.bac_print.specs.Page.{folded, folded_line, Writes}
 use Rattle.bac_print.specs.Checked.{octets_of}
-use Rattle.bac_script.specs.{Input.ReaderStands, Script.lines, declared.input.Reading.{Reading, TheVariants.{AtEnd, Failed}}}
-use Rattle.bac_script.specs.declared.tracing.{TraceEnd.TraceEnd, TraceFault.TheVariants.{ReadFailed, WriteFailed}}
+use Rattle.bac_script.specs.Input.{ReaderStands}
+use Rattle.bac_script.specs.Script.{lines}
+use Rattle.bac_script.specs.declared.input.Reading.{Reading}
+use Rattle.bac_script.specs.declared.input.Reading.TheVariants.{AtEnd, Failed}
+use Rattle.bac_script.specs.declared.tracing.TraceEnd.{TraceEnd}
+use Rattle.bac_script.specs.declared.tracing.TraceFault.TheVariants.{ReadFailed, WriteFailed}
 use Rattle.bac_links.specs.History.{Account}
-use Rattle.bac_run.specs.{Journal.{Act, FitsLine, client_after, new_client, settings_line, journal, history_of}, Went.{ComesTo, GainsDue, IsOver, IsWithin}}
+use Rattle.bac_run.specs.Journal.{Act, FitsLine, client_after, new_client, settings_line, journal, history_of}
+use Rattle.bac_run.specs.Went.{ComesTo, GainsDue, IsOver, IsWithin}
 use Rattle.bac_run.specs.Course.{Aim, Goes, Outside, Stage, aims_of_lines, ready, stage_after}
 use Rattle.std.specs.List.{AllByRecursion}
-use Rattle.bac_run.specs.{Input.{Takes, fault_in}, Replay.AreSettings}
-use Rattle.bac_run.specs.declared.{session.Session.Session, fault.RunFault.{RunFault, TheVariants.{Script, Link}}}
+use Rattle.bac_run.specs.Input.{Takes, fault_in}
+use Rattle.bac_run.specs.Replay.{AreSettings}
+use Rattle.bac_run.specs.declared.session.Session.{Session}
+use Rattle.bac_run.specs.declared.fault.RunFault.{RunFault}
+use Rattle.bac_run.specs.declared.fault.RunFault.TheVariants.{Script, Link}
 
 -- The lines of a session's journal: its settings, and what it does.
 abbrev pub journal_lines : Session → List Act → List ℕ
@@ -72,16 +81,3 @@ pub record Runs {Origin R W : Type 0} (remaining : R → Option (List ℕ)) (con
   pub within : IsWithin session.window (new_client session.config.timeout session.config.retries) acts
   pub fit : AllByRecursion FitsLine acts
   pub settings : AreSettings session
-
--- The same, while some of the journal may still be on the page.
-pub record RunsOn {Origin R W : Type 0} (remaining : R → Option (List ℕ)) (contents : W → Option (List ℕ))
-    (session : Session) (reader reader' : Checked R) (page page' : Page W)
-    (seen left : Account Origin) (result : Result TraceEnd RunFault) : Type 0 where
-  pub acts : List Act
-  pub takes : Takes remaining reader reader' acts result
-  pub course : IsCourse remaining session reader reader' acts result
-  pub prints : Prints contents page page' (journal_lines session acts)
-  pub asks : GainsDue result (history_of (new_client session.config.timeout session.config.retries) acts) seen left
-  pub over : IsOver result (client_after (new_client session.config.timeout session.config.retries) acts)
-  pub within : IsWithin session.window (new_client session.config.timeout session.config.retries) acts
-  pub fit : AllByRecursion FitsLine acts

@@ -1,18 +1,14 @@
 -- What a part of a run did to its client, its page and its link.
-use Rattle.std.specs.Prelude.{◌≡◌, ◌<◌, ℕ, zero, suc, Bool, ⊤, List, [], ◌∷◌, ◌++◌, if◌then◌else◌, Option, None, Result, Ok, Err}
-use Rattle.std.specs.List.{AllByRecursion}
+use Rattle.std.specs.Prelude.{◌≡◌, ◌<◌, ℕ, zero, ⊤, List, [], ◌∷◌, ◌++◌, Result, Ok, Err}
 use Rattle.bac_pdu.specs.Peer.{Station}
-use Rattle.bac_tsm.specs.{Client.Client, Events.Event}
-use Rattle.bac_print.specs.{declared.page.Page.Page, Page.Prints}
+use Rattle.bac_tsm.specs.Client.{Client}
 use Rattle.bac_script.specs.declared.tracing.TraceFault.TheVariants.{WriteFailed}
 use Rattle.bac_links.specs.History.{Entry, Posted, Unposted, Account, GainsAll}
 use Rattle.bac_links.specs.declared.fault.ToolFault.TheVariants.{SendFailed, ReceiveFailed, TurnsSpent}
-use Rattle.bac_run.specs.declared.{fault.RunFault.{RunFault, TheVariants.{Link, Script}}, turns.{Run.Run, Until.Until}}
-use Rattle.bac_run.specs.Input.{acts_of_line, fault_of_line, inputs_in, IsDone}
-use Rattle.bac_run.specs.Journal.{Act, Asked, FitsLine, client_after, journal, history_of, turn_at, at_event, remarks, posts}
-use Rattle.bac_run.specs.Course.{
-  Aim, Broken, Goes, Looked, Outside, Phase, Stage, Turns, aims_for, open_in, settled, stage_after, telling,
-}
+use Rattle.bac_run.specs.declared.fault.RunFault.{RunFault}
+use Rattle.bac_run.specs.declared.fault.RunFault.TheVariants.{Link, Script}
+use Rattle.bac_run.specs.Journal.{Act, Asked, turn_at}
+use Rattle.bac_run.specs.Course.{Aim, Broken, Outside, Phase, Stage, Turns, open_in}
 
 -- With this result a link was asked all that is due; but where a send failed, all before that send.
 abbrev pub IsGained : {A : Type 0} → Result A RunFault → (due gained : List Entry) → Type 0
@@ -26,36 +22,6 @@ pub record GainsDue {Origin A : Type 0} (result : Result A RunFault) (due : List
   pub gained : List Entry
   pub gains : GainsAll gained seen left
   pub as_due : IsGained result due gained
-
--- Where a run stands outside of a turn, with these aims; and without those that are reached.
-abbrev pub outside : Run → List Aim → Stage
-outside run aims = record { client = run.client; behind = run.behind; phase = Outside; aims = aims }
-
-abbrev pub started : Run → List Aim → Stage
-started run aims = settled (outside run aims)
-
--- Where a turn begins, and where it ends: of the turns until something is reached one is taken.
-abbrev pub begins_turn : Run → Until × ℕ × List Aim → Stage
-begins_turn run (until, left, later) = outside run (Turns until (suc left) ∷ later)
-
-abbrev pub ends_turn : Run → Until × ℕ × List Aim → Stage
-ends_turn run (until, left, later) = started run (Turns until left ∷ later)
-
--- Where the time of a turn was read.
-abbrev pub looking : Run → ℕ × List Aim → Stage
-looking run (time, aims) = record (outside run aims) { phase = Looked time }
-
--- Where a time is to be told.
-abbrev pub to_tell : Run → ℕ → List Aim → Stage
-to_tell run time aims = settled (telling (outside run aims) time)
-
--- Where a wait is over: the time of the turn is told, or not yet.
-abbrev pub heard_until : Run → (defers : Bool) → ℕ → List Aim → Stage
-heard_until run defers time aims = if defers then started run aims else to_tell run time aims
-
-abbrev pub hearing : {A : Type 0} → Run → Result Bool A → ℕ × List Aim → Stage
-hearing run (Ok defers) (time, aims) = heard_until run defers time aims
-hearing run (Err fault) (time, aims) = started run aims
 
 -- All turns until something is reached are taken.
 abbrev pub IsSpent : Phase → List Aim → Type 0
@@ -71,50 +37,12 @@ ComesTo (Err (Link fault)) stage left = ⊥
 ComesTo (Err (Script WriteFailed)) stage left = ⊤
 ComesTo result stage left = left ≡ stage
 
--- Some acts were done, of the input these, each where it was due, from one stage to another, whatever the run is about
--- then: the client is what they leave, their journal was printed, and the link was asked what they ask.
-pub record Went {Origin W A I : Type 0} (contents : W → Option (List ℕ)) (run run' : Run) (page page' : Page W)
-    (seen left : Account Origin) (from to : I → Stage) (result : Result A RunFault) (inputs : List Act)
-    : Type 0 where
-  pub acts : List Act
-  pub of_input : inputs_in acts ≡ inputs
-  pub same : run'.session ≡ run.session
-  pub goes : (i : I) → Goes run.session.config.timeout (from i) acts
-  pub comes : (i : I) → ComesTo result (to i) (stage_after run.session.config.timeout (from i) acts)
-  pub client_is : run'.client ≡ client_after run.client acts
-  pub prints : Prints contents page page' (journal run.client acts)
-  pub asks : GainsDue result (history_of run.client acts) seen left
-  pub fit : AllByRecursion FitsLine acts
-
--- The client made its step at this event, its notes were printed as remarks, and what it sends was sent.
-pub record Opened {Origin W A : Type 0} (contents : W → Option (List ℕ)) (client client' : Client) (page page' : Page W)
-    (seen left : Account Origin) (result : Result A RunFault) (event : Event) : Type 0 where
-  pub client_is : client' ≡ (at_event client event).after
-  pub prints : Prints contents page page' (remarks (at_event client event).notes)
-  pub asks : GainsDue result (posts (at_event client event).notes) seen left
-
 -- Fewer than so many requests are open at each act that asks for one.
 abbrev pub IsWithin : ℕ → Client → List Act → Type 0
 IsWithin window client [] = Unit {0}
 IsWithin window client (Asked line event ∷ later) = (open_in client < window)
     × IsWithin window (turn_at client (Asked line event)).after later
 IsWithin window client (act ∷ later) = IsWithin window (turn_at client act).after later
-
--- What is wanted of a line was done, as far as the result says; within so many open requests.
-pub record WentFor {Origin W A : Type 0} (contents : W → Option (List ℕ)) (run run' : Run) (page page' : Page W)
-    (seen left : Account Origin) (result : Result A RunFault) (wanted : Option (List Act))
-    : Type 0 where
-  pub inputs : List Act
-  pub is_done : IsDone result wanted inputs
-  pub went : Went contents run run' page page' seen left (λ later. started run (aims_for wanted ++ later))
-      (λ later. started run' later) result inputs
-  pub within : IsWithin run.session.window run.client went.acts
-
--- The fault may come while requests are open: it is one at the link, or the writer's.
-abbrev pub IsOfWait : RunFault → Type 0
-IsOfWait (Link fault) = Unit {0}
-IsOfWait (Script WriteFailed) = Unit {0}
-IsOfWait (Script fault) = ⊥
 
 -- Where a run stops with this fault no request is open, unless it is one that may come while some are.
 abbrev pub IsOverAt : RunFault → Client → Type 0
@@ -126,9 +54,3 @@ IsOverAt (Script fault) client = open_in client ≡ 0
 abbrev pub IsOver : {A : Type 0} → Result A RunFault → Client → Type 0
 IsOver (Ok x) client = open_in client ≡ 0
 IsOver (Err fault) client = IsOverAt fault client
-
--- A fault at a line is that of the line, by its number; or it may come while requests are open.
-abbrev pub IsNamed : RunFault → ℕ → List ℕ → Type 0
-IsNamed (Link fault) n line = ⊤
-IsNamed (Script WriteFailed) n line = ⊤
-IsNamed (Script fault) n line = (acts_of_line line ≡ None) × (fault ≡ fault_of_line n line)

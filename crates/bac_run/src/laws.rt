@@ -1,28 +1,31 @@
 //! What holds of every run. Each function has an empty body, and its clauses are the laws.
-ghost use Rattle.std.specs.Prelude.{◌≡◌, ◌⊎◌, [], ◌∷◌, ◌++◌, ◌+◌, ◌*◌, ◌<◌, ◌^◌, ◌≤◌, length, map, suc, true, false, ℕ};
-ghost use Rattle.std.specs.Prelude.{List, None, Result, Ok};
+ghost use Rattle.std.specs.Prelude.{◌≡◌, ◌⊎◌, ◌++◌, ◌+◌, ◌*◌, ◌<◌, ◌^◌, ◌≤◌, length, map, suc, true, false, ℕ, List};
+ghost use Rattle.std.specs.Prelude.{None, Result, Ok};
 ghost use Rattle.std.specs.List.{flat_map};
 ghost use Rattle.bac_wire.specs.Copies.{EqualsBy, MakesCopies};
-ghost use Rattle.bac_print.specs.{Checked.fresh, declared.checked.Checked.Checked};
-ghost use Rattle.bac_script.specs.{Alike.GaveSame, Script.{text, lines, first_fault}, Text.notes_text};
-ghost use Rattle.bac_script.specs.declared.{input.Reading.TheVariants.AtEnd, tracing.TraceEnd.TraceEnd};
+ghost use Rattle.bac_print.specs.Checked.{fresh};
+ghost use Rattle.bac_print.specs.declared.checked.Checked.{Checked};
+ghost use Rattle.bac_script.specs.Alike.{GaveSame};
+ghost use Rattle.bac_script.specs.Script.{text, lines, first_fault};
+ghost use Rattle.bac_script.specs.Text.{notes_text};
+ghost use Rattle.bac_script.specs.declared.input.Reading.TheVariants.{AtEnd};
+ghost use Rattle.bac_script.specs.declared.tracing.TraceEnd.{TraceEnd};
 ghost use Rattle.bac_script.specs.Line.{Happens, Settings as SettingsSaid};
 ghost use Rattle.hex.specs.Hex.{IsBytes};
-ghost use Rattle.bac_tsm.specs.{
-  Client.client_rules,
-  Events.{Data, Event},
-  Laws.{outputs, state_at},
-  Lookahead.{Accepted, clock, end},
-};
-ghost use Rattle.bac_links.specs.{Answered.answers_of, History.{Account, Entry}};
-ghost use Rattle.bac_run.specs.{
-  Input.{EndsWithFeed, HasNoFeed, said_of},
-  Course.AreSteady,
-  Journal.{Act, Asked, Paused, Told, arrival_line, client_after, events_of, new_client, notes_of, settings_line},
-  Replay.{AreSent, AskNext, IsLineOf, IsReadBack, posted_in, sent_in},
-  Run.{Runs, journal_of},
-};
-ghost use Rattle.bac_run.specs.declared.{session.Session.Session as Settings, fault.RunFault.RunFault as Fault};
+ghost use Rattle.bac_tsm.specs.Client.{client_rules};
+ghost use Rattle.bac_tsm.specs.Events.{Data, Event};
+ghost use Rattle.bac_tsm.specs.Laws.{outputs, state_at};
+ghost use Rattle.bac_tsm.specs.Lookahead.{Accepted, clock, end};
+ghost use Rattle.bac_links.specs.Answered.{answers_of};
+ghost use Rattle.bac_links.specs.History.{Account, Entry};
+ghost use Rattle.bac_run.specs.Input.{EndsWithFeed, HasNoFeed, said_of};
+ghost use Rattle.bac_run.specs.Course.{AreSteady};
+ghost use Rattle.bac_run.specs.Journal.{Act, Asked, Paused, Told, arrival_line, client_after, events_of, new_client};
+ghost use Rattle.bac_run.specs.Journal.{notes_of, settings_line};
+ghost use Rattle.bac_run.specs.Replay.{AreSent, AskNext, IsLineOf, IsReadBack, posted_in, sent_in};
+ghost use Rattle.bac_run.specs.Run.{Runs, journal_of};
+ghost use Rattle.bac_run.specs.declared.session.Session.{Session as Settings};
+ghost use Rattle.bac_run.specs.declared.fault.RunFault.{RunFault as Fault};
 
 use crate::fault::RunFault;
 use crate::session::Session;

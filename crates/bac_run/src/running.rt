@@ -5,17 +5,19 @@ ghost use Rattle.bac_wire.specs.Steps.{result_seen};
 ghost use Rattle.bac_pdu.specs.Peer.{station};
 ghost use Rattle.bac_script.specs.LineSeen.{line_seen};
 ghost use Rattle.bac_tsm.specs.Events.{Ask};
-ghost use Rattle.bac_print.specs.{Checked.has_failed, Page.{held, writer_of}};
-ghost use Rattle.bac_run.specs.{Fault.{is_at_link, is_of_link, send_failed, stopped, write_failed}};
+ghost use Rattle.bac_print.specs.Checked.{has_failed};
+ghost use Rattle.bac_print.specs.Page.{held, writer_of};
+ghost use Rattle.bac_run.specs.Fault.{is_at_link, is_of_link, write_failed};
+ghost use Rattle.bac_run.specs.Inner.Went.{send_failed, stopped, IsNamed, IsOfWait, Opened, Went, WentFor, started};
 ghost use Rattle.bac_script.specs.declared.tracing.TraceFault.TheVariants.{WriteFailed};
-ghost use Rattle.bac_run.specs.{
-  Course.{Turns, open_in},
-  Input.{acts_of_line, is_remark, said_of, skipped},
-  Journal.Asked,
-  Run.{Runs, RunsOn},
-  Went.{IsNamed, IsOfWait, IsOver, IsOverAt, Opened, Went, WentFor, started},
-};
-ghost use Rattle.bac_run.specs.declared.{fault.RunFault.TheVariants.{Script}, turns.Until.TheVariants.{FewOpen}};
+ghost use Rattle.bac_run.specs.Course.{Turns, open_in};
+ghost use Rattle.bac_run.specs.Input.{acts_of_line, is_remark, said_of, skipped};
+ghost use Rattle.bac_run.specs.Journal.{Asked};
+ghost use Rattle.bac_run.specs.Run.{Runs};
+ghost use Rattle.bac_run.specs.Inner.Run.{RunsOn};
+ghost use Rattle.bac_run.specs.Went.{IsOver, IsOverAt};
+ghost use Rattle.bac_run.specs.declared.fault.RunFault.TheVariants.{Script};
+ghost use Rattle.bac_run.specs.declared.turns.Until.TheVariants.{FewOpen};
 ghost use Rattle.bac_links.specs.Limits.{most_turns};
 
 use crate::fault::RunFault;

@@ -1,15 +1,17 @@
 //! Turns of a run: what the link hears and the time are handed to the client, and what it sends is sent.
 
-ghost use Rattle.std.specs.{Prelude.{◌≡◌, ◌≤◌, ℕ, List, [], ◌∷◌, false, true, Err, IfErr, IfOk}, List.flat_map};
-ghost use Rattle.bac_print.specs.{Checked.has_failed, Page.{held, writer_of}};
+ghost use Rattle.std.specs.Prelude.{◌≡◌, ◌≤◌, ℕ, List, [], ◌∷◌, false, true, Err, IfErr, IfOk};
+ghost use Rattle.std.specs.List.{flat_map};
+ghost use Rattle.bac_print.specs.Checked.{has_failed};
+ghost use Rattle.bac_print.specs.Page.{held, writer_of};
 ghost use Rattle.bac_tsm.specs.Machine.{sent, due_notes};
 ghost use Rattle.bac_links.specs.Limits.{most_turns};
-ghost use Rattle.bac_run.specs.{
-  Course.{Aim, Fresh, Turns, heard_at, is_reached, open_in, settled, wait_at},
-  Fault.{is_of_link, send_failed, write_failed},
-  Journal.posts,
-  Went.{GainsDue, IsOfWait, Went, begins_turn, ends_turn, heard_until, hearing, looking, outside, started, to_tell},
-};
+ghost use Rattle.bac_run.specs.Course.{Aim, Fresh, Turns, heard_at, is_reached, open_in, settled, wait_at};
+ghost use Rattle.bac_run.specs.Fault.{is_of_link, write_failed};
+ghost use Rattle.bac_run.specs.Inner.Went.{send_failed, IsOfWait, Went, begins_turn, ends_turn, heard_until, hearing};
+ghost use Rattle.bac_run.specs.Inner.Went.{looking, outside, started, to_tell};
+ghost use Rattle.bac_run.specs.Journal.{posts};
+ghost use Rattle.bac_run.specs.Went.{GainsDue};
 
 use crate::fault::RunFault;
 use crate::journal::{has_line, print_arrival, print_time, remark_due, remark_end};

@@ -1,6 +1,7 @@
 -- What is left on the page in the end goes out, or the run is cut off there.
 use Rattle.std.proofs.Common.{rules}
-use Rattle.bac_run.proofs.{ReadBack.settings_read_back, Runs.{cut_off, goes_out}}
+use Rattle.bac_run.proofs.ReadBack.{settings_read_back}
+use Rattle.bac_run.proofs.Runs.{cut_off, goes_out}
 use Rattle.bac_run.proofs.running.run_requests.Goals as goal
 
 pub returns-then-not-is_at_link-clause-runs : goal.returns-then-not-is_at_link-clause-runs

@@ -2,7 +2,8 @@
 use Rattle.std.proofs.Common.{◌-◌, ◌/◌, ◌==◌, ◌≡◌, ◌∷◌, ap, arith, false, nat_lt, refl, sym, true, ℕ}
 use Rattle.std.proofs.lemmas.Bool.Decides.{nat_tests}
 use Rattle.bac_links.specs.Limits.{most_turns}
-use Rattle.bac_run.specs.{Course.{Turns, open_in, ready}, declared.turns.Until.TheVariants.TimeTold}
+use Rattle.bac_run.specs.Course.{Turns, open_in, ready}
+use Rattle.bac_run.specs.declared.turns.Until.TheVariants.{TimeTold}
 use Rattle.bac_run.proofs.Parts.{went_more, went_read}
 use Rattle.bac_run.proofs.turns.Run.freshen.Goals as goal
 

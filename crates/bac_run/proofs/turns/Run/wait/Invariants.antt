@@ -1,7 +1,8 @@
 -- One turn after another.
 use Rattle.std.proofs.Common.{◌≡◌, ◌≤◌, ◌∷◌, false, []}
 use Rattle.bac_links.specs.Limits.{most_turns}
-use Rattle.bac_run.specs.{Course.{Turns, open_in}, Went.{Went, started}}
+use Rattle.bac_run.specs.Course.{Turns, open_in}
+use Rattle.bac_run.specs.Inner.Went.{Went, started}
 use Rattle.bac_run.proofs.Acts.{done}
 use Rattle.bac_run.proofs.turns.Run.wait.Given as goal
 

@@ -1,0 +1,3 @@
+-- What only private clauses say. No promise of this crate rests on it.
+pub mod Went
+pub mod Run

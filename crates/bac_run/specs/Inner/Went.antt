@@ -1,0 +1,106 @@
+-- What a part of a run did to its client, its page and its link.
+use Rattle.std.specs.Prelude.{◌≡◌, ℕ, suc, Bool, ⊤, List, [], ◌∷◌, ◌++◌, if◌then◌else◌, Option, None, Result, Ok, Err}
+use Rattle.std.specs.Prelude.{Some, unwrap_or}
+use Rattle.std.specs.List.{AllByRecursion}
+use Rattle.bac_tsm.specs.Client.{Client}
+use Rattle.bac_tsm.specs.Events.{Event}
+use Rattle.bac_print.specs.declared.page.Page.{Page}
+use Rattle.bac_print.specs.Page.{Prints}
+use Rattle.bac_script.specs.declared.tracing.TraceFault.TheVariants.{WriteFailed}
+use Rattle.bac_links.specs.History.{Account}
+use Rattle.bac_links.specs.declared.fault.ToolFault.TheVariants.{SendFailed}
+use Rattle.bac_run.specs.declared.fault.RunFault.{RunFault}
+use Rattle.bac_run.specs.declared.fault.RunFault.TheVariants.{Link, Script}
+use Rattle.bac_run.specs.declared.turns.Run.{Run}
+use Rattle.bac_run.specs.declared.turns.Until.{Until}
+use Rattle.bac_run.specs.Input.{acts_of_line, fault_of_line, inputs_in}
+use Rattle.bac_run.specs.Journal.{Act, FitsLine, client_after, journal, history_of, at_event, remarks, posts}
+use Rattle.bac_run.specs.Course.{Aim, Goes, Looked, Outside, Stage, Turns, aims_for, settled, stage_after, telling}
+use Rattle.bac_run.specs.Went.{GainsDue, IsWithin, ComesTo}
+
+-- The link could not send.
+abbrev pub send_failed : RunFault
+send_failed = Link SendFailed
+
+-- It stopped.
+abbrev pub stopped : RunFault → Result (Unit {0}) RunFault
+stopped fault = Err fault
+
+-- With this result all that was wanted was done, and the line was no bad one; or a front of it.
+abbrev pub IsDone : {A : Type 0} → Result A RunFault → (wanted : Option (List Act)) → (inputs : List Act) → Type 0
+IsDone (Ok x) wanted inputs = wanted ≡ Some inputs
+IsDone (Err fault) wanted inputs = (rest : List Act) × (unwrap_or wanted [] ≡ inputs ++ rest)
+
+-- Where a run stands outside of a turn, with these aims; and without those that are reached.
+abbrev pub outside : Run → List Aim → Stage
+outside run aims = record { client = run.client; behind = run.behind; phase = Outside; aims = aims }
+
+abbrev pub started : Run → List Aim → Stage
+started run aims = settled (outside run aims)
+
+-- Where a turn begins, and where it ends: of the turns until something is reached one is taken.
+abbrev pub begins_turn : Run → Until × ℕ × List Aim → Stage
+begins_turn run (until, left, later) = outside run (Turns until (suc left) ∷ later)
+
+abbrev pub ends_turn : Run → Until × ℕ × List Aim → Stage
+ends_turn run (until, left, later) = started run (Turns until left ∷ later)
+
+-- Where the time of a turn was read.
+abbrev pub looking : Run → ℕ × List Aim → Stage
+looking run (time, aims) = record (outside run aims) { phase = Looked time }
+
+-- Where a time is to be told.
+abbrev pub to_tell : Run → ℕ → List Aim → Stage
+to_tell run time aims = settled (telling (outside run aims) time)
+
+-- Where a wait is over: the time of the turn is told, or not yet.
+abbrev pub heard_until : Run → (defers : Bool) → ℕ → List Aim → Stage
+heard_until run defers time aims = if defers then started run aims else to_tell run time aims
+
+abbrev pub hearing : {A : Type 0} → Run → Result Bool A → ℕ × List Aim → Stage
+hearing run (Ok defers) (time, aims) = heard_until run defers time aims
+hearing run (Err fault) (time, aims) = started run aims
+
+-- Some acts were done, of the input these, each where it was due, from one stage to another, whatever the run is about
+-- then: the client is what they leave, their journal was printed, and the link was asked what they ask.
+pub record Went {Origin W A I : Type 0} (contents : W → Option (List ℕ)) (run run' : Run) (page page' : Page W)
+    (seen left : Account Origin) (from to : I → Stage) (result : Result A RunFault) (inputs : List Act)
+    : Type 0 where
+  pub acts : List Act
+  pub of_input : inputs_in acts ≡ inputs
+  pub same : run'.session ≡ run.session
+  pub goes : (i : I) → Goes run.session.config.timeout (from i) acts
+  pub comes : (i : I) → ComesTo result (to i) (stage_after run.session.config.timeout (from i) acts)
+  pub client_is : run'.client ≡ client_after run.client acts
+  pub prints : Prints contents page page' (journal run.client acts)
+  pub asks : GainsDue result (history_of run.client acts) seen left
+  pub fit : AllByRecursion FitsLine acts
+
+-- The client made its step at this event, its notes were printed as remarks, and what it sends was sent.
+pub record Opened {Origin W A : Type 0} (contents : W → Option (List ℕ)) (client client' : Client) (page page' : Page W)
+    (seen left : Account Origin) (result : Result A RunFault) (event : Event) : Type 0 where
+  pub client_is : client' ≡ (at_event client event).after
+  pub prints : Prints contents page page' (remarks (at_event client event).notes)
+  pub asks : GainsDue result (posts (at_event client event).notes) seen left
+
+-- What is wanted of a line was done, as far as the result says; within so many open requests.
+pub record WentFor {Origin W A : Type 0} (contents : W → Option (List ℕ)) (run run' : Run) (page page' : Page W)
+    (seen left : Account Origin) (result : Result A RunFault) (wanted : Option (List Act))
+    : Type 0 where
+  pub inputs : List Act
+  pub is_done : IsDone result wanted inputs
+  pub went : Went contents run run' page page' seen left (λ later. started run (aims_for wanted ++ later))
+      (λ later. started run' later) result inputs
+  pub within : IsWithin run.session.window run.client went.acts
+
+-- The fault may come while requests are open: it is one at the link, or the writer's.
+abbrev pub IsOfWait : RunFault → Type 0
+IsOfWait (Link fault) = Unit {0}
+IsOfWait (Script WriteFailed) = Unit {0}
+IsOfWait (Script fault) = ⊥
+
+-- A fault at a line is that of the line, by its number; or it may come while requests are open.
+abbrev pub IsNamed : RunFault → ℕ → List ℕ → Type 0
+IsNamed (Link fault) n line = ⊤
+IsNamed (Script WriteFailed) n line = ⊤
+IsNamed (Script fault) n line = (acts_of_line line ≡ None) × (fault ≡ fault_of_line n line)
