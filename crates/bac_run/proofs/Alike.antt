@@ -140,7 +140,15 @@ one_due (Asked line event) = inl (refl, refl)
 one_due Paused = inl (refl, refl)
 one_due (Told time) = inl (refl, refl)
 one_due (Read time) =
-    inr (record { entry = Timed time; other_entry = Timed time; asks = refl; other_asks = refl; question = refl; same = λ _. refl })
+    inr (record {
+      entry = Timed time;
+      other_entry = Timed time;
+      asks = refl;
+      other_asks = refl;
+      question = refl;
+      same
+          = λ _. refl;
+    })
 one_due (Came wait from octets) = inr (record {
   entry = Waited wait (Arrived from octets);
   other_entry = Waited wait (Arrived from octets);
@@ -150,7 +158,14 @@ one_due (Came wait from octets) = inr (record {
   same = λ _. refl;
 })
 one_due (Passed wait heard) =
-    inr (record { entry = Waited wait heard; other_entry = Waited wait heard; asks = refl; other_asks = refl; question = refl; same = λ _. refl })
+    inr (record {
+      entry = Waited wait heard;
+      other_entry = Waited wait heard;
+      asks = refl;
+      other_asks = refl;
+      question = refl;
+      same = λ _. refl;
+    })
 
 both_due : (act due other : Act) → act ≡ due → other ≡ due → SameDue act other
 both_due act due other is same = rw (is, same) (one_due due)
@@ -193,7 +208,8 @@ same_due timeout stage Outside (Turns until (suc left) ∷ later) more (Read tim
 same_due timeout stage Outside (Fresh ∷ later) more (Read time) (Read now) due too = read_due time now
 same_due timeout stage Outside (Does act ∷ later) more one other due too = both_due one act other due too
 same_due timeout stage (Looked time) aims more (Came wait from octets) (Came wait' from' octets') (is, _) (is', _) =
-    waited_due wait wait' (Arrived from octets) (Arrived from' octets') (Came wait from octets) (Came wait' from' octets')
+    waited_due wait wait' (Arrived from octets) (Arrived from' octets') (Came wait from octets)
+    (Came wait' from' octets')
     refl refl (is ∙ sym is') (λ e. cc)
 same_due timeout stage (Looked time) aims more (Came wait from octets) (Passed wait' heard) (is, line) (is', passed) =
     waited_due wait wait' (Arrived from octets) heard (Came wait from octets) (Passed wait' heard) refl refl
@@ -289,18 +305,23 @@ coheres_none (entry ∷ entries) = tt
 
 -- Acts that are due at one stage, and what comes behind them.
 act_coheres : (act other : Act) (after : Client) (acts others : List Act) (client : Client) → SameDue act other
-    → (act ≡ other → Coheres (history_of (turn_at client act).after acts) (history_of (turn_at client act).after others))
+    → (act ≡ other → Coheres (history_of (turn_at client act).after acts) (history_of
+    (turn_at client act).after others))
     → Coheres (history_of client (act ∷ acts)) (history_of client (other ∷ others))
 act_coheres act other after acts others client (inl (same, none)) later =
     subst (λ (a : Act). Coheres (history_of client (act ∷ acts)) (history_of client (a ∷ others))) same
     (coheres_front (asked_by act ++ posts (turn_at client act).notes) _ _ (later same))
 act_coheres act other after acts others client (inr asking) later =
-    rw (asking.asks, asking.other_asks)
-    (asking.question, λ says. (same_entry asking.entry asking.other_entry asking.question says,
-    subst (λ (a : Act). Coheres
-    (posts (turn_at client act).notes ++ history_of (turn_at client act).after acts)
-    (posts (turn_at client a).notes ++ history_of (turn_at client a).after others)) (asking.same says)
-    (coheres_front (posts (turn_at client act).notes) _ _ (later (asking.same says)))))
+    rw (asking.asks, asking.other_asks) (
+      asking.question,
+      λ says. (
+        same_entry asking.entry asking.other_entry asking.question says,
+        subst (λ (a : Act). Coheres
+            (posts (turn_at client act).notes ++ history_of (turn_at client act).after acts)
+            (posts (turn_at client a).notes ++ history_of (turn_at client a).after others)) (asking.same says)
+            (coheres_front (posts (turn_at client act).notes) _ _ (later (asking.same says))),
+      ),
+    )
 
 -- What some acts ask of the link, from a stage on, and what others do that begin at the same.
 abbrev asked_from : Stage → List Act → List Entry
@@ -370,7 +391,8 @@ none_next : (rest : List Entry) → AskNext rest []
 none_next [] = tt
 none_next (x ∷ rest) = tt
 
-next : (due others rest rest' : List Entry) → Coheres due others → Gets due rest → Gets others rest' → AskNext rest rest'
+next : (due others rest rest' : List Entry) → Coheres due others → Gets due rest → Gets others rest'
+    → AskNext rest rest'
 next due others [] rest' coheres gets gets' = next_none rest'
 next due others (x ∷ rest) [] coheres gets gets' = tt
 next [] others (x ∷ rest) (y ∷ rest') coheres gets gets' = absurd (cc)
@@ -381,16 +403,19 @@ next (entry ∷ due) (other ∷ others) (x ∷ rest) (y ∷ rest') (asks, then) 
 aligned : (due others gained got first rest first' rest' : List Entry) → Coheres due others → Gets due gained
     → Gets others got → gained ≡ first ++ rest → got ≡ first' ++ rest' → answers_of first ≡ answers_of first'
     → (first ≡ first') × AskNext rest rest'
-aligned due others gained got [] rest [] rest' coheres gets gets' is is' same =
-    (refl, next due others rest rest' coheres (subst (λ (xs : List Entry). Gets due xs) is gets)
-    (subst (λ (xs : List Entry). Gets others xs) is' gets'))
+aligned due others gained got [] rest [] rest' coheres gets gets' is is' same = (
+  refl,
+  next due others rest rest' coheres (subst (λ (xs : List Entry). Gets due xs) is gets)
+      (subst (λ (xs : List Entry). Gets others xs) is' gets'),
+)
 aligned due others gained got [] rest (y ∷ first') rest' coheres gets gets' is is' same = absurd (cc)
 aligned due others gained got (x ∷ first) rest [] rest' coheres gets gets' is is' same = absurd (cc)
 aligned [] others gained got (x ∷ first) rest (y ∷ first') rest' coheres gets gets' is is' same =
     absurd (let bad = sym gets ∙ is in cc)
 aligned (entry ∷ due) [] gained got (x ∷ first) rest (y ∷ first') rest' coheres gets gets' is is' same =
     absurd (let bad = sym gets' ∙ is' in cc)
-aligned (entry ∷ due) (other ∷ others) gained got (x ∷ first) rest (y ∷ first') rest' (asks, then) gets gets' is is' same =
+aligned (entry ∷ due) (other ∷ others) gained got (x ∷ first) rest (y
+    ∷ first') rest' (asks, then) gets gets' is is' same =
     let here = subst (λ (xs : List Entry). Gets (entry ∷ due) xs) is gets in
     let there = subst (λ (xs : List Entry). Gets (other ∷ others) xs) is' gets' in
     let says : answer_of x ≡ answer_of y = cc in
@@ -410,14 +435,16 @@ aligned (entry ∷ due) (other ∷ others) gained got (x ∷ first) rest (y ∷ 
         (ap (λ (z : Entry). z ∷ first) one ∙ ap (λ (zs : List Entry). y ∷ zs) same, more)
     go one later (inr (to, octets, was, is, none)) there on =
         let (over, out) = none_both first rest none in
-        let over' = none_answered first' (sym later ∙ ap answers_of over) in
-        (ap (λ (z : Entry). z ∷ first) one ∙ ap (λ (zs : List Entry). y ∷ zs) (over ∙ sym over'),
-        subst (λ (zs : List Entry). AskNext zs rest') (sym out) (next_none rest'))
+        let over' = none_answered first' (sym later ∙ ap answers_of over) in (
+          ap (λ (z : Entry). z ∷ first) one ∙ ap (λ (zs : List Entry). y ∷ zs) (over ∙ sym over'),
+          subst (λ (zs : List Entry). AskNext zs rest') (sym out) (next_none rest'),
+        )
     go one later here (inr (to, octets, was, is, none)) on =
         let (over', out) = none_both first' rest' none in
-        let over = none_answered first (later ∙ ap answers_of over') in
-        (ap (λ (z : Entry). z ∷ first) one ∙ ap (λ (zs : List Entry). y ∷ zs) (over ∙ sym over'),
-        subst (λ (zs : List Entry). AskNext rest zs) (sym out) (none_next rest))
+        let over = none_answered first (later ∙ ap answers_of over') in (
+          ap (λ (z : Entry). z ∷ first) one ∙ ap (λ (zs : List Entry). y ∷ zs) (over ∙ sym over'),
+          subst (λ (zs : List Entry). AskNext rest zs) (sym out) (none_next rest),
+        )
 
 -- ---- whole runs
 
@@ -431,9 +458,11 @@ aims_open window (line ∷ later) = go (is_some (acts_of_line line)) refl (aims_
         → (rest : List Aim) × (aims_of_lines window Failed later ≡ aims_of_lines window Open later ++ rest)
         → (rest : List Aim)
         × (aims_of_lines window Failed (line ∷ later) ≡ aims_of_lines window Open (line ∷ later) ++ rest)
-    go true e (rest, is) =
-        (rest, rw e (ap (λ (xs : List Aim). room_for window ∷ (aims_for (acts_of_line line) ++ xs)) is
-        ∙ sym (append_assoc (room_for window ∷ aims_for (acts_of_line line)) (aims_of_lines window Open later) rest)))
+    go true e (rest, is) = (
+      rest,
+      rw e (ap (λ (xs : List Aim). room_for window ∷ (aims_for (acts_of_line line) ++ xs)) is
+          ∙ sym (append_assoc (room_for window ∷ aims_for (acts_of_line line)) (aims_of_lines window Open later) rest)),
+    )
     go false e (rest, is) = ([], rw e (sym (append-nil (room_for window ∷ (aims_for (acts_of_line line) ++ [])))))
 
 -- Two runs of one session, of which the second is about more.
@@ -516,11 +545,13 @@ module _ {Origin Other R S V W : Type 0} {remaining : R → Option (List ℕ)} {
       (other_seen other_left : Account Other) (result other : Result TraceEnd RunFault)
       (first rest other_first other_rest : List Entry)
       → Runs remaining contents session (fresh reader) reader' before after seen left result
-      → Runs remaining' contents' session (fresh other_reader) other_reader' other_before other_after other_seen other_left other
+      → Runs remaining' contents' session (fresh other_reader) other_reader' other_before other_after other_seen
+      other_left other
       → GaveSame reader' other_reader' → left.history ≡ seen.history ++ (first ++ rest)
       → other_left.history ≡ other_seen.history ++ (other_first ++ other_rest)
       → answers_of first ≡ answers_of other_first → (first ≡ other_first) × AskNext rest other_rest
-  asks_alike session reader other_reader reader' other_reader' before after other_before other_after seen left other_seen
+  asks_alike session reader other_reader reader' other_reader' before after other_before other_after seen left
+      other_seen
       other_left result other first rest other_first other_rest runs others gave is is' same =
       let one = runs.course in
       let two = others.course in
@@ -528,7 +559,8 @@ module _ {Origin Other R S V W : Type 0} {remaining : R → Option (List ℕ)} {
       let met = sym (ends_as_stands remaining one.reading reader reader' one.stands) ∙ gave.ends
       ∙ ends_as_stands remaining' two.reading other_reader other_reader' two.stands in
       let goes' = subst (λ (xs : List ℕ). Goes session.config.timeout
-      (first_stage session (aims_of_lines session.window two.reading (lines xs two.reading))) others.acts) octets two.goes in
+      (first_stage session (aims_of_lines session.window two.reading
+      (lines xs two.reading))) others.acts) octets two.goes in
       let gained : runs.asks.gained ≡ first ++ rest =
       append_cancel_left seen.history _ _ (sym (ap (λ (a : Account Origin). a.history) runs.asks.gains) ∙ is) in
       let got : others.asks.gained ≡ other_first ++ other_rest =
@@ -538,5 +570,5 @@ module _ {Origin Other R S V W : Type 0} {remaining : R → Option (List ℕ)} {
       elim (cohere_either session one.given runs.acts others.acts one.reading two.reading met one.goes goes') [
         | inl coheres ↦ aligned _ _ _ _ first rest other_first other_rest coheres gets gets' gained got same
         | inr coheres ↦ swapped first other_first rest other_rest
-          (aligned _ _ _ _ other_first other_rest first rest coheres gets' gets got gained (sym same))
+            (aligned _ _ _ _ other_first other_rest first rest coheres gets' gets got gained (sym same))
       ]

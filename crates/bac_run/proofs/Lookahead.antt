@@ -30,19 +30,27 @@ told : (client : Client) (i : ℕ) (acts : List Act)
 told client i [] = refl
 told client i (Asked line event ∷ later) =
     bare-append (map (λ (note : Note). (i, note)) (turn_at client (Asked line event)).notes) _
-    ∙ ap (λ (ns : List Note). ns ++ map (λ (i, note). note) (folded (rules_of client) (turn_at client (Asked line event)).after.state (suc i) (events_of later)).notes) (bare-at i (turn_at client (Asked line event)).notes)
-    ∙ ap (λ (ns : List Note). (turn_at client (Asked line event)).notes ++ ns) (told (turn_at client (Asked line event)).after (suc i) later)
+    ∙ ap (λ (ns : List Note). ns ++ map (λ (i, note). note) (folded (rules_of client) (turn_at client
+    (Asked line event)).after.state (suc i) (events_of later)).notes) (bare-at i (turn_at client
+    (Asked line event)).notes)
+    ∙ ap (λ (ns : List Note). (turn_at client (Asked line event)).notes ++ ns) (told (turn_at client
+    (Asked line event)).after (suc i) later)
 told client i (Paused ∷ later) = told client i later
 told client i (Came wait from octets ∷ later) =
     bare-append (map (λ (note : Note). (i, note)) (turn_at client (Came wait from octets)).notes) _
-    ∙ ap (λ (ns : List Note). ns ++ map (λ (i, note). note) (folded (rules_of client) (turn_at client (Came wait from octets)).after.state (suc i) (events_of later)).notes) (bare-at i (turn_at client (Came wait from octets)).notes)
-    ∙ ap (λ (ns : List Note). (turn_at client (Came wait from octets)).notes ++ ns) (told (turn_at client (Came wait from octets)).after (suc i) later)
+    ∙ ap (λ (ns : List Note). ns ++ map (λ (i, note). note) (folded (rules_of client) (turn_at client
+    (Came wait from octets)).after.state (suc i) (events_of later)).notes) (bare-at i (turn_at client
+    (Came wait from octets)).notes)
+    ∙ ap (λ (ns : List Note). (turn_at client (Came wait from octets)).notes ++ ns) (told (turn_at client
+    (Came wait from octets)).after (suc i) later)
 told client i (Passed wait heard ∷ later) = told client i later
 told client i (Read time ∷ later) = told client i later
 told client i (Told time ∷ later) =
     bare-append (map (λ (note : Note). (i, note)) (turn_at client (Told time)).notes) _
-    ∙ ap (λ (ns : List Note). ns ++ map (λ (i, note). note) (folded (rules_of client) (turn_at client (Told time)).after.state (suc i) (events_of later)).notes) (bare-at i (turn_at client (Told time)).notes)
-    ∙ ap (λ (ns : List Note). (turn_at client (Told time)).notes ++ ns) (told (turn_at client (Told time)).after (suc i) later)
+    ∙ ap (λ (ns : List Note). ns ++ map (λ (i, note). note) (folded (rules_of client) (turn_at client
+    (Told time)).after.state (suc i) (events_of later)).notes) (bare-at i (turn_at client (Told time)).notes)
+    ∙ ap (λ (ns : List Note). (turn_at client (Told time)).notes ++ ns) (told (turn_at client (Told time)).after
+    (suc i) later)
 
 left : (client : Client) (i : ℕ) (acts : List Act)
     → (folded (rules_of client) client.state i (events_of acts)).after ≡ (client_after client acts).state
@@ -62,7 +70,8 @@ told_ahead timeout retries acts is =
     ∙ ap (λ (ns : List (ℕ × Note)). map (λ (i, note). note) ns) is.notes
 
 pub kept_ahead : (timeout retries : ℕ) (acts : List Act)
-    → MachineIsLookahead (client_rules timeout retries) 0 (events_of acts) → (client_after (new_client timeout retries) acts).state
+    → MachineIsLookahead (client_rules timeout retries) 0 (events_of acts)
+    → (client_after (new_client timeout retries) acts).state
     ≡ state_at (client_rules timeout retries) 0 (events_of acts) (length (events_of acts))
 kept_ahead timeout retries acts is =
     let all = events_of acts in
@@ -78,5 +87,6 @@ pub open_in_time : (rules : Rules) (longest : ℕ) (events : List Event) (a : Ac
     → clock events (length events)
     ≤ clock events (suc a.position) + (rules.retries * (rules.timeout + longest) + rules.timeout)
 open_in_time rules longest events a steady still =
-    let soon = open_soon rules events a.position longest rules.retries (length events) steady (never_due rules events a still) in
+    let soon = open_soon rules events a.position longest rules.retries (length events) steady
+    (never_due rules events a still) in
     omega (arith, soon)

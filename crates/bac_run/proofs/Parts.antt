@@ -295,7 +295,8 @@ module _ {Origin W : Type 0} {contents : W → Option (List ℕ)} where
 
   -- A datagram was handed on.
   pub went_came : {I : Type 0} {c d : Run} {p q r : Page W} {s t : Account Origin} {from to : I → Stage} (wait : ℕ)
-      (peer : Station) (octets : List ℕ) (answer : Option (ℕ × Outcome)) → FitsLine (Came wait peer octets) → d.session ≡ c.session
+      (peer : Station) (octets : List ℕ) (answer : Option (ℕ × Outcome)) → FitsLine (Came wait peer octets)
+      → d.session ≡ c.session
       → answer ≡ (datagram (rules_of c.client) c.client.state peer octets).answer
       → d.client ≡ keeping c.client (datagram (rules_of c.client) c.client.state peer octets).after
       → ((i : I) → IsDue c.session.config.timeout (from i) (Came wait peer octets))
@@ -305,7 +306,8 @@ module _ {Origin W : Type 0} {contents : W → Option (List ℕ)} where
   went_came {c} wait peer octets answer fits same is left due comes line notes gains =
       let none = posts-answer answer in
       went_one (Came wait peer octets) fits same left due comes
-      (printed_as (line ⨾ notes) (ap (λ (a : Option (ℕ × Outcome)). arrival_line peer octets ++ remarks (datagram_notes a)) is))
+      (printed_as (line ⨾ notes) (ap (λ (a : Option (ℕ × Outcome)). arrival_line peer octets ++ remarks
+      (datagram_notes a)) is))
       (record {
         gained = Waited wait (Arrived peer octets) ∷ [];
         gains = gains;
@@ -323,7 +325,8 @@ module _ {Origin W : Type 0} {contents : W → Option (List ℕ)} where
       → GainsDue result (posts (flat_map (due_notes d.client.state) due)) s t
       → Went contents c d p r s t from to result []
   went_told {c} {d} time due fits same is left is_due comes line notes sends =
-      let alike : flat_map (due_notes d.client.state) due ≡ (turn_at c.client (Told time)).notes = grind (arith, is, left) in
+      let alike : flat_map (due_notes d.client.state) due ≡ (turn_at c.client (Told time)).notes = grind
+      (arith, is, left) in
       went_one (Told time) fits same left is_due comes
       (printed_as (line ⨾ notes) (ap (λ (ns : List Note). time_line time ++ remarks ns) alike))
       (rw (sym alike) sends)
@@ -493,7 +496,8 @@ module _ {Origin W : Type 0} {contents : W → Option (List ℕ)} where
   -- All that is wanted was done, as far as the link goes.
   pub for_whole : {A : Type 0} {c d : Run} {p q : Page W} {s t : Account Origin} {inputs : List Act}
       (result : Result A RunFault)
-      (went : Went contents c d p q s t (λ later. started c (aims_for (Some inputs) ++ later)) (λ later. started d later)
+      (went : Went contents c d p q s t (λ later. started c (aims_for (Some inputs) ++ later))
+      (λ later. started d later)
       result inputs) → IsWithin c.session.window c.client went.acts
       → WentFor contents c d p q s t result (Some inputs)
   for_whole {inputs} (Ok x) went within = record { inputs = inputs; is_done = refl; went = went; within = within }
@@ -519,8 +523,10 @@ module _ {Origin W : Type 0} {contents : W → Option (List ℕ)} where
       {s t : Account Origin} (from to : I → Stage) (line : List ℕ) (event : Event) (same : d.session ≡ c.session)
       (due : (i : I) → IsDue c.session.config.timeout (from i) (Asked line event))
       (comes : (i : I) → ComesTo result (to i) (moved c.session.config.timeout (from i) (Asked line event)))
-      (printed : Prints contents p q (whole_line line)) (opened : Opened contents c.client d.client q r s t result event)
-      → open_in c.client < window → IsWithin window c.client (went_asked {c = c} {d = d} {from = from} {to = to} line event same due comes printed opened).acts
+      (printed : Prints contents p q (whole_line line)) (opened : Opened contents c.client d.client q r s t result
+      event)
+      → open_in c.client < window → IsWithin window c.client (went_asked {c = c} {d = d} {from = from} {to = to} line
+      event same due comes printed opened).acts
   unfolding went_asked went_one
   within_asked window c d from to line event same due comes printed opened few = (few, tt)
 
@@ -541,8 +547,10 @@ module _ {Origin W : Type 0} {contents : W → Option (List ℕ)} where
         prints = printed_as plain (ap (λ (t : Turn). remarks t.notes) is);
         asks = subst (λ (x : Turn). GainsDue done (posts x.notes) t t) is (due_nothing t);
       } in
-      let comes = λ (later : List Aim). ap (λ (client : Client). ready client d.behind later) (sym (ap (λ (t : Turn). t.after) is)) in
+      let comes = λ (later : List Aim). ap (λ (client : Client). ready client d.behind later) (sym (ap (λ
+      (t : Turn). t.after) is)) in
       let asked = went_asked line (Ask peer 15 body) refl (λ (later : List Aim). refl) comes printed opened in
       for_whole done (went_more fresh asked)
       (within_both c.session.window fresh asked (quiet_went c.session.window fresh tt)
-      (within_asked c.session.window d d _ _ line (Ask peer 15 body) refl (λ (later : List Aim). refl) comes printed opened few))
+      (within_asked c.session.window d d _ _ line (Ask peer 15 body) refl (λ
+      (later : List Aim). refl) comes printed opened few))

@@ -223,7 +223,8 @@ settings_read_back timeout retries some fits small =
 
 -- ---- datagrams
 
-digits_range : (word : List ℕ) → all_ascii_digits word ≡ true → AllByRecursion (λ octet. (48 ≤ octet) × (octet ≤ 57)) word
+digits_range : (word : List ℕ) → all_ascii_digits word ≡ true
+    → AllByRecursion (λ octet. (48 ≤ octet) × (octet ≤ 57)) word
 digits_range [] is = tt
 digits_range (x ∷ xs) is = (grind (arith, nat_tests, is), digits_range xs (grind (arith, nat_tests, is)))
 
@@ -275,7 +276,8 @@ before_dot : (n : ℕ) (rest : List ℕ) → n < 256 → number_before_dot (deci
 before_dot n rest small =
     let wide : n < 2 ^ 64 = omega (arith, small) in
     let cut = cut_there 46 (decimal n) rest (none_is 46 (decimal n) (inr (lit< tt)) (decimal_range n wide)) in
-    let short = short_so 3 255 n (length-decimal-le 3 n (lit< tt) (omega (arith, small)) wide) (omega (arith, small)) wide in
+    let short = short_so 3 255 n (length-decimal-le 3 n (lit< tt) (omega (arith, small)) wide) (omega
+    (arith, small)) wide in
     rw (cut, short) refl
 
 abbrev dotted : ℕ → ℕ → ℕ → ℕ → List ℕ
@@ -288,7 +290,8 @@ address_back a b c d one two three four =
     let first = before_dot a (decimal b ++ 46 ∷ (decimal c ++ 46 ∷ decimal d)) one in
     let second = before_dot b (decimal c ++ 46 ∷ decimal d) two in
     let third = before_dot c (decimal d) three in
-    let last = short_so 3 255 d (length-decimal-le 3 d (lit< tt) (omega (arith, four)) wide) (omega (arith, four)) wide in
+    let last = short_so 3 255 d (length-decimal-le 3 d (lit< tt) (omega (arith, four)) wide) (omega
+    (arith, four)) wide in
     rw (first, second, third, last) refl
 
 -- The four octets of an address.
@@ -393,7 +396,11 @@ peer_so ip port a b c d one two three four fits value =
           (dotted_visible a b c d one two three four) (decimal_visible port number);
       some = omega (arith, length-append (dotted a b c d) (58 ∷ decimal port));
       short = omega (arith, length-append (dotted a b c d) (58 ∷ decimal port), long, five);
-      back = ap (λ (o : Option (List ℕ × List ℕ)). station_at (unwrap_or o (dotted a b c d ++ 58 ∷ decimal port, codes "47808"))) cut
+      back = ap (λ (o : Option (List ℕ × List ℕ)). station_at (unwrap_or o (
+        dotted a b c d ++ 58
+            ∷ decimal port,
+        codes "47808",
+      ))) cut
           ∙ rw (short, address, value) refl;
     }
 
@@ -426,7 +433,8 @@ octets_back : (xs : List ℕ) → IsBytes xs → 0 < length xs → length xs ≤
 octets_back xs is some few =
     let long = length-encode_with lower_digits xs in
     let back = decode_of-encode_lower xs is in
-    let within : is_in_range 1 longest_line (length (encode_lower xs)) ≡ true = grind (arith, nat_tests, long, some, few) in
+    let within : is_in_range 1 longest_line (length (encode_lower xs)) ≡ true = grind
+    (arith, nat_tests, long, some, few) in
     rw (within, back) refl
 
 arrival_says : (text peer digits octets : List ℕ) (from : Station)

@@ -141,7 +141,8 @@ said_of_long line is =
     ]
 
 unsaid : (line : List ℕ) → said false line ≡ Err TooLong → acts_of_line line ≡ None
-unsaid line is = ap (λ (r : Result Said LineFault). option_and_then (acts_of_said line) (result_ok r)) (said_of_long line is)
+unsaid line is = ap (λ (r : Result Said LineFault). option_and_then (acts_of_said line) (result_ok r))
+    (said_of_long line is)
 
 long_fault : (n : ℕ) (line : List ℕ) → said false line ≡ Err TooLong → fault_of_line n line ≡ LineTooLong n
 long_fault n line is = ap (λ (r : Result Said LineFault). fault_of_said n r) (said_of_long line is)
@@ -184,7 +185,8 @@ cut_next Open now n sure some within (inr c) last =
     subst (λ (xs : List ℕ). IsCut (take n now) xs Open) (take-append-drop n now)
     (cut_long (take n now) (drop n now) Open c.no_feed c.long)
 cut_next AtEnd now n sure some within c last =
-    let all : take n now ≡ now = sym (append-nil (take n now)) ∙ ap (λ (xs : List ℕ). take n now ++ xs) (sym (last refl)) ∙ take-append-drop n now in
+    let all : take n now ≡ now = sym (append-nil (take n now))
+    ∙ ap (λ (xs : List ℕ). take n now ++ xs) (sym (last refl)) ∙ take-append-drop n now in
     cut_same _ _ _ []
     (rw all (lines-last now (rw all at c.no_feed) (omega (arith, some, within))))
 
@@ -380,7 +382,8 @@ at_end remaining a b Failed now n zero sure c stands = absurd (sure refl)
 -- One more line that ends with its line feed.
 split_push : (taken : List (List ℕ)) (line more : List ℕ) (reading : Reading)
     → ((more : List ℕ) (reading : Reading) → lines (concat taken ++ more) reading ≡ taken ++ lines more reading)
-    → EndsWithFeed line → lines (concat (taken ++ line ∷ []) ++ more) reading ≡ (taken ++ line ∷ []) ++ lines more reading
+    → EndsWithFeed line → lines (concat (taken ++ line ∷ []) ++ more) reading ≡ (taken ++ line
+    ∷ []) ++ lines more reading
 split_push taken line more reading split (text, none, ended) =
     ap (λ (xs : List ℕ). lines (xs ++ more) reading) (concat_push taken line)
     ∙ ap (λ (xs : List ℕ). lines xs reading) (append_assoc (concat taken) line more)
@@ -436,7 +439,8 @@ not_read n line is = here (said_of line) refl
 -- So does a line with a fault.
 ends_line : (fault : RunFault) (n : ℕ) (line : List ℕ) (reading : Reading) (ls : List (List ℕ)) (to left : Stage)
     → IsNamed fault n line → ComesTo (failed TraceEnd fault) to left
-    → (acts_of_line line ≡ None → IsAtRest to) → (acts_of_line line ≡ None → fault_in 1 ls ≡ Some (fault_of_line n line))
+    → (acts_of_line line ≡ None → IsAtRest to) → (acts_of_line line ≡ None
+    → fault_in 1 ls ≡ Some (fault_of_line n line))
     → EndsAt (failed TraceEnd fault) reading ls left
 ends_line (Link fault) n line reading ls to left named comes rests faulty =
     ends_wait (Link fault) reading ls to left tt comes
@@ -446,7 +450,6 @@ ends_line (Script (BadLine k)) n line reading ls to left (none, is) comes rests 
     (rw comes (rests none), faulty none ∙ ap (λ (x : TraceFault). Some x) (sym is))
 ends_line (Script (LineTooLong k)) n line reading ls to left (none, is) comes rests faulty =
     (rw comes (rests none), faulty none ∙ ap (λ (x : TraceFault). Some x) (sym is))
-
 
 abbrev start : Session → Client
 start session = new_client session.config.timeout session.config.retries
@@ -466,7 +469,8 @@ ends_as : (session : Session) (acts : List Act) (result : Result TraceEnd RunFau
     → EndsAt result reading ls' (stage_after session.config.timeout (first_stage session aims') acts)
     → EndsAt result reading ls (stage_after session.config.timeout (first_stage session aims) acts)
 ends_as session acts result reading {ls} {ls'} {aims} {aims'} same alike ends =
-    subst (λ (xs : List Aim). EndsAt result reading ls (stage_after session.config.timeout (first_stage session xs) acts))
+    subst (λ (xs : List Aim). EndsAt result reading ls (stage_after session.config.timeout
+    (first_stage session xs) acts))
     (sym alike)
     (subst (λ (xs : List (List ℕ)). EndsAt result reading xs
     (stage_after session.config.timeout (first_stage session aims') acts)) (sym same) ends)
@@ -505,7 +509,8 @@ module _ {Origin R W : Type 0} {remaining : R → Option (List ℕ)} {contents :
       abbrev at_line : List Aim → Stage
       at_line later = first_stage session (taken_aims session.window f.taken ++ (room_for session.window ∷ later))
 
-      roomy : Went contents (begins session f.datagram) d f.first q s u at_line (λ later. started d later) done (f.inputs ++ [])
+      roomy : Went contents (begins session f.datagram) d f.first q s u at_line (λ later. started d later) done
+          (f.inputs ++ [])
       roomy = went_more (went_at (λ later. room_for session.window ∷ later) f.went) waited
 
       roomy_within : IsWithin session.window (start session) roomy.acts
@@ -553,7 +558,8 @@ module _ {Origin R W : Type 0} {remaining : R → Option (List ℕ)} {contents :
       module _ {reader' : Checked R} {now : List ℕ} {q' : Page W}
           (given : TakesAndKeeps remaining middle reader' held now []) (turned : Prints contents q q' []) where
         gives_now : TakesAndKeeps remaining reader reader' [] now (concat f.taken)
-        gives_now = subst (λ (xs : List ℕ). TakesAndKeeps remaining reader reader' [] now xs) (append-nil (concat f.taken))
+        gives_now = subst (λ (xs : List ℕ). TakesAndKeeps remaining reader reader' [] now xs) (append-nil
+            (concat f.taken))
             (Takes-more f.gives given)
 
         gives_line : (n : ℕ)
@@ -641,7 +647,8 @@ module _ {Origin R W : Type 0} {remaining : R → Option (List ℕ)} {contents :
             (within_both session.window (went_at wait roomy) end (within_at session.window roomy wait roomy_within)
             (quiet_went session.window end tt))
             (ends_all result (f.taken ++ lines now AtEnd)
-            (stage_after session.config.timeout (at_line (wait [])) all.acts) e count counted waits (all.comes []) no_fault size)
+            (stage_after session.config.timeout (at_line (wait [])) all.acts) e count counted waits
+            (all.comes []) no_fault size)
 
         module _ (n : ℕ) (line : List ℕ) (is : line ≡ take n now) where
           -- It stops at a line.
@@ -664,7 +671,8 @@ module _ {Origin R W : Type 0} {remaining : R → Option (List ℕ)} {contents :
               let asked = ap acts_or_none is in
               whole_run (failed TraceEnd fault) reading now front behind all
               (ap (λ (ls : List (List ℕ)). aims_in_room session.window reading ls) cut.split
-              ∙ ap (λ (o : Option (List Act)). aims_for o ++ aims_behind (is_some o) (room_for session.window ∷ aims_in_room session.window reading cut.others)) whole_is)
+              ∙ ap (λ (o : Option (List Act)). aims_for o ++ aims_behind (is_some o) (room_for session.window
+              ∷ aims_in_room session.window reading cut.others)) whole_is)
               (record {
                 taken = f.taken ++ take n now ∷ [];
                 kept = drop n now;
@@ -699,7 +707,8 @@ module _ {Origin R W : Type 0} {remaining : R → Option (List ℕ)} {contents :
               let aims : taken_aims session.window (f.taken ++ take n now ∷ [])
               ≡ taken_aims session.window f.taken ++ (room_for session.window ∷ aims_for (acts_of_line line)) =
               taken_push session.window f.taken (take n now)
-              ∙ ap (λ (xs : List ℕ). taken_aims session.window f.taken ++ (room_for session.window ∷ aims_for (acts_of_line xs))) (sym is) in
+              ∙ ap (λ (xs : List ℕ). taken_aims session.window f.taken ++ (room_for session.window
+              ∷ aims_for (acts_of_line xs))) (sym is) in
               let here = went_turned turned taken.went in
               let all = went_more (went_at front roomy) here in
               let same_stage : (later : List Aim)
@@ -707,7 +716,8 @@ module _ {Origin R W : Type 0} {remaining : R → Option (List ℕ)} {contents :
               ≡ at_line (front later) =
               λ later. ap (λ (xs : List Aim). first_stage session xs)
               (ap (λ (xs : List Aim). xs ++ later) aims
-              ∙ append_assoc (taken_aims session.window f.taken) (room_for session.window ∷ aims_for (acts_of_line line))
+              ∙ append_assoc (taken_aims session.window f.taken) (room_for session.window
+              ∷ aims_for (acts_of_line line))
               later) in
               record {
                 datagram = f.datagram;
@@ -723,7 +733,8 @@ module _ {Origin R W : Type 0} {remaining : R → Option (List ℕ)} {contents :
                 stands = reads_on f.stands stands;
                 asked = grind (arith, append-nil, f.asked, flat, acts);
                 within = within_from session.window same_stage all
-                    (within_both session.window (went_at front roomy) here (within_at session.window roomy front roomy_within)
+                    (within_both session.window (went_at front roomy) here
+                    (within_at session.window roomy front roomy_within)
                     (within_turned session.window turned taken.went (rw same at taken.within)));
                 counts = grind (arith, length-append, f.counts);
               }
@@ -756,8 +767,10 @@ module _ {Origin R W : Type 0} {remaining : R → Option (List ℕ)} {contents :
               ∙ faults_taken 1 (f.taken ++ take n now ∷ []) [] all_good in
               whole_run result AtEnd now front [] all
               (ap (λ (ls : List (List ℕ)). aims_in_room session.window AtEnd ls) split
-              ∙ ap (λ (xs : List ℕ). aims_for (acts_of_line xs) ++ aims_behind (is_some (acts_of_line xs)) (end [])) (sym is)
-              ∙ ap (λ (o : Option (List Act)). aims_for (acts_of_line line) ++ aims_behind (is_some o) (end [])) taken.is_done)
+              ∙ ap (λ (xs : List ℕ). aims_for (acts_of_line xs) ++ aims_behind (is_some (acts_of_line xs)) (end []))
+              (sym is)
+              ∙ ap (λ (o : Option (List Act)). aims_for (acts_of_line line) ++ aims_behind (is_some o)
+              (end [])) taken.is_done)
               (record {
                 taken = f.taken ++ take n now ∷ [];
                 kept = [];
@@ -774,7 +787,8 @@ module _ {Origin R W : Type 0} {remaining : R → Option (List ℕ)} {contents :
               (within_both session.window (went_at end taken.went) then
               (within_at session.window taken.went end (rw same at taken.within)) (quiet_went session.window then tt))))
               (ends_all result (f.taken ++ lines now AtEnd)
-              (stage_after session.config.timeout (at_line (front [])) all.acts) g (count + 1) counted waits (all.comes []) no_fault size)
+              (stage_after session.config.timeout (at_line (front [])) all.acts) g (count + 1) counted waits
+              (all.comes []) no_fault size)
 
           -- It stops behind the last line, in a wait.
           pub stops_last : {e g : Run} {r last : Page W} {v w : Account Origin} (fault : RunFault)
@@ -819,19 +833,23 @@ module _ {Origin R W : Type 0} {remaining : R → Option (List ℕ)} {contents :
             goes = subst (λ (xs : List Aim). Goes session.config.timeout (first_stage session xs) all.acts)
                 (sym aims) (all.goes (aims_in_room session.window Open (lines held Open)));
             ends = ends_as session all.acts (failed TraceEnd fault) Open (f.split held Open) aims (ends_wait fault Open
-                (f.taken ++ lines held Open) _ _ waits (all.comes (aims_in_room session.window Open (lines held Open))));
+                (f.taken ++ lines held Open) _ _ waits (all.comes (aims_in_room session.window Open
+                (lines held Open))));
           };
           prints = f.settings ⨾ all.prints;
           asks = all.asks;
           fit = all.fit;
-          over = subst (λ (client : Client). IsOver (failed TraceEnd fault) client) all.client_is (over_wait fault _ waits);
+          over = subst (λ (client : Client). IsOver (failed TraceEnd fault) client) all.client_is
+              (over_wait fault _ waits);
           within = within_both session.window (went_at room f.went) end (within_at session.window f.went room f.within)
               (quiet_went session.window end tt);
         }
 
     -- What is left on the page in the end goes out, or the writer fails.
-    pub goes_out : {reader reader' : Checked R} {first last : Page W} {writer after back : Checked W} {s t : Account Origin}
-        {result : Result TraceEnd RunFault} → after ≡ back → RunsOn remaining contents session reader reader' first last s t result
+    pub goes_out : {reader reader' : Checked R} {first last : Page W} {writer after back : Checked W} {s t : Account
+        Origin}
+        {result : Result TraceEnd RunFault} → after ≡ back → RunsOn remaining contents session reader reader' first
+        last s t result
         → AreSettings session → writer_of first ≡ writer → held first ≡ [] → room_of first ≡ Some folded_line
         → Writes contents (writer_of last) after (held last) [] []
         → Runs remaining contents session reader reader' writer back s t result
@@ -848,7 +866,8 @@ module _ {Origin R W : Type 0} {remaining : R → Option (List ℕ)} {contents :
     }
 
     -- It is told that the writer has failed.
-    pub cut_off : {reader reader' : Checked R} {writer after : Checked W} {s t : Account Origin} {result : Result TraceEnd RunFault}
+    pub cut_off : {reader reader' : Checked R} {writer after : Checked W} {s t : Account Origin} {result : Result
+        TraceEnd RunFault}
         → Runs remaining contents session reader reader' writer after s t result → is_at_link result ≡ false
         → Runs remaining contents session reader reader' writer after s t (Err write_failed)
     cut_off {result} runs far = record {

@@ -50,9 +50,11 @@ sent_as_due (Err (Link SendFailed)) due gained (sent, later, to, octets, whole, 
 sent_as_due (Err (Link fault)) due gained is = ap (λ (xs : List Entry). flat_map posted_in xs) is
 
 module _ {Origin R W : Type 0} (remaining : R → Option (List ℕ)) (contents : W → Option (List ℕ)) where
-  pub all_sent : (session : Session) (reader reader' : Checked R) (before after : Checked W) (seen left : Account Origin)
+  pub all_sent : (session : Session) (reader reader' : Checked R) (before after : Checked W)
+      (seen left : Account Origin)
       (result : Result TraceEnd RunFault) (gained : List Entry)
-      → (runs : Runs remaining contents session reader reader' before after seen left result) → left.history ≡ seen.history ++ gained
+      → (runs : Runs remaining contents session reader reader' before after seen left result)
+      → left.history ≡ seen.history ++ gained
       → AreSent result
       (flat_map sent_in (notes_of (new_client session.config.timeout session.config.retries) runs.acts))
       (flat_map posted_in gained)

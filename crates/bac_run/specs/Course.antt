@@ -75,8 +75,8 @@ telling stage time =
     if nat_lt stage.client.state.clock time then record stage { behind = 0; phase = Telling time }
     else record stage { behind = 0; phase = Outside }
 
--- A datagram was heard in a turn: others may have come with it before the time of the turn, so that is not told yet, but
--- behind so many.
+-- A datagram was heard in a turn: others may have come with it before the time of the turn, so that is not told yet,
+-- but behind so many.
 abbrev pub heard_at : Stage → (time : ℕ) → Stage
 heard_at stage time =
     if nat_lt (suc stage.behind) longest_row then record stage { behind = suc stage.behind; phase = Outside }

@@ -93,7 +93,7 @@ AllDone (Ok end) taken kept acts = (inputs_in acts ≡ flat_map acts_or_none tak
     × (kept ≡ []) × (end.lines ≡ length taken)
 AllDone (Err fault) taken kept acts = (rest : List Act) × (flat_map acts_or_none taken ≡ inputs_in acts ++ rest)
 
--- What the reader gave are these lines, one after another, and what is kept behind them; and what they ask for was done.
+-- What the reader gave are these lines, one after another, and what is kept behind them; what they ask for was done.
 pub record Takes {R : Type 0} (remaining : R → Option (List ℕ)) (reader reader' : Checked R) (acts : List Act)
     (result : Result TraceEnd RunFault) : Type 0 where
   pub taken : List (List ℕ)

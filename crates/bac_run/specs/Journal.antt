@@ -1,4 +1,4 @@
--- What a run does, one thing after another; and its journal, what it asks of its link, and what `bactrace` prints of it.
+-- What a run does, one thing after another; its journal, what it asks of its link, and what `bactrace` prints of it.
 use Rattle.std.specs.Prelude.{◌≡◌, ◌<◌, ◌^◌, ◌-◌, ◌==◌, ◌&&◌, nat_lt, nat_le, ℕ, Bool, true, None, if◌then◌else◌}
 use Rattle.std.specs.Prelude.{List, [], ◌∷◌, ◌++◌, length, slice_index, codes, decimal}
 use Rattle.std.specs.List.{flat_map}

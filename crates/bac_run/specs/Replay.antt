@@ -12,7 +12,8 @@ use Rattle.bac_run.specs.declared.fault.RunFault.{RunFault}
 use Rattle.bac_run.specs.declared.fault.RunFault.TheVariants.{Link}
 use Rattle.bac_run.specs.Journal.{Act, Asked, Paused, Came, Told, line_of, settings_line}
 
--- The text is one line, with its only line feed (10) at its end, and says this. The flag says whether it may be settings.
+-- The text is one line, with its only line feed (10) at its end, and says this. The flag says whether it may be
+-- settings.
 pub record IsLineOf (is_first : Bool) (line : List ℕ) (what : Said) : Type 0 where
   pub text : List ℕ
   pub no_feed : AllByRecursion (λ octet. octet ≢ 10) text

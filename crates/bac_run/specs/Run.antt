@@ -41,8 +41,8 @@ first_stage session = ready (new_client session.config.timeout session.config.re
 abbrev pub IsAtRest : Stage → Type 0
 IsAtRest stage = (stage.phase ≡ Outside) × (stage.aims ≡ [])
 
--- A run with this result ends at this stage, where reading stands so and these are the lines. At the end of the input no
--- line had a fault; and no other fault is told than that of the first line that has one.
+-- A run with this result ends at this stage, where reading stands so and these are the lines. At the end of the input
+-- no line had a fault; and no other fault is told than that of the first line that has one.
 abbrev pub EndsAt : Result TraceEnd RunFault → Reading → List (List ℕ) → Stage → Type 0
 EndsAt (Ok end) reading lines stage =
     IsAtRest stage × (reading ≡ AtEnd) × (fault_in 1 lines ≡ None) × (end.lines ≡ length lines)

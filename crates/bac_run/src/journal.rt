@@ -40,8 +40,8 @@ pub(crate) fn print_settings<W: Write>(page: &mut Page<'_, W>, config: Config)
     print_retries(page, config.retries);
 }
 
-/// Prints a line of the input, with a line feed where it lacks one; and before that with one more carriage return, where
-/// it ends with one.
+/// Prints a line of the input, with a line feed where it lacks one; and before that with one more carriage return,
+/// where it ends with one.
 #[tactic(auto, using(bac_print::proofs::Printed::printing))]
 pub(crate) fn print_line<W: Write>(page: &mut Page<'_, W>, line: &[u8])
     ensures { Prints W.contents page.old page.new (whole_line line.now) }

@@ -36,8 +36,8 @@ use std::io::{Read, Write};
 /// What was sent over the link is what the remarks `send` say, in their order; where a send failed, that one and those
 /// behind it were not.
 pub fn a_run_sends_what_it_remarks<L: Link, R: Read, W: Write>()
-    ensures { (session : Settings) (reader reader' : Checked R) (before after : Checked W) (seen left : Account L.Origin)
-        (result : Result TraceEnd Fault) (gained : List Entry)
+    ensures { (session : Settings) (reader reader' : Checked R) (before after : Checked W)
+        (seen left : Account L.Origin) (result : Result TraceEnd Fault) (gained : List Entry)
         → (runs : Runs R.remaining W.contents session reader reader' before after seen left result)
         → left.history ≡ seen.history ++ gained
         → AreSent result

@@ -267,8 +267,8 @@ fn submit<L: Link, W: Write>(
 ) -> Result<(), RunFault>
     requires { L.has_failed link.old ≡ false }
     ensures fault { L.has_failed link.new ≡ is_of_link result }
-    ensures opened { Opened W.contents client.old client.new page.old page.new (L.seen link.old) (L.seen link.new) result
-        (Ask (station peer) service body.now) }
+    ensures opened { Opened W.contents client.old client.new page.old page.new (L.seen link.old) (L.seen link.new)
+        result (Ask (station peer) service body.now) }
     ensures not_written { result ≡ Err write_failed → has_failed (writer_of page.new) ≡ true }
     ensures cause { IfErr result (λ fault. fault ≡ send_failed) }
 {

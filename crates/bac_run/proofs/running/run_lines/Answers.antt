@@ -69,7 +69,8 @@ returns-in_err-take_line-clause-runs g c =
     (cut_next reading _ c.in_ok-next.next.length sure (λ none. omega (arith, none, c.if-next-eq0.false)) n.within n.cut
     (at_last _ _ _ _ reading n.stands)) (cut_so reading _ n.cut)
     (c.in_ok-make_room.ensures.went.same ∙ c.lines.invariant.session) c.in_err-take_line.ensures.went
-    c.in_err-take_line.ensures.over c.in_err-take_line.ensures.named (still_stands g.R.Read.remaining _ _ _ reading n.stands))
+    c.in_err-take_line.ensures.over c.in_err-take_line.ensures.named
+    (still_stands g.R.Read.remaining _ _ _ reading n.stands))
 
 pub returns-in_err-make_room-2-clause-runs : goal.returns-in_err-make_room-2-clause-runs
 returns-in_err-make_room-2-clause-runs g c =

@@ -16,17 +16,21 @@ returns-in_err-freshen-clause-went g c =
     let asked = Asked c.args.line.now (Ask (station c.args.peer) c.args.service c.args.body.now) in
     rw (was, same)
     (for_front _ _ (asked ∷ []) refl
-    (went_failed (Unit {0}) _ c.in_err-freshen.ensures.cause (went_at (λ later. Does asked ∷ later) c.in_err-freshen.ensures.went)))
+    (went_failed (Unit {0}) _ c.in_err-freshen.ensures.cause (went_at (λ later. Does asked
+    ∷ later) c.in_err-freshen.ensures.went)))
 
 pub returns-clause-went : goal.returns-clause-went
 returns-clause-went g c =
     let event = Ask (station c.args.peer) c.args.service c.args.body.now in
     let fresh = went_at (λ later. Does (Asked c.args.line.now event) ∷ later) c.in_ok-freshen.ensures.went in
     let window = c.args.self.now.session.window in
-    let few : open_in c.freshen.new.self.client < window = omega (arith, c.in_ok-freshen.ensures.kept, c.requires.room) in
+    let few : open_in c.freshen.new.self.client < window = omega
+    (arith, c.in_ok-freshen.ensures.kept, c.requires.room) in
     let comes = λ (later : List Aim). comes_sent c.submit.result c.submit.ensures.cause
     (ap (λ (client : Client). ready client c.freshen.new.self.behind later) (sym c.submit.ensures.opened.client_is)) in
-    let asked = went_asked c.args.line.now event refl (λ (later : List Aim). refl) comes c.print_line.ensures c.submit.ensures.opened in
+    let asked = went_asked c.args.line.now event refl (λ (later : List Aim). refl) comes c.print_line.ensures
+    c.submit.ensures.opened in
     for_whole _ (went_more fresh asked)
     (within_both window fresh asked (quiet_went window fresh tt)
-    (within_asked window _ _ _ _ c.args.line.now event refl (λ later. refl) comes c.print_line.ensures c.submit.ensures.opened few))
+    (within_asked window _ _ _ _ c.args.line.now event refl (λ later. refl) comes c.print_line.ensures
+    c.submit.ensures.opened few))

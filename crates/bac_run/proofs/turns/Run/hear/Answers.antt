@@ -12,17 +12,20 @@ use Rattle.bac_run.proofs.turns.Run.hear.Goals as goal
 
 pub returns-in-Ok-None-clause-went : goal.returns-in-Ok-None-clause-went
 returns-in-Ok-None-clause-went g c =
-    went_passed _ _ _ c.longest_wait-wait_ms.result Silence refl refl (λ (time, aims). (c.longest_wait-wait_ms.ensures, tt))
+    went_passed _ _ _ c.longest_wait-wait_ms.result Silence refl refl (λ (time, aims).
+    (c.longest_wait-wait_ms.ensures, tt))
     (λ (time, aims). refl) (λ gained is. is) (rw c.in-Ok-None.field-0-is at c.in-Ok-None.ensures.told)
 
 pub returns-in-Err-clause-went : goal.returns-in-Err-clause-went
 returns-in-Err-clause-went g c =
-    went_passed _ _ _ c.longest_wait-wait_ms.result Failure refl refl (λ (time, aims). (c.longest_wait-wait_ms.ensures, tt))
+    went_passed _ _ _ c.longest_wait-wait_ms.result Failure refl refl (λ (time, aims).
+    (c.longest_wait-wait_ms.ensures, tt))
     (λ (time, aims). refl) (λ gained is. is) c.in-Err.ensures.told
 
 pub returns-then-not-has_line-clause-went : goal.returns-then-not-has_line-clause-went
 returns-then-not-has_line-clause-went g c =
-    let unsaid : has_line (length c.receive.new.datagram) ≡ false = grind (arith, c.has_line.ensures, c.if-not-has_line.true, c.as_slice-octets.ensures.value) in
+    let unsaid : has_line (length c.receive.new.datagram) ≡ false = grind
+    (arith, c.has_line.ensures, c.if-not-has_line.true, c.as_slice-octets.ensures.value) in
     went_passed _ _ _ c.longest_wait-wait_ms.result (Arrived (station c.in-Ok-Some.from) c.receive.new.datagram)
     (ap (λ (run : Run). run.session) c.defers.ensures.same) (ap (λ (run : Run). run.client) c.defers.ensures.same)
     (λ (time, aims). (c.longest_wait-wait_ms.ensures, unsaid)) (λ (time, aims). c.defers.ensures.defers time aims)
@@ -36,7 +39,8 @@ pub returns-clause-went : goal.returns-clause-went
 returns-clause-went g c =
     let plain = rw c.in-Ok-Some.field-0-is at c.in-Ok-Some.ensures.plain in
     let route : option_map network_address c.in-Ok-Some.from.route ≡ None = grind (arith, plain) in
-    let said : has_line (length c.as_slice-octets.result.now) ≡ true = grind (arith, c.has_line.ensures, c.if-not-has_line.false) in
+    let said : has_line (length c.as_slice-octets.result.now) ≡ true = grind
+    (arith, c.has_line.ensures, c.if-not-has_line.false) in
     went_ok c.defers-2.result
     (went_came c.longest_wait-wait_ms.result (station c.in-Ok-Some.from) c.as_slice-octets.result.now _
     (search rules, search rules, route, search rules, said)

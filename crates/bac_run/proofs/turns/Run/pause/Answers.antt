@@ -14,7 +14,8 @@ returns-in_err-wait-clause-went g c =
     rw (was, same)
     (for_same {other = Some (Paused ∷ [])} (grind (arith, c.is_remark.ensures, c.if-not-is_remark.true))
     (for_front _ _ (Paused ∷ []) refl
-    (went_failed (Unit {0}) _ c.in_err-wait.ensures.cause (went_at (λ later. Does Paused ∷ later) c.in_err-wait.ensures.went))))
+    (went_failed (Unit {0}) _ c.in_err-wait.ensures.cause (went_at (λ later. Does Paused
+    ∷ later) c.in_err-wait.ensures.went))))
 
 pub returns-in_ok-wait-clause-went : goal.returns-in_ok-wait-clause-went
 returns-in_ok-wait-clause-went g c =

@@ -40,7 +40,8 @@ returns-in-Ok-Skipped-clause-went g c =
 pub returns-in-Ok-Request-clause-went : goal.returns-in-Ok-Request-clause-went
 returns-in-Ok-Request-clause-went g c =
     let r = c.in-Ok-Request in
-    for_same (wanted c.args.line.now (Happens (Ask (station r.peer.now) r.service r.body.now))  (rw r.field-0-is at r.ensures)) c.ask.ensures.went
+    for_same (wanted c.args.line.now (Happens (Ask (station r.peer.now) r.service r.body.now))
+    (rw r.field-0-is at r.ensures)) c.ask.ensures.went
 
 pub returns-in_err-freshen-in-Ok-LongWrite-clause-went : goal.returns-in_err-freshen-in-Ok-LongWrite-clause-went
 returns-in_err-freshen-in-Ok-LongWrite-clause-went g c =
@@ -49,7 +50,8 @@ returns-in_err-freshen-in-Ok-LongWrite-clause-went g c =
     let asked = Asked c.args.line.now (Ask (station w.peer.now) 15 (long_body w)) in
     rw (was, same)
     (for_same {other = Some (asked ∷ [])}
-    (wanted c.args.line.now (Happens (Ask (station w.peer.now) 15 (long_body w)))  (rw c.in-Ok-LongWrite.field-0-is at c.in-Ok-LongWrite.ensures))
+    (wanted c.args.line.now (Happens (Ask (station w.peer.now) 15 (long_body w)))
+    (rw c.in-Ok-LongWrite.field-0-is at c.in-Ok-LongWrite.ensures))
     (for_front _ _ (asked ∷ []) refl
     (went_failed (Unit {0}) _ c.in_err-freshen-in-Ok-LongWrite.ensures.cause
     (went_at (λ later. Does asked ∷ later) c.in_err-freshen-in-Ok-LongWrite.ensures.went))))
@@ -59,7 +61,8 @@ returns-in_ok-freshen-in-Ok-LongWrite-clause-went g c =
     let w = c.in-Ok-LongWrite.field-0-0 in
     let asked = Asked c.args.line.now (Ask (station w.peer.now) 15 (long_body w)) in
     for_same
-    (wanted c.args.line.now (Happens (Ask (station w.peer.now) 15 (long_body w)))  (rw c.in-Ok-LongWrite.field-0-is at c.in-Ok-LongWrite.ensures))
+    (wanted c.args.line.now (Happens (Ask (station w.peer.now) 15 (long_body w)))
+    (rw c.in-Ok-LongWrite.field-0-is at c.in-Ok-LongWrite.ensures))
     (for_refused c.args.line.now (station w.peer.now) (long_body w)
     (past (whole_body_of (identifier w.object) w.property w.index w.priority w.words) w.long)
     (went_at (λ later. Does asked ∷ later) c.in_ok-freshen-in-Ok-LongWrite.ensures.went)

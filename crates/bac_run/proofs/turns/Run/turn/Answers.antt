@@ -19,7 +19,8 @@ returns-in_err-hear-clause-went g c =
     rw (was, same)
     (went_turned c.turn_in.ensures.printed
     (went_more
-    (went_read _ _ _ c.now-now.result refl refl (λ (until, left, later). tt) (λ (until, left, later). refl) c.now-now.ensures.told)
+    (went_read _ _ _ c.now-now.result refl refl (λ (until, left, later). tt) (λ
+    (until, left, later). refl) c.now-now.ensures.told)
     (went_failed (Unit {0}) _ c.in_err-hear.ensures.cause
     (went_at (λ (until, left, later). (c.now-now.result, Turns until left ∷ later)) c.in_err-hear.ensures.went))))
 
@@ -27,7 +28,8 @@ pub returns-then-branch-clause-went : goal.returns-then-branch-clause-went
 returns-then-branch-clause-went g c =
     went_turned c.turn_in.ensures.printed
     (went_more
-    (went_read _ _ _ c.now-now.result refl refl (λ (until, left, later). tt) (λ (until, left, later). refl) c.now-now.ensures.told)
+    (went_read _ _ _ c.now-now.result refl refl (λ (until, left, later). tt) (λ
+    (until, left, later). refl) c.now-now.ensures.told)
     (went_ok tt (went_to (λ (until, left, later). rw c.if-branch.true refl)
     (went_at (λ (until, left, later). (c.now-now.result, Turns until left ∷ later)) c.in_ok-hear.ensures.went))))
 
@@ -35,7 +37,8 @@ pub returns-clause-went : goal.returns-clause-went
 returns-clause-went g c =
     went_turned c.turn_in.ensures.printed
     (went_more
-    (went_read _ _ _ c.now-now.result refl refl (λ (until, left, later). tt) (λ (until, left, later). refl) c.now-now.ensures.told)
+    (went_read _ _ _ c.now-now.result refl refl (λ (until, left, later). tt) (λ
+    (until, left, later). refl) c.now-now.ensures.told)
     (went_more (went_to (λ (until, left, later). rw c.if-branch.false refl)
     (went_at (λ (until, left, later). (c.now-now.result, Turns until left ∷ later)) c.in_ok-hear.ensures.went))
     (went_at (λ (until, left, later). Turns until left ∷ later) c.tell.ensures.went)))

@@ -17,29 +17,36 @@ turns-init g c = record {
 
 pub turns-preserved : goal.turns-preserved
 turns-preserved g c =
-    let unmet : is_reached c.turns.self.client c.turns.self.behind (Turns c.args.until 0) ≡ false = grind (arith, c.has_reached.ensures, c.turns-test.true) in
+    let unmet : is_reached c.turns.self.client c.turns.self.behind (Turns c.args.until 0) ≡ false = grind
+    (arith, c.has_reached.ensures, c.turns-test.true) in
     record {
       sound = c.in_ok-turn.ensures.fault;
       kept = omega (arith, c.turns.invariant.kept, c.in_ok-turn.ensures.kept);
-      went = went_more (went_to (λ later. begun c.turns.self c.args.until c.turns.left later unmet (λ none. omega (arith, none, c.if-left-eq0.false))) c.turns.invariant.went)
+      went = went_more (went_to (λ later. begun c.turns.self c.args.until c.turns.left later unmet (λ none. omega
+          (arith, none, c.if-left-eq0.false))) c.turns.invariant.went)
           (went_at (λ later. (c.args.until, c.turns.left - 1, later)) c.in_ok-turn.ensures.went);
     }
 
 pub returns-in_err-turn-clause-went : goal.returns-in_err-turn-clause-went
 returns-in_err-turn-clause-went g c =
     let (_, was, same) = err_from_is_err_and c.from_residual.result c.from_residual.ensures.1 in
-    let unmet : is_reached c.turns.self.client c.turns.self.behind (Turns c.args.until 0) ≡ false = grind (arith, c.has_reached.ensures, c.turns-test.true) in
+    let unmet : is_reached c.turns.self.client c.turns.self.behind (Turns c.args.until 0) ≡ false = grind
+    (arith, c.has_reached.ensures, c.turns-test.true) in
     rw (was, same)
-    (went_more (went_to (λ later. begun c.turns.self c.args.until c.turns.left later unmet (λ none. omega (arith, none, c.if-left-eq0.false))) c.turns.invariant.went)
+    (went_more (went_to (λ later. begun c.turns.self c.args.until c.turns.left later unmet (λ none. omega
+    (arith, none, c.if-left-eq0.false))) c.turns.invariant.went)
     (went_failed (Unit {0}) _ c.in_err-turn.ensures.cause
     (went_at (λ later. (c.args.until, c.turns.left - 1, later)) c.in_err-turn.ensures.went)))
 
 pub returns-then-left-eq0-clause-went : goal.returns-then-left-eq0-clause-went
 returns-then-left-eq0-clause-went g c =
-    let unmet : is_reached c.turns.self.client c.turns.self.behind (Turns c.args.until 0) ≡ false = grind (arith, c.has_reached.ensures, c.turns-test.true) in
-    went_spent (Unit {0}) (λ later. spent c.turns.self c.args.until c.turns.left later unmet (omega (arith, c.if-left-eq0.true))) c.turns.invariant.went
+    let unmet : is_reached c.turns.self.client c.turns.self.behind (Turns c.args.until 0) ≡ false = grind
+    (arith, c.has_reached.ensures, c.turns-test.true) in
+    went_spent (Unit {0}) (λ later. spent c.turns.self c.args.until c.turns.left later unmet (omega
+    (arith, c.if-left-eq0.true))) c.turns.invariant.went
 
 pub returns-clause-went : goal.returns-clause-went
 returns-clause-went g c =
-    let met : is_reached c.turns.self.client c.turns.self.behind (Turns c.args.until 0) ≡ true = grind (arith, c.has_reached.ensures, c.turns-test.false) in
+    let met : is_reached c.turns.self.client c.turns.self.behind (Turns c.args.until 0) ≡ true = grind
+    (arith, c.has_reached.ensures, c.turns-test.false) in
     went_to (λ later. reached c.turns.self c.args.until c.turns.left later met) c.turns.invariant.went

@@ -11,7 +11,8 @@ invariant-turns g l = record {
   sound : g.L.Link.has_failed l.link ≡ false;
   kept : open_in l.self.client ≤ open_in l.fn.self.client;
   went : Went g.W.Write.contents l.fn.self l.self l.fn.page l.page (g.L.Link.seen l.fn.link) (g.L.Link.seen l.link)
-      (λ later. started l.fn.self (Turns l.until most_turns ∷ later)) (λ later. started l.self (Turns l.until l.left ∷ later))
+      (λ later. started l.fn.self (Turns l.until most_turns ∷ later)) (λ later. started l.self
+      (Turns l.until l.left ∷ later))
       done [];
 }
 
