@@ -9,6 +9,8 @@ ghost use Rattle.bac_script.{
   specs.{Input.most_reads, Script.{lines, all_said, requests_in}, Tracing.Traces, declared.input.Reading.Reading},
 };
 
+use crate::input::{Next, Reading as ReadingState};
+use crate::line::{LineFault, Received};
 use crate::tracing::{TraceEnd, TraceFault};
 use std::io::{Read, Write};
 
@@ -47,13 +49,19 @@ pub fn numbers_come_back_late()
 {}
 
 /// A clone is what it was cloned from, and takes no memory.
-pub fn clones()
+pub fn clones<'a>()
+    ensures next { MakesCopies ⟦<Next as Clone>⟧.is_clone ⟦<Next as Clone>⟧.is_infallible }
+    ensures reading { MakesCopies ⟦<ReadingState as Clone>⟧.is_clone ⟦<ReadingState as Clone>⟧.is_infallible }
+    ensures received { MakesCopies ⟦<Received<'a> as Clone>⟧.is_clone ⟦<Received<'a> as Clone>⟧.is_infallible }
+    ensures line_fault { MakesCopies ⟦<LineFault as Clone>⟧.is_clone ⟦<LineFault as Clone>⟧.is_infallible }
     ensures end { MakesCopies ⟦<TraceEnd as Clone>⟧.is_clone ⟦<TraceEnd as Clone>⟧.is_infallible }
     ensures fault { MakesCopies ⟦<TraceFault as Clone>⟧.is_clone ⟦<TraceFault as Clone>⟧.is_infallible }
 {}
 
-/// What `==` compares: all that an end or a fault of a script says.
+/// What `==` compares: how reading stands, and all that a fault of a line, or an end or a fault of a script says.
 pub fn equals()
+    ensures reading { EqualsBy (λ reading. reading) ⟦<ReadingState as PartialEq>⟧.eq }
+    ensures line_fault { EqualsBy (λ fault. fault) ⟦<LineFault as PartialEq>⟧.eq }
     ensures end { EqualsBy (λ end. end) ⟦<TraceEnd as PartialEq>⟧.eq }
     ensures fault { EqualsBy (λ fault. fault) ⟦<TraceFault as PartialEq>⟧.eq }
 {}
