@@ -5,3 +5,4 @@ pub mod Course
 pub mod Went
 pub mod Run
 pub mod Replay
+pub mod Inner

@@ -1,0 +1,2 @@
+-- What only private clauses say. No promise of this crate rests on it.
+pub mod Examples
