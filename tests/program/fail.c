@@ -2,7 +2,8 @@
    do with sockets, copies a descriptor, reads, writes or reads the clock, and of a wait that is set its microseconds.
    The call with the number FAILED, from 1, fails by the error with the number ERRNO. Where SHORT is set, a send that
    fails sends all, and says that it sent an octet less. Where ONE_OCTET is set, a read gives at most one octet. The
-   request for memory that has the number REFUSED among those fails, and is said. */
+   request for memory that has the number REFUSED among those fails, and is said. By the clock only waits take time: each
+   receive that does not fail takes as long as was set. */
 #define _GNU_SOURCE
 #include <dlfcn.h>
 #include <errno.h>
@@ -17,6 +18,7 @@
 #include <unistd.h>
 
 static int sees_clock;
+static long wait_set, waited; /* in microseconds */
 
 static long setting(const char *name)
 {
@@ -47,7 +49,8 @@ static int fails_to_set(int level, int name, const struct timeval *wait)
         return 1;
     if (level == SOL_SOCKET && name == SO_RCVTIMEO) {
         char text[40];
-        snprintf(text, sizeof text, "%ld", (long)(wait->tv_sec * 1000000 + wait->tv_usec));
+        wait_set = wait->tv_sec * 1000000 + wait->tv_usec;
+        snprintf(text, sizeof text, "%ld", wait_set);
         say(text);
     }
     return 0;
@@ -90,7 +93,7 @@ CALL(ssize_t, sendto,
      fails("sendto"), getenv("SHORT") ? next(fd, octets, count, flags, to, length) - 1 : -1,
      (fd, octets, count, flags, to, length))
 CALL(ssize_t, recvfrom, (int fd, void *octets, size_t count, int flags, struct sockaddr *from, socklen_t *length),
-     fails("recvfrom"), -1, (fd, octets, count, flags, from, length))
+     fails("recvfrom") || (waited += wait_set, 0), -1, (fd, octets, count, flags, from, length))
 CALL(ssize_t, send, (int fd, const void *octets, size_t count, int flags), fails("send"), -1,
      (fd, octets, count, flags))
 CALL(ssize_t, recv, (int fd, void *octets, size_t count, int flags), fails("recv"), -1, (fd, octets, count, flags))
@@ -112,5 +115,8 @@ __attribute__((constructor)) static void begin(void)
 
 int clock_gettime(clockid_t clock, struct timespec *now)
 {
-    return sees_clock && fails("clock_gettime") ? -1 : (int)syscall(SYS_clock_gettime, clock, now);
+    if (!sees_clock)
+        return (int)syscall(SYS_clock_gettime, clock, now);
+    *now = (struct timespec){waited / 1000000, waited % 1000000 * 1000};
+    return fails("clock_gettime") ? -1 : 0;
 }

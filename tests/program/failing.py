@@ -44,7 +44,8 @@ READ, WRITE = ["bacrp", "1234", "0", "5", "85"], ["bacwp", "1234", "1", "1", "85
 BATCH, LINE = ["bacrun", "--apdu-timeout", "7"], f"read 127.0.0.1:{PORT} 0 5 85\n"
 BOUND = "socket bind fcntl clock_gettime"
 OPENED = f"{BOUND} clock_gettime sendto setsockopt 7000 recvfrom clock_gettime"
-BATCHED = f"{BOUND} write read clock_gettime sendto write setsockopt 7000 recvfrom clock_gettime"
+# A time that was read before a wait is told behind it: the first is that of the send.
+BATCHED = f"{BOUND} write read clock_gettime sendto write clock_gettime setsockopt 7000 recvfrom clock_gettime recvfrom"
 # What is run: the status where nothing fails, the calls that are made then, words, and what is read. What the lines of
 # one read print goes out at once.
 RUNS = [
@@ -59,7 +60,7 @@ RUNS = [
     (1, OPENED, ["bacwi", *SILENT], ""),
     (0, f"{BOUND} write read", ["bacrun"], ""),
     (0, f"{BATCHED} write read", [*BATCH, "--apdu-retries", "0"], LINE),
-    (0, f"{BATCHED} sendto write recvfrom clock_gettime write read", [*BATCH, "--apdu-retries", "1"], LINE),
+    (0, f"{BATCHED} sendto write clock_gettime recvfrom write read", [*BATCH, "--apdu-retries", "1"], LINE),
     (2, f"{BOUND} write read tell", ["bacrun"], "no line\n"),
     (2, "tell", [*READ, "--mac", "1.2.3"], ""),
 ]

@@ -1,3 +1,4 @@
 -- What only private clauses say. No promise of this crate rests on it.
 pub mod Went
 pub mod Run
+pub mod Examples

@@ -6,6 +6,7 @@
 //! what the client tells of that, each note a remark. [`run_status`] is the program's status after that.
 #![tactic(auto)]
 
+mod examples;
 mod fault;
 mod journal;
 pub mod laws;

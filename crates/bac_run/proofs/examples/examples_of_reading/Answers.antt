@@ -1,0 +1,30 @@
+-- A text of two line feeds would be a line feed behind the first.
+use Rattle.std.proofs.Common.{refl, sym, subst, arith, ℕ, List, [], ◌∷◌, ◌++◌, ◌≡◌}
+use Rattle.std.proofs.lemmas.List.{append_cancel_right}
+use Rattle.bac_run.specs.Input.{HasNoFeed}
+use Rattle.bac_run.proofs.ReadBack.{time_read_back}
+use Rattle.bac_run.proofs.examples.examples_of_reading.Goals as goal
+
+stops : HasNoFeed (10 ∷ []) → ⊥
+stops (other, none) = other refl
+
+no_line : (text : List ℕ) → HasNoFeed text → 10 ∷ 10 ∷ [] ≡ text ++ 10 ∷ [] → ⊥
+no_line text free ended = stops (subst HasNoFeed (sym (append_cancel_right (10 ∷ []) text (10 ∷ []) ended)) free)
+
+pub returns-clause-feed : goal.returns-clause-feed
+returns-clause-feed c = (13 ∷ [], (λ same. grind (arith, same), tt), refl)
+
+pub returns-clause-feeds : goal.returns-clause-feeds
+returns-clause-feeds c = λ (text, free, ended). no_line text free ended
+
+pub returns-clause-line : goal.returns-clause-line
+returns-clause-line c = time_read_back 40 (grind arith)
+
+pub returns-clause-lines : goal.returns-clause-lines
+returns-clause-lines c = λ h. no_line h.text h.no_feed h.ended
+
+pub returns-clause-read_back : goal.returns-clause-read_back
+returns-clause-read_back c = time_read_back 40 (grind arith)
+
+pub returns-clause-not_read_back : goal.returns-clause-not_read_back
+returns-clause-not_read_back c = λ h. no_line h.text h.no_feed h.ended
