@@ -1,2 +1,3 @@
 -- What only private clauses say. No promise of this crate rests on it.
 pub mod Examples
+pub mod Program

@@ -32,13 +32,6 @@ module _ {N Origin L R W : Type 0} (gives : N → Binding → Result L NoSocket 
     Only report = (reader' ≡ reader) × (writer' ≡ writer)
         × (ran ≡ record { report = report; socket = None; unasked = Some network })
 
-    -- A job is run over the socket that it asks for. Where it asks for none, the network is handed back.
-    pub record RunsJob (job : Job) : Type 0 where
-      pub opened : Option (Result L NoSocket)
-      pub given : IsGiven network (asked_by job) opened
-      pub ends : Runs out reader reader' writer writer' ran.report job opened ran.socket
-      pub unasked : IfNone opened (ran.unasked ≡ Some network)
-
     -- A job is run over the socket that it asks for. Where the words give no job, the report says why.
     abbrev pub RunsAsRead : Result Job UsageFault → Option (Result L NoSocket) → Type 0
     RunsAsRead (Ok job) opened = Runs out reader reader' writer writer' ran.report job opened ran.socket

@@ -5,7 +5,7 @@ ghost use Rattle.clap.specs.Walk.{texts};
 ghost use Rattle.bac_print.specs.Checked.{fresh, has_failed};
 ghost use Rattle.bac_links.specs.declared.socket.NoSocket.{NoSocket};
 ghost use Rattle.bac_words.specs.{Job.CanOpen, declared.job.Job.TheVariants.{Run}};
-ghost use Rattle.bac_tools.specs.Program.{IsCalled, IsRun, Program, RunsJob, texts_of};
+ghost use Rattle.bac_tools.specs.{Inner.Program.RunsJob, Program.{IsCalled, IsRun, Program, texts_of}};
 ghost use Rattle.bac_tools.specs.declared.running.Binding.{Binding};
 
 use crate::report::{Report, tell};
