@@ -14,7 +14,7 @@ ghost use Rattle.bac_run.specs.{
   Fault.run_status_of,
   Input.{EndsWithFeed, HasNoFeed, said_of},
   Inner.Examples.{about, asked, at_rest, busy, desk, ended, idle, octets, read, read_line, sent, unsent, waiting},
-  Journal.{Asked, Came, FitsLine, Passed, Paused, Read, Told, notes_of, time_line},
+  Journal.{Asked, Came, FitsLine, Passed, Paused, Read, Told, history_of, journal, notes_of, time_line},
   Replay.{AreSent, AskNext, IsLineOf, IsReadBack, posted_in, sent_in},
   Run.EndsAt,
   Went.{IsGained, IsWithin},
@@ -104,6 +104,10 @@ fn examples_of_acts()
 
     // A request is sent, and again at its timeout.
     ensures notes { notes_of idle (asked ∷ Told 3000 ∷ []) ≡ sent ∷ sent ∷ [] }
+    ensures journal { journal idle (asked ∷ Told 40 ∷ [])
+        ≡ codes "read 127.0.0.1 0 5 85\n# send 0 127.0.0.1:47808 810a001101040005010c0c000000051955\ntick 40\n" }
+    ensures history { history_of idle (asked ∷ Read 40 ∷ Passed 50 Silence ∷ Told 40 ∷ [])
+        ≡ Posted desk octets ∷ Timed 40 ∷ Waited 50 Silence ∷ [] }
     ensures in_note { sent_in sent ≡ (desk, octets) ∷ [] }
     ensures in_entry { posted_in (Posted desk octets) ≡ (desk, octets) ∷ [] }
     ensures not_in_entry { posted_in (Unposted desk octets) ≡ [] }
