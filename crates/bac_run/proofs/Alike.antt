@@ -34,7 +34,7 @@ use Rattle.bac_run.specs.declared.fault.RunFault.TheVariants.{Link, Script}
 
 -- ---- a stage that is about more
 
-abbrev wider : Stage → List Aim → Stage
+abbrev pub wider : Stage → List Aim → Stage
 wider stage more = record stage { aims = stage.aims ++ more }
 
 left_wider : (client : Client) (behind : ℕ) (aims more : List Aim)
@@ -50,7 +50,7 @@ left_wider client behind (aim ∷ aims) more = go (is_reached client behind aim)
     go false e later = rw e (more, refl)
 
 -- What is settled at a stage that is about more is about more.
-abbrev IsWider : (stage other : Stage) → Type 0
+abbrev pub IsWider : (stage other : Stage) → Type 0
 IsWider stage other = (rest : List Aim) × (other ≡ wider stage rest)
 
 settled_in_wider : (stage : Stage) (phase : Phase) (more : List Aim)
@@ -62,7 +62,7 @@ settled_in_wider stage (Looked time) more = (more, refl)
 settled_in_wider stage (Telling time) more = (more, refl)
 settled_in_wider stage Broken more = (more, refl)
 
-settled_wider : (stage : Stage) (more : List Aim) → IsWider (settled stage) (settled (wider stage more))
+pub settled_wider : (stage : Stage) (more : List Aim) → IsWider (settled stage) (settled (wider stage more))
 settled_wider stage more = settled_in_wider stage stage.phase more
 
 telling_wider : (stage : Stage) (time : ℕ) (more : List Aim)
@@ -115,7 +115,7 @@ moved_in_wider timeout stage (Looked time) aims more (Passed wait heard) due = p
 moved_in_wider timeout stage (Telling time) aims more act due = refl
 moved_in_wider timeout stage phase aims more act due = search
 
-moved_wider : (timeout : ℕ) (stage : Stage) (more : List Aim) (act : Act) → IsDue timeout stage act
+pub moved_wider : (timeout : ℕ) (stage : Stage) (more : List Aim) (act : Act) → IsDue timeout stage act
     → IsWider (moved timeout stage act) (moved timeout (wider stage more) act)
 moved_wider timeout stage more act due =
     rw (moved_in_wider timeout stage stage.phase stage.aims more act due)
@@ -124,15 +124,15 @@ moved_wider timeout stage more act due =
 -- ---- which act is due
 
 -- One act asks for something, and the other for the same; answered alike they are one.
-record Asking (act other : Act) : Type 0 where
-  entry : Entry
-  other_entry : Entry
-  asks : asked_by act ≡ entry ∷ []
-  other_asks : asked_by other ≡ other_entry ∷ []
-  question : question_of entry ≡ question_of other_entry
-  same : answer_of entry ≡ answer_of other_entry → act ≡ other
+pub record Asking (act other : Act) : Type 0 where
+  pub entry : Entry
+  pub other_entry : Entry
+  pub asks : asked_by act ≡ entry ∷ []
+  pub other_asks : asked_by other ≡ other_entry ∷ []
+  pub question : question_of entry ≡ question_of other_entry
+  pub same : answer_of entry ≡ answer_of other_entry → act ≡ other
 
-abbrev SameDue : Act → Act → Type 0
+abbrev pub SameDue : Act → Act → Type 0
 SameDue act other = ((act ≡ other) × (asked_by act ≡ [])) ⊎ Asking act other
 
 one_due : (act : Act) → SameDue act act
@@ -201,7 +201,7 @@ waited_due wait other heard other_heard act other_act asks other_asks same alike
   same = alike;
 })
 
-same_due : (timeout : ℕ) (stage : Stage) (phase : Phase) (aims more : List Aim) (act other : Act)
+pub same_due : (timeout : ℕ) (stage : Stage) (phase : Phase) (aims more : List Aim) (act other : Act)
     → DueIn timeout stage phase aims act → DueIn timeout (wider stage more) phase (aims ++ more) other
     → SameDue act other
 same_due timeout stage Outside (Turns until (suc left) ∷ later) more (Read time) (Read now) due too = read_due time now
@@ -293,7 +293,7 @@ moved_in_client timeout stage (Looked time) aims (Passed wait heard) due = passe
 moved_in_client timeout stage (Telling time) aims act due = refl
 moved_in_client timeout stage phase aims act due = search
 
-moved_client : (timeout : ℕ) (stage : Stage) (act : Act) → IsDue timeout stage act
+pub moved_client : (timeout : ℕ) (stage : Stage) (act : Act) → IsDue timeout stage act
     → (moved timeout stage act).client ≡ (turn_at stage.client act).after
 moved_client timeout stage act due =
     let before = moved_in timeout stage stage.phase stage.aims act in
@@ -344,13 +344,13 @@ histories_cohere timeout stage more (act ∷ acts) (other ∷ others) (due, goes
 -- ---- what was asked
 
 -- What a link was asked of what was due: all of it; or what was due before a send that failed, and that.
-abbrev Gets : (due gained : List Entry) → Type 0
+abbrev pub Gets : (due gained : List Entry) → Type 0
 Gets [] gained = gained ≡ []
 Gets (entry ∷ due) [] = ⊥
 Gets (entry ∷ due) (got ∷ gained) = ((got ≡ entry) × Gets due gained)
     ⊎ ((to : Station) × (octets : List ℕ) × (entry ≡ Posted to octets) × (got ≡ Unposted to octets) × (gained ≡ []))
 
-gets_all : (due : List Entry) → Gets due due
+pub gets_all : (due : List Entry) → Gets due due
 gets_all [] = refl
 gets_all (entry ∷ due) = inl (refl, gets_all due)
 
@@ -449,7 +449,7 @@ aligned (entry ∷ due) (other ∷ others) gained got (x ∷ first) rest (y
 -- ---- whole runs
 
 -- What a run is about where its reader failed begins as where it may be read on.
-aims_open : (window : ℕ) (ls : List (List ℕ)) → (rest : List Aim)
+pub aims_open : (window : ℕ) (ls : List (List ℕ)) → (rest : List Aim)
     × (aims_of_lines window Failed ls ≡ aims_of_lines window Open ls ++ rest)
 aims_open window [] = (last_aims Failed, refl)
 aims_open window (line ∷ later) = go (is_some (acts_of_line line)) refl (aims_open window later)
@@ -532,7 +532,7 @@ module _ (session : Session) (given : List ℕ) (acts others : List Act) where
   cohere_either Failed AtEnd e = absurd (cc)
   cohere_either AtEnd Failed e = absurd (cc)
 
-ends_as_stands : {R : Type 0} (remaining : R → Option (List ℕ)) (reading : Reading) (reader : R) (after : Checked R)
+pub ends_as_stands : {R : Type 0} (remaining : R → Option (List ℕ)) (reading : Reading) (reader : R) (after : Checked R)
     → ReaderStands remaining reading (fresh reader) after [] → ends_of after ≡ ends reading
 ends_as_stands remaining Open reader after stands = stands.unended
 ends_as_stands remaining AtEnd reader after stands = stands.once

@@ -11,3 +11,4 @@ pub mod Folded
 pub mod Readable
 pub mod Lookahead
 pub mod Alike
+pub mod Ends

@@ -9,16 +9,16 @@ ghost use Rattle.bac_script.specs.declared.tracing.TraceFault.TheVariants.{BadLi
 ghost use Rattle.bac_links.specs.History.{Posted, Silence, Timed, Unposted, Waited};
 ghost use Rattle.bac_links.specs.declared.fault.ToolFault.TheVariants.{SendFailed, TurnsSpent};
 ghost use Rattle.bac_links.specs.Limits.{most_turns};
-ghost use Rattle.bac_run.specs.{
-  Course.{AreSteady, Does, Fresh, Goes, IsDue, Turns, aims_of_lines, room_for},
-  Fault.run_status_of,
-  Input.{EndsWithFeed, HasNoFeed, said_of},
-  Inner.Examples.{about, asked, at_rest, busy, desk, ended, idle, octets, read, read_line, sent, unsent, waiting},
-  Journal.{Asked, Came, FitsLine, Passed, Paused, Read, Told, history_of, journal, notes_of, time_line},
-  Replay.{AreSent, AskNext, IsLineOf, IsReadBack, posted_in, sent_in},
-  Run.EndsAt,
-  Went.{IsGained, IsWithin},
-};
+ghost use Rattle.bac_run.specs.Course.{AreSteady, Does, Fresh, Goes, IsDue, Turns, aims_of_lines, room_for};
+ghost use Rattle.bac_run.specs.Fault.{run_status_of};
+ghost use Rattle.bac_run.specs.Input.{EndsWithFeed, HasNoFeed, said_of};
+ghost use Rattle.bac_run.specs.Inner.Examples.{about, asked, at_rest, busy, desk, ended, idle, octets, read};
+ghost use Rattle.bac_run.specs.Inner.Examples.{read_line, sent, unsent, waiting};
+ghost use Rattle.bac_run.specs.Journal.{Asked, Came, FitsLine, Passed, Paused, Read, Told, history_of, journal};
+ghost use Rattle.bac_run.specs.Journal.{notes_of, time_line};
+ghost use Rattle.bac_run.specs.Replay.{AreSent, AskNext, IsLineOf, IsReadBack, posted_in, sent_in};
+ghost use Rattle.bac_run.specs.Run.{EndsAt};
+ghost use Rattle.bac_run.specs.Went.{IsGained, IsWithin};
 ghost use Rattle.bac_run.specs.declared.fault.RunFault.TheVariants.{Link, Script};
 ghost use Rattle.bac_run.specs.declared.turns.Until.TheVariants.{FewOpen};
 

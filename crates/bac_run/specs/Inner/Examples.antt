@@ -1,12 +1,15 @@
 -- Clients, stages and results, for examples of what is said of runs.
 use Rattle.std.specs.Prelude.{ℕ, List, [], ◌∷◌, codes, Result, Ok, Err, None}
 use Rattle.bac_pdu.specs.Peer.{Station}
-use Rattle.bac_tsm.specs.{Client.Client, Events.{Event, Ask, Note, Sent}}
+use Rattle.bac_tsm.specs.Client.{Client}
+use Rattle.bac_tsm.specs.Events.{Event, Ask, Note, Sent}
 use Rattle.bac_script.specs.declared.tracing.TraceEnd.{TraceEnd}
 use Rattle.bac_links.specs.declared.fault.ToolFault.TheVariants.{SendFailed}
 use Rattle.bac_run.specs.Course.{Aim, Outside, Stage, Turns}
 use Rattle.bac_run.specs.Journal.{Act, Asked, new_client, turn_at}
-use Rattle.bac_run.specs.declared.{fault.RunFault.{RunFault, TheVariants.Link}, turns.Until.TheVariants.FewOpen}
+use Rattle.bac_run.specs.declared.fault.RunFault.{RunFault}
+use Rattle.bac_run.specs.declared.fault.RunFault.TheVariants.{Link}
+use Rattle.bac_run.specs.declared.turns.Until.TheVariants.{FewOpen}
 
 -- 127.0.0.1, port 47808.
 abbrev pub desk : Station

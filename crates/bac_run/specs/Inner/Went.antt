@@ -8,7 +8,6 @@ use Rattle.bac_print.specs.declared.page.Page.{Page}
 use Rattle.bac_print.specs.Page.{Prints}
 use Rattle.bac_script.specs.declared.tracing.TraceFault.TheVariants.{WriteFailed}
 use Rattle.bac_links.specs.History.{Account}
-use Rattle.bac_links.specs.declared.fault.ToolFault.TheVariants.{SendFailed}
 use Rattle.bac_run.specs.declared.fault.RunFault.{RunFault}
 use Rattle.bac_run.specs.declared.fault.RunFault.TheVariants.{Link, Script}
 use Rattle.bac_run.specs.declared.turns.Run.{Run}
@@ -17,10 +16,6 @@ use Rattle.bac_run.specs.Input.{acts_of_line, fault_of_line, inputs_in}
 use Rattle.bac_run.specs.Journal.{Act, FitsLine, client_after, journal, history_of, at_event, remarks, posts}
 use Rattle.bac_run.specs.Course.{Aim, Goes, Looked, Outside, Stage, Turns, aims_for, settled, stage_after, telling}
 use Rattle.bac_run.specs.Went.{GainsDue, IsWithin, ComesTo}
-
--- The link could not send.
-abbrev pub send_failed : RunFault
-send_failed = Link SendFailed
 
 -- It stopped.
 abbrev pub stopped : RunFault → Result (Unit {0}) RunFault
