@@ -70,7 +70,12 @@ fn ends(
         return false;
     };
     let mut taken = Vec::new(alloc);
-    let got = run(window, &mut link, lines, with_room(&mut taken, usize::MAX, true));
+    let got = run(
+        window,
+        &mut link,
+        lines,
+        with_room(&mut taken, usize::MAX, true),
+    );
     got == Some(answer) && JOURNAL.get(..length) == Some(taken.as_slice())
 }
 
@@ -88,9 +93,23 @@ fn links_fail(rt: HostRuntime) {
     let spent = at_link(ToolFault::TurnsSpent);
     let bad = Err(RunFault::Script(TraceFault::BadLine(2)));
     let [sent, done, sent_next, done_next] = ENDS;
-    assert!(rt; ends(rt.alloc(), one, (&[FIRST, SECOND], None), (WHOLE, done_next)));
+    assert!(rt;
+        ends(
+            rt.alloc(),
+            one,
+            (&[FIRST, SECOND], None),
+            (WHOLE, done_next)
+        )
+    );
     assert!(rt; ends(rt.alloc(), one, (&[Step::Broken], None), (unheard, sent)));
-    assert!(rt; ends(rt.alloc(), one, (&[FIRST, Step::Broken], None), (unheard, sent_next)));
+    assert!(rt;
+        ends(
+            rt.alloc(),
+            one,
+            (&[FIRST, Step::Broken], None),
+            (unheard, sent_next)
+        )
+    );
     assert!(rt; ends(rt.alloc(), one, (&[], Some(0)), (unsent, sent)));
     assert!(rt; ends(rt.alloc(), one, (&[FIRST], Some(1)), (unsent, sent_next)));
     assert!(rt; ends(rt.alloc(), one, (silence.as_slice(), None), (spent, sent)));
