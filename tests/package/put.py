@@ -29,7 +29,8 @@ ENVIRONMENT = {name: it for name, it in os.environ.items() if name not in ("PREF
 PUT = """bin/TOOL bactool, share/man/man1/TOOL.1 644, share/bash-completion/completions/TOOL bactool,
     share/fish/vendor_completions.d/TOOL.fish bactool.fish, bin/PROGRAM 755, share/man/man1/PROGRAM.1 644,
     share/bash-completion/completions/PROGRAM 644, share/fish/vendor_completions.d/PROGRAM.fish 644,
-    share/zsh/site-functions/_PROGRAM 644, share/man/man7/bactool-numbers.7 644, share/bactool/installed 644"""
+    share/zsh/site-functions/_PROGRAM 644, share/man/man7/bactool-numbers.7 644,
+    share/man/man7/bactool-quick.7 644, share/bactool/installed 644"""
 
 
 def told(*words, status=0, **settings):
