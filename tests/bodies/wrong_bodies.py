@@ -224,7 +224,8 @@ class Round:
         if edit.is_wide:
             keys = {(edit.by, it) for it in edit.promised or edit.clauses()} | {(it.path, it.old) for it in edit.pairs}
         texts = self.texts if edit.copy else edit.applied(self.texts)
-        is_like = all(it.is_wide == edit.is_wide for it in self.edits)
+        kind = lambda it: (it.is_wide, it.part == GHOST)  # a ghost clause alone is not for a law to refuse
+        is_like = all(kind(it) == kind(edit) for it in self.edits)
         most = 1 if edit.tries or any(it.tries for it in self.edits) else LARGEST
         if texts is None or not is_like or keys & self.keys or len(self.edits) >= most:
             return False
