@@ -31,8 +31,8 @@ use Rattle.bac_run.specs.Input.{input_in}
 use Rattle.bac_run.specs.Journal.{Act, FitsLine, Turn, remark, Asked, Came, Passed, Told, Read, whole_line}
 use Rattle.bac_run.specs.Journal.{arrival_line, time_line, turn_at, remarks, posts, line_of, asked_by}
 use Rattle.bac_run.specs.Went.{ComesTo, GainsDue, IsGained, IsSpent, IsWithin}
-use Rattle.bac_run.proofs.Acts.{client_after-append, done, due_more, due_nothing, due_stopped, failed, fit_append}
-use Rattle.bac_run.proofs.Acts.{gained_err, history-append, inputs-append, journal-append, posts-answer, quiet_within}
+use Rattle.bac_run.proofs.Acts.{asked_err, asked_more, asked_nothing, asked_once, asked_stopped, client_after-append, done}
+use Rattle.bac_run.proofs.Acts.{due_nothing, failed, fit_append, inputs-append, journal-append, posts-answer, quiet_within}
 use Rattle.bac_run.proofs.Acts.{refused_long, within_more, IsQuiet}
 
 -- ---- the course
@@ -137,7 +137,6 @@ module _ {Origin W : Type 0} {contents : W → Option (List ℕ)} where
   went_more {result} {c} {d} {from} {mid} {to} first second =
       let moved' = client_after-append c.client first.acts second.acts in
       let printed = journal-append c.client first.acts second.acts in
-      let asked = history-append c.client first.acts second.acts in
       let here = c.session.config.timeout in
       let there = d.session.config.timeout in
       let same : there ≡ here = rw first.same refl in
@@ -151,7 +150,7 @@ module _ {Origin W : Type 0} {contents : W → Option (List ℕ)} where
             (sym (after_on here there (from i) (mid i) first.acts second.acts same (first.comes i))) (second.comes i);
         client_is = grind (arith, moved', first.client_is, second.client_is);
         prints = printed_as (first.prints ⨾ second.prints) (grind (arith, printed, first.client_is));
-        asks = grind (arith, asked, first.client_is, due_more first.asks second.asks);
+        asks = asked_more first.client_is first.asks second.asks;
         fit = fit_append first.acts second.acts first.fit second.fit;
       }
 
@@ -167,7 +166,7 @@ module _ {Origin W : Type 0} {contents : W → Option (List ℕ)} where
     comes = stages;
     client_is = client;
     prints = prints_nothing p;
-    asks = due_nothing s;
+    asks = asked_nothing c.client s;
     fit = tt;
   }
 
@@ -269,7 +268,7 @@ module _ {Origin W : Type 0} {contents : W → Option (List ℕ)} where
     comes = comes;
     client_is = moved';
     prints = printed_as printed (sym (append-nil _));
-    asks = grind (arith, append-nil, asked);
+    asks = asked_once act asked;
     fit = (fits, tt);
   }
 
@@ -358,7 +357,7 @@ module _ {Origin W : Type 0} {contents : W → Option (List ℕ)} where
     asks = record {
       gained = went.asks.gained;
       gains = went.asks.gains;
-      as_due = gained_err A B fault _ _ went.asks.as_due;
+      as_due = asked_err A B fault _ _ _ went.asks.as_due;
     };
     fit = went.fit;
   }
@@ -384,7 +383,7 @@ module _ {Origin W : Type 0} {contents : W → Option (List ℕ)} where
     asks = record {
       gained = went.asks.gained;
       gains = went.asks.gains;
-      as_due = gained_err A B fault _ _ went.asks.as_due;
+      as_due = asked_err A B fault _ _ _ went.asks.as_due;
     };
     fit = went.fit;
   }
@@ -416,7 +415,7 @@ module _ {Origin W : Type 0} {contents : W → Option (List ℕ)} where
     comes = λ i. comes_stopped A fault (from i);
     client_is = refl;
     prints = prints_nothing p;
-    asks = due_stopped A fault s;
+    asks = asked_stopped A fault c.client s;
     fit = tt;
   }
 

@@ -2,7 +2,7 @@
 use Rattle.std.proofs.Common.{◌≡◌, ◌≢◌, ◌⊎◌, ℕ, ◌+◌, false, List, [], ◌∷◌, ◌++◌, ◌==◌, ◌&&◌, length, take, drop, suc}
 use Rattle.std.proofs.Common.{◌≤◌, Option, Some, None, Result, Ok, Err, refl, subst, sym, ◌∙◌, ap, inl, inr}
 use Rattle.std.proofs.Common.{append_assoc, arith, length-append, take-append-drop, unwrap_or, is_some, IfErr, IfOk}
-use Rattle.std.proofs.lemmas.Bool.{cases_Bool, false≢true}
+use Rattle.std.proofs.lemmas.Bool.{cases_Bool}
 use Rattle.std.proofs.lemmas.List.{append-nil}
 use Rattle.std.proofs.lemmas.List.Concat.{flat_map-append}
 use Rattle.std.specs.Prelude.{option_and_then}
@@ -39,12 +39,12 @@ use Rattle.bac_script.specs.Script.{lines}
 use Rattle.bac_script.specs.declared.line.LineFault.TheVariants.{Bad, TooLong}
 use Rattle.bac_script.proofs.Pieces.{lines-ended, lines-last, lines-rest, next_long, said-whole_long}
 use Rattle.bac_run.specs.Journal.{Act, ends_with_return, new_client, settings_line}
-use Rattle.bac_run.specs.Went.{ComesTo, IsGained, IsOver, IsOverAt, IsWithin}
+use Rattle.bac_run.specs.Went.{ComesTo, IsAsked, IsOver, IsOverAt, IsWithin}
 use Rattle.bac_run.specs.Inner.Went.{IsNamed, IsOfWait, Went, WentFor, started, stopped}
 use Rattle.bac_run.specs.Replay.{AreSettings}
 use Rattle.bac_run.specs.Run.{EndsAt, IsAtRest, Runs, first_stage}
 use Rattle.bac_run.specs.Inner.Run.{RunsOn}
-use Rattle.bac_run.specs.Fault.{is_at_link, is_of_link, write_failed}
+use Rattle.bac_run.specs.Fault.{write_failed}
 use Rattle.bac_run.proofs.Acts.{done, failed}
 use Rattle.bac_run.proofs.Parts.{quiet_went, within_at, within_both, within_fault, within_from, within_turned}
 use Rattle.bac_run.proofs.Parts.{went_at, went_err, went_failed, went_fault, went_from, went_more, went_still}
@@ -140,7 +140,7 @@ said_of_long line is =
       | inr short ↦ rw short is
     ]
 
-unsaid : (line : List ℕ) → said false line ≡ Err TooLong → acts_of_line line ≡ None
+pub unsaid : (line : List ℕ) → said false line ≡ Err TooLong → acts_of_line line ≡ None
 unsaid line is = ap (λ (r : Result Said LineFault). option_and_then (acts_of_said line) (result_ok r))
     (said_of_long line is)
 
@@ -158,7 +158,7 @@ pub record IsCut (line now : List ℕ) (reading : Reading) : Type 0 where
 cut_long : (line held : List ℕ) (reading : Reading) → HasNoFeed line → length line ≡ line_room
     → IsCut line (line ++ held) reading
 cut_long line held reading none long =
-    let next = next_long line held reading none long in
+    let next = next_long line held reading none (omega (arith, long)) in
     let here = said-whole_long false line none long in
     let there = next.same false ∙ here in
     record {
@@ -250,17 +250,14 @@ can_read remaining before after held Open stands sure = stands.sound
 can_read remaining before after held AtEnd stands sure = stands.sound
 can_read remaining before after held Failed stands sure = absurd (sure refl)
 
--- What is no fault at the link says that all that is due was asked.
-pub all_asked : (result : Result TraceEnd RunFault) (due gained : List Entry) → is_at_link result ≡ false
-    → IsGained result due gained → gained ≡ due
-all_asked (Ok end) due gained far is = is
-all_asked (Err (Script fault)) due gained far is = is
-all_asked (Err (Link fault)) due gained far is = absurd (false≢true (sym far))
-
-pub not_of_link : (result : Result TraceEnd RunFault) → is_at_link result ≡ false → is_of_link result ≡ false
-not_of_link (Ok end) far = refl
-not_of_link (Err (Script fault)) far = refl
-not_of_link (Err (Link fault)) far = absurd (false≢true (sym far))
+-- Where a writer has failed too, what was asked may end with a send that failed.
+asked_cut : (result : Result TraceEnd RunFault) (client : Client) (acts : List Act) (gained : List Entry)
+    → IsAsked result client acts gained → IsAsked (failed TraceEnd write_failed) client acts gained
+asked_cut (Ok end) client acts gained is = inl is
+asked_cut (Err (Script WriteFailed)) client acts gained is = is
+asked_cut (Err (Script fault)) client acts gained is = inl is
+asked_cut (Err (Link SendFailed)) client acts gained is = inr is
+asked_cut (Err (Link fault)) client acts gained is = inl is
 
 -- A fault that may come while requests are open says nothing of them.
 pub over_wait : (fault : RunFault) (client : Client) → IsOfWait fault → IsOverAt fault client
@@ -868,9 +865,9 @@ module _ {Origin R W : Type 0} {remaining : R → Option (List ℕ)} {contents :
     -- It is told that the writer has failed.
     pub cut_off : {reader reader' : Checked R} {writer after : Checked W} {s t : Account Origin} {result : Result
         TraceEnd RunFault}
-        → Runs remaining contents session reader reader' writer after s t result → is_at_link result ≡ false
+        → Runs remaining contents session reader reader' writer after s t result
         → Runs remaining contents session reader reader' writer after s t (Err write_failed)
-    cut_off {result} runs far = record {
+    cut_off {result} runs = record {
       acts = runs.acts;
       takes = record {
         taken = runs.takes.taken;
@@ -891,7 +888,7 @@ module _ {Origin R W : Type 0} {remaining : R → Option (List ℕ)} {contents :
       asks = record {
         gained = runs.asks.gained;
         gains = runs.asks.gains;
-        as_due = all_asked result _ _ far runs.asks.as_due;
+        as_due = asked_cut result _ _ _ runs.asks.as_due;
       };
       over = tt;
       within = runs.within;

@@ -1,5 +1,5 @@
 -- Why a run stopped, what is told of that, and the status then.
-use Rattle.std.specs.Prelude.{ℕ, Bool, false, true, List, Result, Ok, Err}
+use Rattle.std.specs.Prelude.{ℕ, Bool, false, List, Result, Ok, Err}
 use Rattle.bac_script.specs.declared.tracing.TraceEnd.{TraceEnd}
 use Rattle.bac_script.specs.declared.tracing.TraceFault.TheVariants.{BadLine, LineTooLong, WriteFailed}
 use Rattle.bac_script.specs.Tracing.{trace_fault_text}
@@ -20,11 +20,6 @@ send_failed = Link SendFailed
 abbrev pub is_of_link : {A : Type 0} → Result A RunFault → Bool
 is_of_link (Err (Link fault)) = is_link_fault {A = Unit {0}} (Err fault)
 is_of_link _ = false
-
--- The fault is one at the link: it failed, or all turns went by.
-abbrev pub is_at_link : {A : Type 0} → Result A RunFault → Bool
-is_at_link (Err (Link fault)) = true
-is_at_link _ = false
 
 -- What is told of it.
 abbrev pub run_fault_text : RunFault → List ℕ

@@ -1,3 +1,4 @@
 pub mod Statuses
 mod Alike
 pub mod Calls
+pub mod Sessions

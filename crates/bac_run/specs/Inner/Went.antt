@@ -13,9 +13,9 @@ use Rattle.bac_run.specs.declared.fault.RunFault.TheVariants.{Link, Script}
 use Rattle.bac_run.specs.declared.turns.Run.{Run}
 use Rattle.bac_run.specs.declared.turns.Until.{Until}
 use Rattle.bac_run.specs.Input.{acts_of_line, fault_of_line, inputs_in}
-use Rattle.bac_run.specs.Journal.{Act, FitsLine, client_after, journal, history_of, at_event, remarks, posts}
+use Rattle.bac_run.specs.Journal.{Act, FitsLine, client_after, journal, at_event, remarks, posts}
 use Rattle.bac_run.specs.Course.{Aim, Goes, Looked, Outside, Stage, Turns, aims_for, settled, stage_after, telling}
-use Rattle.bac_run.specs.Went.{GainsDue, IsWithin, ComesTo}
+use Rattle.bac_run.specs.Went.{ComesTo, GainsDue, HasAsked, IsWithin}
 
 -- It stopped.
 abbrev pub stopped : RunFault → Result (Unit {0}) RunFault
@@ -68,7 +68,7 @@ pub record Went {Origin W A I : Type 0} (contents : W → Option (List ℕ)) (ru
   pub comes : (i : I) → ComesTo result (to i) (stage_after run.session.config.timeout (from i) acts)
   pub client_is : run'.client ≡ client_after run.client acts
   pub prints : Prints contents page page' (journal run.client acts)
-  pub asks : GainsDue result (history_of run.client acts) seen left
+  pub asks : HasAsked result run.client acts seen left
   pub fit : AllByRecursion FitsLine acts
 
 -- The client made its step at this event, its notes were printed as remarks, and what it sends was sent.
