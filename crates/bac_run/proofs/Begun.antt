@@ -21,7 +21,7 @@ use Rattle.bac_run.specs.Course.{Aim, aims_for, aims_in_room, aims_of_lines}
 use Rattle.bac_run.specs.Course.{room_for}
 use Rattle.bac_run.specs.Course.{last_aims}
 use Rattle.bac_run.specs.Input.{acts_of_line, fault_in}
-use Rattle.bac_run.proofs.Runs.{unsaid}
+use Rattle.bac_run.proofs.Cut.{unsaid}
 
 -- How often reading met the end.
 abbrev pub ends : Reading → ℕ
