@@ -23,7 +23,8 @@ use Rattle.bac_run.specs.Fault.{send_failed}
 use Rattle.bac_run.specs.Input.{inputs_in}
 use Rattle.bac_run.specs.Journal.{Act, FitsLine, Asked, Paused, Came, Passed, Told, Read, client_after, journal}
 use Rattle.bac_run.specs.Journal.{asked_by, history_of, turn_at, at_event, posts}
-use Rattle.bac_run.specs.Went.{GainsDue, HasAsked, IsAsked, IsCut, IsGained, IsUnsent, IsWithin}
+use Rattle.bac_run.specs.Went.{HasAsked, IsAsked, IsCut, IsUnsent, IsWithin}
+use Rattle.bac_run.specs.Inner.Went.{GainsDue, IsGained}
 
 pub client_after-append : (client : Client) (xs ys : List Act)
     → client_after client (xs ++ ys) ≡ client_after (client_after client xs) ys
@@ -111,7 +112,8 @@ all_more client middle xs ys gained further is same then =
 asked_on : {B : Type 0} (result : Result B RunFault) (client middle : Client) (xs ys : List Act)
     (gained further : List Entry) → middle ≡ client_after client xs → gained ≡ history_of client xs
     → IsAsked result middle ys further → IsAsked result client (xs ++ ys) (gained ++ further)
-asked_on (Ok x) client middle xs ys gained further is same then = all_more client middle xs ys gained further is same then
+asked_on (Ok x) client middle xs ys gained further is same then =
+    all_more client middle xs ys gained further is same then
 asked_on (Err (Script WriteFailed)) client middle xs ys gained further is same (inl then) =
     inl (all_more client middle xs ys gained further is same then)
 asked_on (Err (Script WriteFailed)) client middle xs ys gained further is same (inr then) =

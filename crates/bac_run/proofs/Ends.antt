@@ -58,7 +58,8 @@ rest_by Failed ls None = Err (Script ReadFailed)
 rest_by Open ls None = Err (Script WriteFailed)
 
 -- A run has ended stuck, with the fault of that, or at rest, with this result.
-pub data Ended (result : Result TraceEnd RunFault) (reading : Reading) (ls : List (List ℕ)) (stage : Stage) : Type 0 where
+pub data Ended (result : Result TraceEnd RunFault) (reading : Reading) (ls : List (List ℕ)) (stage : Stage)
+    : Type 0 where
   Spent : result ≡ Err (Link TurnsSpent) → IsSpent stage.phase stage.aims → Ended result reading ls stage
   Lost : result ≡ Err (Link ReceiveFailed) → stage.phase ≡ Broken → Ended result reading ls stage
   Rested : IsAtRest stage → result ≡ rest_by reading ls (fault_in 1 ls) → Ended result reading ls stage
@@ -137,8 +138,8 @@ more_none timeout stage acts others (act ∷ more) is goes none =
     (xs : List Act). Goes timeout stage xs) is goes) in
     absurd (none act due)
 
-pub ended_none : (timeout : ℕ) (result : Result TraceEnd RunFault) (reading : Reading) (ls : List (List ℕ)) (stage : Stage)
-    → Ended result reading ls stage → (act : Act) → IsDue timeout stage act → ⊥
+pub ended_none : (timeout : ℕ) (result : Result TraceEnd RunFault) (reading : Reading) (ls : List (List ℕ))
+    (stage : Stage) → Ended result reading ls stage → (act : Act) → IsDue timeout stage act → ⊥
 ended_none timeout result reading ls stage (Spent is spent) act due = stuck_none timeout stage act (inl spent) due
 ended_none timeout result reading ls stage (Lost is broken) act due = stuck_none timeout stage act (inr broken) due
 ended_none timeout result reading ls stage (Rested rest is) act due = rest_none timeout stage act rest due

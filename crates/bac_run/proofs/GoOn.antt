@@ -33,7 +33,8 @@ use Rattle.bac_run.specs.declared.fault.RunFault.{RunFault}
 use Rattle.bac_run.specs.declared.fault.RunFault.TheVariants.{Link, Script}
 use Rattle.bac_run.proofs.Acts.{journal-append}
 use Rattle.bac_run.proofs.Alike.{next_none, settled_wider, wider}
-use Rattle.bac_run.proofs.Ends.{same_result, stuck_result, spent_wider, Ended, IsStuck, Lost, Rested, Spent, after_wider, ended, ended_none, rest_by}
+use Rattle.bac_run.proofs.Ends.{Ended, IsStuck, Lost, Rested, Spent, after_wider, ended, ended_none, rest_by}
+use Rattle.bac_run.proofs.Ends.{same_result, spent_wider, stuck_result}
 use Rattle.bac_run.proofs.Ends.{rest_none, stuck_none, stuck_wider}
 use Rattle.bac_run.proofs.Begun.{aims_fault, aims_open, ends, ends_as_stands, lines_begun}
 use Rattle.bac_run.proofs.Standing.{AreOn, Less, Meets, More, Same, Stood, goes_wider, stage_on}

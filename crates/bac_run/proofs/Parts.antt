@@ -30,9 +30,11 @@ use Rattle.bac_run.specs.Course.{ready, stage_after}
 use Rattle.bac_run.specs.Input.{input_in}
 use Rattle.bac_run.specs.Journal.{Act, FitsLine, Turn, remark, Asked, Came, Passed, Told, Read, whole_line}
 use Rattle.bac_run.specs.Journal.{arrival_line, time_line, turn_at, remarks, posts, line_of, asked_by}
-use Rattle.bac_run.specs.Went.{ComesTo, GainsDue, IsGained, IsSpent, IsWithin}
-use Rattle.bac_run.proofs.Acts.{asked_err, asked_more, asked_nothing, asked_once, asked_stopped, client_after-append, done}
-use Rattle.bac_run.proofs.Acts.{due_nothing, failed, fit_append, inputs-append, journal-append, posts-answer, quiet_within}
+use Rattle.bac_run.specs.Went.{ComesTo, IsSpent, IsWithin}
+use Rattle.bac_run.specs.Inner.Went.{GainsDue, IsGained}
+use Rattle.bac_run.proofs.Acts.{asked_err, asked_more, asked_nothing, asked_once, asked_stopped, done, failed}
+use Rattle.bac_run.proofs.Acts.{client_after-append, due_nothing, fit_append, inputs-append, journal-append}
+use Rattle.bac_run.proofs.Acts.{posts-answer, quiet_within}
 use Rattle.bac_run.proofs.Acts.{refused_long, within_more, IsQuiet}
 
 -- ---- the course

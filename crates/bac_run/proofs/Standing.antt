@@ -207,7 +207,8 @@ module _ (timeout : ℕ) (stage : Stage) (acts others : List Act) (result other 
       at (Sure wrote sent) (Less cut more is) = absurd (wrote cut)
       at (Sure wrote sent) (More cut more is) =
           behind more is (all_due result _ _ _ wrote sent one.asked) (formed other _ _ _ two.asked)
-      at (Lacking lost) (Same same) = unsent_both same (lacks result _ _ _ lost one.asked) (formed other _ _ _ two.asked)
+      at (Lacking lost) (Same same) =
+          unsent_both same (lacks result _ _ _ lost one.asked) (formed other _ _ _ two.asked)
       at (Lacking lost) (Less cut more is) = absurd (wrote cut)
       at (Lacking lost) (More cut more is) =
           unsent_or (lacks result _ _ _ lost one.asked) (formed other _ _ _ two.asked)

@@ -171,7 +171,8 @@ same_unsent timeout stage client (x ∷ acts) (y ∷ others) last last' got got'
         → x ∷ (acts ++ last ∷ []) ≡ a ∷ (others ++ last' ∷ [])
 
     one : x ≡ y
-    one = one_of_both x y (posts (turn_at client x).notes ++ ((history_of (turn_at client x).after acts ++ got) ++ rest))
+    one = one_of_both x y
+        (posts (turn_at client x).notes ++ ((history_of (turn_at client x).after acts ++ got) ++ rest))
         (posts (turn_at client y).notes ++ (history_of (turn_at client y).after others ++ got'))
         (due_both timeout stage x y due due') (grind (arith, append_assoc, same))
 

@@ -15,18 +15,6 @@ abbrev pub IsCut : (due gained : List Entry) → Type 0
 IsCut due gained = (sent later : List Entry) × (to : Station) × (octets : List ℕ)
     × (due ≡ sent ++ Posted to octets ∷ later) × (gained ≡ sent ++ Unposted to octets ∷ [])
 
--- With this result a link was asked all that is due; but where a send failed, all before that send.
-abbrev pub IsGained : {A : Type 0} → Result A RunFault → (due gained : List Entry) → Type 0
-IsGained (Err (Link SendFailed)) due gained = IsCut due gained
-IsGained _ due gained = gained ≡ due
-
--- The history of a link gains what is due, as far as the result says.
-pub record GainsDue {Origin A : Type 0} (result : Result A RunFault) (due : List Entry) (seen left : Account Origin)
-    : Type 0 where
-  pub gained : List Entry
-  pub gains : GainsAll gained seen left
-  pub as_due : IsGained result due gained
-
 -- A send of the last of these acts failed: all before it was asked, and nothing was done behind it.
 pub record IsUnsent (client : Client) (acts : List Act) (gained : List Entry) : Type 0 where
   pub before : List Act

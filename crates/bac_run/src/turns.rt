@@ -11,7 +11,7 @@ ghost use Rattle.bac_run.specs.Fault.{is_of_link, write_failed, send_failed};
 ghost use Rattle.bac_run.specs.Inner.Went.{IsOfWait, Went, begins_turn, ends_turn, heard_until, hearing, looking};
 ghost use Rattle.bac_run.specs.Inner.Went.{outside, started, to_tell};
 ghost use Rattle.bac_run.specs.Journal.{posts};
-ghost use Rattle.bac_run.specs.Went.{GainsDue};
+ghost use Rattle.bac_run.specs.Inner.Went.{GainsDue};
 
 use crate::fault::RunFault;
 use crate::journal::{has_line, print_arrival, print_time, remark_due, remark_end};

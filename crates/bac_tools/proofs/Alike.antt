@@ -21,7 +21,8 @@ use Rattle.bac_words.{
 }
 use Rattle.bac_tools.{
   specs.{Program.{RunsAsRead, IsGiven}, Binding.asked_by, declared.{running.Binding.Binding, report.Report.Report}},
-  specs.{Outside.Outside, Report.{report_of, run_report, tool_report}, Runs.{Runs, RunsBatch, RunsOver, RunsScript, ToolRuns}},
+  specs.{Outside.Outside, Report.{report_of, run_report, tool_report}},
+  specs.Runs.{Runs, RunsBatch, RunsOver, RunsScript, ToolRuns},
   specs.Alike.{AreAlike, AreGivenAlike, EndAlike, Gained, IsCutOff, IsCutShort, IsPrinted, PrintAlike, ProgramRun},
   specs.Alike.{is_socket},
 }

@@ -7,7 +7,8 @@ use Rattle.bac_tsm.specs.Events.{Event}
 use Rattle.bac_print.specs.declared.page.Page.{Page}
 use Rattle.bac_print.specs.Page.{Prints}
 use Rattle.bac_script.specs.declared.tracing.TraceFault.TheVariants.{WriteFailed}
-use Rattle.bac_links.specs.History.{Account}
+use Rattle.bac_links.specs.History.{Account, Entry, GainsAll}
+use Rattle.bac_links.specs.declared.fault.ToolFault.TheVariants.{SendFailed}
 use Rattle.bac_run.specs.declared.fault.RunFault.{RunFault}
 use Rattle.bac_run.specs.declared.fault.RunFault.TheVariants.{Link, Script}
 use Rattle.bac_run.specs.declared.turns.Run.{Run}
@@ -15,11 +16,23 @@ use Rattle.bac_run.specs.declared.turns.Until.{Until}
 use Rattle.bac_run.specs.Input.{acts_of_line, fault_of_line, inputs_in}
 use Rattle.bac_run.specs.Journal.{Act, FitsLine, client_after, journal, at_event, remarks, posts}
 use Rattle.bac_run.specs.Course.{Aim, Goes, Looked, Outside, Stage, Turns, aims_for, settled, stage_after, telling}
-use Rattle.bac_run.specs.Went.{ComesTo, GainsDue, HasAsked, IsWithin}
+use Rattle.bac_run.specs.Went.{ComesTo, HasAsked, IsCut, IsWithin}
 
 -- It stopped.
 abbrev pub stopped : RunFault → Result (Unit {0}) RunFault
 stopped fault = Err fault
+
+-- With this result a link was asked all that is due; but where a send failed, all before that send.
+abbrev pub IsGained : {A : Type 0} → Result A RunFault → (due gained : List Entry) → Type 0
+IsGained (Err (Link SendFailed)) due gained = IsCut due gained
+IsGained _ due gained = gained ≡ due
+
+-- The history of a link gains what is due, as far as the result says.
+pub record GainsDue {Origin A : Type 0} (result : Result A RunFault) (due : List Entry) (seen left : Account Origin)
+    : Type 0 where
+  pub gained : List Entry
+  pub gains : GainsAll gained seen left
+  pub as_due : IsGained result due gained
 
 -- With this result all that was wanted was done, and the line was no bad one; or a front of it.
 abbrev pub IsDone : {A : Type 0} → Result A RunFault → (wanted : Option (List Act)) → (inputs : List Act) → Type 0
