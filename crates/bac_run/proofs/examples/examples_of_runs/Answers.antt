@@ -90,3 +90,7 @@ returns-clause-unasked c = λ (timed, some, runs).
     let asked = ap (λ (account : Account ℕ). account.history) runs.asks.gains ∙ runs.asks.as_due
     ∙ ap (λ (acts : List Act). history_of (new_client 3000 3) acts) none in
     absurd (cc)
+
+pub returns-clause-folded : goal.returns-clause-folded
+unfolding computed
+returns-clause-folded c = λ timed some. refl
