@@ -1,6 +1,6 @@
 -- A run that ended well was printed whole.
-use Rattle.std.proofs.Common.{◌≡◌, ◌∙◌, ◌⊎◌, ℕ, false, true, List, [], ◌++◌, Option, Result, Ok, Err, inl, inr, refl}
-use Rattle.std.proofs.Common.{length, map, subst, sym, ap, rules}
+use Rattle.std.proofs.Common.{◌≡◌, ◌∙◌, ℕ, false, true, List, [], ◌++◌, Option, Result, Ok, Err, inl, inr, refl}
+use Rattle.std.proofs.Common.{length, ◌↔◌, map, subst, sym, ap, rules}
 use Rattle.std.proofs.lemmas.Bool.{cases_Bool}
 use Rattle.std.proofs.lemmas.List.{append-nil}
 use Rattle.std.specs.List.{concat, flat_map}
