@@ -318,7 +318,8 @@ abbrev asked_from : Stage → List Act → List Entry
 asked_from stage acts = history_of stage.client acts
 
 pub histories_cohere : (timeout : ℕ) (stage : Stage) (more : List Aim) (acts others : List Act)
-    → Goes timeout stage acts → Goes timeout (wider stage more) others → Coheres (asked_from stage acts) (asked_from stage others)
+    → Goes timeout stage acts → Goes timeout (wider stage more) others
+    → Coheres (asked_from stage acts) (asked_from stage others)
 histories_cohere timeout stage more [] others goes goes' = tt
 histories_cohere timeout stage more (act ∷ acts) [] goes goes' = coheres_none (asked_from stage (act ∷ acts))
 histories_cohere timeout stage more (act ∷ acts) (other ∷ others) (due, goes) (due', goes') =

@@ -7,5 +7,6 @@ pub returns : goal.returns
 returns g c session reader other_reader reader' other_reader' before after other_before other_after seen left other_seen
     other_left result other first rest other_first other_rest runs others gave is is' answers =
     let (same, on) = runs_on session reader other_reader reader' other_reader' before after other_before other_after
-    seen left other_seen other_left result other first rest other_first other_rest runs others (inl gave) is is' answers in
+    seen left other_seen other_left result other first rest other_first other_rest runs others (inl gave) is is'
+    answers in
     (same, asks_next _ _ result other rest other_rest on)
