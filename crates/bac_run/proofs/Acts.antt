@@ -19,7 +19,7 @@ use Rattle.bac_run.specs.declared.fault.RunFault.{RunFault}
 use Rattle.bac_run.specs.declared.fault.RunFault.TheVariants.{Script, Link}
 use Rattle.bac_script.specs.declared.tracing.TraceFault.{TraceFault}
 use Rattle.bac_script.specs.declared.tracing.TraceFault.TheVariants.{WriteFailed}
-use Rattle.bac_run.specs.Fault.{send_failed}
+use Rattle.bac_run.specs.Inner.Went.{send_failed}
 use Rattle.bac_run.specs.Input.{inputs_in}
 use Rattle.bac_run.specs.Journal.{Act, FitsLine, Asked, Paused, Came, Passed, Told, Read, client_after, journal}
 use Rattle.bac_run.specs.Journal.{asked_by, history_of, turn_at, at_event, posts}

@@ -23,7 +23,7 @@ use Rattle.bac_run.specs.declared.fault.RunFault.TheVariants.{Script, Link}
 use Rattle.bac_run.specs.declared.turns.Run.{Run}
 use Rattle.bac_run.specs.declared.turns.Until.{Until}
 use Rattle.bac_run.specs.declared.turns.Until.TheVariants.{FewOpen, TimeTold}
-use Rattle.bac_run.specs.Fault.{send_failed}
+use Rattle.bac_run.specs.Inner.Went.{send_failed}
 use Rattle.bac_run.specs.Inner.Went.{IsOfWait, Went, WentFor, Opened, begins_turn, outside, started}
 use Rattle.bac_run.specs.Course.{Aim, Does, Fresh, Goes, IsDue, Stage, Turns, aims_for, is_reached, moved, open_in}
 use Rattle.bac_run.specs.Course.{ready, stage_after}

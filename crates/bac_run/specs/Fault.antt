@@ -3,7 +3,6 @@ use Rattle.std.specs.Prelude.{ℕ, Bool, false, List, Result, Ok, Err}
 use Rattle.bac_script.specs.declared.tracing.TraceEnd.{TraceEnd}
 use Rattle.bac_script.specs.declared.tracing.TraceFault.TheVariants.{BadLine, LineTooLong, WriteFailed}
 use Rattle.bac_script.specs.Tracing.{trace_fault_text}
-use Rattle.bac_links.specs.declared.fault.ToolFault.TheVariants.{SendFailed}
 use Rattle.bac_links.specs.Fault.{is_link_fault, tool_fault_text}
 use Rattle.bac_run.specs.declared.fault.RunFault.{RunFault}
 use Rattle.bac_run.specs.declared.fault.RunFault.TheVariants.{Script, Link}
@@ -11,10 +10,6 @@ use Rattle.bac_run.specs.declared.fault.RunFault.TheVariants.{Script, Link}
 -- The writer failed.
 abbrev pub write_failed : RunFault
 write_failed = Script WriteFailed
-
--- The link could not send.
-abbrev pub send_failed : RunFault
-send_failed = Link SendFailed
 
 -- The fault is the link's, which has failed then.
 abbrev pub is_of_link : {A : Type 0} → Result A RunFault → Bool

@@ -22,6 +22,10 @@ use Rattle.bac_run.specs.Went.{ComesTo, HasAsked, IsCut, IsWithin}
 abbrev pub stopped : RunFault → Result (Unit {0}) RunFault
 stopped fault = Err fault
 
+-- The link could not send.
+abbrev pub send_failed : RunFault
+send_failed = Link SendFailed
+
 -- With this result a link was asked all that is due; but where a send failed, all before that send.
 abbrev pub IsGained : {A : Type 0} → Result A RunFault → (due gained : List Entry) → Type 0
 IsGained (Err (Link SendFailed)) due gained = IsCut due gained
