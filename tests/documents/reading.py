@@ -27,11 +27,7 @@ TRIALS = {"bac_trials", "tool_trials", "bac_uses"}  # no crate rests on their cl
 SIZE = r"\[([\d,]+) lines\]\(docs/reading/(\w+)\.md\)"  # as README.md tells it
 TOLD = {"client", "device", "program"}  # the pages whose sizes it tells
 # Crates and definitions that no example holds yet, as docs/PROOFS.md says.
-NOT_YET = set("""bac_run.Runs clap_laws AskAlike OneText Tells IsAccepted events_of Searched who_is_to Serves replies_of
-    sent_at sends_of_call LogsHistory account_with Binds BindsAtMost Sends Waits Prints GaveSame GaveFront
-    TakesAndKeeps ReadForLine IsNext ReadsNoMore ReaderStands requests_in Traces IsWritten Program ProgramRun IsRun
-    CalledRun RunsAsCalls RunsWithout RunsUnasked BatchRuns IsTold texts_of GivesSockets AsksAtMostOnce
-    ToolRuns""".split())
+NOT_YET = set("""bac_run.Runs bac_run.events_of""".split())
 PROBLEMS = []
 
 

@@ -1,3 +1,5 @@
 pub mod Statuses
 mod Alike
 pub mod Calls
+mod Typed
+mod Worked
