@@ -1,5 +1,6 @@
 pub mod Acts
 pub mod Counts
+pub mod Cut
 pub mod Parts
 pub mod Runs
 pub mod Sends

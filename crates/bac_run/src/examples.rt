@@ -1,23 +1,23 @@
 //! Examples of what a run does, worked out by computation. They show what the definitions mean.
 
-ghost use Rattle.std.specs.Prelude.{◌≡◌, ◌^◌, ℕ, [], ◌∷◌, ◌++◌, codes, replicate, false, Err};
+ghost use Rattle.std.specs.Prelude.{◌≡◌, ◌^◌, ◌<◌, ℕ, [], ◌∷◌, ◌++◌, codes, replicate, false, Err};
 ghost use Rattle.bac_tsm.specs.Events.{Tick};
 ghost use Rattle.bac_script.specs.Line.{Happens, Nothing};
 ghost use Rattle.bac_script.specs.declared.input.Reading.TheVariants.{AtEnd, Failed, Open};
 ghost use Rattle.bac_script.specs.declared.line.LineFault.TheVariants.{TooLong};
 ghost use Rattle.bac_script.specs.declared.tracing.TraceFault.TheVariants.{BadLine, ReadFailed};
-ghost use Rattle.bac_links.specs.History.{Posted, Silence, Timed, Unposted, Waited};
-ghost use Rattle.bac_links.specs.declared.fault.ToolFault.TheVariants.{SendFailed, TurnsSpent};
+ghost use Rattle.bac_links.specs.History.{Arrived, Posted, Silence, Timed, Unposted, Waited};
+ghost use Rattle.bac_links.specs.declared.fault.ToolFault.TheVariants.{ReceiveFailed, SendFailed, TurnsSpent};
 ghost use Rattle.bac_links.specs.Limits.{most_turns};
 ghost use Rattle.bac_run.specs.Course.{AreSteady, Does, Fresh, Goes, IsDue, Turns, aims_of_lines, room_for};
-ghost use Rattle.bac_run.specs.Fault.{run_status_of};
+ghost use Rattle.bac_run.specs.Fault.{run_status_of, write_failed};
 ghost use Rattle.bac_run.specs.Input.{EndsWithFeed, HasNoFeed, said_of};
-ghost use Rattle.bac_run.specs.Inner.Examples.{about, asked, at_rest, busy, desk, ended, idle, octets, read};
-ghost use Rattle.bac_run.specs.Inner.Examples.{read_line, sent, unsent, waiting};
+ghost use Rattle.bac_run.specs.Inner.Examples.{IsRunOf, about, answer, asked, at_rest, busy, deaf, desk, ended, idle};
+ghost use Rattle.bac_run.specs.Inner.Examples.{long_answer, octets, one_by_one, read, read_line, sent, unsent, waiting};
 ghost use Rattle.bac_run.specs.Journal.{Asked, Came, FitsLine, Passed, Paused, Read, Told, history_of, journal};
-ghost use Rattle.bac_run.specs.Journal.{notes_of, time_line};
+ghost use Rattle.bac_run.specs.Journal.{events_of, notes_of, time_line};
 ghost use Rattle.bac_run.specs.Replay.{AreSent, AskNext, IsLineOf, IsReadBack, posted_in, sent_in};
-ghost use Rattle.bac_run.specs.Run.{EndsAt};
+ghost use Rattle.bac_run.specs.Run.{EndsAt, journal_of};
 ghost use Rattle.bac_run.specs.Went.{IsGained, IsWithin};
 ghost use Rattle.bac_run.specs.declared.fault.RunFault.TheVariants.{Link, Script};
 ghost use Rattle.bac_run.specs.declared.turns.Until.TheVariants.{FewOpen};
@@ -89,6 +89,9 @@ fn examples_of_lines()
     ensures read_to_its_end { EndsAt (Err (Script ReadFailed)) AtEnd [] at_rest → ⊥ }
     ensures spent { EndsAt (Err (Link TurnsSpent)) Open (read_line ∷ []) (waiting 0 0) }
     ensures not_spent { EndsAt (Err (Link TurnsSpent)) Open (read_line ∷ []) (waiting 0 9) → ⊥ }
+    ensures unheard { EndsAt (Err (Link ReceiveFailed)) Open (read_line ∷ []) deaf }
+    ensures heard { EndsAt (Err (Link ReceiveFailed)) Open (read_line ∷ []) (waiting 0 9) → ⊥ }
+    ensures unwritten { EndsAt (Err write_failed) Open (read_line ∷ []) (waiting 0 9) }
 {}
 
 // What is open, printed and sent, by the acts of a run.
@@ -101,6 +104,9 @@ fn examples_of_acts()
     ensures fits { FitsLine (Came 50 desk (7 ∷ [])) }
     ensures empty { FitsLine (Came 50 desk []) → ⊥ }
     ensures late { FitsLine (Told (2 ^ 64)) → ⊥ }
+
+    // What the client is handed, in this order.
+    ensures events { events_of (asked ∷ Read 3000 ∷ Passed 50 Silence ∷ Told 3000 ∷ []) ≡ read ∷ Tick 3000 ∷ [] }
 
     // A request is sent, and again at its timeout.
     ensures notes { notes_of idle (asked ∷ Told 3000 ∷ []) ≡ sent ∷ sent ∷ [] }
@@ -125,6 +131,27 @@ fn examples_of_acts()
     ensures good { run_status_of (ended 2) ≡ 0 }
     ensures bad { run_status_of (Err (Script (BadLine 2))) ≡ 2 }
     ensures broken { run_status_of (Err (Link SendFailed)) ≡ 3 }
+{}
+
+// A whole run: a request, its answer, and the end of the input.
+#[tactic(auto, unfolding(bac_script::proofs::Computed::computed))]
+fn examples_of_runs()
+    ensures answered { IsRunOf read_line
+        (codes "client 3000 3 0\nread 127.0.0.1 0 5 85\n# send 0 127.0.0.1:47808 810a001101040005010c0c000000051955\n"
+        ++ codes "data 127.0.0.1:47808 810a0017010030010c0c0000000519553e444290999a3f\n# done 0 value 4290999a\n")
+        (Timed 0 ∷ Posted desk octets ∷ Timed 5 ∷ Waited 50 (Arrived desk answer) ∷ []) }
+
+    // Over a remark the link is asked for nothing.
+    ensures unasked { IsRunOf (codes "# x\n") (codes "client 3000 3 0\n")
+        (Timed 0 ∷ Posted desk octets ∷ Timed 5 ∷ Waited 50 (Arrived desk answer) ∷ []) → ⊥ }
+
+    // A remark of 4,122 octets goes on in a second line.
+    ensures folded { (timed : 0 < 3000) (some : 0 < 1)
+        → journal_of (one_by_one timed some) (asked ∷ Came 50 desk long_answer ∷ [])
+        ≡ codes "client 3000 3 0\nread 127.0.0.1 0 5 85\n# send 0 127.0.0.1:47808 810a001101040005010c0c000000051955\n"
+        ++ (codes "data 127.0.0.1:47808 810a0218010030010c0c0000000519553e85fe020200" ++ (replicate 1026 48
+        ++ (codes "3f\n# done 0 value B'" ++ (replicate 4079 48 ++ (codes "\n#+" ++ (replicate 25 48
+        ++ codes "'\n")))))) }
 {}
 
 // What two runs ask, and how far a clock goes at once.

@@ -9,7 +9,7 @@ use bac_tsm::Config;
 pub struct Session {
     /// The timeout and the retries.
     pub config: Config,
-    /// How many requests are open at most; it is not 0.
+    /// How many requests are open at most; it is not 0. A client has room for 64: past these it refuses one as `full`.
     pub window: usize,
     ghost some: { 0 < window },
 }

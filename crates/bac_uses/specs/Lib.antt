@@ -1,3 +1,4 @@
 pub mod Anywhere
 pub mod Heating
+pub mod Requested
 pub mod TwoReads

@@ -5,4 +5,5 @@ mod client;
 mod device;
 mod links;
 mod pdu;
+mod run;
 mod wire;

@@ -1,15 +1,22 @@
--- Clients, stages and results, for examples of what is said of runs.
-use Rattle.std.specs.Prelude.{ℕ, List, [], ◌∷◌, codes, Result, Ok, Err, None}
+-- Clients, stages, results and whole runs, for examples of what is said of runs.
+use Rattle.std.specs.Prelude.{ℕ, ◌<◌, false, List, [], ◌∷◌, ◌++◌, codes, length, replicate, Option, Result, Ok, Err}
+use Rattle.std.specs.Prelude.{None}
 use Rattle.bac_pdu.specs.Peer.{Station}
 use Rattle.bac_tsm.specs.Client.{Client}
 use Rattle.bac_tsm.specs.Events.{Event, Ask, Note, Sent}
+use Rattle.bac_print.specs.Checked.{fresh}
+use Rattle.bac_print.specs.StreamCall.{ReadCall, WriteCall}
+use Rattle.bac_print.specs.declared.checked.Checked.{Checked}
 use Rattle.bac_script.specs.declared.tracing.TraceEnd.{TraceEnd}
+use Rattle.bac_links.specs.History.{Account, Entry}
 use Rattle.bac_links.specs.declared.fault.ToolFault.TheVariants.{SendFailed}
-use Rattle.bac_run.specs.Course.{Aim, Outside, Stage, Turns}
+use Rattle.bac_run.specs.Course.{Aim, Broken, Outside, Stage, Turns}
 use Rattle.bac_run.specs.Journal.{Act, Asked, new_client, turn_at}
 use Rattle.bac_run.specs.declared.fault.RunFault.{RunFault}
 use Rattle.bac_run.specs.declared.fault.RunFault.TheVariants.{Link}
+use Rattle.bac_run.specs.declared.session.Session.{Session}
 use Rattle.bac_run.specs.declared.turns.Until.TheVariants.{FewOpen}
+use Rattle.bac_run.specs.Run.{Runs}
 
 -- 127.0.0.1, port 47808.
 abbrev pub desk : Station
@@ -32,6 +39,16 @@ octets = 0x81 ∷ 0x0a ∷ 0x00 ∷ 0x11 ∷ 0x01 ∷ 0x04 ∷ 0x00 ∷ 0x05 ∷
 abbrev pub sent : Note
 sent = Sent 0 desk octets
 
+-- The answer: it is 72.3, a Real.
+abbrev pub answer : List ℕ
+answer = 0x81 ∷ 0x0a ∷ 0x00 ∷ 0x17 ∷ 0x01 ∷ 0x00 ∷ 0x30 ∷ 0x01 ∷ 0x0c ∷ 0x0c ∷ 0x00 ∷ 0x00 ∷ 0x00 ∷ 0x05 ∷ 0x19 ∷ 0x55
+    ∷ 0x3e ∷ 0x44 ∷ 0x42 ∷ 0x90 ∷ 0x99 ∷ 0x9a ∷ 0x3f ∷ []
+
+-- Another: it is 4,104 bits, none of which is set.
+abbrev pub long_answer : List ℕ
+long_answer = (0x81 ∷ 0x0a ∷ 0x02 ∷ 0x18 ∷ 0x01 ∷ 0x00 ∷ 0x30 ∷ 0x01 ∷ 0x0c ∷ 0x0c ∷ 0x00 ∷ 0x00 ∷ 0x00 ∷ 0x05 ∷ 0x19
+    ∷ 0x55 ∷ 0x3e ∷ 0x85 ∷ 0xfe ∷ 0x02 ∷ 0x02 ∷ 0x00 ∷ []) ++ (replicate 513 0 ++ 0x3f ∷ [])
+
 -- A client with a timeout of three seconds and three retries; and with that request open.
 abbrev pub idle : Client
 idle = new_client 3000 3
@@ -47,6 +64,10 @@ about client behind aims = record { client = client; behind = behind; phase = Ou
 abbrev pub waiting : (behind left : ℕ) → Stage
 waiting behind left = about busy behind (Turns (FewOpen 0) left ∷ [])
 
+-- In such a wait the link could not receive.
+abbrev pub deaf : Stage
+deaf = record (waiting 0 9) { phase = Broken }
+
 -- All is done.
 abbrev pub at_rest : Stage
 at_rest = about idle 0 []
@@ -57,3 +78,45 @@ ended lines = Ok (record { lines = lines })
 
 abbrev pub unsent : Result (Unit {0}) RunFault
 unsent = Err (Link SendFailed)
+
+-- ---- a whole run
+
+-- A session of the same settings, in which one request is open at most.
+abbrev pub one_by_one : 0 < 3000 → 0 < 1 → Session
+one_by_one timed some =
+    record { config = record { timeout = 3000; retries = 3; positive = timed }; window = 1; some = some }
+
+-- The octets of a stream are not known.
+abbrev pub unknown : ℕ → Option (List ℕ)
+unknown stream = None
+
+-- A reader that gave this, and then nothing more.
+abbrev pub drained : List ℕ → Checked ℕ
+drained given = record {
+  inner = record {
+    stream = 0;
+    transcript = record { of = record {}; items = ReadCall 4097 (Ok given) ∷ ReadCall 4097 (Ok []) ∷ [] };
+  };
+  failed = false;
+  reads = 2;
+}
+
+-- A writer that took this.
+abbrev pub filled : List ℕ → Checked ℕ
+filled text = record {
+  inner = record {
+    stream = 0;
+    transcript = record { of = record {}; items = WriteCall text (Ok (length text)) ∷ [] };
+  };
+  failed = false;
+  reads = 0;
+}
+
+-- A link that was asked and answered this.
+abbrev pub link_with : List Entry → Account ℕ
+link_with history = record { made = 0; history = history }
+
+-- Such a session read this, and printed that; its link was asked and answered this; and it ended after one line.
+abbrev pub IsRunOf : (input printed : List ℕ) (asked : List Entry) → Type 0
+IsRunOf input printed asked = (timed : 0 < 3000) × (some : 0 < 1) × Runs unknown unknown (one_by_one timed some)
+    (fresh 0) (drained input) (fresh 0) (filled printed) (link_with []) (link_with asked) (ended 1)

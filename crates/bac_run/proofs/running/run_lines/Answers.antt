@@ -9,8 +9,9 @@ use Rattle.bac_run.specs.Course.{Turns}
 use Rattle.bac_run.specs.declared.turns.Until.TheVariants.{FewOpen}
 use Rattle.bac_run.proofs.Parts.{went_at, went_more}
 use Rattle.bac_run.proofs.Runs.{so_far_none, so_far_more, stops_waiting, stops_unread, stops_reading, stops_line}
-use Rattle.bac_run.proofs.Runs.{stops_last, ends_unread, ends_behind, at_end, at_last, can_read, cut_next, cut_so}
-use Rattle.bac_run.proofs.Runs.{failed_lines, last_line, none_left, open_cut, open_stands, roomed, still_stands}
+use Rattle.bac_run.proofs.Runs.{stops_last, ends_unread, ends_behind, roomed}
+use Rattle.bac_run.proofs.Cut.{at_end, at_last, can_read, cut_next, cut_so, failed_lines, last_line, none_left}
+use Rattle.bac_run.proofs.Cut.{open_cut, open_stands, still_stands}
 use Rattle.bac_run.proofs.running.run_lines.Goals as goal
 
 pub lines-init : goal.lines-init

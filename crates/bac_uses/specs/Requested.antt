@@ -1,0 +1,29 @@
+-- Many requests over a link that were all asked, with a timeout of three seconds and three retries.
+use Rattle.std.specs.Prelude.{◌≡◌, ℕ, List, Option, length, map}
+use Rattle.std.specs.List.{AllByRecursion, concat, flat_map}
+use Rattle.bac_tsm.specs.{Client.client_rules, Events.Note, Laws.outputs}
+use Rattle.bac_print.specs.{Checked.{Gave, Took}, declared.checked.Checked.Checked}
+use Rattle.bac_script.specs.{Script.text, Text.notes_text, declared.input.Reading.TheVariants.AtEnd}
+use Rattle.bac_links.specs.History.{Account, Entry, GainsAll}
+use Rattle.bac_run.specs.Input.{IsGood, acts_or_none, inputs_in}
+use Rattle.bac_run.specs.{Journal.{Act, events_of}, Replay.{posted_in, sent_in}}
+
+-- The reader gave lines of which none is bad, and nothing else; what they ask for was done, in their order. The client
+-- told what the look-ahead gives for what it was handed. What the writer took is a script by which `bactrace` prints
+-- that, and what the link sent is what it says.
+pub record AllRequested {Origin R W : Type 0} (remaining : R → Option (List ℕ)) (contents : W → Option (List ℕ))
+    (reader reader' : Checked R) (before after : Checked W) (seen left : Account Origin) : Type 0 where
+  pub lines : List (List ℕ)
+  pub gave : Gave remaining reader reader' (concat lines)
+  pub good : AllByRecursion IsGood lines
+  pub acts : List Act
+  pub asked : inputs_in acts ≡ flat_map acts_or_none lines
+  pub notes : List Note
+  pub ahead : notes ≡ map (λ (i, note). note)
+      (outputs (client_rules 3000 3) 0 (events_of acts) 0 (length (events_of acts)))
+  pub journal : List ℕ
+  pub took : Took contents before after journal
+  pub replayed : text journal AtEnd ≡ notes_text notes
+  pub gained : List Entry
+  pub gains : GainsAll gained seen left
+  pub sent : flat_map posted_in gained ≡ flat_map sent_in notes
