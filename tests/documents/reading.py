@@ -26,12 +26,6 @@ FOLDER = "docs/reading"
 TRIALS = {"bac_trials", "tool_trials", "bac_uses"}  # no crate rests on their clauses
 SIZE = r"\[([\d,]+) lines\]\(docs/reading/(\w+)\.md\)"  # as README.md tells it
 TOLD = {"client", "device", "program"}  # the pages whose sizes it tells
-# Crates and definitions that no example holds yet, as docs/PROOFS.md says.
-NOT_YET = set("""clap_laws AskAlike OneText Tells IsAccepted Searched who_is_to Serves replies_of
-    sent_at sends_of_call LogsHistory account_with Binds BindsAtMost Sends Waits Prints GaveSame GaveFront
-    TakesAndKeeps ReadForLine IsNext ReadsNoMore ReaderStands requests_in Traces IsWritten Program ProgramRun IsRun
-    CalledRun RunsAsCalls RunsWithout RunsUnasked BatchRuns IsTold texts_of GivesSockets AsksAtMostOnce
-    ToolRuns""".split())
 PROBLEMS = []
 
 
@@ -167,7 +161,7 @@ def unheld():
         of = item.file.said(item.file.names, item.head)[0]
         is_relation = kind.endswith("Type 0") and re.search(r"[({→]", " ".join([*item.around, item.head]))
         is_view = not is_relation and (kind == "Type 0" or of and isinstance(of[0], Declared))
-        if {item.file.crate, item.name, f"{item.file.crate}.{item.name}"} & NOT_YET or is_view:
+        if is_view:
             continue
         if item not in (holds if kind == "ℕ" or is_relation else computed):
             yield f"{item.file.path}: no example says {item.name}"

@@ -10,6 +10,7 @@ mod CallSends
 mod Accepted
 mod Progress
 mod Unheard
+mod Worked
 mod Asking
 pub mod Alike
 pub mod SearchesAlike

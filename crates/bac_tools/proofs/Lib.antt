@@ -2,3 +2,5 @@ pub mod Statuses
 mod Alike
 pub mod Calls
 pub mod Sessions
+mod Typed
+mod Worked

@@ -1,14 +1,17 @@
 //! What holds of the definitions that the contracts cite, and of the public types: the clause of a function with an
 //! empty body is the law.
-ghost use Rattle.std.specs.{Prelude.{◌≡◌, List, Some, None, Result, Ok, Err}, declared.io.ErrorKind.ErrorKind};
+ghost use Rattle.std.specs.{Prelude.{◌≡◌, ◌⊎◌, List, Some, None, Result, Ok, Err}, declared.io.ErrorKind.ErrorKind};
 ghost use Rattle.clap.specs.Words.{Text};
 ghost use Rattle.bac_wire.specs.Copies.{MakesCopies};
-ghost use Rattle.bac_print.specs.{Checked.has_failed, declared.checked.Checked.Checked};
+ghost use Rattle.bac_print.specs.{Checked.{fresh, has_failed}, declared.checked.Checked.Checked};
 ghost use Rattle.bac_links.specs.{History.Entry, SystemCall.SystemCall, declared.socket.NoSocket.NoSocket};
 ghost use Rattle.bac_words.specs.Called.{words_called};
 ghost use Rattle.bac_tools.specs.Alike.{ProgramRun, CalledRun, AreGivenAlike, AreAlike};
 ghost use Rattle.bac_tools.specs.Calls.{AsksAtMostOnce, GivesSockets, RunsAsCalls, RunsUnasked, RunsWithout};
-ghost use Rattle.bac_tools.specs.{Program.{IsRun, Program}, Report.IsStatusOf, declared.program.Ran.Ran};
+ghost use Rattle.bac_tools.specs.Program.{IsRun, Only, Program};
+ghost use Rattle.bac_tools.specs.{Report.{IsStatusOf, report_of}, declared.program.Ran.Ran};
+ghost use Rattle.bac_words.specs.declared.faults.UsageFault.TheVariants.{Memory};
+ghost use Rattle.bac_tools.specs.declared.report.Fault.TheVariants.{Usage};
 
 use crate::program::Network;
 use crate::running::Binding;
@@ -55,6 +58,26 @@ pub fn the_program_is_a_function<
         E.contents typed)
         → one.run.report ≡ other.run.report → has_failed one.writer' ≡ has_failed other.writer'
         → one.ran.report ≡ other.ran.report }
+{}
+
+/// A call that was told words runs `words_called` of them, or lacks memory for them. So two calls with the same `typed`
+/// run the same words, of which [`the_program_is_a_function`] has its clause `words`: over the network, the reader and
+/// the writer of the call, up to where help is given.
+pub fn a_call_runs_its_words<N: Network, R: Read, W: Write, E: Write>()
+    ensures { (network : N) (reader : R) (reader' : Checked R) (writer : W) (writer' : Checked W)
+        (errors errors' : Checked E) (ran : Ran N N.Socket) (typed : List Text)
+        (run : IsRun N.gives
+        record { seen = N.Socket.seen; failed = N.Socket.has_failed; remaining = R.remaining; contents = W.contents }
+        E.contents network (fresh reader) reader' (fresh writer) writer' errors errors' ran (Ok typed))
+        → ((words : ProgramRun N.gives
+        record { seen = N.Socket.seen; failed = N.Socket.has_failed; remaining = R.remaining; contents = W.contents }
+        (words_called typed))
+        × (words.network ≡ network) × (words.reader ≡ reader) × (words.reader' ≡ reader') × (words.writer ≡ writer)
+        × (words.writer' ≡ run.unhelped) × (words.ran ≡ record ran { report = run.report }))
+        ⊎ Only N.gives
+        record { seen = N.Socket.seen; failed = N.Socket.has_failed; remaining = R.remaining; contents = W.contents }
+        network (fresh reader) reader' (fresh writer) run.unhelped (record ran { report = run.report })
+        (report_of (Usage Memory)) }
 {}
 
 /// However the words are run, the status is that of the fault that is told, and 0 or 1 where none is.

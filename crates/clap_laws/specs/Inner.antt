@@ -1,3 +1,4 @@
 -- What only private clauses say. No promise of this crate rests on it.
 pub mod Numbers
 pub mod Commands
+pub mod Examples

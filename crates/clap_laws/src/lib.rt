@@ -2,6 +2,8 @@
 //! the law.
 #![tactic(auto)]
 
+mod examples;
+
 ghost use Rattle.std.specs.Prelude.{◌≡◌, true, false, List, []};
 ghost use Rattle.clap.specs.{Faults.{fault_of, level_fault}, Simple.{App, Shape, built}};
 ghost use Rattle.clap.specs.Walk.{Text, nothing_held, rows_after};
