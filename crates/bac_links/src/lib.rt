@@ -39,7 +39,7 @@ pub use datagram::{DATAGRAM_OCTETS, Datagram};
 pub use ending::Purpose;
 pub use exit::{Exit, status};
 pub use fault::ToolFault;
-pub use history::{CallMade, CallNote, Log};
+pub use history::{CallNote, Log, SystemCallMade};
 pub use link::{Link, LinkFault};
 pub use memory::{MemoryLink, Step};
 pub use search::run_whois;

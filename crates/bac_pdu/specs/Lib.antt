@@ -13,4 +13,5 @@ pub mod PropertyReading
 pub mod Discovery
 pub mod Failure
 pub mod ValueReading
+pub mod Found
 pub mod Inner

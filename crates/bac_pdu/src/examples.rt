@@ -10,7 +10,8 @@ ghost use Rattle.bac_pdu.specs.Apdu.{segment_ack};
 ghost use Rattle.bac_pdu.specs.Apdu.{IsLaidOut, IsWritable, announced_size, longest_body, message};
 ghost use Rattle.bac_pdu.specs.{Datagram.{Carries, Takes, wrapped, front_count}, DatagramReading.carried};
 ghost use Rattle.bac_pdu.specs.{Discovery.{IsIAmBody, IsWhoIsBody, i_am_octets, who_is_octets}, Peer.IsRoutable};
-ghost use Rattle.bac_pdu.specs.{Failure.{IsErrorBody, error_octets}, Parameter.{IsParameter, numbered, value}};
+ghost use Rattle.bac_pdu.specs.{Failure.{IsErrorBody, error_octets}, Found.found_of};
+ghost use Rattle.bac_pdu.specs.Parameter.{IsParameter, numbered, value};
 ghost use Rattle.bac_pdu.specs.Property.{IsAckBody, IsPriority, IsReadBody, IsWriteBody, read_octets, ack_front};
 ghost use Rattle.bac_pdu.specs.Property.{ack_end};
 ghost use Rattle.bac_pdu.specs.Reject.{IsOutcome, ReadFault, WriteFault};
@@ -89,6 +90,14 @@ fn examples_of_discovery()
     // The whole datagram, of 21 octets (15). No reply is expected (00).
     ensures datagram { wrapped None false (0x10 ∷ 0x00 ∷ i_am_octets small_device) ≡
         0x81 ∷ 0x0a ∷ 0x00 ∷ 0x15 ∷ 0x01 ∷ 0x00 ∷ 0x10 ∷ 0x00 ∷ i_am_octets small_device }
+
+    // It is found where it is asked; a Who-Is introduces nobody.
+    ensures found { found_of (Range 1000 1234) desk
+        (0x81 ∷ 0x0a ∷ 0x00 ∷ 0x15 ∷ 0x01 ∷ 0x00 ∷ 0x10 ∷ 0x00 ∷ i_am_octets small_device)
+        ≡ Some (record { peer = desk; device = small_device }) }
+    ensures unasked { found_of (Range 1000 1233) desk
+        (0x81 ∷ 0x0a ∷ 0x00 ∷ 0x15 ∷ 0x01 ∷ 0x00 ∷ 0x10 ∷ 0x00 ∷ i_am_octets small_device) ≡ None }
+    ensures who_is { found_of All desk (0x81 ∷ 0x0a ∷ 0x00 ∷ 0x08 ∷ 0x01 ∷ 0x00 ∷ 0x10 ∷ 0x08 ∷ []) ≡ None }
 {}
 
 // What a datagram carries, and what takes an APDU to a station (Annex J.2 and clause 6.2).

@@ -22,9 +22,10 @@ mod examples;
 mod faults;
 mod help;
 mod job;
+mod marks;
 mod parse;
 mod telling;
-mod typed;
+
 mod words;
 
 pub use command::bactool;
