@@ -1,14 +1,14 @@
 -- What a device replies to a datagram, and what it is then, by the writes that it holds.
-use Rattle.std.proofs.Common.{◌≡◌, ℕ, Bool, List, Option, Result, Ok, Err, IfSome, refl, arith, subst, ap}
-use Rattle.std.{proofs.lemmas.Bool.cases_Bool, specs.Prelude.if◌then◌else◌, specs.Option.{ok_or}}
-use Rattle.std.specs.Result.{result_ok}
-use Rattle.bac_pdu.specs.{Peer.Station, Apdu.Message, Property.{Order, IsPriority}, PropertyReading.write_of}
-use Rattle.bac_pdu.{specs.Steps.◌>>=◌, proofs.PropertyLaws.write_is}
-use Rattle.bac_device.specs.{Info.Info, Point.Description, Places.{Write, Standing}, Inner.Places.IsUrgent}
-use Rattle.bac_device.specs.Device.{DeviceState, points_of, device_after, Holds}
-use Rattle.bac_device.specs.Access.{urgency, ordered_write, accepted_write}
-use Rattle.bac_device.specs.Reply.{order_in, write_in_datagram, with_write, reply_of, reply_to, writes_after}
-use Rattle.bac_device.proofs.StateLaws.{each_ordered, write_held, points_after, after_holds}
+use Rattle.{
+  std.proofs.Common.{◌≡◌, ℕ, Bool, List, Option, Result, Ok, Err, IfSome, refl, arith, subst, ap},
+  std.{proofs.lemmas.Bool.cases_Bool, specs.{Prelude.if◌then◌else◌, Option.ok_or, Result.result_ok}},
+  bac_pdu.specs.{Peer.Station, Apdu.Message, Property.{Order, IsPriority}, PropertyReading.write_of, Steps.◌>>=◌},
+  bac_pdu.proofs.PropertyLaws.write_is,
+  bac_device.specs.Info.Info,
+  bac_device.specs.{Description, Write, Standing, DeviceState, points_of, device_after, Holds, urgency, ordered_write},
+  bac_device.specs.{accepted_write, order_in, write_in_datagram, with_write, reply_of, reply_to, writes_after},
+  bac_device.{specs.Inner.IsUrgent, proofs.StateLaws.{each_ordered, write_held, points_after, after_holds}},
+}
 
 -- ---- a write that a device accepts is at a priority that there is
 

@@ -1,23 +1,19 @@
 -- A device whose places are those after some writes.
-use Rattle.std.proofs.Common.{◌≡◌, ℕ, Bool, true, false, List, [], ◌∷◌, ◌++◌, map, find, Option, Some, None, refl}
-use Rattle.std.proofs.{Common.{IfSome, sym, ap, subst, ◌∙◌, append-nil, arith, if◌then◌else◌}, lemmas.Bool.cases_Bool}
-use Rattle.std.proofs.lemmas.{Grind.common_steps, Option.none-some, Simd.map-map}
-use Rattle.std.specs.{Option.{option_map, option_and_then, option_to_list}, Result.result_ok}
-use Rattle.bac_pdu.specs.{declared.apdu.Part.Part, Peer.Station, DatagramReading.carried, Apdu.{Message, confirmed}}
-use Rattle.bac_pdu.specs.{ApduReading.apdu_of, Property.Order}
-use Rattle.bac_wire.specs.{Steps.◌>>=◌, Identifier.Identifier}
-use Rattle.bac_device.specs.{
-  Info.Info,
-  Inner.Places.IsUrgent,
-  Access.accepted_write,
-  Reply.{with_write, reply_to, writes_after, order_in, write_in_datagram},
-  Inner.Reply.{write_in_request, write_in_body},
-  Point.{Given, Description, description_of},
-  Places.{Write, Standing, NoneTo, standing_after, present, place_at, put},
-  Device.{DeviceState, points_of, device_after, Holds, with_point, standing_at, point_at, present_after, place_after},
-  Turns.{Arrival, Replies, RepliesInTurn, AreDefined},
+use Rattle.{
+  std.proofs.Common.{◌≡◌, ℕ, Bool, true, false, List, [], ◌∷◌, ◌++◌, map, find, Option, Some, None, refl, IfSome, sym},
+  std.proofs.{Common.{ap, subst, ◌∙◌, append-nil, arith, if◌then◌else◌}, lemmas.{Bool.cases_Bool, Grind.common_steps}},
+  std.{proofs.lemmas.{Option.none-some, Simd.map-map}, specs.Prelude.option_map},
+  std.specs.{Option.{option_and_then, option_to_list}, Result.result_ok},
+  bac_pdu.specs.{declared.apdu.Part.Part, Peer.Station, DatagramReading.carried, Apdu.{Message, confirmed}},
+  bac_pdu.specs.{ApduReading.apdu_of, Property.Order},
+  bac_wire.specs.{Steps.◌>>=◌, Identifier.Identifier},
+  bac_device.specs.{Info.Info, Inner.{IsUrgent, write_in_request, write_in_body}},
+  bac_device.specs.{accepted_write, with_write, reply_to, writes_after, order_in, write_in_datagram, Given},
+  bac_device.specs.{Description, description_of, Write, Standing, NoneTo, standing_after, present, place_at, put},
+  bac_device.specs.{DeviceState, points_of, device_after, Holds, with_point, standing_at, point_at, present_after},
+  bac_device.specs.{place_after, Arrival, Replies, RepliesInTurn, AreDefined},
+  bac_device.proofs.PlaceLaws.{map_same, place_none, put_after},
 }
-use Rattle.bac_device.proofs.PlaceLaws.{map_same, place_none, put_after}
 
 find_map : {A B : Type 0} (f : A → B) (test : B → Bool) (xs : List A)
     → find test (map f xs) ≡ option_map f (find (λ x. test (f x)) xs)

@@ -1,6 +1,5 @@
 -- What a device is known by.
-use Rattle.std.specs.Prelude.{ℕ, ◌<◌, ◌≤◌, List, length}
-use Rattle.bac_device.specs.Limits.{longest_name, no_instance}
+use Rattle.{std.specs.Prelude.{ℕ, ◌<◌, ◌≤◌, List, length}, bac_device.specs.Limits.{longest_name, no_instance}}
 
 -- The instance of the device's object, and its name.
 pub record Info : Type 0 where

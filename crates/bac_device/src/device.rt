@@ -1,15 +1,14 @@
 //! The device: its points, its own properties, and what is held after writes.
 
-ghost use Rattle.std.specs.Prelude.{◌≡◌, ◌<◌, [], ◌∷◌, ◌++◌, List, length, map, IfSome, IfOk, IfErr, OnOk, OnErr, Ok};
-ghost use Rattle.std.specs.{Prelude.{Err, Some, None}, List.list_any};
-ghost use Rattle.std.specs.{Option.{option_map, option_and_then, option_copied}, Str.bytes_eq};
-ghost use Rattle.bac_wire.specs.{Datum.{datum, char_string, IsSound}, Identifier.identifier, Steps.result_seen};
-ghost use Rattle.bac_device.specs.{Limits.device_room, Kind.value_of, Point.given};
-ghost use Rattle.bac_device.specs.{Places.{Write, NoneTo, present, place_at, put}, Inner.Places.write_seen};
-ghost use Rattle.bac_device.specs.{Property.single, Inner.Property.{property_seen, IsSoundProperty}, Device.Holds};
-ghost use Rattle.bac_device.specs.Device.{points_of, device_after, standing_at, present_after, place_after, add_point};
-ghost use Rattle.bac_device.specs.{Device.{fixed_value, device_property}, Access.{property_of, commanded_point}};
-ghost use Rattle.bac_device.specs.Reply.{with_write};
+ghost use Rattle.{
+  std.specs.Prelude.{◌≡◌, ◌<◌, [], ◌∷◌, ◌++◌, List, length, map, IfSome, IfOk, IfErr, OnOk, OnErr, Ok, Err, Some, None},
+  std.specs.{Prelude.option_map, List.list_any, Option.{option_and_then, option_copied}, Str.bytes_eq},
+  bac_wire.specs.{Datum.{datum, char_string, IsSound}, Identifier.identifier, Steps.result_seen},
+  bac_device.specs.{Limits.device_room, Kind.value_of, Point.given, Places.{Write, NoneTo, present, place_at, put}},
+  bac_device.specs.{Inner.{Places.write_seen, Property.{property_seen, IsSoundProperty}}, Property.single},
+  bac_device.specs.Device.{Holds, points_of, device_after, standing_at, present_after, place_after, add_point},
+  bac_device.specs.{Device.{fixed_value, device_property}, Access.{property_of, commanded_point}, Reply.with_write},
+};
 
 use crate::failure::Failure;
 use crate::info::DeviceInfo;

@@ -1,18 +1,18 @@
 //! Examples of what the device replies, worked out by computation. They show what the definitions mean.
 
-ghost use Rattle.std.specs.Prelude.{◌≡◌, [], ◌∷◌, replicate, codes, Some, None, Ok, Err};
-ghost use Rattle.bac_device.specs.declared.device.AddFault.TheVariants.{Twice, NameTwice, BadPoint};
-ghost use Rattle.bac_device.specs.declared.kind.{Family.TheVariants.Analog, Role.TheVariants.Output};
-ghost use Rattle.bac_device.specs.{Demo.demo_points, Info.IsInfo, Limits.{device_room, longest_name}};
-ghost use Rattle.bac_device.specs.Device.{Holds, add_point, place_after, points_of, present_after};
-ghost use Rattle.bac_device.specs.{Places.{NoneTo, standing_after}, Reply.with_write, Size.{RepliesFit, ReplyFits}};
-ghost use Rattle.bac_device.specs.Turns.{AreDefined, RepliesInTurn};
-ghost use Rattle.bac_device.specs.Inner.Examples.{desk, datagram, small, asked, fifty, fifty_one, valve_id, other_id};
-ghost use Rattle.bac_device.specs.Inner.Examples.{twenty_at_8, release_at_8, empty, after, given_as};
-ghost use Rattle.bac_device.specs.Inner.Examples.{Exchanges, outdoor, long_named, valve, fan, season, nothing, own};
-ghost use Rattle.bac_device.specs.Inner.Examples.{any_device, of, element_of, read, read_for_50, is, write, write_at};
-ghost use Rattle.bac_device.specs.Inner.Examples.{aborted, has, has_no, makes, refuses, real_72_3, twenty, thirty};
-ghost use Rattle.bac_device.specs.Inner.Examples.{zero_real, null, unsigned, enumerated};
+ghost use Rattle.{
+  std.specs.Prelude.{◌≡◌, [], ◌∷◌, replicate, codes},
+  bac_device.specs.declared.{device.AddFault.TheVariants.{Twice, NameTwice, BadPoint}, kind.Family.TheVariants.Analog},
+  bac_device.specs.declared.kind.Role.TheVariants.Output,
+  bac_device.specs.{demo_points, IsInfo, device_room, longest_name, Holds, add_point, place_after, points_of},
+  bac_device.specs.{present_after, NoneTo, standing_after, with_write, RepliesFit, ReplyFits, AreDefined},
+  bac_device.specs.RepliesInTurn,
+  bac_device.specs.Inner.{desk, datagram, small, asked, fifty, fifty_one, valve_id, other_id, twenty_at_8},
+  bac_device.specs.Inner.{release_at_8, empty, after, given_as, Exchanges, outdoor, long_named, valve, fan, season},
+  bac_device.specs.Inner.{nothing, own, any_device, of, element_of, read, read_for_50, is, write, write_at, aborted},
+  bac_device.specs.Inner.{has, has_no, makes, refuses, real_72_3, twenty, thirty, zero_real, null, unsigned},
+  bac_device.specs.Inner.enumerated,
+};
 
 // A property is read, whole or an element of it.
 #[tactic(none)]

@@ -2,7 +2,7 @@
 
 ghost use Rattle.std.specs.Prelude.{◌≡◌, ◌↔◌, IsSome, IfSome};
 ghost use Rattle.bac_wire.specs.Identifier.{identifier};
-ghost use Rattle.bac_device.specs.{Info.IsInfo, Device.{device_object, is_device}};
+ghost use Rattle.bac_device.specs.{IsInfo, device_object, is_device};
 
 use crate::numbers::NO_INSTANCE;
 use crate::point::NAME_OCTETS;
@@ -19,8 +19,7 @@ pub struct DeviceInfo {
 }
 
 impl Model for DeviceInfo {
-    ghost use Rattle.std.specs.Prelude.{◌<◌};
-    ghost use Rattle.bac_device.specs.{Limits.no_instance, Info.Info};
+    ghost use Rattle.{std.specs.Prelude.◌<◌, bac_device.specs.{no_instance, Info.Info}};
 
     ghost Value = { Info };
 

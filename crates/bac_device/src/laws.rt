@@ -1,13 +1,13 @@
 //! What holds of the definitions that the contracts cite, and of the public types. Each function has an empty body, and
 //! its clause is the law.
 
-ghost use Rattle.std.specs.{Prelude.{◌≡◌, ℕ, List, Option}, Option.ForSome};
-ghost use Rattle.bac_wire.specs.Copies.{MakesCopies, EqualsBy};
-ghost use Rattle.bac_pdu.specs.Peer.{Station};
-ghost use Rattle.bac_device.specs.{Limits.{device_room, longest_name}, Info.Info, Point.Description, Places.Write};
-ghost use Rattle.bac_device.specs.{Device.{DeviceState, points_of, device_after, Holds}, Reply.reply_of};
-ghost use Rattle.bac_device.specs.Size.{ReplyFits, RepliesFit};
-ghost use Rattle.bac_device.specs.Turns.{Arrival, RepliesInTurn, AreDefined, replies_to};
+ghost use Rattle.{
+  std.specs.{Prelude.{◌≡◌, ℕ, List, Option}, Option.ForSome},
+  bac_pdu.specs.Peer.Station,
+  bac_wire.specs.Copies.{MakesCopies, EqualsBy},
+  bac_device.specs.{device_room, longest_name, Description, Write, DeviceState, points_of, device_after, Holds},
+  bac_device.specs.{reply_of, ReplyFits, RepliesFit, Arrival, RepliesInTurn, AreDefined, replies_to, Info.Info},
+};
 
 use crate::device::{AddFault, POINTS};
 use crate::point::{NAME_OCTETS, Point};

@@ -1,12 +1,13 @@
 //! A point: as it is added, and with the sixteen places of its priority array.
 
-ghost use Rattle.std.specs.{Prelude.{◌≡◌, [], find, is_some, IfSome}, Option.{option_map, option_copied}, Str.bytes_eq};
-ghost use Rattle.bac_wire.specs.Identifier.{identifier};
-ghost use Rattle.bac_device.specs.Point.{given, description_of, same_object};
-ghost use Rattle.bac_device.specs.Places.{standing_after, present, place_at, written_value, put};
-ghost use Rattle.bac_device.specs.{Inner.Places.write_seen, Kind.is_commandable};
-ghost use Rattle.bac_device.specs.Property.{point_property, kind_property};
-ghost use Rattle.bac_device.specs.Inner.Property.{property_seen, IsSoundProperty};
+ghost use Rattle.{
+  std.specs.{Prelude.{◌≡◌, [], find, is_some, IfSome, option_map}, Option.option_copied, Str.bytes_eq},
+  bac_wire.specs.Identifier.identifier,
+  bac_device.specs.Point.{given, description_of, same_object},
+  bac_device.specs.{Places.{standing_after, present, place_at, written_value, put}, Inner.Places.write_seen},
+  bac_device.specs.{Kind.is_commandable, Property.{point_property, kind_property}},
+  bac_device.specs.Inner.Property.{property_seen, IsSoundProperty},
+};
 
 use crate::failure::Failure;
 use crate::kind::{Family, Kind, Role, one_value};
@@ -54,8 +55,7 @@ pub(crate) struct StandingPoint {
 }
 
 impl Model for StandingPoint {
-    ghost use Rattle.bac_wire.specs.Identifier.{identifier};
-    ghost use Rattle.bac_device.specs.Places.{Standing};
+    ghost use Rattle.{bac_wire.specs.Identifier.identifier, bac_device.specs.Places.Standing};
 
     ghost Value = { Standing };
 

@@ -2,9 +2,7 @@
 use Rattle.std.proofs.Common.{◌≡◌, ℕ, ◌≤◌, List, [], ◌++◌, length, Option, Result, Ok, Err, ap, ◌∙◌, arith}
 use Rattle.std.{proofs.lemmas.List.length-append, specs.List.flat_map}
 use Rattle.bac_wire.specs.{Tag.plain_tag, Parameter.{context_tag, context_octets, number_octets}, Writing.Appends}
-use Rattle.bac_pdu.{
-  specs.{Parameter.{numbered, plain_parameter}, Inner.Parameter.optional, Property.{Reference, read_octets}},
-}
+use Rattle.bac_pdu.specs.{numbered, plain_parameter, Reference, read_octets, Inner.optional}
 
 tag_short : (number count : ℕ) → length (plain_tag (context_tag number count)) ≤ 7
 unfolding plain_tag

@@ -1,14 +1,12 @@
 -- `==` on peers compares the stations.
-use Rattle.std.proofs.{
-  lemmas.{Grind.common_steps, Bool.{and_parts, eqb-true, eq-eqb}, List.{take-append-drop, length-take-le, length-drop}},
-  lemmas.Option.{none-some, same_Some},
-  Common.{◌≡◌, ℕ, ◌-◌, true, List, ◌++◌, length, take, drop, Option, refl, sym, ap, ◌∙◌, arith},
-}
-use Rattle.std.specs.{Prelude.{◌↔◌, replicate}, Option.{option_map, option_eq}, Cmp.Lexicographic.bytes_decides}
-use Rattle.bac_pdu.specs.{
-  declared.{route.Route.Route, peer.Peer.Peer},
-  contracts.{route.RoutePartialEq.TheImpl.eq-value as route_eq, peer.PeerPartialEq.TheImpl.eq-value as peer_eq},
-  Peer.{NetworkAddress, network_address, station},
+use Rattle.{
+  std.proofs.lemmas.{Grind.common_steps, Bool.{and_parts, eqb-true, eq-eqb}},
+  std.proofs.lemmas.{List.{take-append-drop, length-take-le, length-drop}, Option.{none-some, same_Some}},
+  std.proofs.Common.{◌≡◌, ℕ, ◌-◌, true, List, ◌++◌, length, take, drop, Option, refl, sym, ap, ◌∙◌, arith},
+  std.specs.{Prelude.{◌↔◌, replicate, option_map}, Option.option_eq, Cmp.Lexicographic.bytes_decides},
+  bac_pdu.specs.declared.{route.Route.Route, peer.Peer.Peer},
+  bac_pdu.specs.contracts.route.RoutePartialEq.TheImpl.eq-value as route_eq,
+  bac_pdu.specs.{contracts.peer.PeerPartialEq.TheImpl.eq-value as peer_eq, NetworkAddress, network_address, station},
 }
 
 -- a route keeps its address in eight octets

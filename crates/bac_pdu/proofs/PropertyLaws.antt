@@ -1,31 +1,20 @@
 -- Reading the body of a ReadProperty or a WriteProperty finds what it says, or the first fault that it has; reading the
 -- answer of a ReadProperty finds the value.
-use Rattle.std.proofs.{
-  Common.{arith, ◌≡◌, ℕ, List, [], ◌∷◌, ◌++◌, Some, None, Result, Ok, Err, refl, ap, subst, inl, inr, ◌∙◌, Bool, true},
-  Common.{false, cond, Option, sym, ◌≤◌, length},
-  lemmas.List.length-append,
-  lemmas.Bool.{false_from_ne_true, iff_false},
-}
-use Rattle.std.specs.{Result.result_ok, Prelude.{◌↔◌, ◌⊎◌, IfSome}}
-use Rattle.bac_wire.{
-  specs.{Front.{Begins, SpellsTo, SpellsAll}, ParameterReading.{number_at, object_at, behind_opening, enclosed_at}},
-  proofs.{RegionReading.no_octets, ParameterLaws.{no_number, no_object, enclosed_no_number}},
-}
-use Rattle.bac_pdu.specs.{
-  declared.reject.RejectReason.{RejectReason, TheVariants.{InvalidTag, MissingParameter, OutOfRange, TooMany}},
-  Parameter.{Parameter, value, SpellsParameter, numbered},
-  Property.{Reference, ReadAck, reference_parameters, IsReadBody, IsAckBody, Order, order_parameters, IsWriteBody},
-  Property.IsPriority,
-  Reject.{LacksReference, ReadFault, IsOutcome, WriteFault},
-  PropertyReading.{optional_at, unless_missing, reference_at, read_of, ack_of, is_priority, write_of},
-  Inner.Parameter.optional,
-  Steps.◌>>=◌,
-}
-use Rattle.bac_pdu.proofs.{
-  SequenceLaws.{then_to, split_to, to_front, from_front},
-  ParameterLaws.{object_step, numbered_step, value_step, optional_begins, optional_read},
-  RejectLaws.{and_then_ok, and_then_err, step_ok, needs_takes, needs_fails, ended_ok, ended_err, IsJudge, outcome_is},
-  RejectLaws.{needs_ok, ended},
+use Rattle.{
+  std.proofs.Common.{arith, ◌≡◌, ℕ, List, [], ◌∷◌, ◌++◌, Some, None, Result, Ok, Err, refl, ap, subst, inl, inr, ◌∙◌},
+  std.proofs.{Common.{Bool, true, false, cond, Option, sym, ◌≤◌, length}, lemmas.List.length-append},
+  std.{proofs.lemmas.Bool.{false_from_ne_true, iff_false}, specs.{Result.result_ok, Prelude.{◌↔◌, ◌⊎◌, IfSome}}},
+  bac_wire.specs.Front.{Begins, SpellsTo, SpellsAll},
+  bac_wire.{specs.ParameterReading.{number_at, object_at, behind_opening, enclosed_at}, proofs.RegionReading.no_octets},
+  bac_wire.proofs.ParameterLaws.{no_number, no_object, enclosed_no_number},
+  bac_pdu.specs.{RejectReason, InvalidTag, MissingParameter, OutOfRange, TooMany, value, SpellsParameter, numbered},
+  bac_pdu.specs.{Reference, ReadAck, reference_parameters, IsReadBody, IsAckBody, Order, order_parameters, IsWriteBody},
+  bac_pdu.specs.{IsPriority, LacksReference, ReadFault, IsOutcome, WriteFault, optional_at, unless_missing},
+  bac_pdu.specs.{reference_at, read_of, ack_of, is_priority, write_of, ◌>>=◌, Parameter.Parameter, Inner.optional},
+  bac_pdu.proofs.SequenceLaws.{then_to, split_to, to_front, from_front},
+  bac_pdu.proofs.ParameterLaws.{object_step, numbered_step, value_step, optional_begins, optional_read},
+  bac_pdu.proofs.RejectLaws.{and_then_ok, and_then_err, step_ok, needs_takes, needs_fails, ended_ok, ended_err},
+  bac_pdu.proofs.RejectLaws.{IsJudge, outcome_is, needs_ok, ended},
 }
 
 -- ---- the reference

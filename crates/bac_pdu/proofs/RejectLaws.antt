@@ -1,10 +1,9 @@
 -- Reading a body of a confirmed request answers its one outcome.
 use Rattle.std.proofs.Common.{arith, ◌≡◌, ℕ, List, [], ◌∷◌, Option, Some, None, Result, Ok, Err, refl, sym, ap, ◌∙◌}
-use Rattle.std.{specs.Prelude.{◌↔◌, ◌⊎◌}, specs.Option.ok_or, proofs.lemmas.Option.none-some}
+use Rattle.std.{proofs.lemmas.Option.none-some, specs.{Prelude.{◌↔◌, ◌⊎◌}, Option.ok_or}}
 use Rattle.bac_wire.{specs.Front.Begins, proofs.ParameterLaws.IsStep}
-use Rattle.bac_pdu.specs.declared.reject.RejectReason.{RejectReason, TheVariants.{InvalidTag, MissingParameter}}
-use Rattle.bac_pdu.specs.declared.reject.RejectReason.TheVariants.{OutOfRange, TooMany, UnknownService}
-use Rattle.bac_pdu.specs.{Reject.{IsFirst, IsOutcome}, PropertyReading.{unless_missing, whole_of}, Steps.◌>>=◌}
+use Rattle.bac_pdu.specs.{RejectReason, InvalidTag, MissingParameter, OutOfRange, TooMany, IsFirst, IsOutcome}
+use Rattle.bac_pdu.specs.{unless_missing, whole_of, ◌>>=◌, declared.reject.RejectReason.TheVariants.UnknownService}
 
 -- ---- results
 

@@ -1,30 +1,23 @@
 -- What is written of a body spells it, no other spelling has fewer octets, and it is read back.
-use Rattle.std.proofs.Common.{◌≡◌, ℕ, ◌+◌, ◌^◌, ◌<◌, ◌≤◌, List, [], ◌∷◌, ◌++◌, length, Option, Some, Ok, refl}
-use Rattle.std.proofs.{Common.{sym, ap, subst, append_assoc, arith}, lemmas.List.{append-nil, length-append}}
-use Rattle.std.specs.{Prelude.IfSome, List.{AllByRecursion, flat_map}}
-use Rattle.byteorder.specs.{Endian.big_bytes, Numbers.big_from-lt}
-use Rattle.bac_wire.specs.{Identifier.{Identifier, IsIdentifier}, Front.{AreOctets, IsShortest, SpellsTo, SpellsAll}}
-use Rattle.bac_wire.specs.{Tag.{plain_number, plain_tag}, Region.{IsRegion}}
-use Rattle.bac_wire.specs.{Datum.{Datum, Spells, unsigned, enumerated, plain, IsDatum}, Parameter.context_tag}
-use Rattle.bac_wire.specs.Parameter.{SpellsContext, SpellsIn, SpellsEnclosed, context_octets, number_octets}
-use Rattle.bac_wire.{specs.Parameter.{object_octets, enclosed_octets}, proofs.TagLaws.{behind, tag_least}}
-use Rattle.bac_wire.proofs.PlainDatum.{plain_spells, octet_count_least, ahead}
-use Rattle.bac_wire.proofs.ParameterLaws.{number_spells, object_spells, enclosed_spells}
-use Rattle.bac_pdu.specs.{
-  declared.discovery.WhoIs.WhoIs,
-  Parameter.{Parameter, numbered, IsParameter, SpellsParameter, plain_parameter},
-  Inner.{Parameter.{optional, optional_octets}, Discovery.HasLimits},
-  Property.{Reference, ReadAck, Order, reference_parameters, ack_parameters, order_parameters, IsPriority, IsReadBody},
-  Property.{IsAckBody, IsWriteBody, read_octets, ack_octets, write_octets},
-  PropertyReading.{read_of, write_of, ack_of},
-  Discovery.{Introduction, introduction_values, IsWhoIsBody, IsIAmBody, who_is_octets, i_am_octets},
-  Failure.{IsErrorBody, error_octets},
-  ValueReading.{who_is_of, introduction_of, error_of},
-}
-use Rattle.bac_pdu.proofs.{
-  SequenceLaws.{all_spell, whole_spell},
-  PropertyLaws.{read_again, write_again, ack_is},
-  DiscoveryLaws.{who_is_is, introduction_is, error_is},
+use Rattle.{
+  std.proofs.Common.{◌≡◌, ℕ, ◌+◌, ◌^◌, ◌<◌, ◌≤◌, List, [], ◌∷◌, ◌++◌, length, Option, Some, Ok, refl, sym, ap, subst},
+  std.{proofs.{Common.{append_assoc, arith}, lemmas.List.{append-nil, length-append}}, specs.Prelude.IfSome},
+  std.specs.List.{AllByRecursion, flat_map},
+  bac_wire.specs.{Identifier.{Identifier, IsIdentifier}, Front.{AreOctets, IsShortest, SpellsTo, SpellsAll}},
+  bac_wire.specs.{Tag.{plain_number, plain_tag}, Region.IsRegion},
+  bac_wire.specs.Datum.{Datum, Spells, unsigned, enumerated, plain, IsDatum},
+  bac_wire.specs.Parameter.{context_tag, SpellsContext, SpellsIn, SpellsEnclosed, context_octets, number_octets},
+  bac_wire.{specs.Parameter.{object_octets, enclosed_octets}, proofs.TagLaws.{behind, tag_least}},
+  bac_wire.proofs.PlainDatum.{plain_spells, octet_count_least, ahead},
+  bac_wire.proofs.ParameterLaws.{number_spells, object_spells, enclosed_spells},
+  byteorder.specs.{Endian.big_bytes, Numbers.big_from-lt},
+  bac_pdu.specs.{WhoIs, numbered, IsParameter, SpellsParameter, plain_parameter, Reference, ReadAck, Order},
+  bac_pdu.specs.{reference_parameters, ack_parameters, order_parameters, IsPriority, IsReadBody, IsAckBody},
+  bac_pdu.specs.{IsWriteBody, read_octets, ack_octets, write_octets, read_of, write_of, ack_of, Introduction},
+  bac_pdu.specs.{introduction_values, IsWhoIsBody, IsIAmBody, who_is_octets, i_am_octets, IsErrorBody, error_octets},
+  bac_pdu.specs.{who_is_of, introduction_of, error_of, Parameter.Parameter},
+  bac_pdu.{specs.Inner.{optional, optional_octets, HasLimits}, proofs.SequenceLaws.{all_spell, whole_spell}},
+  bac_pdu.proofs.{PropertyLaws.{read_again, write_again, ack_is}, DiscoveryLaws.{who_is_is, introduction_is, error_is}},
 }
 use Rattle.bac_wire.specs.Datum as values
 use Rattle.bac_pdu.specs.declared.discovery.WhoIs.TheVariants as limits

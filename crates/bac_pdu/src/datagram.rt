@@ -1,10 +1,10 @@
 //! Datagrams whole: what one carries, and the one that takes an APDU to a peer.
 
-ghost use Rattle.std.specs.Prelude.{◌≡◌, ◌<◌, ◌≤◌, ◌+◌, ◌^◌, length, None, IfOk, IfSome, OnOk, OnErr};
-ghost use Rattle.std.specs.Option.{option_map};
-ghost use Rattle.bac_wire.specs.Limits.{frame_room};
-ghost use Rattle.bac_pdu.specs.{Peer.{station, IsRoutable}, Datagram.{delivery, Takes, wrapped}};
-ghost use Rattle.bac_pdu.specs.{Inner.Datagram.front_octets, DatagramReading.{link_at, origin_at, carried}};
+ghost use Rattle.{
+  std.specs.Prelude.{◌≡◌, ◌<◌, ◌≤◌, ◌+◌, ◌^◌, length, IfOk, IfSome, OnOk, OnErr, option_map},
+  bac_wire.specs.Limits.frame_room,
+  bac_pdu.specs.{station, IsRoutable, delivery, Takes, wrapped, link_at, origin_at, carried, Inner.front_octets},
+};
 
 use crate::header::{HEADER_OCTETS, header_and_rest, local_header, network_header};
 use crate::peer::Peer;

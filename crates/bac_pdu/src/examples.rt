@@ -1,22 +1,18 @@
 //! Examples of whole datagrams and service bodies, worked out by computation. They show what the definitions mean.
 
-ghost use Rattle.std.specs.Prelude.{◌≡◌, ◌-◌, ◌^◌, [], ◌∷◌, ◌++◌, Some, None, Ok, Err, true, false};
-ghost use Rattle.bac_pdu.specs.declared.discovery.WhoIs.TheVariants.{All, Range};
-ghost use Rattle.bac_pdu.specs.declared.reject.RejectReason.TheVariants.{InvalidTag, MissingParameter, OutOfRange};
-ghost use Rattle.bac_pdu.specs.declared.reject.RejectReason.TheVariants.{TooMany};
-ghost use Rattle.bac_pdu.specs.declared.apdu.Apdu.TheVariants.{SimpleAck};
-ghost use Rattle.bac_pdu.specs.Apdu.{confirmed, unconfirmed, simple_ack, complex_ack, error, reject, abort};
-ghost use Rattle.bac_pdu.specs.Apdu.{segment_ack};
-ghost use Rattle.bac_pdu.specs.Apdu.{IsLaidOut, IsWritable, announced_size, longest_body, message};
-ghost use Rattle.bac_pdu.specs.{Datagram.{Carries, Takes, wrapped, front_count}, DatagramReading.carried};
-ghost use Rattle.bac_pdu.specs.{Discovery.{IsIAmBody, IsWhoIsBody, i_am_octets, who_is_octets}, Peer.IsRoutable};
-ghost use Rattle.bac_pdu.specs.{Failure.{IsErrorBody, error_octets}, Parameter.{IsParameter, numbered, value}};
-ghost use Rattle.bac_pdu.specs.Property.{IsAckBody, IsPriority, IsReadBody, IsWriteBody, read_octets, ack_front};
-ghost use Rattle.bac_pdu.specs.Property.{ack_end};
-ghost use Rattle.bac_pdu.specs.Reject.{IsOutcome, ReadFault, WriteFault};
-ghost use Rattle.bac_pdu.specs.{PropertyReading.{ack_of, read_of, write_of}, ValueReading.{introduction_of, who_is_of}};
-ghost use Rattle.bac_pdu.specs.Inner.Examples.{WritesApdu, desk, far, from_desk, present_value, small_device, to_all};
-ghost use Rattle.bac_pdu.specs.Inner.Examples.{present_octets, ack_octets_of_1, second_part, last_part, release};
+ghost use Rattle.{
+  std.specs.Prelude.{◌≡◌, ◌-◌, ◌^◌, [], ◌∷◌, ◌++◌, true, false},
+  bac_pdu.specs.declared.discovery.WhoIs.TheVariants.All,
+  bac_pdu.specs.{Range, InvalidTag, MissingParameter, OutOfRange, TooMany, confirmed, unconfirmed, simple_ack},
+  bac_pdu.specs.{complex_ack, error, reject, abort, segment_ack, IsLaidOut, IsWritable, announced_size, longest_body},
+  bac_pdu.specs.{message, Carries, Takes, wrapped, front_count, carried, IsIAmBody, IsWhoIsBody, i_am_octets},
+  bac_pdu.specs.{who_is_octets, IsRoutable, IsErrorBody, error_octets, IsParameter, numbered, value, IsAckBody},
+  bac_pdu.specs.{IsPriority, IsReadBody, IsWriteBody, read_octets, ack_front, ack_end, IsOutcome, ReadFault},
+  bac_pdu.specs.{WriteFault, ack_of, read_of, write_of, introduction_of, who_is_of},
+  bac_pdu.specs.declared.apdu.Apdu.TheVariants.SimpleAck,
+  bac_pdu.specs.Inner.{WritesApdu, desk, far, from_desk, present_value, small_device, to_all, present_octets},
+  bac_pdu.specs.Inner.{ack_octets_of_1, second_part, last_part, release},
+};
 
 // A ReadProperty request, from the inside to the outside: the body, the APDU and the datagram (ANSI/ASHRAE 135, 15.5,
 // 20.1.2 and J.2).

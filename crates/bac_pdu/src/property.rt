@@ -1,13 +1,11 @@
 //! ReadProperty, its answer, and WriteProperty, read and written.
 
-ghost use Rattle.std.specs.{Prelude.{◌≡◌, ◌≤◌, ◌+◌, ◌*◌, length, Some, Ok, OnOk, IfSome}, Option.option_map};
-ghost use Rattle.std.specs.List.{AllByRecursion};
+ghost use Rattle.std.specs.{Prelude.{◌≡◌, ◌≤◌, ◌+◌, ◌*◌, length, OnOk, IfSome, option_map}, List.AllByRecursion};
 ghost use Rattle.bac_wire.specs.{Limits.deepest, Front.IsShortest, Writing.Appends, Inner.Writing.AppendsFront};
 ghost use Rattle.bac_wire.specs.{Region.IsRegion, Steps.result_seen};
-ghost use Rattle.bac_pdu.specs.{Parameter.IsParameter, Property.{reference, order, ack_seen, reference_parameters}};
-ghost use Rattle.bac_pdu.specs.Property.{IsPriority, IsReadBody, IsWriteBody, IsAckBody, read_octets, write_octets};
-ghost use Rattle.bac_pdu.specs.Property.{ack_octets, ack_front, ack_end};
-ghost use Rattle.bac_pdu.specs.PropertyReading.{reference_at, read_of, write_of, ack_of};
+ghost use Rattle.bac_pdu.specs.{IsParameter, reference, order, ack_seen, reference_parameters, IsPriority, IsReadBody};
+ghost use Rattle.bac_pdu.specs.{IsWriteBody, IsAckBody, read_octets, write_octets, ack_octets, ack_front, ack_end};
+ghost use Rattle.bac_pdu.specs.{reference_at, read_of, write_of, ack_of};
 
 use crate::parameter::{
     INDEX, OBJECT, PRIORITY, PROPERTY, append_closing, append_enclosed, append_number,

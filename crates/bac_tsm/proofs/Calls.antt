@@ -1,27 +1,18 @@
 -- Calls of a client one after another, for a caller that reads the machine: a request that is opened, and what a tick
 -- tells once a datagram was heard.
-use Rattle.std.proofs.{
-  Common.{◌≡◌, ℕ, ◌+◌, ◌-◌, ◌%◌, ◌^◌, ◌<◌, ◌≤◌, max, false, List, [], ◌∷◌, length, map, nat_eq, Option, Result, Ok},
-  Common.{refl, ◌∙◌, arith, IsSome, Bool, ap, Some, None, not, if◌then◌else◌, sym},
-  lemmas.{Bool.Decides.nat_tests, List.{nil_from_length, Elements.All-filter}},
+use Rattle.{
+  std.proofs.Common.{◌≡◌, ℕ, ◌+◌, ◌-◌, ◌%◌, ◌^◌, ◌<◌, ◌≤◌, max, false, List, [], ◌∷◌, length, map, nat_eq, Option},
+  std.proofs.Common.{Result, Ok, refl, ◌∙◌, arith, IsSome, Bool, ap, Some, None, not, if◌then◌else◌, sym},
+  std.proofs.lemmas.{Bool.Decides.nat_tests, List.{nil_from_length, Elements.All-filter}},
+  std.specs.{List.{flat_map, list_any, filter, slice_get}, Option.{option_map_or, option_to_list}},
+  std.specs.Prelude.{option_map, ⊤},
+  bac_pdu.specs.{Peer.Station, Apdu.longest_body},
+  bac_tsm.specs.{next_invoke_id, refusal_of, outcome_of, Answer, answer_in_datagram, is_answer_to, rules_of, keeping},
+  bac_tsm.specs.{TakesStep, client_rules, Outcome, Request, Rules, request_of, State, opened, submit, deliver},
+  bac_tsm.specs.{datagram, due_answer, tick, kept, DueEntry, SubmitFault, table_size, Client.Client},
+  bac_tsm.{specs.{Inner.{number_in, ticket_in, IsTimely}, Machine.Waiting}, proofs.AnswersInWords.by_number},
+  bac_tsm.proofs.CallNotes.kept_of_all,
 }
-use Rattle.std.specs.{
-  List.{flat_map, list_any, filter, slice_get},
-  Option.{option_map_or, option_map, option_to_list},
-  Prelude.⊤,
-}
-use Rattle.bac_pdu.specs.{Peer.Station, Apdu.longest_body}
-use Rattle.bac_tsm.specs.{
-  Lookahead.{next_invoke_id, refusal_of},
-  Answers.{outcome_of, Answer, answer_in_datagram, is_answer_to},
-  Client.{Client, rules_of, keeping, TakesStep, client_rules},
-  Inner.{Waiting.{number_in, ticket_in}, Client.IsTimely},
-  Events.{Outcome, Request, Rules, request_of},
-  Machine.{Waiting, State, opened, submit, deliver, datagram, due_answer, tick, kept},
-  declared.{due.DueEntry.DueEntry, client.SubmitFault.SubmitFault},
-  Limits.table_size,
-}
-use Rattle.bac_tsm.proofs.{AnswersInWords.by_number, CallNotes.kept_of_all}
 
 -- ---- a tick, and what a client keeps through each call
 

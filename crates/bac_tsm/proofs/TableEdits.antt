@@ -1,25 +1,17 @@
 -- The table of open requests, and their slots in the order of their last sends, through each edit.
-use Rattle.std.proofs.{
-  Common.{◌≡◌, ℕ, suc, ◌+◌, ◌<◌, ◌≤◌, List, [], ◌∷◌, ◌++◌, length, map, take, set, get_or, replicate, Option, Some},
-  Common.{None, All, refl, ap, sym, subst, ◌∙◌, arith, remove, length-append, length-set, length-take, take_at},
-  Common.{take-append-drop, append_assoc, get_or-set_same, get_or-set_other},
-  lemmas.Simd.map-map,
-  lemmas.List.{get_or-replicate, length-map, map-append, get_or-map, Edits.{length-remove, remove-append_left}},
-  lemmas.{List.Quantifiers.{all_pairs_push, all_pairs_remove}, Grind.take_at_read},
-}
-use Rattle.std.specs.List.{AllPairs}
-use Rattle.bac_tsm.specs.{
-  Limits.table_size,
-  declared.request.Asked.Asked,
-  Machine.Waiting,
-  Inner.{Table.{number_at, waiting_in, IsTakenOut, Leaves}, Waiting.{number_in, begun}},
-  Waiting.nothing,
-  Table.{times, held_at, times_of_slot, open_slots, Names, AreNamed, IsTable, AreBySend},
-}
-use Rattle.bac_tsm.proofs.{
-  TableReads.{itself, held-set, held-push, map-remove, held_got, same_turn, times-append, times_one, times_other},
-  TableReads.{times-remove, times_got, times_split, few, read_listed, count, rank_within, turn_opened, here},
-  TableReads.{ticket_got, found_at},
+use Rattle.{
+  std.proofs.Common.{◌≡◌, ℕ, suc, ◌+◌, ◌<◌, ◌≤◌, List, [], ◌∷◌, ◌++◌, length, map, take, set, get_or, replicate},
+  std.proofs.Common.{Option, Some, None, All, refl, ap, sym, subst, ◌∙◌, arith, remove, length-append, length-set},
+  std.proofs.Common.{length-take, take_at, take-append-drop, append_assoc, get_or-set_same, get_or-set_other},
+  std.proofs.lemmas.{Simd.map-map, List.{get_or-replicate, length-map, map-append, get_or-map}},
+  std.proofs.lemmas.List.{Edits.{length-remove, remove-append_left}, Quantifiers.{all_pairs_push, all_pairs_remove}},
+  std.{proofs.lemmas.Grind.take_at_read, specs.List.AllPairs},
+  bac_tsm.specs.{table_size, nothing, times, held_at, times_of_slot, open_slots, Names, AreNamed, IsTable, AreBySend},
+  bac_tsm.specs.{declared.request.Asked.Asked, Machine.Waiting},
+  bac_tsm.specs.Inner.{number_at, waiting_in, IsTakenOut, Leaves, number_in, begun},
+  bac_tsm.proofs.TableReads.{itself, held-set, held-push, map-remove, held_got, same_turn, times-append, times_one},
+  bac_tsm.proofs.TableReads.{times_other, times-remove, times_got, times_split, few, read_listed, count, rank_within},
+  bac_tsm.proofs.TableReads.{turn_opened, here, ticket_got, found_at},
 }
 
 -- ---- the slots of the open requests in the order of their last sends

@@ -1,33 +1,19 @@
 -- What is read of the table of open requests.
-use Rattle.std.proofs.{
-  Common.{◌≡◌, ℕ, zero, suc, nat_lt, ◌+◌, ◌<◌, ◌≤◌, List, [], ◌∷◌, length, map, take, drop, get_or, Option, Some},
-  Common.{None, Result, Ok, Err, Bool, true, false, not, nat_eq, if◌then◌else◌, refl, ap, sym, subst, ◌∙◌, arith, ◌%◌},
-  Common.{unwrap_or, below_more, remove, MatchResult, eqb-true, eq-eqb, ne_eqb, lt-ltb, ltb-false, length-take},
-  Common.{take-append-drop, get_or-take, ◌++◌, set, get_or-set_same, get_or-set_other, length-append},
-  lemmas.Option.{slice_get_within, get_or_from_slice_get},
-  lemmas.List.{length-map, get_or-map, map-append, take-map, drop-map, get_or_default},
-  lemmas.{List.{Sums.{length-filter, sum_by-remove}, Sorted.searched, Elements.filter-append}, Grind.common_steps},
-  lemmas.Bool.Decides.nat_tests,
-}
-use Rattle.std.specs.{
-  List.{filter, find, list_any, slice_get, position_or_len, Sorted.IsBinarySearchResult},
-  Option.is_some,
-  Result.result_ok,
-  Ordering.nat_cmp,
-}
-use Rattle.bac_tsm.specs.{
-  Answers.{Answer, is_answer_to},
-  Inner.{Table.{waiting_in, IsRankOf}, Waiting.{ticket_in, number_in}},
-  Lookahead.{first_within, next_invoke_id},
-  Table.{times, held_at, times_of_slot, open_slots, Names, IsTable},
-  Limits.table_size,
-  Machine.Waiting,
-  Waiting.nothing,
-}
-use Rattle.bac_tsm.proofs.{
-  CallNotes.{TicketsRise, by_ticket, pairs_tail},
-  RequestLife.{NotBefore, first_from, first_at},
-  OpenRequests.{is_free, a_step},
+use Rattle.{
+  std.proofs.Common.{◌≡◌, ℕ, zero, suc, nat_lt, ◌+◌, ◌<◌, ◌≤◌, List, [], ◌∷◌, length, map, take, drop, get_or, Option},
+  std.proofs.Common.{Some, None, Result, Ok, Err, Bool, true, false, not, nat_eq, if◌then◌else◌, refl, ap, sym, subst},
+  std.proofs.Common.{◌∙◌, arith, ◌%◌, unwrap_or, below_more, remove, MatchResult, eqb-true, eq-eqb, ne_eqb, lt-ltb},
+  std.proofs.Common.{ltb-false, length-take, take-append-drop, get_or-take, ◌++◌, set, get_or-set_same},
+  std.proofs.{Common.{get_or-set_other, length-append}, lemmas.Option.{slice_get_within, get_or_from_slice_get}},
+  std.proofs.lemmas.List.{length-map, get_or-map, map-append, take-map, drop-map, get_or_default},
+  std.proofs.lemmas.List.{Sums.{length-filter, sum_by-remove}, Sorted.searched, Elements.filter-append},
+  std.proofs.lemmas.{Grind.common_steps, Bool.Decides.nat_tests},
+  std.specs.{List.{filter, find, list_any, slice_get, position_or_len, Sorted.IsBinarySearchResult}, Option.is_some},
+  std.specs.{Result.result_ok, Ordering.nat_cmp},
+  bac_tsm.specs.{Answer, is_answer_to, first_within, next_invoke_id, times, held_at, times_of_slot, open_slots, Names},
+  bac_tsm.specs.{IsTable, table_size, nothing, Inner.{waiting_in, IsRankOf, ticket_in, number_in}, Machine.Waiting},
+  bac_tsm.proofs.{CallNotes.{TicketsRise, by_ticket, pairs_tail}, RequestLife.{NotBefore, first_from, first_at}},
+  bac_tsm.proofs.OpenRequests.{is_free, a_step},
 }
 
 -- ---- the requests at the slots of a list, where a slot or the list changes

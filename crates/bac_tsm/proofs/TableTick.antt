@@ -1,33 +1,24 @@
 -- The loop over the open requests that are due at a tick.
-use Rattle.std.proofs.{
-  Common.{◌≡◌, ℕ, suc, ◌<◌, ◌≤◌, List, [], ◌∷◌, ◌++◌, length, map, take, drop, get_or, true, false, All, refl, ap},
-  Common.{sym, ◌∙◌, add-one, arith, zero, ◌+◌, Bool, nat_lt, nat_le, if◌then◌else◌, length-append, append-nil},
-  Common.{append_assoc, take_all, take-append-drop, ◌-◌, set, Option, Some, None, remove},
-  lemmas.Grind.{flat_map-append, common_steps},
-  lemmas.List.{length-map, drop_all, drop_more, get_or_default, same_lists, set_split},
-  lemmas.List.Sums.{length-filter, count_by-le-length, sum_by-cons},
-  lemmas.List.Elements.{All-append, All-take, All-drop, Contains-get_or},
-  lemmas.List.Sorted.{length_permutation, IsPermutation-trans, IsPermutation-append_right, IsPermutation-middle},
-  lemmas.List.{Sorted.{Contains-permutation, sum_by-IsPermutation}, Folds.{list_any_at, list_any_none}},
-  lemmas.{List.Kept.AllPairs-filter, Option.{slice_get_within, get_or_from_slice_get}, Bool.false≢true},
-}
-use Rattle.std.specs.{
-  List.{filter, flat_map, list_any, refill, AllPairs, count_by, slice_get, Sorted.{IsPermutation, IsNonDecreasingBy}},
-}
-use Rattle.bac_tsm.specs.{
-  Inner.{Table.{IsPassed, waiting_in, IsRankOf, Leaves}, Machine.ticket_of, Waiting.sent_at},
-  Machine.{Waiting, is_due, due_entry, due_answer, kept},
-  declared.due.DueEntry.{DueEntry, TheVariants.{Resend, TimedOut as Expired}},
-  Table.{held_at, times_of_slot, open_slots, IsTable, AreBySend, IsWhole},
-  Events.Rules,
-  Waiting.nothing,
-  Limits.table_size,
-}
-use Rattle.bac_tsm.proofs.{
-  CallNotes.{TicketsRise, kept_of_one, pairs_map},
-  TableReads.{itself, held_got, times_got, times_split, rank_of_slot, turn_lt, stands, open_below, open_read},
-  TableReads.one_turn,
-  TableEdits.{changed_by, all_opened, queue-again},
+use Rattle.{
+  std.proofs.Common.{◌≡◌, ℕ, suc, ◌<◌, ◌≤◌, List, [], ◌∷◌, ◌++◌, length, map, take, drop, get_or, true, false, All},
+  std.proofs.Common.{refl, ap, sym, ◌∙◌, add-one, arith, zero, ◌+◌, Bool, nat_lt, nat_le, if◌then◌else◌, length-append},
+  std.proofs.Common.{append-nil, append_assoc, take_all, take-append-drop, ◌-◌, set, Option, Some, None, remove},
+  std.proofs.lemmas.Grind.{flat_map-append, common_steps},
+  std.proofs.lemmas.List.{length-map, drop_all, drop_more, get_or_default, same_lists, set_split},
+  std.proofs.lemmas.List.Sums.{length-filter, count_by-le-length, sum_by-cons},
+  std.proofs.lemmas.List.Elements.{All-append, All-take, All-drop, Contains-get_or},
+  std.proofs.lemmas.List.Sorted.{length_permutation, IsPermutation-trans, IsPermutation-append_right},
+  std.proofs.lemmas.List.Sorted.{IsPermutation-middle, Contains-permutation, sum_by-IsPermutation},
+  std.proofs.lemmas.List.{Folds.{list_any_at, list_any_none}, Kept.AllPairs-filter},
+  std.proofs.lemmas.{Option.{slice_get_within, get_or_from_slice_get}, Bool.false≢true},
+  std.specs.List.{filter, flat_map, list_any, refill, AllPairs, count_by, slice_get},
+  std.specs.List.Sorted.{IsPermutation, IsNonDecreasingBy},
+  bac_tsm.specs.{Inner.{IsPassed, waiting_in, IsRankOf, Leaves, ticket_of, sent_at}, Machine.Waiting},
+  bac_tsm.specs.{is_due, due_entry, due_answer, kept, DueEntry, Resend, held_at, times_of_slot, open_slots, IsTable},
+  bac_tsm.specs.{AreBySend, IsWhole, Rules, nothing, table_size, declared.due.DueEntry.TheVariants.TimedOut as Expired},
+  bac_tsm.proofs.CallNotes.{TicketsRise, kept_of_one, pairs_map},
+  bac_tsm.proofs.TableReads.{itself, held_got, times_got, times_split, rank_of_slot, turn_lt, stands, open_below},
+  bac_tsm.proofs.{TableReads.{open_read, one_turn}, TableEdits.{changed_by, all_opened, queue-again}},
 }
 
 -- ---- a list whose keys rise is what any sort by the key makes of its elements

@@ -3,7 +3,7 @@
 
 ghost use Rattle.std.specs.Prelude.{◌≡◌};
 ghost use Rattle.bac_wire.specs.Copies.{MakesCopies, EqualsBy};
-ghost use Rattle.bac_tsm.specs.{Client.{outcome_seen, end_seen}, Limits.table_size};
+ghost use Rattle.bac_tsm.specs.{outcome_seen, end_seen, table_size};
 
 use crate::client::SubmitFault;
 use crate::config::Config;

@@ -1,9 +1,10 @@
 //! An open request, with the datagram that it is sent as.
 
-ghost use Rattle.std.specs.Prelude.{◌≡◌, ◌<◌, ◌≤◌, suc, length};
-ghost use Rattle.bac_pdu.specs.{Apdu.longest_body, Peer.station};
-ghost use Rattle.bac_tsm.specs.{Machine.{is_due, due_entry}, Answers.octets_of, Client.client_rules};
-ghost use Rattle.bac_tsm.specs.Inner.Waiting.{begun};
+ghost use Rattle.{
+  std.specs.Prelude.{◌≡◌, ◌<◌, ◌≤◌, suc, length},
+  bac_pdu.specs.{Apdu.longest_body, Peer.station},
+  bac_tsm.specs.{Machine.{is_due, due_entry}, Answers.octets_of, Client.client_rules, Inner.Waiting.begun},
+};
 
 use crate::config::Config;
 use crate::due::DueEntry;
@@ -43,8 +44,7 @@ pub(crate) struct OpenRequest {
 }
 
 impl Model for OpenRequest {
-    ghost use Rattle.bac_pdu.specs.Peer.{station};
-    ghost use Rattle.bac_tsm.specs.Machine.{Waiting};
+    ghost use Rattle.{bac_pdu.specs.Peer.station, bac_tsm.specs.Machine.Waiting};
 
     ghost Value = { Waiting };
 

@@ -1,15 +1,14 @@
 //! The open requests.
 
-ghost use Rattle.std.specs.Prelude.{◌≡◌, Some, None, replicate, ◌<◌, ◌≤◌, ◌++◌, [], ◌∷◌, ℕ, true, not, length, map};
-ghost use Rattle.std.specs.Prelude.{nat_eq, position, get_or, slice_get, remove, set};
-ghost use Rattle.std.specs.List.{All, AllPairs, filter, find, flat_map, list_any};
-ghost use Rattle.std.specs.{Option.{option_copied, option_to_list}, List.Sorted.{IsPermutation, IsNonDecreasingBy}};
-ghost use Rattle.bac_pdu.specs.Apdu.{longest_body};
-ghost use Rattle.bac_tsm.specs.{Limits.table_size, Lookahead.next_invoke_id, Machine.{is_due, due_answer, kept}};
-ghost use Rattle.bac_tsm.specs.{Inner.Machine.ticket_of, Answers.is_answer_to, Inner.Seen.answer_seen};
-ghost use Rattle.bac_tsm.specs.{Client.client_rules, Table.{times, times_of_slot}};
-ghost use Rattle.bac_tsm.specs.{Inner.Table.{IsRankOf, IsPassed, IsTakenOut}, Waiting.nothing};
-ghost use Rattle.bac_tsm.specs.Inner.Waiting.{begun, sent_at, ticket_in, number_in};
+ghost use Rattle.{
+  std.specs.Prelude.{◌≡◌, Some, None, replicate, ◌<◌, ◌≤◌, ◌++◌, [], ◌∷◌, ℕ, true, not, length, map, nat_eq, position},
+  std.specs.{Prelude.{get_or, slice_get, remove, set}, List.{All, AllPairs, filter, find, flat_map, list_any}},
+  std.specs.{Option.{option_copied, option_to_list}, List.Sorted.{IsPermutation, IsNonDecreasingBy}},
+  bac_pdu.specs.Apdu.longest_body,
+  bac_tsm.specs.{table_size, next_invoke_id, is_due, due_answer, kept, is_answer_to, client_rules, times},
+  bac_tsm.specs.{times_of_slot, nothing},
+  bac_tsm.specs.Inner.{ticket_of, answer_seen, IsRankOf, IsPassed, IsTakenOut, begun, sent_at, ticket_in, number_in},
+};
 
 use crate::answer::Answer;
 use crate::config::Config;
@@ -38,8 +37,7 @@ pub(crate) struct Table {
 }
 
 impl Model for Table {
-    ghost use Rattle.std.specs.Prelude.{List};
-    ghost use Rattle.bac_tsm.specs.{Machine.Waiting, Table.{held_at, open_slots, IsWhole}};
+    ghost use Rattle.{std.specs.Prelude.List, bac_tsm.specs.{Machine.Waiting, held_at, open_slots, IsWhole}};
 
     ghost Value = { List Waiting };
 

@@ -1,23 +1,17 @@
 -- What the reader of values takes is spelled so, and what is spelled so is taken, whatever follows.
-use Rattle.std.proofs.{
-  Common.{◌≡◌, ℕ, zero, suc, ◌^◌, ◌<◌, ◌≤◌, Bool, cond, eqb, List, [], ◌++◌, length, take, Option, Some, refl, sym},
-  Common.{subst, ◌∙◌, append_assoc, arith, inl, inr},
-  lemmas.{Option.{same_Some, some_pair_parts, none-some}, Grind.common_steps},
-  lemmas.Bool.{ltb-false, eqb-true, lt-ltb, le-ltb, eq-eqb, eqb-false},
-  lemmas.List.{length-append, take_at, drop_at, take-append-drop, nil_from_length, length-take-le},
-}
-use Rattle.std.specs.Option.{option_map}
-use Rattle.byteorder.specs.Endian.{big_number}
-use Rattle.bac_wire.specs.{
-  declared.tag.{Shape.Shape, Shape.TheVariants.App},
-  Identifier.{Identifier, number_of, identifier_of},
-  Tag.SpellsTag,
-  Datum.{Datum, boolean, bit_string, object, tag_number, StandsFor, shape_number, tag_before, Spells, IsSound},
-  DatumReading.{exactly, number_within, chars_of, bits_of, contents_of, boolean_of, behind_at, with_shape, value_at},
-}
-use Rattle.bac_wire.proofs.{
-  Readers.{IsReader, Took, reader_of, found_at, chosen, unless, one_front},
-  TagLaws.{bind_some, tag_reader},
+use Rattle.{
+  std.proofs.Common.{◌≡◌, ℕ, zero, suc, ◌^◌, ◌<◌, ◌≤◌, Bool, cond, eqb, List, [], ◌++◌, length, take, Option, Some},
+  std.proofs.Common.{refl, sym, subst, ◌∙◌, append_assoc, arith, inl, inr},
+  std.proofs.lemmas.{Option.{same_Some, some_pair_parts, none-some}, Grind.common_steps},
+  std.proofs.lemmas.Bool.{ltb-false, eqb-true, lt-ltb, le-ltb, eq-eqb, eqb-false},
+  std.proofs.lemmas.List.{length-append, take_at, drop_at, take-append-drop, nil_from_length, length-take-le},
+  std.specs.Prelude.option_map,
+  byteorder.specs.Endian.big_number,
+  bac_wire.specs.{Shape, App, number_of, identifier_of, SpellsTag, boolean, bit_string, object, tag_number, StandsFor},
+  bac_wire.specs.{shape_number, tag_before, Spells, IsSound, exactly, number_within, chars_of, bits_of, contents_of},
+  bac_wire.specs.{boolean_of, behind_at, with_shape, value_at, Identifier.Identifier, Datum.Datum},
+  bac_wire.proofs.Readers.{IsReader, Took, reader_of, found_at, chosen, unless, one_front},
+  bac_wire.proofs.TagLaws.{bind_some, tag_reader},
 }
 
 -- ---- the contents of a value are read again

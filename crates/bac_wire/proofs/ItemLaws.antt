@@ -3,23 +3,14 @@
 use Rattle.std.proofs.Common.{◌≡◌, ℕ, suc, ◌+◌, ◌-◌, ◌<◌, ◌≤◌, List, [], ◌∷◌, ◌++◌, length, take, drop, Option, Some}
 use Rattle.std.proofs.Common.{None, refl, sym, ap, subst, ◌∙◌, append_assoc, arith, inl, ◌↔◌}
 use Rattle.std.proofs.lemmas.List.{append_cancel_left, append_cancel_right, append-nil, drop_at, length-take-le}
-use Rattle.std.{proofs.lemmas.Option.{none-some, some_pair_parts, same_Some}, specs.Option.option_map}
-use Rattle.bac_wire.specs.{
-  declared.tag.{Shape.Shape, Shape.TheVariants.{Opening, Closing}, Tag.Tag},
-  Inner.{Front.Finds, Region.{CountsBehind, LeavesBehind}},
-  Tag.SpellsTag,
-  Steps.◌>>=◌,
-  TagReading.tag_at,
-  Region.{opening_tag, closing_tag, IsSequence, none, more, IsItem, IsRegion, HasEnded, LeavesRest, IsClosedRegion},
-  Region.{FindsRegion, SpellsClosed, Opens, here, past, into},
-  ItemReading.{behind_count, behind_closing, behind_item, behind_items, region_at},
-}
-use Rattle.bac_wire.proofs.{
-  Readers.{Begins, IsReader, found_at, take_front},
-  TagLaws.{tag_reader, bind_some},
-  RegionReading.{closing_read, after_shorter, item_shorter, item_at, one_step, closed_takes, closed_again},
-  RegionReading.{item_at_takes, items_take, item_again, items_again, IsClosedBy},
-}
+use Rattle.std.{proofs.lemmas.Option.{none-some, some_pair_parts, same_Some}, specs.Prelude.option_map}
+use Rattle.bac_wire.specs.{Shape, Opening, SpellsTag, ◌>>=◌, tag_at, opening_tag, closing_tag, IsSequence, none, more}
+use Rattle.bac_wire.specs.{IsItem, IsRegion, HasEnded, LeavesRest, IsClosedRegion, FindsRegion, SpellsClosed, Opens}
+use Rattle.bac_wire.specs.{here, past, into, behind_count, behind_closing, behind_item, behind_items, region_at}
+use Rattle.bac_wire.specs.{declared.tag.{Shape.TheVariants.Closing, Tag.Tag}, Inner.{Finds, CountsBehind, LeavesBehind}}
+use Rattle.bac_wire.proofs.{Readers.{Begins, IsReader, found_at, take_front}, TagLaws.{tag_reader, bind_some}}
+use Rattle.bac_wire.proofs.RegionReading.{closing_read, after_shorter, item_shorter, item_at, one_step, closed_takes}
+use Rattle.bac_wire.proofs.RegionReading.{closed_again, item_at_takes, items_take, item_again, items_again, IsClosedBy}
 
 -- ---- one rest, and one item
 

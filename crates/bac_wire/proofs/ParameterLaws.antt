@@ -1,33 +1,20 @@
 -- Reading a parameter, or a value of one kind, finds what its relation says, and what is written of one is a spelling
 -- of it.
-use Rattle.std.proofs.{
-  Common.{◌≡◌, ℕ, ◌^◌, ◌<◌, List, [], ◌++◌, length, Option, Some, None, refl, ap, subst, ◌∙◌, append_assoc, arith},
-  lemmas.Bool.{eqb-true, eq-eqb, ltb-false, le-ltb},
-  lemmas.List.{take_at, drop_at, take-append-drop, length-append, length-take-le},
-  lemmas.Option.{none-some, some_pair_parts, cond_some},
-}
-use Rattle.bac_wire.specs.{
-  declared.tag.{Shape.Shape, Shape.TheVariants.{Context, Opening}, Tag.Tag},
-  Front.{IsReader, Begins},
-  Identifier.{Identifier, IsIdentifier},
-  Tag.SpellsTag,
-  Steps.◌>>=◌,
-  TagReading.tag_at,
-  Region.IsRegion,
-  Datum.{Datum, Spells, StandsFor, unsigned, enumerated},
-  DatumReading.value_at,
-  Parameter.{context_tag, SpellsContext, SpellsIn, SpellsEnclosed, context_octets, number_octets, object_octets},
-  Parameter.enclosed_octets,
-  ParameterReading.{counted_of, context_at, number_at, object_at, opening_of, behind_opening, enclosed_at, unsigned_in},
-  ParameterReading.{enumerated_in, object_in, kind_at},
-}
-use Rattle.bac_wire.proofs.{
-  Readers.{Took, reader_of, found_at, only_if, unless},
-  TagLaws.{tag_reader, bind_some, plain_tag_spells},
-  DatumLaws.{within_again, same_identifier, within_takes, value_reader},
-  PlainDatum.{count_low, count_four, count_fits},
-  RegionReading.{no_octets, tag_parts, tag_again},
-  ItemLaws.region_reader,
+use Rattle.{
+  std.proofs.Common.{◌≡◌, ℕ, ◌^◌, ◌<◌, List, [], ◌++◌, length, Option, Some, None, refl, ap, subst, ◌∙◌, append_assoc},
+  std.proofs.{Common.arith, lemmas.Bool.{eqb-true, eq-eqb, ltb-false, le-ltb}},
+  std.proofs.lemmas.List.{take_at, drop_at, take-append-drop, length-append, length-take-le},
+  std.proofs.lemmas.Option.{none-some, some_pair_parts, cond_some},
+  bac_wire.specs.{Shape, Opening, IsReader, Begins, IsIdentifier, SpellsTag, ◌>>=◌, tag_at, IsRegion, Spells},
+  bac_wire.specs.{StandsFor, unsigned, enumerated, value_at, context_tag, SpellsContext, SpellsIn, SpellsEnclosed},
+  bac_wire.specs.{context_octets, number_octets, object_octets, enclosed_octets, counted_of, context_at, number_at},
+  bac_wire.specs.{object_at, opening_of, behind_opening, enclosed_at, unsigned_in, enumerated_in, object_in, kind_at},
+  bac_wire.specs.{declared.tag.{Shape.TheVariants.Context, Tag.Tag}, Identifier.Identifier, Datum.Datum},
+  bac_wire.proofs.Readers.{Took, reader_of, found_at, only_if, unless},
+  bac_wire.proofs.TagLaws.{tag_reader, bind_some, plain_tag_spells},
+  bac_wire.proofs.DatumLaws.{within_again, same_identifier, within_takes, value_reader},
+  bac_wire.proofs.{PlainDatum.{count_low, count_four, count_fits}, RegionReading.{no_octets, tag_parts, tag_again}},
+  bac_wire.proofs.ItemLaws.region_reader,
 }
 use Rattle.bac_wire.specs.Datum as values
 

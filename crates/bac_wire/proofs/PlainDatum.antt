@@ -1,24 +1,13 @@
 -- The shortest spelling of a value is a spelling, and no spelling has fewer octets.
-use Rattle.std.proofs.{
-  Common.{◌≡◌, ℕ, ℤ, pos, negsuc, suc, slice_index_or, ◌+◌, ◌-◌, ◌*◌, ◌^◌, ◌%◌, ◌<◌, ◌≤◌, zero, cond, ltb, List, []},
-  Common.{◌∷◌, ◌++◌, length, take, sym, ap, ◌∙◌, arith, subst},
-  lemmas.{Int.ints, Bool.{lt-ltb, le-ltb}, Grind.common_steps, List.{append-nil, take_at, length-append}},
-}
-use Rattle.std.specs.{Prelude.FitsSigned, Int.w64}
-use Rattle.byteorder.{
-  specs.Endian.{big_number, big_bytes, twos_complement, low_bytes},
-  specs.Numbers.{big_number-reads_back, length-bytes_high_first, big_from-lt},
-  proofs.Bytes.pow256,
-}
-use Rattle.bac_wire.specs.{
-  Tag.plain_tag,
-  Datum.{Datum, signed, StandsFor, Spells, octet_count, plain_contents, plain, InRange, IsDatum, boolean, tag_number},
-  Datum.{shape_number, signed_count},
-  Inner.Datum.tagged,
-  declared.tag.Shape.TheVariants.App,
-  Front.{AreOctets, IsShortest},
-}
-use Rattle.bac_wire.proofs.TagLaws.{plain_tag_spells, tag_least, behind}
+use Rattle.std.proofs.Common.{◌≡◌, ℕ, ℤ, pos, negsuc, suc, slice_index_or, ◌+◌, ◌-◌, ◌*◌, ◌^◌, ◌%◌, ◌<◌, ◌≤◌, zero}
+use Rattle.std.proofs.Common.{cond, ltb, List, [], ◌∷◌, ◌++◌, length, take, sym, ap, ◌∙◌, arith, subst}
+use Rattle.std.proofs.lemmas.{Int.ints, Bool.{lt-ltb, le-ltb}, Grind.common_steps}
+use Rattle.std.{proofs.lemmas.List.{append-nil, take_at, length-append}, specs.{Prelude.FitsSigned, Int.w64}}
+use Rattle.byteorder.specs.Endian.{big_number, big_bytes, twos_complement, low_bytes}
+use Rattle.byteorder.{specs.Numbers.{big_number-reads_back, length-bytes_high_first, big_from-lt}, proofs.Bytes.pow256}
+use Rattle.bac_wire.specs.{plain_tag, signed, StandsFor, Spells, octet_count, plain_contents, plain, InRange, IsDatum}
+use Rattle.bac_wire.specs.{boolean, tag_number, shape_number, signed_count, App, AreOctets, IsShortest, Datum.Datum}
+use Rattle.bac_wire.{specs.Inner.tagged, proofs.TagLaws.{plain_tag_spells, tag_least, behind}}
 
 -- the same count, case by case
 abbrev pub count_by_cases : ℕ → ℕ

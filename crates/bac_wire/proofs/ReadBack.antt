@@ -1,9 +1,8 @@
 -- What `read_value` finds of what `write_value` appended, as an equation: for a crate above, which knows it by
 -- `IsReadBack` and `FindsFront`.
-use Rattle.std.proofs.Common.{arith}
-use Rattle.std.proofs.Common.{◌≡◌, ℕ, List, [], ◌++◌, length, Option, Some, None, sym, subst, ◌∙◌, append-nil}
-use Rattle.std.{proofs.lemmas.Option.{none-some}, specs.Option.option_map}
-use Rattle.bac_wire.specs.{declared.value.Value.Value, Front.{FindsFront, IsReadBack}, Datum.{Datum, Spells, datum}}
+use Rattle.std.proofs.Common.{arith, ◌≡◌, ℕ, List, [], ◌++◌, length, Option, Some, None, sym, subst, ◌∙◌, append-nil}
+use Rattle.std.{proofs.lemmas.Option.none-some, specs.Prelude.option_map}
+use Rattle.bac_wire.specs.{declared.value.Value.Value, FindsFront, IsReadBack, Spells, datum, Datum.Datum}
 
 -- what was found, without where its octets lie
 abbrev pub found_seen : Option (Value × ℕ) → Option (Datum × ℕ)

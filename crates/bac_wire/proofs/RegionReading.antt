@@ -1,22 +1,14 @@
 -- Reading items from left to right takes whole items, and finds again those that there are, whatever greater depth is
 -- allowed.
-use Rattle.std.proofs.{
-  lemmas.{Grind.common_steps, Bool.{ltb-false, eq-eqb}},
-  lemmas.List.{drop_at, length-append, nil_from_length, take-append-drop, length-take-le},
-  lemmas.Option.{none-some, same_Some},
-  Common.{◌≡◌, ℕ, zero, suc, ◌<◌, ◌≤◌, eqb, List, [], ◌++◌, length, take, Option, Some, None, refl, ap, subst, ◌∙◌},
-  Common.{append_assoc, arith, inl, inr, Bool, true, false, cond},
-}
-use Rattle.bac_wire.specs.{
-  declared.tag.{Shape.Shape, Shape.TheVariants.{App, Context, Opening, Closing}, Tag.Tag},
-  Tag.SpellsTag,
-  Steps.◌>>=◌,
-  TagReading.tag_at,
-  ItemReading.{behind_count, closing_of, behind_closing, behind_item, behind_tag, behind_tag_found, behind_items},
-  Front.Begins,
-  Region.{closing_tag, Counts, IsPrimitive, none, more, IsBracketed, IsItem, IsRegion, HasEnded, LeavesRest},
-  Inner.Region.LeavesBehind,
-}
+use Rattle.std.proofs.lemmas.{Grind.common_steps, Bool.{ltb-false, eq-eqb}}
+use Rattle.std.proofs.lemmas.List.{drop_at, length-append, nil_from_length, take-append-drop, length-take-le}
+use Rattle.std.proofs.lemmas.Option.{none-some, same_Some}
+use Rattle.std.proofs.Common.{◌≡◌, ℕ, zero, suc, ◌<◌, ◌≤◌, eqb, List, [], ◌++◌, length, take, Option, Some, None, refl}
+use Rattle.std.proofs.Common.{ap, subst, ◌∙◌, append_assoc, arith, inl, inr, Bool, true, false, cond}
+use Rattle.bac_wire.specs.{Shape, App, Opening, SpellsTag, ◌>>=◌, tag_at, behind_count, closing_of, behind_closing}
+use Rattle.bac_wire.specs.{behind_item, behind_tag, behind_tag_found, behind_items, Begins, closing_tag, Counts}
+use Rattle.bac_wire.specs.{IsPrimitive, none, more, IsBracketed, IsItem, IsRegion, HasEnded, LeavesRest}
+use Rattle.bac_wire.specs.{declared.tag.{Shape.TheVariants.{Context, Closing}, Tag.Tag}, Inner.LeavesBehind}
 use Rattle.bac_wire.proofs.{Readers.{begins_read, found_at, chosen, unless}, TagLaws.{tag_reader, bind_some}}
 
 pub no_octets : tag_at [] ≡ None

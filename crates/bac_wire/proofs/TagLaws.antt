@@ -1,16 +1,13 @@
 -- What the reader of tags takes is spelled so, what is spelled so is taken, and the plain spelling is the shortest.
-use Rattle.std.proofs.Common.{◌≡◌, ℕ, ◌<◌, ltb, eqb, List, [], ◌∷◌, ◌++◌, Option, Some, None, refl, ap, append_assoc}
-use Rattle.std.proofs.Common.{arith, inl, inr, suc, ◌≤◌, cond, length, subst}
-use Rattle.std.proofs.lemmas.{Bool.{ltb-true, ltb-false, eqb-true}, List.length-append}
-use Rattle.bac_wire.specs.{
-  declared.tag.{Shape.Shape, Shape.TheVariants.App, Tag.Tag},
-  Tag.{SpellsNumber, SpellsLength, SpellsShape, SpellsTag, IsTag, plain_number, plain_length, low_half, count_of},
-  Tag.plain_tag,
-  Steps.◌>>=◌,
-  TagReading.{extended_number, tag_number_at, two_at, four_at, long_length_at, length_at, shape_at, tag_at},
-  Front.{AreOctets, IsShortest},
+use Rattle.{
+  std.proofs.Common.{◌≡◌, ℕ, ◌<◌, ltb, eqb, List, [], ◌∷◌, ◌++◌, Option, Some, None, refl, ap, append_assoc, arith},
+  std.proofs.{Common.{inl, inr, suc, ◌≤◌, cond, length, subst}, lemmas.Bool.{ltb-true, ltb-false, eqb-true}},
+  std.proofs.lemmas.List.length-append,
+  bac_wire.specs.{Shape, App, SpellsNumber, SpellsLength, SpellsShape, SpellsTag, IsTag, plain_number, plain_length},
+  bac_wire.specs.{low_half, count_of, plain_tag, ◌>>=◌, extended_number, tag_number_at, two_at, four_at},
+  bac_wire.specs.{long_length_at, length_at, shape_at, tag_at, AreOctets, IsShortest, declared.tag.Tag.Tag},
+  bac_wire.proofs.Readers.{IsReader, Took, took, took_as, reader_of, found_at, chosen, only_if, one_front},
 }
-use Rattle.bac_wire.proofs.Readers.{IsReader, Took, took, took_as, reader_of, found_at, chosen, only_if, one_front}
 
 -- ---- what is spelled is read again
 

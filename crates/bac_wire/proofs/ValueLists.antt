@@ -2,10 +2,8 @@
 use Rattle.std.proofs.Common.{◌≡◌, ℕ, zero, suc, ◌+◌, ◌<◌, ◌≤◌, List, [], ◌∷◌, length, Option, Some, None, refl, sym}
 use Rattle.std.proofs.{Common.{◌∙◌, ap, arith}, lemmas.{Bool.Decides.nat_tests, Grind.common_steps}}
 use Rattle.std.specs.Prelude.{◌↔◌, option_map}
-use Rattle.bac_wire.{
-  specs.{Datum.{Datum, Spells}, Front.SpellsAll, Steps.◌>>=◌, DatumReading.{value_at, values_within, values_of}},
-  proofs.{TagLaws.bind_some, DatumLaws.value_reader, Readers.begins_read},
-}
+use Rattle.bac_wire.specs.{Datum.Datum, Spells, SpellsAll, ◌>>=◌, value_at, values_within, values_of}
+use Rattle.bac_wire.proofs.{TagLaws.bind_some, DatumLaws.value_reader, Readers.begins_read}
 
 -- A value has an octet at least.
 pub value-shorter : (octets : List ℕ) (value : Datum) (rest : List ℕ) → value_at octets ≡ Some (value, rest)

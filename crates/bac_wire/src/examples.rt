@@ -1,21 +1,16 @@
 //! Examples of the octets of values and of parameters, worked out by computation. They show what the definitions mean.
 
-ghost use Rattle.std.specs.Prelude.{◌≡◌, ◌-◌, ◌^◌, [], ◌∷◌, Some, None, negsuc, true, nat_eq};
-ghost use Rattle.bac_wire.specs.declared.{tag.Shape.TheVariants.App, value.Value.TheVariants.Unsigned};
-ghost use Rattle.bac_wire.specs.Datum.{null, boolean, unsigned, signed, real, char_string, bit_string, enumerated};
-ghost use Rattle.bac_wire.specs.Datum.{object, datum, IsDatum, IsSound, Spells};
-ghost use Rattle.bac_wire.specs.{DatumReading.value_at, ItemReading.region_at, Identifier.IsIdentifier};
-ghost use Rattle.bac_wire.specs.Limits.{deepest, frame_room};
-ghost use Rattle.bac_wire.specs.Parameter.{enclosed_octets, number_octets, object_octets};
-ghost use Rattle.bac_wire.specs.Parameter.{SpellsContext, SpellsIn, SpellsEnclosed};
-ghost use Rattle.bac_wire.specs.ParameterReading.{enclosed_at, number_at, object_at};
-ghost use Rattle.bac_wire.specs.{Tag.{SpellsTag, IsTag}, Writing.Appends, Copies.{MakesCopies, EqualsBy}};
-ghost use Rattle.bac_wire.specs.Front.{IsPrefixFree, IsReader, FindsFront, SpellsAll, IsShortest, IsReadBack};
-ghost use Rattle.bac_wire.specs.Front.{AreOctets};
-ghost use Rattle.bac_wire.specs.Region.{IsItem, IsRegion, IsClosedRegion, FindsRegion, LeavesRest, SpellsClosed, Opens};
-ghost use Rattle.bac_wire.specs.Inner.Examples.{WritesValue, input, device, unsigned_tag, SpellsOne, SpellsAny};
-ghost use Rattle.bac_wire.specs.Inner.Examples.{first_at, nothing_at, zero_at, always, never, Same, Any, Free, Costly};
-ghost use Rattle.bac_wire.specs.Inner.Examples.{written, refused};
+ghost use Rattle.{
+  std.specs.Prelude.{◌≡◌, ◌-◌, ◌^◌, [], ◌∷◌, negsuc, true, nat_eq},
+  bac_wire.specs.{App, null, boolean, unsigned, signed, real, char_string, bit_string, enumerated, object, datum},
+  bac_wire.specs.{IsDatum, IsSound, Spells, value_at, region_at, IsIdentifier, deepest, frame_room, enclosed_octets},
+  bac_wire.specs.{number_octets, object_octets, SpellsContext, SpellsIn, SpellsEnclosed, enclosed_at, number_at},
+  bac_wire.specs.{object_at, SpellsTag, IsTag, Appends, MakesCopies, EqualsBy, IsPrefixFree, IsReader, FindsFront},
+  bac_wire.specs.{SpellsAll, IsShortest, IsReadBack, AreOctets, IsItem, IsRegion, IsClosedRegion, FindsRegion},
+  bac_wire.specs.{LeavesRest, SpellsClosed, Opens, declared.value.Value.TheVariants.Unsigned},
+  bac_wire.specs.Inner.{WritesValue, input, device, unsigned_tag, SpellsOne, SpellsAny, first_at, nothing_at, zero_at},
+  bac_wire.specs.Inner.{always, never, Same, Any, Free, Costly, written, refused},
+};
 
 // What is written of a value, and read back (ANSI/ASHRAE 135, 20.2.2 to 20.2.14).
 #[tactic(none)]

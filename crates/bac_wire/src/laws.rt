@@ -1,18 +1,16 @@
 //! What holds of the definitions that the contracts cite, and of the clones and the `==` of the public types. Each
 //! function has an empty body, and its clauses are the laws.
 
-ghost use Rattle.bac_wire.specs.{declared.tag.Tag.Tag, Limits.{frame_room, deepest}};
-ghost use Rattle.bac_wire.specs.Front.{IsPrefixFree, IsReadBack, IsReader, IsShortest, SpellsAll};
-ghost use Rattle.bac_wire.specs.{Tag.{SpellsTag, IsTag, plain_tag}, TagReading.tag_at};
-ghost use Rattle.bac_wire.specs.Identifier.{Identifier, IsIdentifier, identifier};
-ghost use Rattle.bac_wire.specs.Datum.{Datum, IsDatum, IsSound, Spells, datum, plain, enumerated, object};
-ghost use Rattle.bac_wire.specs.DatumReading.{value_at, values_of};
-ghost use Rattle.bac_wire.specs.Region.{IsItem, IsRegion, IsClosedRegion, LeavesRest, Opens, SpellsClosed, closing_tag};
-ghost use Rattle.bac_wire.specs.{ItemReading.{behind_items, region_at}, Parameter.{SpellsContext, SpellsIn}};
-ghost use Rattle.bac_wire.specs.Parameter.{SpellsEnclosed, number_octets, object_octets, enclosed_octets};
-ghost use Rattle.bac_wire.specs.Copies.{MakesCopies, EqualsBy};
-ghost use Rattle.bac_wire.specs.ParameterReading.{context_at, number_at, object_at, enclosed_at};
-ghost use Rattle.std.specs.Prelude.{◌≡◌, ℕ, ◌+◌, ◌^◌, ◌<◌, ◌≤◌, ◌↔◌, List, [], ◌++◌, length, Some};
+ghost use Rattle.{
+  std.specs.Prelude.{◌≡◌, ℕ, ◌+◌, ◌^◌, ◌<◌, ◌≤◌, ◌↔◌, List, [], ◌++◌, length},
+  bac_wire.specs.declared.tag.Tag.Tag,
+  bac_wire.specs.{frame_room, deepest, IsPrefixFree, IsReadBack, IsReader, IsShortest, SpellsAll, SpellsTag, IsTag},
+  bac_wire.specs.{plain_tag, tag_at, IsIdentifier, identifier, IsDatum, IsSound, Spells, datum, plain, enumerated},
+  bac_wire.specs.{object, value_at, values_of, IsItem, IsRegion, IsClosedRegion, LeavesRest, Opens, SpellsClosed},
+  bac_wire.specs.{closing_tag, behind_items, region_at, SpellsContext, SpellsIn, SpellsEnclosed, number_octets},
+  bac_wire.specs.{object_octets, enclosed_octets, MakesCopies, EqualsBy, context_at, number_at, object_at, enclosed_at},
+  bac_wire.specs.{Identifier.Identifier, Datum.Datum},
+};
 
 use crate::frame::{FRAME_OCTETS, Full};
 use crate::items::NESTING;

@@ -1,17 +1,14 @@
 -- What a body says is what is read of it, which computes once the definitions that read are opened.
-use Rattle.std.proofs.Common.{ℕ, List, [], ◌∷◌, ◌++◌, refl, arith}
-use Rattle.std.specs.Prelude.{Ok, Err}
-use Rattle.bac_wire.specs.{Tag.plain_tag, TagReading.{tag_number_at, long_length_at, length_at, shape_at, tag_at}}
-use Rattle.bac_wire.specs.{DatumReading.{contents_of, value_at}, ItemReading.{behind_closing, behind_items, region_at}}
-use Rattle.bac_wire.specs.ParameterReading.{context_at, number_at, object_at, kind_at, behind_opening, enclosed_at}
-use Rattle.bac_wire.proofs.ItemLaws.{whole_is}
-use Rattle.bac_pdu.specs.{Parameter.plain_parameter, PropertyReading.{reference_at, read_of, write_of, ack_of}}
-use Rattle.bac_pdu.specs.declared.discovery.WhoIs.TheVariants.{Range}
-use Rattle.bac_pdu.specs.declared.reject.RejectReason.TheVariants.{TooMany, OutOfRange}
-use Rattle.bac_pdu.specs.Inner.Examples.{present_octets, present_value, release}
-use Rattle.bac_pdu.specs.ValueReading.{who_is_of, introduction_of, error_of}
-use Rattle.bac_pdu.proofs.PropertyLaws.{read_is, write_is, ack_is}
-use Rattle.bac_pdu.proofs.DiscoveryLaws.{who_is_is, introduction_is, error_is}
+use Rattle.{
+  std.{proofs.Common.{ℕ, List, [], ◌∷◌, ◌++◌, refl, arith}, specs.Prelude.{Ok, Err}},
+  bac_wire.specs.{Tag.plain_tag, TagReading.{tag_number_at, long_length_at, length_at, shape_at, tag_at}},
+  bac_wire.specs.{DatumReading.{contents_of, value_at}, ItemReading.{behind_closing, behind_items, region_at}},
+  bac_wire.specs.ParameterReading.{context_at, number_at, object_at, kind_at, behind_opening, enclosed_at},
+  bac_wire.proofs.ItemLaws.whole_is,
+  bac_pdu.specs.{plain_parameter, reference_at, read_of, write_of, ack_of, Range, TooMany, OutOfRange, who_is_of},
+  bac_pdu.specs.{introduction_of, error_of, Inner.{present_octets, present_value, release}},
+  bac_pdu.proofs.{PropertyLaws.{read_is, write_is, ack_is}, DiscoveryLaws.{who_is_is, introduction_is, error_is}},
+}
 use Rattle.bac_pdu.proofs.examples.examples_of_bodies.Goals as goal
 
 -- the value NULL in a body, and a write of it

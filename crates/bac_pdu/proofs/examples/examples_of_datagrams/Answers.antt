@@ -2,8 +2,8 @@
 use Rattle.std.proofs.Common.{arith}
 use Rattle.bac_wire.specs.{Tag.plain_tag, TagReading.{tag_number_at, long_length_at, length_at, shape_at, tag_at}}
 use Rattle.bac_wire.specs.ParameterReading.{context_at, number_at, object_at}
-use Rattle.bac_pdu.specs.{Parameter.plain_parameter, PropertyReading.{reference_at, read_of}, Datagram.wrapped}
-use Rattle.bac_pdu.specs.{DatagramReading.{address_at, header_at, link_at, carried}, ApduReading.{parts_at, apdu_of}}
+use Rattle.bac_pdu.specs.{plain_parameter, reference_at, read_of, wrapped, address_at, header_at, link_at, carried}
+use Rattle.bac_pdu.specs.{parts_at, apdu_of}
 use Rattle.bac_pdu.proofs.examples.examples_of_datagrams.Goals as goal
 
 pub returns : goal.returns

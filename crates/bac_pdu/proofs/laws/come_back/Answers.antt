@@ -1,7 +1,6 @@
 -- Each clause is the lemma of its file.
 use Rattle.std.proofs.Common.{refl}
-use Rattle.bac_pdu.specs.ValueReading.{who_is_of}
-use Rattle.bac_pdu.proofs.{DatagramLaws.taken_carries, ApduLaws.apdu_back}
+use Rattle.bac_pdu.{specs.who_is_of, proofs.{DatagramLaws.taken_carries, ApduLaws.apdu_back}}
 use Rattle.bac_pdu.proofs.ShortestLaws.{read_back, write_back, ack_back, who_is_back, introduction_back, error_back}
 use Rattle.bac_pdu.proofs.laws.come_back.Goals as goal
 

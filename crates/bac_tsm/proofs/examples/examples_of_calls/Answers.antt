@@ -2,8 +2,7 @@
 use Rattle.std.proofs.Common.{refl, arith}
 use Rattle.bac_pdu.specs.{Datagram.wrapped, ApduReading.{parts_at, apdu_of}}
 use Rattle.bac_pdu.specs.DatagramReading.{address_at, header_at, link_at, carried}
-use Rattle.bac_tsm.specs.{Lookahead.{next_invoke_id, refusal_of}, Answers.{answer_in_datagram, same_station}}
-use Rattle.bac_tsm.specs.Answers.{is_answer_to}
+use Rattle.bac_tsm.specs.{next_invoke_id, refusal_of, answer_in_datagram, same_station, is_answer_to}
 use Rattle.bac_tsm.proofs.examples.examples_of_calls.Goals as goal
 
 pub returns : goal.returns

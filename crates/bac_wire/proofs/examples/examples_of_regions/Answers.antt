@@ -1,11 +1,9 @@
 -- What is spelled is what a reader finds, which computes once the definitions that read are opened.
 use Rattle.std.proofs.Common.{ℕ, ◌≤◌, List, [], ◌∷◌, inl, inr, refl, subst, append-nil, arith}
-use Rattle.bac_wire.specs.{Tag.plain_tag, TagReading.{tag_number_at, long_length_at, length_at, shape_at, tag_at}}
-use Rattle.bac_wire.specs.ItemReading.{behind_closing, behind_items, region_at}
-use Rattle.bac_wire.specs.ParameterReading.{context_at, number_at, object_at, behind_opening, enclosed_at}
-use Rattle.bac_wire.specs.Region.{IsItem, IsRegion, IsPrimitive, IsClosedRegion, none, more, here, past, into}
-use Rattle.bac_wire.specs.Inner.Examples.{unsigned_tag}
-use Rattle.bac_wire.proofs.{Spelled.{is_spelled, is_read}, TagLaws.tag_reader}
+use Rattle.bac_wire.specs.{plain_tag, tag_number_at, long_length_at, length_at, shape_at, tag_at, behind_closing}
+use Rattle.bac_wire.specs.{behind_items, region_at, context_at, number_at, object_at, behind_opening, enclosed_at}
+use Rattle.bac_wire.specs.{IsItem, IsRegion, IsPrimitive, IsClosedRegion, none, more, here, past, into}
+use Rattle.bac_wire.{specs.Inner.unsigned_tag, proofs.{Spelled.{is_spelled, is_read}, TagLaws.tag_reader}}
 use Rattle.bac_wire.proofs.ItemLaws.{one_region, items_is, whole_is, region_reader, nesting}
 use Rattle.bac_wire.proofs.ParameterLaws.{context_reader, number_reader, enclosed_reader}
 use Rattle.bac_wire.proofs.examples.examples_of_regions.Goals as goal

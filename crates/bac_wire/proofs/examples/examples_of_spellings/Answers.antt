@@ -1,7 +1,6 @@
 -- What is spelled is what a reader finds, which computes once the definitions that read are opened.
 use Rattle.std.proofs.Common.{refl, arith}
-use Rattle.bac_wire.specs.TagReading.{tag_number_at, long_length_at, length_at, shape_at, tag_at}
-use Rattle.bac_wire.specs.DatumReading.{contents_of, value_at}
+use Rattle.bac_wire.specs.{tag_number_at, long_length_at, length_at, shape_at, tag_at, contents_of, value_at}
 use Rattle.bac_wire.proofs.{Spelled.{is_spelled, is_read}, TagLaws.tag_reader, DatumLaws.value_reader}
 use Rattle.bac_wire.proofs.examples.examples_of_spellings.Goals as goal
 

@@ -1,6 +1,6 @@
 -- What was appended is the shortest spelling, and reads back.
 use Rattle.std.proofs.lemmas.Result.{on_ok_weaker}
-use Rattle.bac_wire.{specs.Datum.Spells, proofs.Readers.spelled_back}
+use Rattle.bac_wire.{specs.Spells, proofs.Readers.spelled_back}
 use Rattle.bac_wire.proofs.PlainDatum.{plain_spells, plain_shortest, written_datum}
 use Rattle.bac_wire.proofs.value.write_value.Goals as goal
 

@@ -1,11 +1,11 @@
 -- The code looks for the point first, and the definition for the property.
-use Rattle.std.proofs.Common.{arith}
-use Rattle.std.proofs.Common.{◌≡◌, ℕ, Option, Some, None, Result, Ok, Err, refl, sym, is_some, if◌then◌else◌, ◌&&◌, not}
-use Rattle.bac_wire.specs.Datum.{Datum}
-use Rattle.bac_pdu.specs.Property.{Order, order}
-use Rattle.bac_device.specs.declared.failure.Failure.{Failure, TheVariants.NotAnArray}
-use Rattle.bac_device.specs.{Property.single, Places.Standing, Device.DeviceState}
-use Rattle.bac_device.specs.Access.{property_of, commanded_point, ordered_write, accepted_write}
+use Rattle.{
+  std.proofs.Common.{arith, ◌≡◌, ℕ, Option, Some, None, Result, Ok, Err, refl, sym, is_some, if◌then◌else◌, ◌&&◌, not},
+  bac_pdu.specs.Property.{Order, order},
+  bac_wire.specs.Datum.Datum,
+  bac_device.specs.declared.failure.Failure.{Failure, TheVariants.NotAnArray},
+  bac_device.specs.{single, Standing, DeviceState, property_of, commanded_point, ordered_write, accepted_write},
+}
 use Rattle.bac_device.proofs.device.Device.accepted_write.Goals as goal
 
 -- An index stands at no single value.

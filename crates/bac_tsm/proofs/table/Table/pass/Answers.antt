@@ -1,6 +1,6 @@
 -- The request that was sent longest ago is due where any is; it goes behind the others, or ends.
 use Rattle.std.proofs.Common.{arith, sym, subst, ◌∙◌}
-use Rattle.bac_tsm.specs.{Client.client_rules, Inner.Table.IsRankOf}
+use Rattle.bac_tsm.specs.{client_rules, Inner.IsRankOf}
 use Rattle.bac_tsm.proofs.TableTick.{some_sent, front_below, sent_again, not_found, ended}
 use Rattle.bac_tsm.proofs.table.Table.pass.Goals as goal
 
