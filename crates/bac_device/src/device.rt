@@ -1,14 +1,13 @@
 //! The device: its points, its own properties, and what is held after writes.
 
-ghost use Rattle.{
-  std.specs.Prelude.{◌≡◌, ◌<◌, [], ◌∷◌, ◌++◌, List, length, map, IfSome, IfOk, IfErr, OnOk, OnErr, Ok, Err, Some, None},
-  std.specs.{Prelude.option_map, List.list_any, Option.{option_and_then, option_copied}, Str.bytes_eq},
-  bac_wire.specs.{Datum.{datum, char_string, IsSound}, Identifier.identifier, Steps.result_seen},
-  bac_device.specs.{Limits.device_room, Kind.value_of, Point.given, Places.{Write, NoneTo, present, place_at, put}},
-  bac_device.specs.{Inner.{Places.write_seen, Property.{property_seen, IsSoundProperty}}, Property.single},
-  bac_device.specs.Device.{Holds, points_of, device_after, standing_at, present_after, place_after, add_point},
-  bac_device.specs.{Device.{fixed_value, device_property}, Access.{property_of, commanded_point}, Reply.with_write},
-};
+ghost use Rattle.std.specs.{List.list_any, Option.{option_and_then, option_copied}, Str.bytes_eq};
+ghost use Rattle.std.specs.Prelude.{[], ◌++◌, ◌<◌, ◌∷◌, ◌≡◌, Err, IfErr, IfOk, IfSome, length, List, map, None, Ok};
+ghost use Rattle.std.specs.Prelude.{OnErr, OnOk, option_map, Some};
+ghost use Rattle.bac_wire.specs.{Datum.{char_string, datum, IsSound}, Identifier.identifier, Steps.result_seen};
+ghost use Rattle.bac_device.specs.{add_point, commanded_point, device_after, device_property, device_room, fixed_value};
+ghost use Rattle.bac_device.specs.{given, Holds, NoneTo, place_after, place_at, points_of, present, present_after};
+ghost use Rattle.bac_device.specs.{property_of, put, single, standing_at, value_of, with_write, Write};
+ghost use Rattle.bac_device.specs.Inner.{IsSoundProperty, property_seen, write_seen};
 
 use crate::failure::Failure;
 use crate::info::DeviceInfo;

@@ -1,18 +1,16 @@
 //! Examples of what the device replies, worked out by computation. They show what the definitions mean.
 
-ghost use Rattle.{
-  std.specs.Prelude.{◌≡◌, [], ◌∷◌, replicate, codes},
-  bac_device.specs.declared.{device.AddFault.TheVariants.{Twice, NameTwice, BadPoint}, kind.Family.TheVariants.Analog},
-  bac_device.specs.declared.kind.Role.TheVariants.Output,
-  bac_device.specs.{demo_points, IsInfo, device_room, longest_name, Holds, add_point, place_after, points_of},
-  bac_device.specs.{present_after, NoneTo, standing_after, with_write, RepliesFit, ReplyFits, AreDefined},
-  bac_device.specs.RepliesInTurn,
-  bac_device.specs.Inner.{desk, datagram, small, asked, fifty, fifty_one, valve_id, other_id, twenty_at_8},
-  bac_device.specs.Inner.{release_at_8, empty, after, given_as, Exchanges, outdoor, long_named, valve, fan, season},
-  bac_device.specs.Inner.{nothing, own, any_device, of, element_of, read, read_for_50, is, write, write_at, aborted},
-  bac_device.specs.Inner.{has, has_no, makes, refuses, real_72_3, twenty, thirty, zero_real, null, unsigned},
-  bac_device.specs.Inner.enumerated,
-};
+ghost use Rattle.std.specs.Prelude.{[], ◌∷◌, ◌≡◌, codes, replicate};
+ghost use Rattle.bac_device.specs.{add_point, AreDefined, demo_points, device_room, Holds, IsInfo, longest_name};
+ghost use Rattle.bac_device.specs.{NoneTo, place_after, points_of, present_after, RepliesFit, RepliesInTurn, ReplyFits};
+ghost use Rattle.bac_device.specs.{standing_after, with_write, declared.kind.Family.TheVariants.Analog};
+ghost use Rattle.bac_device.specs.declared.device.AddFault.TheVariants.{BadPoint, NameTwice, Twice};
+ghost use Rattle.bac_device.specs.declared.kind.Role.TheVariants.{Output};
+ghost use Rattle.bac_device.specs.Inner.{aborted, after, any_device, asked, datagram, desk, element_of, empty};
+ghost use Rattle.bac_device.specs.Inner.{enumerated, Exchanges, fan, fifty, fifty_one, given_as, has, has_no, is};
+ghost use Rattle.bac_device.specs.Inner.{long_named, makes, nothing, null, of, other_id, outdoor, own, read};
+ghost use Rattle.bac_device.specs.Inner.{read_for_50, real_72_3, refuses, release_at_8, season, small, thirty, twenty};
+ghost use Rattle.bac_device.specs.Inner.{twenty_at_8, unsigned, valve, valve_id, write, write_at, zero_real};
 
 // A property is read, whole or an element of it.
 #[tactic(none)]

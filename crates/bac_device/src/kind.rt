@@ -1,6 +1,7 @@
 //! The types of points, and the values that each takes.
 
-ghost use Rattle.{std.specs.Prelude.{◌≡◌, ◌^◌, ◌<◌, IsTrue, option_map}, bac_wire.specs.Datum.{datum, IsSound}};
+ghost use Rattle.std.specs.Prelude.{◌<◌, ◌^◌, ◌≡◌, IsTrue, option_map};
+ghost use Rattle.bac_wire.specs.Datum.{datum, IsSound};
 ghost use Rattle.bac_device.specs.Kind as spec;
 
 use bac_wire::{Value, value_and_rest};

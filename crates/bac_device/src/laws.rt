@@ -1,13 +1,12 @@
 //! What holds of the definitions that the contracts cite, and of the public types. Each function has an empty body, and
 //! its clause is the law.
 
-ghost use Rattle.{
-  std.specs.{Prelude.{◌≡◌, ℕ, List, Option}, Option.ForSome},
-  bac_pdu.specs.Peer.Station,
-  bac_wire.specs.Copies.{MakesCopies, EqualsBy},
-  bac_device.specs.{device_room, longest_name, Description, Write, DeviceState, points_of, device_after, Holds},
-  bac_device.specs.{reply_of, ReplyFits, RepliesFit, Arrival, RepliesInTurn, AreDefined, replies_to, Info.Info},
-};
+ghost use Rattle.std.specs.{Option.ForSome, Prelude.{◌≡◌, List, Option, ℕ}};
+ghost use Rattle.bac_pdu.specs.Peer.{Station};
+ghost use Rattle.bac_wire.specs.Copies.{EqualsBy, MakesCopies};
+ghost use Rattle.bac_device.specs.{AreDefined, Arrival, Description, device_after, device_room, DeviceState, Holds};
+ghost use Rattle.bac_device.specs.{longest_name, points_of, replies_to, RepliesFit, RepliesInTurn, reply_of, ReplyFits};
+ghost use Rattle.bac_device.specs.{Write, Info.Info};
 
 use crate::device::{AddFault, POINTS};
 use crate::point::{NAME_OCTETS, Point};

@@ -1,9 +1,10 @@
 //! A property's values, one of them by its index, and their octets.
 
+ghost use Rattle.std.specs.Prelude.{◌++◌, ◌+◌, ◌<◌, ◌∷◌, ◌≡◌, IfOk, IfSome, length, map, OnErr, OnOk, option_map};
+ghost use Rattle.std.specs.Prelude.{slice_get};
 ghost use Rattle.{
-  std.specs.Prelude.{◌≡◌, ◌<◌, ◌+◌, ◌∷◌, ◌++◌, length, slice_get, map, IfSome, IfOk, OnOk, OnErr, option_map},
-  bac_wire.specs.{Limits.frame_room, Datum.{datum, IsSound, object}, Identifier.identifier, Steps.result_seen},
-  bac_device.specs.{place_value, point_objects, element, region_octets, Inner.{property_seen, IsSoundProperty}},
+  bac_wire.specs.{Datum.{datum, IsSound, object}, Identifier.identifier, Limits.frame_room, Steps.result_seen},
+  bac_device.specs.{element, place_value, point_objects, region_octets, Inner.{IsSoundProperty, property_seen}},
 };
 
 use crate::failure::Failure;

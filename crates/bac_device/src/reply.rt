@@ -1,13 +1,13 @@
 //! The reply to a datagram.
 
-ghost use Rattle.{
-  std.specs.Prelude.{◌≡◌, ◌<◌, ◌≤◌, ◌+◌, ◌*◌, List, [], length, IfOk, IfSome, IfNone, OnOk, OnErr, option_map},
-  bac_pdu.specs.{Apdu.{laid_out, reject, error}, Peer.station, Property.reference, Failure.error_octets},
-  bac_pdu.specs.Reject.reason_number,
-  bac_wire.specs.{Limits.frame_room, Identifier.identifier, Steps.result_seen},
-  bac_device.specs.{Write, error_class, error_code, Holds, points_of, device_after, ReplyFits, read_property},
-  bac_device.specs.Inner.{property_seen, IsSoundProperty, reply_apdu, write_in_apdu, write_in_request, write_in_body},
-};
+ghost use Rattle.std.specs.Prelude.{[], ◌*◌, ◌+◌, ◌<◌, ◌≡◌, ◌≤◌, IfNone, IfOk, IfSome, length, List, OnErr, OnOk};
+ghost use Rattle.std.specs.Prelude.{option_map};
+ghost use Rattle.bac_pdu.specs.{Apdu.{error, laid_out, reject}, Failure.error_octets, Peer.station, Property.reference};
+ghost use Rattle.bac_pdu.specs.Reject.{reason_number};
+ghost use Rattle.bac_wire.specs.{Identifier.identifier, Limits.frame_room, Steps.result_seen};
+ghost use Rattle.bac_device.specs.{device_after, error_class, error_code, Holds, points_of, read_property, ReplyFits};
+ghost use Rattle.bac_device.specs.{Write, Inner.write_in_request};
+ghost use Rattle.bac_device.specs.Inner.{IsSoundProperty, property_seen, reply_apdu, write_in_apdu, write_in_body};
 ghost use Rattle.bac_device.specs.Reply as spec;
 
 use crate::device::Device;

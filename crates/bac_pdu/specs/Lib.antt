@@ -30,6 +30,5 @@ unfoldable pub use Discovery.*
 unfoldable pub use Failure.*
 unfoldable pub use ValueReading.*
 pub use Rattle.bac_pdu.specs.declared.discovery.WhoIs.{WhoIs, TheVariants.Range}
-pub use Rattle.bac_pdu.specs.declared.reject.RejectReason.{RejectReason}
+pub use Rattle.bac_pdu.specs.declared.reject.RejectReason.{RejectReason, TheVariants.TooMany}
 pub use Rattle.bac_pdu.specs.declared.reject.RejectReason.TheVariants.{InvalidTag, MissingParameter, OutOfRange}
-pub use Rattle.bac_pdu.specs.declared.reject.RejectReason.TheVariants.{TooMany}

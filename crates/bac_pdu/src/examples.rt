@@ -1,18 +1,16 @@
 //! Examples of whole datagrams and service bodies, worked out by computation. They show what the definitions mean.
 
-ghost use Rattle.{
-  std.specs.Prelude.{◌≡◌, ◌-◌, ◌^◌, [], ◌∷◌, ◌++◌, true, false},
-  bac_pdu.specs.declared.discovery.WhoIs.TheVariants.All,
-  bac_pdu.specs.{Range, InvalidTag, MissingParameter, OutOfRange, TooMany, confirmed, unconfirmed, simple_ack},
-  bac_pdu.specs.{complex_ack, error, reject, abort, segment_ack, IsLaidOut, IsWritable, announced_size, longest_body},
-  bac_pdu.specs.{message, Carries, Takes, wrapped, front_count, carried, IsIAmBody, IsWhoIsBody, i_am_octets},
-  bac_pdu.specs.{who_is_octets, IsRoutable, IsErrorBody, error_octets, IsParameter, numbered, value, IsAckBody},
-  bac_pdu.specs.{IsPriority, IsReadBody, IsWriteBody, read_octets, ack_front, ack_end, IsOutcome, ReadFault},
-  bac_pdu.specs.{WriteFault, ack_of, read_of, write_of, introduction_of, who_is_of},
-  bac_pdu.specs.declared.apdu.Apdu.TheVariants.SimpleAck,
-  bac_pdu.specs.Inner.{WritesApdu, desk, far, from_desk, present_value, small_device, to_all, present_octets},
-  bac_pdu.specs.Inner.{ack_octets_of_1, second_part, last_part, release},
-};
+ghost use Rattle.std.specs.Prelude.{[], ◌++◌, ◌-◌, ◌^◌, ◌∷◌, ◌≡◌, false, true};
+ghost use Rattle.bac_pdu.specs.{abort, ack_end, ack_front, ack_of, announced_size, carried, Carries, complex_ack};
+ghost use Rattle.bac_pdu.specs.{confirmed, error, error_octets, front_count, i_am_octets, introduction_of, InvalidTag};
+ghost use Rattle.bac_pdu.specs.{IsAckBody, IsErrorBody, IsIAmBody, IsLaidOut, IsOutcome, IsParameter, IsPriority};
+ghost use Rattle.bac_pdu.specs.{IsReadBody, IsRoutable, IsWhoIsBody, IsWritable, IsWriteBody, longest_body, message};
+ghost use Rattle.bac_pdu.specs.{MissingParameter, numbered, OutOfRange, Range, read_octets, read_of, ReadFault, reject};
+ghost use Rattle.bac_pdu.specs.{segment_ack, simple_ack, Takes, TooMany, unconfirmed, value, who_is_octets, who_is_of};
+ghost use Rattle.bac_pdu.specs.{wrapped, write_of, WriteFault, declared.apdu.Apdu.TheVariants.SimpleAck};
+ghost use Rattle.bac_pdu.specs.declared.discovery.WhoIs.TheVariants.{All};
+ghost use Rattle.bac_pdu.specs.Inner.{ack_octets_of_1, desk, far, from_desk, last_part, present_octets, present_value};
+ghost use Rattle.bac_pdu.specs.Inner.{release, second_part, small_device, to_all, WritesApdu};
 
 // A ReadProperty request, from the inside to the outside: the body, the APDU and the datagram (ANSI/ASHRAE 135, 15.5,
 // 20.1.2 and J.2).

@@ -1,8 +1,8 @@
 //! The network header, read and written.
 
-ghost use Rattle.std.specs.Prelude.{◌≡◌, ◌≤◌, length, IfSome, option_map};
-ghost use Rattle.bac_pdu.specs.{IsRoutable, network_address, plain_header, address_at, announced_at, behind_hops};
-ghost use Rattle.bac_pdu.specs.{header_at, Inner.{address_seen, header_seen}};
+ghost use Rattle.std.specs.Prelude.{◌≡◌, ◌≤◌, IfSome, length, option_map};
+ghost use Rattle.bac_pdu.specs.{address_at, announced_at, behind_hops, header_at, IsRoutable, network_address};
+ghost use Rattle.bac_pdu.specs.{plain_header, Inner.{address_seen, header_seen}};
 
 use crate::bits::has_bit;
 use crate::route::Route;

@@ -1,18 +1,18 @@
 //! What holds of the definitions that the contracts cite. Each function has an empty body, and its clause is the law;
 //! those at the end are `clone` or `==` of types, and say what a clone is, or what is compared.
 
+ghost use Rattle.std.specs.{List.AllByRecursion, Prelude.{Result, ℕ}};
+ghost use Rattle.std.specs.Prelude.{[], ◌++◌, ◌+◌, ◌<◌, ◌^◌, ◌↔◌, ◌∷◌, ◌≡◌, Bool, false, IfSome, length, List, Option};
 ghost use Rattle.{
-  std.specs.Prelude.{◌≡◌, ◌↔◌, ◌+◌, ◌<◌, ◌^◌, ◌++◌, ℕ, Bool, false, List, [], ◌∷◌, length, Option, IfSome, Result},
-  std.specs.List.AllByRecursion,
-  bac_wire.specs.{Datum.{IsDatum, enumerated}, Copies.{MakesCopies, EqualsBy}},
-  bac_pdu.specs.{WhoIs, Range, RejectReason, Station, NetworkAddress, IsRoutable, network_address, station, Delivery},
-  bac_pdu.specs.{Carries, Takes, front_count, wrapped, carried, Message, message, IsLaidOut, IsWritable, laid_out},
-  bac_pdu.specs.{longest_body, apdu_of, IsParameter, Reference, ReadAck, Order, reference, ack_seen, order},
-  bac_pdu.specs.{reference_parameters, order_parameters, ack_parameters, IsPriority, IsReadBody, IsWriteBody},
-  bac_pdu.specs.{IsAckBody, read_octets, write_octets, ack_octets, ack_front, ack_end, IsOutcome, ReadFault},
-  bac_pdu.specs.{WriteFault, read_of, write_of, ack_of, Introduction, introduction, introduction_values, IsWhoIsBody},
-  bac_pdu.specs.{IsIAmBody, who_is_octets, i_am_octets, IsErrorBody, error_octets, who_is_of, introduction_of},
-  bac_pdu.specs.{error_of, declared.discovery.WhoIs.TheVariants.All},
+  bac_wire.specs.{Copies.{EqualsBy, MakesCopies}, Datum.{enumerated, IsDatum}},
+  bac_pdu.specs.{ack_end, ack_front, ack_octets, ack_of, ack_parameters, ack_seen, apdu_of, carried, Carries, Delivery},
+  bac_pdu.specs.{error_octets, error_of, front_count, i_am_octets, Introduction, introduction, introduction_of},
+  bac_pdu.specs.{introduction_values, IsAckBody, IsErrorBody, IsIAmBody, IsLaidOut, IsOutcome, IsParameter, IsPriority},
+  bac_pdu.specs.{IsReadBody, IsRoutable, IsWhoIsBody, IsWritable, IsWriteBody, laid_out, longest_body, Message},
+  bac_pdu.specs.{message, network_address, NetworkAddress, Order, order, order_parameters, Range, read_octets, read_of},
+  bac_pdu.specs.{ReadAck, ReadFault, Reference, reference, reference_parameters, RejectReason, Station, station, Takes},
+  bac_pdu.specs.{who_is_octets, who_is_of, WhoIs, wrapped, write_octets, write_of, WriteFault},
+  bac_pdu.specs.declared.discovery.WhoIs.TheVariants.All,
 };
 
 use crate::apdu::{Apdu, LONGEST_BODY, Part};

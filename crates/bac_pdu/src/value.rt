@@ -2,7 +2,7 @@
 
 ghost use Rattle.std.specs.Prelude.{◌≡◌, option_map};
 ghost use Rattle.bac_wire.specs.Identifier.{identifier};
-ghost use Rattle.bac_wire.specs.ParameterReading.{kind_at, unsigned_in, enumerated_in, object_in};
+ghost use Rattle.bac_wire.specs.ParameterReading.{enumerated_in, kind_at, object_in, unsigned_in};
 
 use bac_wire::{ObjectId, Value, value_and_rest};
 

@@ -1,5 +1,6 @@
 -- A slot of the table that holds no request.
-use Rattle.{std.specs.Prelude.{[], None}, bac_tsm.specs.Machine.Waiting}
+use Rattle.std.specs.Prelude.{[], None}
+use Rattle.bac_tsm.specs.Machine.{Waiting}
 
 -- A blank, which is read at a slot that is not there.
 abbrev pub nothing : Waiting

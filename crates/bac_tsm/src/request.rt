@@ -1,10 +1,8 @@
 //! An open request, with the datagram that it is sent as.
 
-ghost use Rattle.{
-  std.specs.Prelude.{◌≡◌, ◌<◌, ◌≤◌, suc, length},
-  bac_pdu.specs.{Apdu.longest_body, Peer.station},
-  bac_tsm.specs.{Machine.{is_due, due_entry}, Answers.octets_of, Client.client_rules, Inner.Waiting.begun},
-};
+ghost use Rattle.std.specs.Prelude.{◌<◌, ◌≡◌, ◌≤◌, length, suc};
+ghost use Rattle.bac_pdu.specs.{Apdu.longest_body, Peer.station};
+ghost use Rattle.bac_tsm.specs.{client_rules, due_entry, is_due, octets_of, Inner.begun};
 
 use crate::config::Config;
 use crate::due::DueEntry;

@@ -1,6 +1,6 @@
 -- One writer after another.
-use Rattle.std.proofs.Common.{◌≡◌, ℕ, List, ◌++◌, Result, Ok, Err, subst, append_assoc, length-append, arith}
-use Rattle.std.{proofs.lemmas.List.{append-nil, take_at, take_all, take-take}, specs.Result.IsErr}
+use Rattle.std.proofs.Common.{◌++◌, ◌≡◌, append_assoc, arith, Err, length-append, List, Ok, Result, subst, ℕ}
+use Rattle.std.{proofs.lemmas.List.{append-nil, take-take, take_all, take_at}, specs.Result.IsErr}
 use Rattle.bac_wire.specs.{Appends, Inner.AppendsFront}
 
 -- who appends all or nothing appends a front

@@ -1,5 +1,6 @@
 -- An object's identifier: its type and its instance (ANSI/ASHRAE 135, 20.2.14).
-use Rattle.{std.specs.Prelude.{ℕ, ◌+◌, ◌*◌, ◌^◌, ◌<◌, ◌/◌, ◌%◌}, bac_wire.specs.declared.object_id.ObjectId.ObjectId}
+use Rattle.std.specs.Prelude.{◌%◌, ◌*◌, ◌+◌, ◌/◌, ◌<◌, ◌^◌, ℕ}
+use Rattle.bac_wire.specs.declared.object_id.ObjectId.{ObjectId}
 
 -- An identifier as two numbers.
 pub record Identifier : Type 0 where

@@ -1,16 +1,15 @@
 //! Examples of the octets of values and of parameters, worked out by computation. They show what the definitions mean.
 
-ghost use Rattle.{
-  std.specs.Prelude.{◌≡◌, ◌-◌, ◌^◌, [], ◌∷◌, negsuc, true, nat_eq},
-  bac_wire.specs.{App, null, boolean, unsigned, signed, real, char_string, bit_string, enumerated, object, datum},
-  bac_wire.specs.{IsDatum, IsSound, Spells, value_at, region_at, IsIdentifier, deepest, frame_room, enclosed_octets},
-  bac_wire.specs.{number_octets, object_octets, SpellsContext, SpellsIn, SpellsEnclosed, enclosed_at, number_at},
-  bac_wire.specs.{object_at, SpellsTag, IsTag, Appends, MakesCopies, EqualsBy, IsPrefixFree, IsReader, FindsFront},
-  bac_wire.specs.{SpellsAll, IsShortest, IsReadBack, AreOctets, IsItem, IsRegion, IsClosedRegion, FindsRegion},
-  bac_wire.specs.{LeavesRest, SpellsClosed, Opens, declared.value.Value.TheVariants.Unsigned},
-  bac_wire.specs.Inner.{WritesValue, input, device, unsigned_tag, SpellsOne, SpellsAny, first_at, nothing_at, zero_at},
-  bac_wire.specs.Inner.{always, never, Same, Any, Free, Costly, written, refused},
-};
+ghost use Rattle.std.specs.Prelude.{[], ◌-◌, ◌^◌, ◌∷◌, ◌≡◌, nat_eq, negsuc, true};
+ghost use Rattle.bac_wire.specs.{App, Appends, AreOctets, bit_string, boolean, char_string, datum, deepest};
+ghost use Rattle.bac_wire.specs.{enclosed_at, enclosed_octets, enumerated, EqualsBy, FindsFront, FindsRegion};
+ghost use Rattle.bac_wire.specs.{frame_room, IsClosedRegion, IsDatum, IsIdentifier, IsItem, IsPrefixFree, IsReadBack};
+ghost use Rattle.bac_wire.specs.{IsReader, IsRegion, IsShortest, IsSound, IsTag, LeavesRest, MakesCopies, null};
+ghost use Rattle.bac_wire.specs.{number_at, number_octets, object, object_at, object_octets, Opens, real, region_at};
+ghost use Rattle.bac_wire.specs.{signed, Spells, SpellsAll, SpellsClosed, SpellsContext, SpellsEnclosed, SpellsIn};
+ghost use Rattle.bac_wire.specs.{SpellsTag, unsigned, value_at, declared.value.Value.TheVariants.Unsigned};
+ghost use Rattle.bac_wire.specs.Inner.{always, Any, Costly, device, first_at, Free, input, never, nothing_at, refused};
+ghost use Rattle.bac_wire.specs.Inner.{Same, SpellsAny, SpellsOne, unsigned_tag, WritesValue, written, zero_at};
 
 // What is written of a value, and read back (ANSI/ASHRAE 135, 20.2.2 to 20.2.14).
 #[tactic(none)]

@@ -1,8 +1,8 @@
 //! Where the items of a service body end, passed over by their lengths.
 
-ghost use Rattle.std.specs.Prelude.{◌≡◌, ◌↔◌, ◌+◌, ◌*◌, ◌<◌, ◌≤◌, List, ℕ, IfSome, IsTrue, length, option_map};
-ghost use Rattle.bac_wire.specs.{deepest, tag_at, behind_closing, IsRegion, FindsRegion, LeavesRest};
-ghost use Rattle.bac_wire.specs.Inner.{Finds, CountsBehind, LeavesBehind, ReadsTwice};
+ghost use Rattle.std.specs.Prelude.{◌*◌, ◌+◌, ◌<◌, ◌↔◌, ◌≡◌, ◌≤◌, IfSome, IsTrue, length, List, option_map, ℕ};
+ghost use Rattle.bac_wire.specs.{behind_closing, deepest, FindsRegion, IsRegion, LeavesRest, tag_at};
+ghost use Rattle.bac_wire.specs.Inner.{CountsBehind, Finds, LeavesBehind, ReadsTwice};
 
 use crate::tag::{Shape, Tag, tag_and_rest};
 use crate::work::Work;

@@ -1,16 +1,14 @@
 //! What holds of the definitions that the contracts cite, and of the clones and the `==` of the public types. Each
 //! function has an empty body, and its clauses are the laws.
 
-ghost use Rattle.{
-  std.specs.Prelude.{◌≡◌, ℕ, ◌+◌, ◌^◌, ◌<◌, ◌≤◌, ◌↔◌, List, [], ◌++◌, length},
-  bac_wire.specs.declared.tag.Tag.Tag,
-  bac_wire.specs.{frame_room, deepest, IsPrefixFree, IsReadBack, IsReader, IsShortest, SpellsAll, SpellsTag, IsTag},
-  bac_wire.specs.{plain_tag, tag_at, IsIdentifier, identifier, IsDatum, IsSound, Spells, datum, plain, enumerated},
-  bac_wire.specs.{object, value_at, values_of, IsItem, IsRegion, IsClosedRegion, LeavesRest, Opens, SpellsClosed},
-  bac_wire.specs.{closing_tag, behind_items, region_at, SpellsContext, SpellsIn, SpellsEnclosed, number_octets},
-  bac_wire.specs.{object_octets, enclosed_octets, MakesCopies, EqualsBy, context_at, number_at, object_at, enclosed_at},
-  bac_wire.specs.{Identifier.Identifier, Datum.Datum},
-};
+ghost use Rattle.std.specs.Prelude.{[], ◌++◌, ◌+◌, ◌<◌, ◌^◌, ◌↔◌, ◌≡◌, ◌≤◌, length, List, ℕ};
+ghost use Rattle.bac_wire.specs.{behind_items, closing_tag, context_at, datum, deepest, enclosed_at, enclosed_octets};
+ghost use Rattle.bac_wire.specs.{enumerated, EqualsBy, frame_room, identifier, IsClosedRegion, IsDatum, IsIdentifier};
+ghost use Rattle.bac_wire.specs.{IsItem, IsPrefixFree, IsReadBack, IsReader, IsRegion, IsShortest, IsSound, IsTag};
+ghost use Rattle.bac_wire.specs.{LeavesRest, MakesCopies, number_at, number_octets, object, object_at, object_octets};
+ghost use Rattle.bac_wire.specs.{Opens, plain, plain_tag, region_at, Spells, SpellsAll, SpellsClosed, SpellsContext};
+ghost use Rattle.bac_wire.specs.{SpellsEnclosed, SpellsIn, SpellsTag, tag_at, value_at, values_of, Datum.Datum};
+ghost use Rattle.bac_wire.specs.{declared.tag.Tag.Tag, Identifier.Identifier};
 
 use crate::frame::{FRAME_OCTETS, Full};
 use crate::items::NESTING;

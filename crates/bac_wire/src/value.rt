@@ -1,10 +1,10 @@
 //! Values under an application tag, read and written.
 
-ghost use Rattle.std.specs.{Prelude.{◌≡◌, ◌<◌, ◌≤◌, ◌^◌, ◌++◌, ◌↔◌, IsTrue, IfSome, length, OnOk, option_map}, Int.w64};
+ghost use Rattle.std.specs.{Int.w64, Prelude.{◌++◌, ◌<◌, ◌^◌, ◌↔◌, ◌≡◌, ◌≤◌, IfSome, IsTrue, length, OnOk, option_map}};
 ghost use Rattle.byteorder.specs.Endian.{big_bytes, low_bytes, twos_complement};
-ghost use Rattle.bac_wire.specs.{FindsFront, IsShortest, IsReadBack, Spells, datum, IsSound, InRange, plain, boolean};
-ghost use Rattle.bac_wire.specs.{null, octet_count, signed_count, identifier, number_of, exactly, number_within};
-ghost use Rattle.bac_wire.specs.{bits_of, contents_of, value_at, Appends, Inner.tagged};
+ghost use Rattle.bac_wire.specs.{Appends, bits_of, boolean, contents_of, datum, exactly, FindsFront, identifier};
+ghost use Rattle.bac_wire.specs.{InRange, IsReadBack, IsShortest, IsSound, null, number_of, number_within, octet_count};
+ghost use Rattle.bac_wire.specs.{plain, signed_count, Spells, value_at, Inner.tagged};
 
 use crate::frame::{FRAME_OCTETS, Frame, Full};
 use crate::object_id::ObjectId;

@@ -1,5 +1,6 @@
 -- Notes as a watcher is told them.
-use Rattle.{std.specs.Prelude.{ℕ, List, map}, bac_tsm.specs.Events.Note}
+use Rattle.std.specs.Prelude.{List, map, ℕ}
+use Rattle.bac_tsm.specs.Events.{Note}
 
 -- These notes, at this position.
 abbrev pub noted_at : ℕ → List Note → List (ℕ × Note)

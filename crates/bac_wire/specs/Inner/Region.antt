@@ -1,5 +1,6 @@
 -- One step over items: behind counted octets, or behind one item.
-use Rattle.{std.specs.Prelude.{◌≡◌, ℕ, ◌≤◌, List, ◌++◌, length, drop}, bac_wire.specs.Region.IsItem}
+use Rattle.std.specs.Prelude.{◌++◌, ◌≡◌, ◌≤◌, drop, length, List, ℕ}
+use Rattle.bac_wire.specs.Region.{IsItem}
 
 -- The rest is what stands behind this many octets.
 pub record CountsBehind (count : ℕ) (octets rest : List ℕ) : Type 0 where

@@ -1,5 +1,6 @@
 -- Each row computes from the device after the writes of the rows before it.
-use Rattle.{std.proofs.Common.refl, bac_device.proofs.Computed.computed}
+use Rattle.std.proofs.Common.{refl}
+use Rattle.bac_device.proofs.Computed.{computed}
 use Rattle.bac_device.proofs.examples.examples_of_writes.Goals as goal
 
 pub returns : goal.returns
