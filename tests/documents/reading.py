@@ -18,7 +18,7 @@ import sys
 import textwrap
 
 sys.path.insert(0, os.path.dirname(__file__) + "/..")
-from sources import CLAUSE, CRATES, SOURCES, SPECS, TOKEN, USE, Declared, Definition, Item
+from sources import CLAUSE, CRATES, ROOMS, SOURCES, SPECS, TOKEN, USE, Declared, Definition, Item
 from sources import closed, code_of, defined, parts_of, public_calls, read_tree, uses_in
 from tree import TOP, text_of, write
 
@@ -179,7 +179,7 @@ def unused_or_gone():
             for module, name, here, public in uses_in(uses):
                 if not public and not {*parts_of(here)} <= said:
                     yield f"{path} brings in what it doesn't say: {here}"
-                if name and module in SPECS and not defined(module, name):
+                if name and module in {*SPECS, *ROOMS} and not defined(module, name):
                     yield f"{path} brings in {name}, which {module} hasn't"
 
 

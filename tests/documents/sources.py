@@ -20,10 +20,11 @@ from tree import all_crates, text_of
 CRATES = all_crates()
 OUTSIDE = {"std", "core", *itertools.chain(*CRATES.values())} - {*CRATES}
 SPECS = {}  # the file of each module of specs/
+ROOMS = {}  # of specs/ and specs/Inner the modules that it passes on, and the names of src/ beside them
 SOURCES = {}  # the files of src/, by their paths
 RUST = {}  # what src/ defines, by crate and name
 MEMBERS = {}  # the ghost members of impl blocks, by type, trait and name
-STD = set("""Option Some None Result Ok Err Vec String Box Drop Copy Clone Debug Default Iterator IntoIterator FnOnce
+STD = set("""Option Result Vec String Box Drop Copy Clone Debug Default Iterator IntoIterator FnOnce
     FnMut Fn From Into Sized PartialEq Eq PartialOrd Ord Send Sync AsRef ToOwned TryFrom TryInto HostRuntime""".split())
 CONSTRUCTORS = {"true", "false", "zero", "suc", "pos", "negsuc", "tt"}  # of std, in small letters
 
@@ -74,7 +75,7 @@ def uses_in(code):
     module itself, None stands for the name."""
     for public, path, group, alias in USE.findall(code):
         for leaf in leaves(f"{path}.{group}") if group else ():
-            there, _, here = leaf.partition(" as ")
+            there, _, here = leaf.removeprefix("Rattle.").partition(" as ")
             module, _, name = there.rpartition(".")
             yield module, name, here or name, bool(public)
         if not group:
@@ -315,7 +316,19 @@ def defined(module, name):
     if ".declared" in module:  # a type of src/, also by its variants and views, or a constant
         *_, last = (part for part in module.split(".") if part not in ("TheVariants", "TheViews"))
         return in_crate(crate, [name if last == "TheConstants" else last])
+    if module in ROOMS:
+        modules, names = ROOMS[module]
+        found = (SPECS[it].find(name) for it in modules)
+        return defined(*names[name]) if name in names else next(filter(None, found), None)
     return SPECS[module].find(name) if module in SPECS else None
+
+
+def passed_on(path):
+    """The modules that specs/Lib or specs/Inner passes on whole, and the names that it passes on."""
+    room = path[len("crates/") :].removesuffix(".antt").removesuffix("/Lib").replace("/", ".")
+    uses = [it for it in uses_in(code_of(path)) if it[3]]
+    modules = [f"{room}.{module[:-2]}" for module, name, *_ in uses if not name]
+    return room, (modules, {here: (module, name) for module, name, here, _ in uses if name})
 
 
 def in_crate(crate, parts):
@@ -330,7 +343,10 @@ def in_crate(crate, parts):
 def read_tree():
     for crate in CRATES:
         for path in sorted(glob.glob(f"crates/{crate}/specs/**/*.antt", recursive=True)):
-            if not path.endswith(("specs/Lib.antt", "specs/Inner.antt")):
+            if path.endswith(("specs/Lib.antt", "specs/Inner.antt")):
+                room, passed = passed_on(path)
+                ROOMS[room] = passed
+            else:
                 file = Specs(crate, path)
                 SPECS[file.module] = file
         for path in sorted(glob.glob(f"crates/{crate}/src/**/*.rt", recursive=True)):

@@ -1,14 +1,14 @@
 //! The reply to a datagram.
 
-ghost use Rattle.std.specs.Prelude.{◌≡◌, ◌<◌, ◌≤◌, ◌+◌, ◌*◌, List, [], length, IfOk, IfSome, IfNone, OnOk, OnErr};
-ghost use Rattle.std.specs.Option.{option_map};
-ghost use Rattle.bac_wire.specs.{Limits.frame_room, Identifier.identifier, Steps.result_seen};
-ghost use Rattle.bac_pdu.specs.{Apdu.{laid_out, reject, error}, Peer.station, Property.reference, Failure.error_octets};
+ghost use Rattle.std.specs.Prelude.{[], ◌*◌, ◌+◌, ◌<◌, ◌≡◌, ◌≤◌, IfNone, IfOk, IfSome, length, List, OnErr, OnOk};
+ghost use Rattle.std.specs.Prelude.{option_map};
+ghost use Rattle.bac_pdu.specs.{Apdu.{error, laid_out, reject}, Failure.error_octets, Peer.station, Property.reference};
 ghost use Rattle.bac_pdu.specs.Reject.{reason_number};
-ghost use Rattle.bac_device.specs.{Places.Write, Inner.Property.{property_seen, IsSoundProperty}};
-ghost use Rattle.bac_device.specs.{Failure.{error_class, error_code}, Device.{Holds, points_of, device_after}};
-ghost use Rattle.bac_device.specs.{Size.ReplyFits, Access.read_property};
-ghost use Rattle.bac_device.specs.Inner.Reply.{ordered_write, reply_apdu, whole_reply, write_in_apdu, write_in_body};
+ghost use Rattle.bac_wire.specs.{Identifier.identifier, Limits.frame_room, Steps.result_seen};
+ghost use Rattle.bac_device.specs.{device_after, error_class, error_code, Holds, points_of, read_property, ReplyFits};
+ghost use Rattle.bac_device.specs.{Write};
+ghost use Rattle.bac_device.specs.Inner.{IsSoundProperty, property_seen, reply_apdu, write_in_apdu, write_in_body};
+ghost use Rattle.bac_device.specs.Inner.Reply.{ordered_write, whole_reply};
 ghost use Rattle.bac_device.specs.Reply as spec;
 
 use crate::device::Device;

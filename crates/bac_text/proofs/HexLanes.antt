@@ -1,16 +1,14 @@
 -- Digits as octets, by lanes.
-use Rattle.std.proofs.{
-  Common.{◌≡◌, ℕ, ◌+◌, ◌*◌, ◌%◌, ◌<◌, ◌≤◌, cond, List, [], ◌∷◌, map, ◌++◌, length, take, get_or, true, false, suc},
-  Common.{Some, None, Ok, refl, arith, ap},
-  lemmas.{List.length-take-le, Simd.{length-chunk, splat_is_map, zip2_splat, zip2_of_maps}, Nat.and_mask},
-  lemmas.List.Folds.list_all_at,
+use Rattle.{
+  std.proofs.Common.{◌≡◌, ℕ, ◌+◌, ◌*◌, ◌%◌, ◌<◌, ◌≤◌, cond, List, [], ◌∷◌, map, ◌++◌, length, take, get_or, true},
+  std.proofs.{Common.{false, suc, Some, None, Ok, refl, arith, ap}, lemmas.List.length-take-le},
+  std.proofs.lemmas.{Simd.{length-chunk, splat_is_map, zip2_splat, zip2_of_maps}, Nat.and_mask, List.Folds.list_all_at},
+  std.specs.{Prelude.{◌-◌, nat_lt, not, bit_and, bit_or}, Result.result_ok},
+  bac_wire.proofs.Pieces.{same_below, one_more},
+  hex.specs.Hex.{is_hex_digit, hex_digit_value, decode_pairs, decode_of},
+  bac_text.{specs.Inner.{number_by_lane, octets_by_lanes}, proofs.{HexText.others_refused, Lanes.lane_is}},
 }
-use Rattle.std.specs.{Prelude.{◌-◌, nat_lt, not, bit_and, bit_or}, Result.result_ok}
 use lib.{Lanes.{chunk, put_chunk, top, zip2}, ListN.replicate}
-use Rattle.hex.specs.Hex.{is_hex_digit, hex_digit_value, decode_pairs, decode_of}
-use Rattle.bac_text.{specs.Inner.HexLanes.{number_by_lane, octets_by_lanes}, proofs.HexText.others_refused}
-use Rattle.bac_text.proofs.Lanes.{lane_is}
-use Rattle.bac_wire.proofs.Pieces.{same_below, one_more}
 
 number_is : (digit : ℕ)
     → (bit_and digit 15 + cond (top 7 (cond (nat_lt 63 digit) 255 0)) 9 0) % 256 ≡ number_by_lane digit

@@ -1,11 +1,9 @@
 -- Numbers at the front of a text.
-use Rattle.std.proofs.{
-  Common.{◌≡◌, ℕ, zero, suc, ◌+◌, ◌-◌, ◌*◌, ◌<◌, ◌≤◌, true, List, length, take, drop, get_or, Some, None, refl, arith},
-  Common.add-one,
-  lemmas.{Bool.eq-eqb, Bool.Decides.nat_tests, List.{take_all, take_rest, length-take-le}},
-}
-use Rattle.std.specs.{Prelude.{if◌then◌else◌, ◌==◌, nat_le}, Str.all_ascii_digits, Str.Parse.digits_value}
-use Rattle.bac_text.specs.{Address.{short_number, number_before_dot}, Inner.Address.digit, Inner.Leading.IsLeading}
+use Rattle.std.proofs.Common.{◌≡◌, ℕ, zero, suc, ◌+◌, ◌-◌, ◌*◌, ◌<◌, ◌≤◌, true, List, length, take, drop, get_or, Some}
+use Rattle.std.proofs.{Common.{None, refl, arith, add-one}, lemmas.Bool.{eq-eqb, Decides.nat_tests}}
+use Rattle.std.{proofs.lemmas.List.{take_all, take_rest, length-take-le}, specs.Prelude.{if◌then◌else◌, ◌==◌, nat_le}}
+use Rattle.std.specs.Str.{all_ascii_digits, Parse.digits_value}
+use Rattle.bac_text.specs.{short_number, number_before_dot, Inner.{digit, IsLeading}}
 use Rattle.bac_text.proofs.{NumberLemmas.{others_are, digit_in, digits_next, value_next}, Lanes.position_is}
 
 -- The greatest number of so many digits.

@@ -3,8 +3,7 @@ use Rattle.std.proofs.Common.{◌≡◌, ℕ, ◌+◌, ◌*◌, ◌<◌, ◌≤�
 use Rattle.std.proofs.Common.{Some, Result, Ok, Err, refl, sym, ◌∙◌, ap, arith, append-nil, append_assoc, length-append}
 use Rattle.std.{proofs.lemmas.List.{drop-drop, drop_all}, specs.List.flat_map}
 use Rattle.bac_wire.specs.{Datum.{Datum, plain}, Tag.plain_tag}
-use Rattle.bac_text.specs.{declared.pairs.PairFault.TheVariants.Bad, ValueWords.value_in, Inner.ValueWords.appended}
-use Rattle.bac_text.specs.{Inner.Pairs.region_of, Pairs.pairs_from}
+use Rattle.bac_text.specs.{Bad, value_in, pairs_from, Inner.{appended, region_of}}
 use Rattle.bac_text.specs.declared.value_words.ValueFault.TheVariants as faults
 
 -- ---- one more value behind others

@@ -1,13 +1,13 @@
 -- The words_of of a text, from its front.
-use Rattle.std.proofs.{
-  Common.{◌≡◌, ℕ, suc, ◌+◌, ◌≤◌, Bool, true, false, List, [], ◌∷◌, length, take, drop, get_or, Some, None, refl, sym},
-  Common.{◌∙◌, ap, subst, arith, drop-cons},
-  lemmas.{List.Sums.{prefix_len-le-length, count_by-le-length, length-filter}, List.Quantifiers.position-Some},
-  lemmas.{List.{drop_all, take_rest}, List.Splits.{slice_split-cons_yes, slice_split-cons_no, length-slice_split}},
-  lemmas.Bool.not-true,
+use Rattle.{
+  std.proofs.Common.{◌≡◌, ℕ, suc, ◌+◌, ◌≤◌, Bool, true, false, List, [], ◌∷◌, length, take, drop, get_or, Some, None},
+  std.proofs.Common.{refl, sym, ◌∙◌, ap, subst, arith, drop-cons},
+  std.proofs.lemmas.List.{Sums.{prefix_len-le-length, count_by-le-length, length-filter}, Quantifiers.position-Some},
+  std.proofs.lemmas.List.{drop_all, take_rest, Splits.{slice_split-cons_yes, slice_split-cons_no, length-slice_split}},
+  std.{proofs.lemmas.Bool.not-true, specs.Prelude.{not, filter, position, unwrap_or}},
+  std.specs.List.{slice_split, onto_first, position_or_len},
+  bac_text.specs.{words_of, is_blank, Inner.is_not_empty},
 }
-use Rattle.std.specs.{Prelude.{not, filter, position, unwrap_or}, List.{slice_split, onto_first, position_or_len}}
-use Rattle.bac_text.specs.{Words.{words_of, is_blank}, Inner.Words.is_not_empty}
 
 -- how many blanks stand first, and how many other octets
 abbrev blanks : List ℕ → ℕ

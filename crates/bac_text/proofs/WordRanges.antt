@@ -2,9 +2,9 @@
 use Rattle.std.proofs.Common.{◌≡◌, ℕ, ◌+◌, ◌≤◌, Bool, List, [], ◌∷◌, length, Option, Result, arith, length-append}
 use Rattle.std.{proofs.lemmas.Bool.Decides.nat_tests, specs.Prelude.{◌==◌, if◌then◌else◌, option_map, IfSome, IfOk}}
 use Rattle.std.specs.{List.{AllByRecursion, flat_map}, Result.result_ok}
-use Rattle.hex.{proofs.HexLemmas.{decode_of-ok, decode_sized-ok, decode_sized-twice}, specs.Hex.decode_sized}
 use Rattle.bac_wire.{specs.Datum.{Datum, signed, InRange, IsDatum, plain}, proofs.PlainDatum.written_datum}
-use Rattle.bac_text.specs.{ValueWords.{signed_in, value_under}, Pairs.{value_before, pairs_from, values_in}}
+use Rattle.hex.{specs.Hex.decode_sized, proofs.HexLemmas.{decode_of-ok, decode_sized-ok, decode_sized-twice}}
+use Rattle.bac_text.specs.{signed_in, value_under, value_before, pairs_from, values_in}
 
 either : (b : Bool) (x y : Option Datum) → IfSome x InRange → IfSome y InRange → IfSome (if b then x else y) InRange
 either = grind arith

@@ -1,8 +1,10 @@
 //! A peer as it is written.
-ghost use Rattle.std.specs.Prelude.{◌≡◌, ◌≤◌, IfSome, option_map};
-ghost use Rattle.bac_pdu.specs.Peer.{station, network_address};
-ghost use Rattle.bac_text.specs.{Inner.Words.octets_in, Address.{cut_at, short_number, number_before_dot, address_of}};
-ghost use Rattle.bac_text.specs.{Address.{routable, plain_peer_of, route_of, peer_of}, Inner.Address.digit};
+ghost use Rattle.{
+  std.specs.Prelude.{◌≡◌, ◌≤◌, IfSome, option_map},
+  bac_pdu.specs.Peer.{station, network_address},
+  bac_text.specs.Inner.{octets_in, digit},
+  bac_text.specs.{cut_at, short_number, number_before_dot, address_of, routable, plain_peer_of, route_of, peer_of},
+};
 
 use crate::hex_digits::{HexDigits, read_hex};
 use crate::numbers::{leading_number, read_number};

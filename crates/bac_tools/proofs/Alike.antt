@@ -33,7 +33,8 @@ use Rattle.bac_run.specs.declared.fault.RunFault.{RunFault}
 use Rattle.bac_run.specs.declared.fault.RunFault.TheVariants.{Link, Script}
 use Rattle.bac_run.specs.Fault.{write_failed}
 use Rattle.bac_run.specs.Run.{Runs as Requested, journal_of}
-use Rattle.bac_run.proofs.GoOn.{IsCutShort as IsBatchCut, IsTaken, Meets, one_text as one_journal, runs_on, taken}
+use Rattle.bac_run.proofs.GoOn.{IsCutShort as IsBatchCut, IsTaken, one_text as one_journal, runs_on, taken}
+use Rattle.bac_run.proofs.Standing.{Meets}
 use Rattle.bac_tools.proofs.Sessions.{one_session}
 use Rattle.bac_run.specs.declared.session.Session.{Session}
 use Rattle.bac_tools.specs.declared.report.Fault.TheVariants as faults
