@@ -2,17 +2,13 @@
 """Gives the built program random input, and follows what it answers and prints: the lines and datagrams of the rows
 that it is tried by, as they are and damaged.
 
-Usage: bench/soak.py device DATAGRAMS [SEED], script LINES [SEED], runs RUNS [SEED], or readers ANSWERS [SEED]; BACTOOL
-names another program than the tree's.
+Usage: bench/soak.py device DATAGRAMS [SEED], runs RUNS [SEED], or readers ANSWERS [SEED]; BACTOOL names another program
+than the tree's.
 
 `device` sends datagrams to bacdev over 127.0.0.1, and reads every reply. What each must get is told from what bacsite
 reads of it, by the rules of docs/PROTOCOL.md: silence, an I-Am, or one reply to its confirmed request, to its own
 invoke id and of no more octets than it announced. Everything stays on this machine: a forwarded datagram names
 127.0.0.1 as its originator, or port 0 there.
-
-`script` runs one long script through bactrace, and follows each request through what it prints. Each line but a tick
-prints one line. A request that is sent gets the next ticket, and is sent again three times at most; it ends once, and
-only while it is open; at most 64 are open, under different invoke numbers, and `full` comes only where 64 are.
 
 `runs` runs bacrun over random requests, against two peers that answer, lose, double, hold back and damage what they
 send, and looks at each run as tests/program/runs.py does: bactrace prints the remarks of its journal, octet for octet.
@@ -39,7 +35,7 @@ from bacsite.bodies import parameters, read_ack
 from bacsite.messages import CONFIRMED, DISTRIBUTE, UNCONFIRMED, UNICAST, Datagram, message_of
 from rows import row_cases
 from runs import check, run
-from tree import PROGRAM, TOP, WRONG, device, local_socket, resident
+from tree import PROGRAM, TOP, WRONG, device, local_socket
 
 # ---- random datagrams ----
 
@@ -180,16 +176,7 @@ def soak_device(dice, left):
     return counts
 
 
-# ---- scripts ----
-
-PLACES, RETRIES = 64, 3
-BLOCK = 200
-# Each block ends by a question, whose answer says that all before it has been printed.
-ASK, REPLY = "ask 127.0.0.9:9 810a001101040005010c0c000000051955", "reply 127.0.0.9:9 810a0017010030010c"
-PRINTED = re.compile(
-    r"send \d+ \S+ [0-9a-f]+|done \d+ .+|timeout \d+|full|too-long|drop|silent|reply \S+ 810a[0-9a-f]+"
-)
-
+# ---- runs ----
 
 def answers_among(datagrams):
     """The answers among these, each with the place of its invoke number."""
@@ -202,78 +189,6 @@ def any_answer(dice, answers, number):
     octets = octets[:at] + bytes([number]) + octets[at + 1 :]
     return (damaged(dice, octets) if dice.random() < 0.2 else octets).hex()
 
-
-def pool(dice):
-    """Lines to choose from, but for ticks, in the shares that they are to have. An answer has any invoke number."""
-    asks, datagrams = known()
-    peers, answers = [line.split()[1].split("/")[0] for line in asks], answers_among(datagrams)
-    lines = dice.choices(asks, k=6000) + ["", "# a comment", "  \t"]
-    for _ in range(24000):
-        lines.append(f"data {dice.choice(peers)} {any_answer(dice, answers, dice.randrange(256)) or '81'}")
-    for _ in range(6000):
-        lines.append(f"ask {dice.choice(peers)} {any_datagram(dice, datagrams, 47808).hex() or '81'}")
-    return lines
-
-
-class Followed:
-    """What the printed lines say of the requests: those that are open, each with its datagram, its number, and how
-    often it was sent again."""
-
-    def __init__(self):
-        self.open, self.next, self.counts = {}, 0, Counter()
-
-    def holds(self, line):
-        """Whether a line fits those before it."""
-        if not PRINTED.fullmatch(line):
-            return False
-        word, *words = line.split(" ", 2)
-        self.counts[word] += 1
-        if word not in ("send", "done", "timeout"):
-            return word != "full" or len(self.open) == PLACES
-        ticket = int(words[0])
-        if word == "send" and ticket == self.next:
-            number = read(bytes.fromhex(words[1].split()[1])).apdu.invoke
-            is_free = len(self.open) < PLACES and all(number != it[1] for it in self.open.values())
-            self.open[ticket], self.next = [words[1], number, 0], ticket + 1
-            return is_free
-        datagram, number, again = self.open.pop(ticket, (None, None, None))
-        if word == "send" and datagram:
-            self.counts["sent again"] += 1
-            self.open[ticket] = [datagram, number, again + 1]
-            return words[1] == datagram and again < RETRIES
-        return bool(datagram) and (word == "done" or again == RETRIES)
-
-    def asked(self):
-        """The lines of the script that these lines answer."""
-        return sum(self.counts.values()) - 2 * self.counts["sent again"] - self.counts["timeout"]
-
-
-def soak_script(dice, lines):
-    """Runs a script of so many lines, with a tick now and then, and counts what it prints."""
-    seen, chosen, asked, now = Followed(), pool(dice), 0, 0
-    how = {"stdin": subprocess.PIPE, "stdout": subprocess.PIPE, "text": True}
-    with subprocess.Popen([PROGRAM, "bactrace"], **how) as process:
-        for _ in range(0, lines, BLOCK):
-            part = dice.choices(chosen, k=BLOCK)
-            for at in range(0, BLOCK, 20):
-                now += dice.choice([0, 1, 50, 200, 3000 if dice.random() < 0.02 else 100])
-                part[at] = f"tick {now}"
-            asked += sum(line.startswith(("read", "write", "data", "ask")) for line in part)
-            process.stdin.write("\n".join([*part, ASK, ""]))
-            process.stdin.flush()
-            while not (line := process.stdout.readline()).startswith(REPLY):
-                if not seen.holds(line.rstrip("\n")):
-                    sys.exit(f"does not fit: {line!r}; it was printed over:\n" + "\n".join(part))
-            if seen.asked() != asked:
-                sys.exit(f"{seen.asked()} lines printed for {asked}, the last of them:\n" + "\n".join(part))
-        seen.counts["KB of memory at most"] = resident(process)
-        process.stdin.close()
-        if process.wait(10) != 0:
-            sys.exit(f"status {process.returncode}")
-    return seen.counts
-
-
-# ---- runs ----
 
 def plan(dice, answers):
     """What the peers do with each datagram that they hear, as tests/program/runs.txt has it: mostly they answer it."""
@@ -347,8 +262,7 @@ def soak_readers(dice, count):
 def main(what, count, seed=random.randrange(1 << 32)):
     print(f"seed {seed}", flush=True)
     begun = time.time()
-    kinds = {"device": (soak_device, "datagrams"), "script": (soak_script, "lines")}
-    kinds |= {"runs": (soak_runs, "runs"), "readers": (soak_readers, "answers")}
+    kinds = {"device": (soak_device, "datagrams"), "runs": (soak_runs, "runs"), "readers": (soak_readers, "answers")}
     soaked, unit = kinds[what]
     counts = soaked(random.Random(int(seed)), int(count))
     print(f"{count} {unit} in {time.time() - begun:.0f} s")
