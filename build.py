@@ -1,18 +1,14 @@
 #!/usr/bin/env python3
 """Proves the crates that the program rests on, and builds the program. Usage: ./build.py [--tests]
 
-With --tests it runs the tests of the trials, over what is kept of the crates below, and says how many passed. Those
-of bac_trials are proved the first time. To prove those of tool_trials takes 12 to 19 minutes of processor time: so they
-are run as the sources stand, by `rt try`, until `rt test` was run there.
+With --tests it runs the tests of the trials, over what is kept of the crates below. Those of bac_trials are proved the
+first time; those of tool_trials, which take 12 to 19 minutes of processor time, are run as the sources stand, by
+`rt try`, until `rt test` was run there.
 
-Crates that don't rest on one another are proved side by side, as many as there are processors and memory for, each by
-its share of the processors, rounded up. RT_JOBS is another number of processors to use. There is a line for each crate,
-and one each minute. What the prover says of a crate goes to out/build/CRATE.log; where it refuses a crate, the end of
-that file is shown.
-
-`rt` lets nobody else into a crate that it works in, nor into the crates below. So each crate is proved in a room of its
-own, out/build/CRATE: a copy of the sources, with links to what is built of the crates below. What is kept of the crate
-goes there and comes back.
+Crates that don't rest on one another are proved side by side, as many as there are processors (or RT_JOBS) and memory
+for. `rt` lets nobody else into a crate that it works in, nor into the crates below. So each crate is proved in a room
+of its own, out/build/CRATE: a copy of the sources, with links to what is built of the crates below. What is kept of the
+crate goes there and comes back. What the prover says of a crate goes to out/build/CRATE.log.
 """
 import fcntl
 import os

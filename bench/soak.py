@@ -2,8 +2,7 @@
 """Gives the built program random input, and follows what it answers and prints: the lines and datagrams of the rows
 that it is tried by, as they are and damaged.
 
-Usage: bench/soak.py device DATAGRAMS [SEED], runs RUNS [SEED], or readers ANSWERS [SEED]; BACTOOL names another program
-than the tree's.
+Usage: bench/soak.py device DATAGRAMS [SEED], or runs RUNS [SEED]; BACTOOL names another program than the tree's.
 
 `device` sends datagrams to bacdev over 127.0.0.1, and reads every reply. What each must get is told from what bacsite
 reads of it, by the rules of docs/PROTOCOL.md: silence, an I-Am, or one reply to its confirmed request, to its own
@@ -12,8 +11,6 @@ invoke id and of no more octets than it announced. Everything stays on this mach
 
 `runs` runs bacrun over random requests, against two peers that answer, lose, double, hold back and damage what they
 send, and looks at each run as tests/program/runs.py does: bactrace prints the remarks of its journal, octet for octet.
-
-`readers` has bactrace take odd answers to a read, and compares how each ended the request with what bacsite reads.
 
 It stops at the first that is not so, and shows it.
 """
@@ -30,7 +27,6 @@ from collections import Counter
 
 HERE = os.path.dirname(__file__)
 sys.path[:0] = [HERE + "/../tests", HERE + "/../tests/program", HERE + "/../site"]
-from bacsite.answers import outcome_of
 from bacsite.bodies import parameters, read_ack
 from bacsite.messages import CONFIRMED, DISTRIBUTE, UNCONFIRMED, UNICAST, Datagram, message_of
 from rows import row_cases
@@ -84,14 +80,8 @@ BATCH, BATCHES = 16, 3000  # of datagrams that one bacdev answers, each batch wi
 VENDOR = bytes.fromhex("810a0011010400059b0c0c020004d21978")
 ANNOUNCED = [50, 128, 206, 480, 1024, 1476] + [50] * 10
 I_AM = "1000c4020004d22205c49103220104"
-# Replies to a confirmed request, without its invoke id.
-KINDS = {
-    "SimpleACK": "200f",
-    "ComplexACK": "300c.*",
-    "Error {} {}": "500[cf]91(..)91(..)",
-    "Reject {}": "60(0[45679])",
-    "Abort {}": "71(04)",
-}
+REPLIES = "20ID0f|30ID0c.*|50ID0[cf]91..91..|60ID0[45679]|71ID04"  # to a confirmed request
+KINDS = {"10": "I-Am", "20": "SimpleACK", "30": "ComplexACK", "50": "Error", "60": "Reject", "71": "Abort"}
 
 
 def is_asked(body):
@@ -132,15 +122,10 @@ def kind_of(reply, route, invoke_id, room):
     network = b"\x01\x20" + route + b"\xff" if route else b"\x01\x00"
     head = b"\x81\x0a" + len(reply).to_bytes(2, "big") + network
     octets = reply[len(head) :]
-    if not reply.startswith(head) or len(octets) > room:
-        return None
-    if invoke_id is None:
-        return "I-Am" if octets.hex() == I_AM else None
-    if octets[1:2] != bytes([invoke_id]) or octets[:1] == b"\x30" and not read_ack(octets[3:]):
-        return None
-    without = (octets[:1] + octets[2:]).hex()
-    matches = ((kind, re.fullmatch(form, without)) for kind, form in KINDS.items())
-    return next((kind.format(*(int(it, 16) for it in found.groups())) for kind, found in matches if found), None)
+    form = I_AM if invoke_id is None else re.sub("ID", f"{invoke_id:02x}", REPLIES)
+    is_read = octets[:1] != b"\x30" or bool(read_ack(octets[3:]))
+    is_right = reply.startswith(head) and len(octets) <= room and re.fullmatch(form, octets.hex()) and is_read
+    return KINDS[octets[:1].hex()] if is_right else None
 
 
 def tried(desk, batch):
@@ -222,50 +207,12 @@ def soak_runs(dice, count):
     return counts
 
 
-# ---- the two readers ----
-
-ASKED, HEADS = "127.0.0.9:47808", ["0100"] * 4 + ["0103", "0120ffff00ff", "0157"]
-
-
-def odd_answer(dice, number, body=bytes.fromhex("0c4b00000119553e")):
-    """A datagram that answers a read of a vendor's value, perhaps damaged behind its invoke id."""
-    parts = [bytes([dice.randrange(256)]) + dice.randbytes(dice.randrange(9)) for _ in range(dice.randrange(3))]
-    for tag in dice.choices(range(13), k=dice.randrange(4)):
-        octets = dice.randbytes(dice.choice([1, 4, 4, 8, 20]))
-        parts.append(bytes([tag << 4 | min(len(octets), 5)]) + bytes([len(octets)] * (len(octets) > 4)) + octets)
-    dice.shuffle(parts)
-    whole = bytes([0x30, number, 12]) + body + b"".join(parts) + b"\x3f"
-    if dice.random() < 0.4:
-        whole = whole[:2] + damaged(dice, whole[2:])
-    if dice.random() < 0.1:
-        whole = bytes([dice.choice([0x20, 0x38, 0x50, 0x60, 0x71]), number]) + dice.randbytes(dice.randrange(9))
-    rest = bytes.fromhex(dice.choice(HEADS)) + whole
-    return b"\x81\x0a" + (4 + len(rest)).to_bytes(2, "big") + rest
-
-
-def soak_readers(dice, count):
-    """Each answer meets a request of its own, which a Reject ends where the answer does not."""
-    answers = [odd_answer(dice, (at + 1) % 256) for at in range(count)]
-    ends = ["810a0009010060%02x09" % ((at + 1) % 256) for at in range(count)]
-    lines = (f"read {ASKED} 300 1 85\ndata {ASKED} {it.hex()}\ndata {ASKED} {end}\n" for it, end in zip(answers, ends))
-    done = subprocess.run([PROGRAM, "bactrace"], input="".join(lines), stdout=subprocess.PIPE, text=True, check=True)
-    told, counts = done.stdout.splitlines(), Counter()
-    for at, (octets, line) in enumerate(zip(answers, told[1::3])):
-        apdu = read(octets).apdu
-        taken = bool(apdu and apdu.is_answer and apdu.invoke == (at + 1) % 256 and line != "drop")
-        if line != (f"done {at} {outcome_of(apdu)}" if taken else "drop"):
-            sys.exit(f"{octets.hex()}: bactrace prints {line!r}, bacsite reads {apdu and outcome_of(apdu)!r}")
-        counts[line.split(" ")[2] if taken else line] += 1
-    return counts
-
-
 def main(what, count, seed=random.randrange(1 << 32)):
     print(f"seed {seed}", flush=True)
     begun = time.time()
-    kinds = {"device": (soak_device, "datagrams"), "runs": (soak_runs, "runs"), "readers": (soak_readers, "answers")}
-    soaked, unit = kinds[what]
+    soaked = {"device": soak_device, "runs": soak_runs}[what]
     counts = soaked(random.Random(int(seed)), int(count))
-    print(f"{count} {unit} in {time.time() - begun:.0f} s")
+    print(f"{what}, {count} in {time.time() - begun:.0f} s")
     for kind, number in sorted(counts.items()):
         print(f"{number:9}  {kind}")
 

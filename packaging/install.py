@@ -4,10 +4,9 @@ PREFIX, or takes them away again. Usage: packaging/install.py PROGRAM | --remove
 (/usr/local), DESTDIR, which stands in front of all paths, and ZSH_COMPLETIONS (PREFIX/share/zsh/site-functions), which
 has to lie below PREFIX.
 
-PREFIX/share/bactool/installed lists what was put, by its path behind PREFIX, with a sum of each. A file that is there
-and is not in this list as it stands, such as another vendor's bacrp, is not replaced: all of these are named, and
-nothing is put. FORCE=1 replaces them. What is taken away is what the list has, where it is still as it was put, and
-nothing that is not below PREFIX.
+PREFIX/share/bactool/installed lists what was put, with a sum of each. A file that is there and not in this list as it
+stands, such as another vendor's bacrp, is not replaced: all of these are named, and nothing is put, unless FORCE=1 says
+so. What is taken away is what the list has, where it is still as it was put, and nothing that is not below PREFIX.
 """
 import contextlib
 import os

@@ -7,12 +7,11 @@ import contextlib
 import os
 import re
 import shutil
-import subprocess
 import sys
 import tempfile
 from concurrent.futures import ThreadPoolExecutor
 
-from tree import TOP, end_by_signals, processors, sections_of, text_of, write
+from tree import TOP, end_by_signals, processors, ran, sections_of, text_of, write
 
 NOT_COPIED = shutil.ignore_patterns(".git", "out", "__pycache__", "*_cache")
 
@@ -35,8 +34,7 @@ def missed(command, faults, check):
         tree = f"{room}/tree"
         shutil.copytree(TOP, tree, symlinks=True, ignore=NOT_COPIED, copy_function=os.link)
         lost = [it for row in [*faults, *check] for it in plant(tree, *row[:3])]
-        how = {"stdout": subprocess.PIPE, "stderr": subprocess.STDOUT, "errors": "replace", "timeout": 300}
-        done = subprocess.run([sys.executable, *command], cwd=tree, check=False, **how)
+        done = ran(sys.executable, *command, cwd=tree, timeout=300)
     lost += [message for *_, message in faults if message not in done.stdout]
     return lost if done.returncode else [*lost, "status 0"]
 

@@ -13,7 +13,7 @@ import tempfile
 import time
 from concurrent.futures import ThreadPoolExecutor
 
-from tree import TOP, text_of, write
+from tree import ran, text_of, write
 
 # A false command does what FALSE says of its words: `lib low: exit 1; bad: echo ..` are rules, of which the first whose
 # front the words have is run. Else it does well.
@@ -145,8 +145,7 @@ def without_kit():
     with tempfile.TemporaryDirectory() as room:
         for name in ("sh", "bash", "env", "make", "sed", "find", "python3"):
             os.symlink(sys.executable if name == "python3" else shutil.which(name), f"{room}/{name}")
-        how = {"cwd": TOP, "env": {"PATH": room}, "text": True, "stdout": subprocess.PIPE, "stderr": subprocess.STDOUT}
-        told = lambda *words: subprocess.run(words, check=False, **how)
+        told = lambda *words: ran(*words, env={"PATH": room})
         listed = told("make", "--no-print-directory")
         if listed.returncode or listed.stdout != told("make", "--no-print-directory", "help").stdout:
             yield f"make alone is not make help: status {listed.returncode}: {listed.stdout}"

@@ -3,15 +3,11 @@
 
 CONTRIBUTING.md (The gate) says what the parts of each are, and in which order they come. In `test` a part that fails
 ends no other; in `gate` it ends all. There `rt ci` sets aside what is kept of the proofs: so it goes on in a copy of
-the tree. That has no must-fail/, for whose edits it would prove each crate once more: they are tried with the wrong
-bodies, each crate's once `rt ci` has proved the crates below. Two parts go side by side where there are 4 GB of free
-memory for each processor. How far a part is stands here, behind the minutes since the beginning; all that it says is
-in out/parts, and the end of that is shown where it fails.
+the tree, without must-fail/, whose edits it would try one by one. Two parts go side by side where there are 4 GB of
+free memory for each processor. All that a part says is in out/parts, and the end of that is shown where it fails.
 
-The last line is `N passed, M failed, K skipped`: so much was left out, as for a tool that is not installed here. Above
-it stand what took longest, what was left out, how many wrong bodies are shown wrong, only refused, or holes, and the
-names of the parts that failed. A part that tried nothing has failed, and so has one of make a script of which says
-nothing.
+The last line is `N passed, M failed, K skipped`: so much was left out, as for a tool that is not installed here. A part
+that tried nothing has failed, and so has one of make a script of which says nothing.
 """
 import glob
 import os

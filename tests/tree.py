@@ -57,11 +57,16 @@ def crates_below():
     return below
 
 
+def ran(*words, **how):
+    """A command that has ended, with what it said, errors among it."""
+    how = {"stdin": subprocess.DEVNULL, "stdout": subprocess.PIPE, "stderr": subprocess.STDOUT, "cwd": TOP, **how}
+    return subprocess.run(words, text=True, errors="replace", check=False, **how)
+
+
 @functools.lru_cache(maxsize=None)  # as Python 3.8 has it
 def shown(*words):
     """What a command prints, as on a wide terminal."""
-    how = {"env": {**os.environ, "COLUMNS": "200"}, "cwd": TOP, "stdout": subprocess.PIPE, "text": True}
-    return subprocess.run(words, check=False, **how).stdout
+    return ran(*words, env={**os.environ, "COLUMNS": "200"}, stderr=None).stdout
 
 
 def same(what, one, other):

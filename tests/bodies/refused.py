@@ -10,13 +10,12 @@ the libraries that this tree, or another, has of the crates below, as `make demo
 import argparse
 import os
 import re
-import subprocess
 import sys
 import tempfile
 from concurrent.futures import ThreadPoolExecutor
 
 sys.path.insert(0, os.path.dirname(__file__) + "/..")
-from tree import TOP, copy_crate, processors, text_of, write
+from tree import TOP, copy_crate, processors, ran, text_of, write
 from wrong_bodies import command
 
 ENTRY = re.compile(r"(?ms)^\[(\w+)\]\n(.*?)^(by|error): (.*?)$")
@@ -35,9 +34,8 @@ def fault_of(edit, over):
             if text.count(old) != 1:
                 return f"its old text does not stand once in {file}"
             write(f"{room}/{file}", text.replace(old, new))
-        how = {"stdin": subprocess.DEVNULL, "stdout": subprocess.PIPE, "stderr": subprocess.STDOUT, "text": True}
         words = [word for word in command(crate, over) if not word.startswith("--links")] + [f"--only={example}"]
-        said = subprocess.run(words, cwd=f"{room}/crates/{crate}", check=False, **how).stdout
+        said = ran(*words, cwd=f"{room}/crates/{crate}").stdout
     answers = f"./proofs/examples/{example}/Answers.antt"
     places = {line.startswith(answers) for line in re.findall(r"(?m)^(\S+): error", said)}
     if example == by:

@@ -6,14 +6,14 @@ import collections
 import glob
 import os
 import re
-import subprocess
 import sys
 import textwrap
 
 sys.path[:0] = [os.path.dirname(__file__) + "/..", os.path.dirname(__file__) + "/../site"]
 import planted
 from program.rows import LETTERS
-from tree import TOP, all_crates, crates_below, sections_of, text_of
+from sources import code_of
+from tree import TOP, all_crates, crates_below, ran, sections_of, text_of
 
 SOURCES = ["crates/*/src/**/*.rt", "crates/*/specs/**/*.antt", "crates/*/proofs/**/*.antt"]
 OF_STD = {"arrayvec", "byteorder", "clap", "hex", "thiserror", "std", "fault_of", "map", "filter", "flat_map"}
@@ -63,10 +63,6 @@ def on_one_line(text):
     return " ".join(text.split())
 
 
-def code_of(file):
-    return re.sub(r"//.*" if file.endswith(".rt") else "--.*", "", text_of(file))
-
-
 def files(*places):
     return sorted(file for place in places for file in glob.glob(place, recursive=True) if os.path.isfile(file))
 
@@ -113,8 +109,7 @@ def scripts_are_run(section):
 def targets():
     """A section of targets.txt has what a target runs, or the whole text of a file. And the program is made of all
     sources."""
-    how = {"env": {"PATH": os.environ["PATH"]}, "text": True, "stdout": subprocess.PIPE}
-    made = lambda *words: subprocess.run(["make", "-sB", "--old-file=kit", *words], check=False, **how).stdout
+    made = lambda *words: ran("make", "-sB", "--old-file=kit", *words, env={"PATH": os.environ["PATH"]}).stdout
     for name, wanted in sections_of("tests/documents/targets.txt"):
         runs = (text_of(name) if os.path.isfile(name) else made("-n", name)).splitlines()
         if runs != wanted:
@@ -290,9 +285,9 @@ def rows_of_rules(parts):
 
 
 def rows_are_read_back(parts):
-    """Each row of the rules is named in pins.txt, once, with a text of the worked row or example that would fail were it
-    wrong in a definition and in the code at once. A number of three digits or more, or one beside it, stands there too,
-    in decimal or as octets."""
+    """Each row of the rules is named in pins.txt, once, with a text of the worked row or example that would fail were
+    it wrong in a definition and in the code at once. A number of three digits or more, or one beside it, stands there
+    too, in decimal or as octets."""
     rows, named = rows_of_rules(parts), set()
     for heading, key, places in pins():
         mine = rows.count((heading, key))

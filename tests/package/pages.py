@@ -1,9 +1,8 @@
 #!/usr/bin/env python3
 """Compares what manual pages and documents say with the programs: words, options, ranges and defaults with each tool's
-help, faults with the code's texts, and with help and documents what has to be said twice: statuses, version, the
-warnings, how a fault is reported. What they say in numbers is measured, and read back there by the sentences of
-facts.txt: statuses, times, ranges, the points of the small device. Then mandoc reads the pages, and Wireshark, which
-has the standard's numbers from another hand, is asked what it calls those of site/bacsite/numbers.txt.
+help, faults with the code's texts, and with help and documents what has to be said twice. What they say in numbers is
+measured, and read back there by the sentences of facts.txt. Then mandoc reads the pages, and Wireshark, which has the
+standard's numbers from another hand, is asked what it calls those of site/bacsite/numbers.txt.
 Usage: tests/package/pages.py PROGRAM
 """
 import datetime
@@ -15,7 +14,7 @@ import sys
 import tempfile
 
 sys.path.insert(0, os.path.dirname(__file__) + "/..")
-from tree import TOOLS, TOP, device, left_out, plain, put_tools, same, says, sections_of, shown, text_of
+from tree import TOOLS, TOP, device, left_out, plain, put_tools, ran, same, says, sections_of, shown, text_of
 from tree import verdict, write
 
 sys.path.append(TOP + "/man")
@@ -48,13 +47,9 @@ def help_of(*words):
     return shown(*words, "--help")
 
 
-def page(name):
-    return text_of(f"man/{name}.1")
-
-
 def section(name, title):
     """The lines of a section of a page."""
-    return re.search(rf"(?ms)^\.Sh {title}\n(.*?)(?=^\.Sh |\Z)", page(name))[1]
+    return re.search(rf"(?ms)^\.Sh {title}\n(.*?)(?=^\.Sh |\Z)", text_of(f"man/{name}.1"))[1]
 
 
 def told_in_help(tool):
@@ -99,7 +94,7 @@ def words_and_options():
             found = sorted((it.replace("-", " ") for it in found), key=lambda it: int(it.split()[0]))
             alike(word, found, [row for row in known if row in found])
     in_help = re.findall(r"(?m)^ *([0-9]+)  ([A-Z][A-Za-z ]*[a-z])  ", help_of(PROGRAM, "bacwp"))
-    alike("tags", in_help, re.findall(r"(?m)^\.It ([0-9]+)  ([A-Z].*)", page("bacwp")))
+    alike("tags", in_help, re.findall(r"(?m)^\.It ([0-9]+)  ([A-Z].*)", section("bacwp", "DESCRIPTION")))
     alike("tags of the numbers", in_help, [(row[0], row[1]) for row in SECTIONS["Types of a value"]])
     first_words = re.search(r"(?ms)^Lines of a script.*?^A line", help_of(PROGRAM, "bactrace"))[0]
     on_page = re.findall(r"(?m)^\.It Li ([a-z]*) Ar", section("bactrace", "DESCRIPTION"))
@@ -114,7 +109,7 @@ def bacsite():
         options += [f"{command} {it}" for it in re.findall(r"(?m)^  (--?[A-Za-z-]+)(?: .*)?$", text)]
         rows = re.findall(r"(?m)^  (--[a-z-]+) [A-Z]+ +(.*[0-9].*)$", text)
         told.update(row for row in rows if (command, row[0]) != ("survey", "--at-once"))
-    on_page = told_on_page(re.search(r"(?ms)^The options:.*?^\.El", page("bacsite"))[0] + "\n")
+    on_page = told_on_page(section("bacsite", "DESCRIPTION").partition("\nThe options:\n")[2])
     has = []
     for command, text in re.findall(r"(?ms)^\.Cm (\S+)(.*?)(?=^\.Cm |\Z)", section("bacsite", "SYNOPSIS")):
         own = ["-" * marks.count("Fl") + name for marks, name in re.findall(r"(?m)^\.Op ((?:Fl )+)(\S+)", text)]
@@ -171,8 +166,6 @@ def versions():
     version = re.match(r"bactool ([\d.]+\d)", help_of(PROGRAM))[1]
     same("version of the program and of CHANGELOG.md", version, changes)
     same("version of bacsite", shown("python3", "site/bacsite", "--version"), f"bacsite {version}\n")
-    named = re.findall(r"/bactool_([0-9.]+)_", text_of("README.md"))
-    same("versions of the packages of README.md", {*named}, {version})
 
 
 def mandoc():
@@ -180,7 +173,7 @@ def mandoc():
         same(f"{path} is as man/tables.py makes it", text_of(path) == text, True)
     if not left_out("mandoc"):
         lint = ["mandoc", "-Tlint", "-Wwarning", *sorted(glob.glob(f"{TOP}/man/*.[17]"))]
-        same("status of mandoc", subprocess.run(lint, check=False).returncode, 0)
+        same("what mandoc says", ran(*lint).stdout, "")
 
 
 def wireshark():
@@ -192,8 +185,7 @@ def wireshark():
     theirs = {title: re.findall(rf"(?m)^V\tbacapp\.{name}\t(\d+)\t(.*)$", fields) for title, name in FIELDS.items()}
     octets = (f"0000 81 0a 00 14 01 00 30 01 0c 0c 00 00 00 05 19 75 3e 91 {it:02x} 3f\n" for it in range(255))
     command = "text2pcap -q -u 47808,47808 - - | tshark -r - -V"
-    how = {"shell": True, "input": "".join(octets), "text": True, "capture_output": True}
-    units = subprocess.run(command, check=True, **how).stdout
+    units = ran("sh", "-c", command, input="".join(octets), stdin=None).stdout
     theirs["Units"] = [(number, name) for name, number in re.findall(r"(?m)^    units: *(.*) \((\d+)\)$", units)]
     for title, found in theirs.items():
         spelled = {number: name.lower() for number, name in found}
@@ -205,8 +197,7 @@ def wireshark():
 
 def run(line):
     """The status of a line of the shell, and what it prints."""
-    how = {"env": SETTINGS, "cwd": TOP, "text": True, "capture_output": True, "timeout": 60}
-    done = subprocess.run(["sh", "-c", line], check=False, stdin=subprocess.DEVNULL, **how)
+    done = ran("sh", "-c", line, env=SETTINGS, timeout=60, stderr=subprocess.DEVNULL)
     return done.returncode, done.stdout
 
 

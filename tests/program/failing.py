@@ -1,15 +1,13 @@
 #!/usr/bin/env python3
 """Refuses each request for memory that the program makes, one in each run: it has to end with `out of memory` and
-status 4. And has each call of the program to the system fail so, by each of the errors below: opening a socket,
-sending, receiving, reading, writing. Every such run has to end with status 3 and the line of its fault, after a front
-of what it prints otherwise. But where a receive fails by what is silence, it goes on as if nothing had come, and where
-the clock fails later, as if no time had passed; a device goes on where it can't send a reply, too. Each run, also one
-that goes on, makes the calls that are wanted (RUNS, SERVED), each as often, and no others.
+status 4. And has each call of the program to the system fail so, by each of the errors below: the run has to end with
+status 3 and the line of its fault, after a front of what it prints otherwise. But where a receive fails by what is
+silence, it goes on as if nothing had come, and where the clock fails later, as if no time had passed; a device goes on
+where it can't send a reply, too. Each run makes the calls that are wanted (RUNS, SERVED), and no others.
 
-Usage: tests/program/failing.py PROGRAM [tried]; it needs cc, and says so where there is none. Of a program that
-`rt try` has made (`tried`) no request for memory is refused, since it has its memory from elsewhere. But there it shows
-whether what was searched of a line is searched again at each read, which takes some six times as long as it should: a
-program that LLVM makes searches so fast that its reads hide it.
+Usage: tests/program/failing.py PROGRAM [tried]; it needs cc. Of a program that `rt try` has made (`tried`) no request
+for memory is refused, since it has its memory from elsewhere. But there it shows whether what was searched of a line is
+searched again at each read: a program that LLVM makes searches so fast that its reads hide it.
 """
 import errno
 import glob

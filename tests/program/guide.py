@@ -2,11 +2,10 @@
 """Runs every command of docs/GUIDE.md in one shell, against the demonstration device, and compares what comes out with
 what the guide shows. Usage: tests/program/guide.py PROGRAM
 
-A block that begins with ```console has commands behind `$ `, whose further lines begin with `> `; all other lines are
-what they print. A block that begins with ```console and a program's name is left out where that program is not
-installed. A command that ends in `&` runs on, until all others have ended; the next waits until its port is taken.
-Where port 47808 or 48000 is taken, another one is put in its place all over the guide. Behind all others come the lines
-of crontab, with each of its points in the file, and the command for Nagios, as Nagios would run it.
+A block that begins with ```console has commands behind `$ `, whose further lines begin with `> `; a program's name
+behind that says which one it needs. A command that ends in `&` runs on, until all others have ended; the next waits
+until its port is taken. Where port 47808 or 48000 is taken, another one is put in its place. Behind all others come the
+lines of crontab, with each of its points in the file, and the command for Nagios, as Nagios would run it.
 """
 import difflib
 import os

@@ -1,10 +1,7 @@
 #!/usr/bin/env python3
 """Runs bacrun against two peers of this machine, A and B, which answer by the plans of runs.txt: datagrams that are
 lost, doubled, late or of somebody else, stations behind routers, one who is dead beside one who is busy, a run that is
-held up, values of many lines; and as many requests at once as there may be. Of each run the journal is a script by
-which bactrace prints its remarks, octet for octet; the peers heard what the remarks say was sent, and nothing else;
-each line of the input stands there as it was, until the one that ends the run; no more requests were open than the
-window says; and none took longer than timeout and retries say.
+held up, values of many lines; and as many requests at once as there may be. `check` says what holds of each run.
 
 Usage: tests/program/runs.py PROGRAM
 """

@@ -12,7 +12,7 @@ import subprocess
 import sys
 
 sys.path.insert(0, os.path.dirname(__file__) + "/..")
-from tree import TOP, device, is_taken, local_socket, same, verdict
+from tree import TOP, device, is_taken, local_socket, ran, same, verdict
 
 PROGRAM = os.path.realpath(sys.argv[1])
 LONGEST = 2047
@@ -24,7 +24,7 @@ SOME = [1000, 1023, 1024, 1025, 1472, 1473, 1476, 1477, 1496, 1497, 1498, 1500, 
 
 def told(*words):
     """The status and the text of a run."""
-    ended = subprocess.run([PROGRAM, *words], stdout=subprocess.PIPE, stderr=subprocess.STDOUT, text=True, timeout=60)
+    ended = ran(PROGRAM, *words, timeout=60)
     return ended.returncode, ended.stdout
 
 
