@@ -28,35 +28,16 @@ gzip -9n "$root"/usr/share/man/man[17]/*.[17]
 install -d "$root/DEBIAN"
 {
     printf 'bactool (%s) unstable; urgency=medium\n\n' "$version"
-    sed -n "/^## $version/,/^## /p" CHANGELOG.md | awk '
-        /^- / { if (text) print text; text = substr($0, 3); next }
-        text && /^  / { text = text " " substr($0, 3) }
-        END { print text }' |
-        while read -r line; do
-            fold -s -w 74 <<<"$line" | sed '1s/^/  * /; 2,$s/^/    /; s/ *$//'
-        done
+    printf '  * CHANGELOG.md, beside this file, says what has changed.\n'
     printf '\n -- %s  %s\n' "$maintainer" "$(LC_ALL=C date -u -d "$date" '+%a, %d %b %Y %H:%M:%S +0000')"
 } | gzip -9n >"$doc/changelog.gz"
-{
-    printf 'Format: https://www.debian.org/doc/packaging-manuals/copyright-format/1.0/\nUpstream-Name: bactool\n\n'
-    printf 'Files: *\nCopyright: 2026 the bactool authors\nLicense: Expat\nComment:\n'
-    sed -n '/^The built program/,$p' LICENSE | sed 's/^$/./; s/^/ /'
-    printf '\nLicense: Expat\n'
-    sed -n '/^Permission/,/^SOFTWARE\.$/p' LICENSE | sed 's/^$/./; s/^/ /'
-} >"$doc/copyright"
-
-# How a fault is reported, as SECURITY.md says it.
-report=$(sed -n '/^Report a fault/,$p' SECURITY.md | tr '\n' ' ' | sed 's/ Send the words.*//')
-[ -n "$report" ] || { echo "packaging/deb.sh: SECURITY.md does not say how a fault is reported" >&2; exit 1; }
+cp LICENSE "$doc/copyright"
 
 # The C library of the least version that has what the program calls.
 libc=$(objdump -T "$root/usr/bin/bactool" | sed -n 's/.*GLIBC_\([0-9.]*\).*/\1/p' | sort -V | tail -n 1)
 size=$(find "$root/usr" -printf '%y %s\n' |
     awk '{ size += $1 == "f" ? int(($2 + 1023) / 1024) : 1 } END { print size }')
-{
-    sed "s/@version@/$version/; s/@architecture@/$architecture/; s|@maintainer@|$maintainer|; s/@size@/$size/
-        s/@libc@/$libc/" packaging/control
-    fold -s -w 78 <<<"$report" | sed 's/^/ /; s/ *$//'
-} >"$root/DEBIAN/control"
+sed "s/@version@/$version/; s/@architecture@/$architecture/; s|@maintainer@|$maintainer|; s/@size@/$size/
+    s/@libc@/$libc/" packaging/control >"$root/DEBIAN/control"
 (cd "$root" && find usr -type f -print0 | LC_ALL=C sort -z | xargs -0 md5sum) >"$root/DEBIAN/md5sums"
 dpkg-deb --build --root-owner-group -Zgzip "$root" "$folder/bactool_${version}_$architecture.deb"

@@ -162,18 +162,11 @@ class Job:
 
 
 def end_by_signals(main):
-    """Ends with the status of a call with the words of the script. The first signal stops it; a second would cut that
-    short. One that nohup has ignored stays so."""
-
-    def stop(*_):
-        for number in stopping:
-            signal.signal(number, signal.SIG_IGN)
-        raise KeyboardInterrupt
-
-    every = (signal.SIGINT, signal.SIGTERM, signal.SIGHUP)
-    stopping = [number for number in every if signal.getsignal(number) != signal.SIG_IGN]
-    for number in stopping:
-        signal.signal(number, stop)
+    """Ends with the status of a call with the words of the script. Signals stop it as ^C does, but for one that nohup
+    has ignored."""
+    for number in (signal.SIGTERM, signal.SIGHUP):
+        if signal.getsignal(number) != signal.SIG_IGN:
+            signal.signal(number, signal.default_int_handler)
     try:
         sys.exit(main(sys.argv[1:]))
     except KeyboardInterrupt:

@@ -141,11 +141,10 @@ def outside(room, _):
     other = room.top / "opt/other"
     other.write_text("other\n")
     paths = ["/opt/other", "../other"]
-    left = "".join(f"left there, since it is not below /opt/tools: {path}\n" for path in paths)
-    for word in (PROGRAM, "--remove"):
+    for word, said in ((PROGRAM, "files and links"), ("--remove", "taken away")):
         for path in paths:
             room.lists(other, path)
-        room.tries(left, word)
+        room.tries(said, word)
     room.has(1)
 
 
@@ -194,13 +193,9 @@ def what_a_package_says(room, package):
     same("sums of the files", read("control/md5sums"), sums)
     changes = gzip.decompress((room.top / f"there/usr/{DOC}/changelog.gz").read_bytes()).decode()
     same("the head of the changelog", changes.splitlines()[0], f"bactool ({VERSION}) unstable; urgency=medium")
-    entries = text_of("CHANGELOG.md").partition(f"## {VERSION} ")[2].partition("\n## ")[0]
-    same("entries of the changelog", len(re.findall(r"(?m)^  \* ", changes)), len(re.findall(r"(?m)^- ", entries)))
     day = told("date", "-ud", changes.splitlines()[-1].split("  ")[-1], "+%FT%T")
     same("the day of the changelog", day, f"{DAY}T00:00:00\n")
-    copyright_of = read(f"there/usr/{DOC}/copyright").split("License: Expat\n")[-1]
-    licence = re.search(r"(?ms)^Permission .*^SOFTWARE\.$", text_of("LICENSE"))[0]
-    same("the licence", re.sub(r"(?m)^ \.?", "", copyright_of).strip(), licence)
+    same("the licence", read(f"there/usr/{DOC}/copyright"), text_of("LICENSE"))
 
 
 def the_package(room):

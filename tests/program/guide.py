@@ -40,9 +40,7 @@ def scheduled(line, address):
     if told.split() == ["command_line"]:
         command = re.sub(r"\$(\w+)\$", lambda it: words[it[1]], run)
         return f'[ "$({command})" = "BACNET OK - 72.3 | value=72.3;60:80;50:90" ] && echo well'
-    times = re.fullmatch(r"(\*|\d+)(?:/[1-9]\d*)? " * 5, told)
-    most = (59, 23, 31, 12, 7)  # minute, hour, day, month, day of the week
-    if not times or "%" in run or any(it != "*" and int(it) > last for it, last in zip(times.groups(), most)):
+    if not re.fullmatch(r"(?:\*|\d+)(?:/[1-9]\d*)? " * 5, told) or "%" in run:
         return f"echo no line of crontab: {line!r}"
     file = run.split()[-1]
     place = "put/" + os.path.basename(file)

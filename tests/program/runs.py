@@ -129,29 +129,16 @@ def in_short(remark):
 
 def tried(program, place, row):
     """A row is as it is to be."""
-    [options], [plan], lines = row["$"], row["@"], row["<"]
+    options, plan, wanted = (braced(row[mark][0]) for mark in "$@>")
     groups = [[] if group == "-" else group.split(",") for group in plan.split()]
-    text, it = run(program, options, braced("\n".join(lines)), groups)
+    text, it = run(program, options, braced("\n".join(row["<"])).replace("\\n", "\n"), groups)
     remarks = map(in_short, check(place, program, options, text, it))
-    same(place, [one for one in remarks if "flood" not in plan or one != "drop"], row[">"][0].split(", "))
+    same(place, [one for one in remarks if "flood" not in plan or one != "drop"], wanted.split(", "))
     status, _, fault = row.get("!", ["0"])[0].partition(" ")
     same(f"{place}: the end", (it.status, it.fault), (int(status), f"bactool: {fault}\n" if fault else ""))
     timeout, retries = map(int, re.findall(r"--apdu-\w+ (\d+)", options))
-    most = len(lines) * (timeout / 1000 + 1) * (retries + 1) + 1
+    most = len(text.splitlines()) * (timeout / 1000 + 1) * (retries + 1) + 1
     same(f"{place}: {it.seconds:.1f} seconds", it.seconds < most, True)
-
-
-def many():
-    """A row of 130 requests, of which 64 are open: the peers answer once they have all of these, the last one first."""
-    backwards = lambda first, last: list(range(last, first - 1, -1))
-    lines = [f"read A 0 {it} 85" for it in range(130)]
-    plan = ["-"] * 130
-    for first, last in (0, 63), (64, 127), (128, 129):
-        plan[last] = ",".join(map(str, backwards(first, last)))
-    ends, later = [f"send {it}" for it in range(64)], iter(range(64, 130))
-    for it in backwards(0, 63) + backwards(64, 127) + backwards(128, 129):
-        ends += [f"done {it} value {it}", *(f"send {one}" for one in [next(later, None)] if one)]
-    return "many", {"$": [f"{SLOW} --window 64"], "<": lines, "@": [" ".join(plan)], ">": [", ".join(ends)]}
 
 
 def at_a_terminal(program):
@@ -171,7 +158,7 @@ def at_a_terminal(program):
 def main(program):
     signal.alarm(300)
     with ThreadPoolExecutor(4) as pool:
-        list(pool.map(lambda row: tried(program, *row), [*blocks(f"{TOP}/tests/program/runs.txt"), many()]))
+        list(pool.map(lambda row: tried(program, *row), blocks(f"{TOP}/tests/program/runs.txt")))
     at_a_terminal(program)
     return verdict("ends, replays and lines of runs are as they are to be")
 

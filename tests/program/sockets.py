@@ -12,7 +12,7 @@ import subprocess
 import sys
 
 sys.path.insert(0, os.path.dirname(__file__) + "/..")
-from tree import TOP, device, is_taken, local_socket, ran, same, verdict
+from tree import device, local_socket, ran, same, verdict
 
 PROGRAM = os.path.realpath(sys.argv[1])
 LONGEST = 2047
@@ -96,22 +96,7 @@ def heard_by_tools():
                 same(f"an answer of {length} octets", tool.stdout.read(), f"X'{datagram(length, head)[1].hex()}'\n")
 
 
-def ports():
-    """No command is given the port of one that runs, though no socket has it yet; a port of IPv6 alone is taken."""
-    tree = f"python3 {TOP}/tests/tree.py"
-    given = subprocess.check_output(f"{tree} sh -c '{tree} echo; echo $0'", shell=True).split()
-    same("different ports", len(set(given)), 2)
-    if not os.path.exists("/proc/net/udp6"):
-        print("tests/program/sockets.py: a port of IPv6 is left out, since the system has none")
-        return
-    with socket.socket(socket.AF_INET6, socket.SOCK_DGRAM) as other:
-        other.setsockopt(socket.IPPROTO_IPV6, socket.IPV6_V6ONLY, 1)
-        other.bind(("::1", int(given[0])))
-        same("a port of IPv6 is taken", is_taken(given[0]), True)
-
-
 def main():
-    ports()
     devices()
     heard_by_a_device()
     heard_by_tools()
