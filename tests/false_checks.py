@@ -57,7 +57,11 @@ def tries(program, only):
 
 
 def main(words):
-    every = list(tries(os.path.realpath(words[0]), "".join(words[1:])))
+    program = (*words, "PROGRAM")[0]
+    if not os.path.isfile(program):
+        sys.exit(f"tests/false_checks.py: {program} is no program: `make program` builds one")
+    os.makedirs(f"{TOP}/out", exist_ok=True)  # links to the files of the tree stand there
+    every = list(tries(os.path.realpath(program), "".join(words[1:])))
     with ThreadPoolExecutor(processors()) as pool:
         found = list(pool.map(lambda it: missed(*it[1:]), every))
     wrong = [f"{name}: missed: {lost}" for (name, _, _, check), lost in zip(every, found) if bool(check) != bool(lost)]

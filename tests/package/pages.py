@@ -229,16 +229,12 @@ def seen(rows):
     return found
 
 
-def tables_of_the_guide(on):
-    """The status beside each line and each message."""
-    lines, messages = text_of("docs/GUIDE.md").split("\n### What a message can mean\n")
-    row = r"(?m)^\| (.+?) \| (\d(?:, \d)*) \|"
-    for line, status in re.findall(row, lines.split("\n## What a line means")[1]):
+def table_of_the_guide(on):
+    """The status beside each line."""
+    lines = text_of("docs/GUIDE.md").partition("\n## What a line means")[2].partition("\n#")[0]
+    for line, status in re.findall(r"(?m)^\| (.+?) \| (\d(?:, \d)*) \|", lines):
         told = f"{on['words']}, {on['bind']}, 4" if line.startswith("`bactool: `") else str(on["failed"])
         same(f"the status beside {line}", status, str(on["value"]) if line == "a value, `ok`" else told)
-    for message, status in re.findall(row, messages.split("\n## ")[0]):
-        is_late = re.search(r" failed|turns spent", message)
-        same(f"the status beside {message}", status, str(on["bind"] if is_late else on["words"]))
 
 
 def points():
@@ -307,7 +303,7 @@ def facts():
         measured.update(seen(rows.pop("Statuses")))
     for document, sentences in rows.items():
         says(document, *(sentence.format_map(measured) for sentence in sentences))
-    tables_of_the_guide(measured)
+    table_of_the_guide(measured)
 
 
 def main():
