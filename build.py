@@ -70,10 +70,6 @@ class Work(tree.Job):
             os.rename(f"{self.room}/{self.home}/out", f"{self.home}/out")
         shutil.rmtree(self.room, ignore_errors=True)
 
-    def progress(self):
-        counts = re.findall(r"(?:^so far: |, )(\d+) of (\d+)(?: functions|$)", self.said(), re.M)
-        return f"{self.crate} {counts[-1][0]} of {counts[-1][1]} functions" if counts else self.crate
-
     def came(self):
         """What came of it, once it has ended; "" where it is not well."""
         tests = re.findall(r"^test result: ok\. ([1-9]\d*) passed; 0 failed", self.said(), re.M)
@@ -89,7 +85,7 @@ class Work(tree.Job):
 
 def build(crates, below, done):
     """Builds these crates, each once those below it are done. Answers whether each was proved."""
-    began, told, left, working = time.monotonic(), 0.0, sorted(crates, key=size, reverse=True), []
+    began, left, working = time.monotonic(), sorted(crates, key=size, reverse=True), []
     places = max(min(processors(), tree.free_memory() // CRATE_MEMORY), 1)
     try:
         while left or working:
@@ -100,8 +96,7 @@ def build(crates, below, done):
                 working.append(Work(crate, below[crate], max(min(share, size(crate) // PROCESS_CODE), 1)))
                 left.remove(crate)
             time.sleep(0.5)
-            passed = time.monotonic() - began
-            clock = f"{int(passed) // 60}:{int(passed) % 60:02}"
+            clock = "{}:{:02}".format(*divmod(int(time.monotonic() - began), 60))
             for work in [it for it in working if it.has_ended()]:
                 working.remove(work)
                 work.stop()
@@ -113,9 +108,6 @@ def build(crates, below, done):
                 done = done | {work.crate}
                 count = len(crates) - len(left) - len(working)
                 print(f"{count:2} of {len(crates)}  {work.crate:12} {work.came()}  {clock}", flush=True)
-            if working and passed - told >= 60:
-                told = passed
-                print(f"at work, {clock}: {', '.join(work.progress() for work in working)}", flush=True)
         return True
     finally:
         for work in working:

@@ -87,7 +87,6 @@ def servers():
     yield wide(f"replies a second, {ROUNDS} x {REPLIES}", "one outstanding", "32 outstanding")
     yield wide("bare echo server", *map(spread, echoes))
     yield wide("bacdev, a ReadProperty", *map(spread, ours))
-    # The median over the rounds, each beside the other, and the best rounds, which tell more where other work disturbs.
     ratios = [[one / echo for one, echo in zip(*both)] for both in zip(ours, echoes)]
     yield wide("bacdev by echo, round by round", *(spread(it, "{:.2f}") for it in ratios))
     yield wide("bacdev by echo, best by best", *(f"{max(one) / max(echo):8.2f}" for one, echo in zip(ours, echoes)))
@@ -185,8 +184,8 @@ def instructions():
 # ---- calls in memory ----
 
 def calls():
-    """What each benchmark prints; of the client's calls the least of nine runs, in a table by the open requests. They
-    are proved and built beside a copy of the crates that they call: in the tree the gate would prove them too."""
+    """What each benchmark prints; of the client's calls the least of nine runs. They are proved beside a copy of the
+    crates that they call: in the tree the gate would prove them too."""
     below, texts = ["bac_wire", "bac_work", "bac_pdu", "bac_tsm", "bac_device"], {}
     with tempfile.TemporaryDirectory(dir=f"{TOP}/out") as room:
         os.mkdir(f"{room}/.git")  # the top of a repository, for rt

@@ -4,17 +4,13 @@ that it is tried by, as they are and damaged.
 
 Usage: bench/soak.py device DATAGRAMS [SEED], or runs RUNS [SEED]; BACTOOL names another program than the tree's.
 
-`device` sends datagrams to bacdev over 127.0.0.1, and reads every reply. What each must get is told from what bacsite
-reads of it, by the rules of docs/PROTOCOL.md: silence, an I-Am, or one reply to its confirmed request, to its own
-invoke id and of no more octets than it announced. Everything stays on this machine: a forwarded datagram names
-127.0.0.1 as its originator, or port 0 there.
-
-`runs` runs bacrun over random requests, against two peers that answer, lose, double, hold back and damage what they
-send, and looks at each run as tests/program/runs.py does: bactrace prints the remarks of its journal, octet for octet.
+`device` sends datagrams to bacdev over 127.0.0.1, and reads every reply by bacsite's reader; each batch ends in a
+question of ours, which has to be answered. Everything stays on this machine: a forwarded datagram names 127.0.0.1 as
+its originator, or port 0 there. `runs` runs bacrun over random requests, against two peers that answer, lose, double,
+hold back and damage what they send, and looks at each run as tests/program/runs.py does.
 
 It stops at the first that is not so, and shows it.
 """
-import contextlib
 import glob
 import itertools
 import os
@@ -27,8 +23,7 @@ from collections import Counter
 
 HERE = os.path.dirname(__file__)
 sys.path[:0] = [HERE + "/../tests", HERE + "/../tests/program", HERE + "/../site"]
-from bacsite.bodies import parameters, read_ack
-from bacsite.messages import CONFIRMED, DISTRIBUTE, UNCONFIRMED, UNICAST, Datagram, message_of
+from bacsite.messages import CONFIRMED, Datagram, message_of
 from rows import row_cases
 from runs import check, run
 from tree import PROGRAM, TOP, WRONG, device, local_socket
@@ -75,72 +70,23 @@ def any_datagram(dice, datagrams, port):
 
 # ---- the device ----
 
-INSTANCE = 1234
-BATCH, BATCHES = 16, 3000  # of datagrams that one bacdev answers, each batch with one of ours behind it
-VENDOR = bytes.fromhex("810a0011010400059b0c0c020004d21978")
-ANNOUNCED = [50, 128, 206, 480, 1024, 1476] + [50] * 10
-I_AM = "1000c4020004d22205c49103220104"
-REPLIES = "20ID0f|30ID0c.*|50ID0[cf]91..91..|60ID0[45679]|71ID04"  # to a confirmed request
-KINDS = {"10": "I-Am", "20": "SimpleACK", "30": "ComplexACK", "50": "Error", "60": "Reject", "71": "Abort"}
-
-
-def is_asked(body):
-    """Whether a Who-Is with this body asks for the device."""
-    limits = list(parameters(body))
-    if [number for number, _ in limits] not in ([], [0, 1]) or not all(1 <= len(it) <= 4 for _, it in limits):
-        return False
-    low, high = (int.from_bytes(it, "big") for _, it in limits) if limits else (0, 4194303)
-    return low <= INSTANCE <= high
-
-
-def expected(datagram):
-    """What comes back: None for nothing, else the route, the invoke id (of an I-Am None), and what was announced."""
-    if len(datagram) < 4 or datagram[0] != 0x81 or int.from_bytes(datagram[2:4], "big") != len(datagram):
-        return None
-    message = read(datagram)
-    origin, *source = message.sender.split("/")
-    is_to_all = datagram[1] != UNICAST or message.receiver != ""
-    is_here = datagram[1] != DISTRIBUTE and message.receiver.split("/")[1:2] in ([], ["65535"])
-    if not message.apdu or not is_here or origin.endswith(":0"):  # to the port 0 no reply can be sent
-        return None
-    route = b""
-    if source:
-        network, station = int(source[0]), bytes.fromhex(source[1].strip("*"))
-        if network in (0, 65535) or not 1 <= len(station) <= 7:
-            return None
-        route = network.to_bytes(2, "big") + bytes([len(station)]) + station
-    apdu = message.apdu
-    if apdu.kind == UNCONFIRMED:
-        return (route, None, 50) if apdu.service == 8 and is_asked(apdu.body) else None
-    if apdu.kind != CONFIRMED or is_to_all:
-        return None
-    return route, apdu.invoke, ANNOUNCED[datagram[message.at + 1] & 15]
-
-
-def kind_of(reply, route, invoke_id, room):
-    """What kind of reply this is, where it is one that can be read and fits; else None."""
-    network = b"\x01\x20" + route + b"\xff" if route else b"\x01\x00"
-    head = b"\x81\x0a" + len(reply).to_bytes(2, "big") + network
-    octets = reply[len(head) :]
-    form = I_AM if invoke_id is None else re.sub("ID", f"{invoke_id:02x}", REPLIES)
-    is_read = octets[:1] != b"\x30" or bool(read_ack(octets[3:]))
-    is_right = reply.startswith(head) and len(octets) <= room and re.fullmatch(form, octets.hex()) and is_read
-    return KINDS[octets[:1].hex()] if is_right else None
+BATCH, BATCHES = 16, 3000  # of datagrams that one bacdev answers, each batch with OURS behind it
+OURS, VENDOR = bytes.fromhex("810a0011010400059b0c0c020004d21978"), b"Property tools"
+I_AM = bytes.fromhex("1000c4020004d22205c49103220104")
 
 
 def tried(desk, batch):
-    """The kinds of what a batch gets. Its last datagram is ours, and has its reply in its place only where no reply was
-    too many."""
-    wanted, replies = [it for it in map(expected, batch) if it], []
-    with contextlib.suppress(OSError):
-        for datagram in batch:
-            desk.send(datagram)
-        replies.extend(desk.recv(2048) for _ in wanted)
-    kinds = [kind_of(reply, *one) for reply, one in itertools.zip_longest(replies, wanted, fillvalue=b"")]
-    if not all(kinds):
-        sent = "\n".join(f"  {it.hex()} expects {expected(it)}" for it in batch)
-        sys.exit(f"not as expected, {[reply.hex() for reply in replies]}; sent:\n{sent}")
-    return kinds + ["no reply"] * (len(batch) - len(wanted))
+    """The kinds of the replies to a batch. Each is an I-Am, or an answer with the invoke id of one of its requests."""
+    for datagram in [*batch, OURS]:
+        desk.send(datagram)
+    requests = (read(it).apdu for it in batch if len(it) >= 4)
+    asked, reply = {it.invoke for it in requests if it and it.kind == CONFIRMED}, b""
+    while VENDOR not in (reply := desk.recv(2048)) or read(reply).apdu.invoke != read(OURS).apdu.invoke:
+        apdu = read(reply).apdu
+        if not (reply.endswith(I_AM) or apdu and apdu.is_answer and apdu.invoke in asked):
+            sent = "\n".join(it.hex() for it in batch)
+            sys.exit(f"a reply to nothing, {reply.hex()}; sent:\n{sent}")
+        yield f"replies of kind {apdu.kind}"
 
 
 def soak_device(dice, left):
@@ -149,13 +95,12 @@ def soak_device(dice, left):
     while left > 0:
         batches = min(BATCHES, -(-left // BATCH))
         left -= batches * BATCH
-        how = {"stderr": subprocess.PIPE}
-        with device("--count", str(batches * (BATCH + 1)), **how) as (process, port), local_socket() as desk:
+        words = ["--count", str(batches * (BATCH + 1))]
+        with device(*words, stderr=subprocess.PIPE) as (process, port), local_socket() as desk:
             desk.settimeout(5)
             desk.connect(("127.0.0.1", port))
             for _ in range(batches):
-                batch = [any_datagram(dice, datagrams, desk.getsockname()[1]) for _ in range(BATCH)]
-                counts.update(tried(desk, [*batch, VENDOR]))
+                counts.update(tried(desk, [any_datagram(dice, datagrams, desk.getsockname()[1]) for _ in range(BATCH)]))
             if process.wait(10) != 0 or process.stderr.read() != b"":
                 sys.exit("it didn't end by its count")
     return counts

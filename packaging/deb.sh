@@ -1,8 +1,7 @@
 #!/usr/bin/env bash
 # Packs the built program as a Debian package. Usage: packaging/deb.sh PROGRAM FOLDER, which gets
-# bactool_VERSION_ARCH.deb. The version is that of the program's help, and all times are the day that CHANGELOG.md gives
-# to it: the same program and files give the same octets. MAINTAINER, as `Name <address>`, names the one who makes the
-# package; without it an address stands there that reaches nobody.
+# bactool_VERSION_ARCH.deb. All times are the day that CHANGELOG.md gives to the version, so the same files give the
+# same octets. MAINTAINER, as `Name <address>`, names the one who makes the package.
 set -euo pipefail
 program=$(realpath "$1")
 folder=$(realpath "$2")
@@ -26,12 +25,14 @@ strip --strip-unneeded --remove-section=.comment --remove-section=.note "$root/u
 gzip -9n "$root"/usr/share/man/man[17]/*.[17]
 
 install -d "$root/DEBIAN"
+change='CHANGELOG.md, beside this file, says what has changed.'
+printf 'bactool (%s) unstable; urgency=medium\n\n  * %s\n\n -- %s  %s\n' "$version" "$change" "$maintainer" \
+    "$(date -uRd "$date")" | gzip -9n >"$doc/changelog.gz"
 {
-    printf 'bactool (%s) unstable; urgency=medium\n\n' "$version"
-    printf '  * CHANGELOG.md, beside this file, says what has changed.\n'
-    printf '\n -- %s  %s\n' "$maintainer" "$(LC_ALL=C date -u -d "$date" '+%a, %d %b %Y %H:%M:%S +0000')"
-} | gzip -9n >"$doc/changelog.gz"
-cp LICENSE "$doc/copyright"
+    printf 'Format: https://www.debian.org/doc/packaging-manuals/copyright-format/1.0/\n\n'
+    printf 'Files: *\nCopyright: 2026 the bactool authors\nLicense: Expat\n'
+    sed 's/^$/./; s/^/ /' LICENSE
+} >"$doc/copyright"
 
 # The C library of the least version that has what the program calls.
 libc=$(objdump -T "$root/usr/bin/bactool" | sed -n 's/.*GLIBC_\([0-9.]*\).*/\1/p' | sort -V | tail -n 1)

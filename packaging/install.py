@@ -25,8 +25,7 @@ TOOLS = ["bacrp", "bacwp", "bacwi", "bacdev", "bacrun", "bactrace"]
 
 def lay_out(program, version, tree, prefix, zsh):
     """Makes in a folder the tree of all that is put below a prefix. A manual page has the version at its foot, and what
-    names a place below /usr/local names the one below the prefix. The documents are in the folders that they have in
-    the repository, so that their links lead on."""
+    names a place below /usr/local names the one below the prefix. Documents keep their folders, for their links."""
 
     def put(source, path, mode=0o644):
         target = tree / path

@@ -17,8 +17,7 @@ NOT_COPIED = shutil.ignore_patterns(".git", "out", "__pycache__", "*_cache")
 
 
 def plant(tree, path, old, new):
-    """Plants a fault in a copy of the tree, whose files are those of the tree itself until they are written anew. What
-    is not there for it is answered."""
+    """Plants a fault in a copy of the tree, in a new file. What is not there for it is answered."""
     text = text_of(f"{tree}/{path}") if os.path.exists(f"{tree}/{path}") else ""
     mode = os.stat(f"{tree}/{path}").st_mode if text else 0o644
     with contextlib.suppress(FileNotFoundError):

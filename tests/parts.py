@@ -21,7 +21,7 @@ import typing
 
 from tree import TOP, Job, end_by_signals, free_memory, processors
 
-LOGS = "out/parts"
+LOGS, GENTLY = "out/parts", ["nice", "-n", "5"]
 PROGRAM = "crates/bactool/out/bactool"
 BEGAN = time.monotonic()
 LEFT_OUT, SHOWN = [], []  # what the parts say of what was left out, and of what shows the wrong bodies wrong
@@ -48,10 +48,6 @@ class Part(typing.NamedTuple):
 def beside(*rows):
     """These rows of parts, or one behind the other where memory is short: each takes some 2 GB a processor."""
     return rows if free_memory() >= 4000000000 * processors() else [[part for row in rows for part in row]]
-
-
-def gently(name, *command):
-    return Part(name, ["nice", "-n", "5", *command])
 
 
 def target(name):
@@ -137,8 +133,7 @@ class Work(Job):
 
 
 def run(steps, ends_at_failure):
-    """Runs steps one behind the other, of each the rows of parts side by side. Gives how many passed, and how many
-    failed of which part."""
+    """Runs step behind step, of each the rows of parts side by side. Gives how many passed, and failed of a part."""
     passed, lost = 0, {}
     for rows in steps:
         left, working = [list(row) for row in rows], {}
@@ -168,7 +163,7 @@ def test(_):
     if not all(os.path.isdir(f"{it}/out/incremental") for it in glob.glob("crates/*") if not it.endswith(others)):
         yield [[Part("build", ["./build.py"], tried=r"^ *\d+ of \d+ +\w+ +proved")]]
     trials = Part("trials", ["./build.py", "--tests"], tried=r"(\d+) tests passed")
-    yield beside([trials], [gently("wrong bodies", "tests/bodies/wrong_bodies.py", "--sample")])
+    yield beside([trials], [Part("wrong bodies", [*GENTLY, "tests/bodies/wrong_bodies.py", "--sample"])])
     yield [[target("examples"), target("lint")]]
 
 
@@ -177,8 +172,8 @@ def gate(room):
     tree, wrong = f"{room}/tree", "tests/bodies/wrong_bodies.py"
     documents = Part("documents", ["make", "--no-print-directory", "documents"])
     yield [[documents, Part("fit", [wrong, "--list"], shown=r"^crates/|fit")]]
-    tried = [gently("self test", "tests/bodies/self_test.py"), gently("wrong bodies", wrong, "--over", tree)]
-    yield beside([whole_proof(room)], tried)
+    self_test = Part("self test", [*GENTLY, "tests/bodies/self_test.py"])
+    yield beside([whole_proof(room)], [self_test, Part("wrong bodies", [*GENTLY, wrong, "--over", tree])])
     refused = Part("refused", ["tests/bodies/refused.py", "--over", tree])
     program = Part("program", ["install", "-D", f"{tree}/{PROGRAM}", PROGRAM], tried="")
     false = Part("false checks", ["tests/false_checks.py", PROGRAM])

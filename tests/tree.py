@@ -186,8 +186,7 @@ def local_socket():
 
 
 def free_port(first=47808):
-    """The first UDP port from this one on that no socket of this machine has. Until this process ends, no other call
-    gives it."""
+    """The first UDP port from this one on that no socket has, and no call gives until this process ends."""
     for port in range(first, 65536):
         lock = open(f"{tempfile.gettempdir()}/bactool-port-{port}-{os.getuid()}", "a", encoding="utf-8")
         with contextlib.suppress(BlockingIOError):

@@ -74,8 +74,7 @@ class Body(Edit):
         return of.name == self.copy.name if self.copy else (path, of.symbols) in own or of.name in self.way_back
 
     def asked(self):
-        """What a check that tries this edit is asked for: a copy; a law, with the modules that get an `impl`; else the
-        function in whose place it stands, or for a trait's method the module."""
+        """What a check of it is asked for: a copy; a law, with modules that get an `impl`; a function, or a module."""
         if self.copy:
             return [self.copy.name]
         if self.is_wide:
@@ -87,8 +86,8 @@ class Body(Edit):
         return [of.shown if "::" in of.shown else "::".join([*module_of(path), of.name])]
 
     def may_be_spoilt(self):
-        """Whether a fault may be its answer: once, where it is to be refused, and not by a type's invariant, which the
-        fault hides. What the fault alone refuses is tried again without it. In a function's place others answer."""
+        """Whether a fault may be its answer: once, where it is to be refused, and not by an invariant, which the fault
+        hides. What the fault alone refuses is tried again without it."""
         is_right = self.part in (TWIN, REFUTED, GHOST) or self.hole or INVARIANT in self.promised
         return not (self.tries or is_right) and bool(self.copy or self.is_wide)
 
@@ -258,8 +257,7 @@ class Round:
         return [f"{symbol}: no edit touches it, and it is refused: {goal}" for symbol, goal in strange]
 
     def misfits(self, said, texts):
-        """The edits that make no program, each with what the check says: those in which an error is, or the only edit
-        of a round. The others are tried again."""
+        """The edits that make no program, each with what the check says. The others are tried again."""
         found = {}
         for error in REFUSED.finditer(said):
             path, line = error[1], int(error[2]) - 1

@@ -28,6 +28,10 @@ WHOLE = ["docs/", "bench/", "tests/", "tests/[a-z]*/"]  # folders whose row name
 PAGES = {"README.md", "CONTRIBUTING.md", "SECURITY.md", "CHANGELOG.md"}
 WELL_KNOWN = PAGES | {"LICENSE", ".gitignore", ".git", "crates", "out"}
 WIDTH = 120
+UNSEEN = {
+    "a `Drop` by hand": (SOURCES[0], r"(?m)^ *impl\b[^{;]*?\bDrop\s+for\s+\w+"),
+    "a loop, whose work is not counted": ("crates/bac_pdu/src/**/*.rt", r"(?m)^ *((?:while|for|loop)\b.*)$"),
+}
 # What tries nothing where nothing calls it: functions beside the tests of bacsite, and of the crates.
 BESIDE_TESTS = {
     "tests/site/*.py": r"(?m)^    def (?!test_|setUp|tearDown|handle_|_)(\w+)\(self",
@@ -107,8 +111,7 @@ def scripts_are_run(section):
 
 
 def targets():
-    """A section of targets.txt has what a target runs, or the whole text of a file. And the program is made of all
-    sources."""
+    """A section of targets.txt has what a target runs, or a whole file. The program is made of all sources."""
     made = lambda *words: ran("make", "-sB", "--old-file=kit", *words, env={"PATH": os.environ["PATH"]}).stdout
     for name, wanted in sections_of("tests/documents/targets.txt"):
         runs = (text_of(name) if os.path.isfile(name) else made("-n", name)).splitlines()
@@ -119,8 +122,7 @@ def targets():
 
 
 def what_tries_nothing():
-    """What has no name or mark of a test, beside the tests, is called by something; each fault of planted.diff has its
-    place; and Python can read each of its files."""
+    """What is no test beside the tests is called; each fault of planted.diff has its place; Python reads its files."""
     for place, pattern in BESIDE_TESTS.items():
         texts = "".join(map(text_of, files(place)))
         for name in re.findall(pattern, texts):
@@ -167,8 +169,7 @@ def names_of_sources():
 
 
 def names_of_proofs(document, text, known, clauses):
-    """A name in backquotes is one of the sources or of std; a law is a function, and a name behind a function, as in
-    "`run`, `notes`", one of its clauses."""
+    """A name in backquotes is one of the sources or of std, a law a function; in "`run`, `notes`" one is a clause."""
     laws = {name for laws in re.findall(r"laws? ((?:`\w+`(?:, | and )?)+)", text) for name in names(laws)}
     yield from (f"{document}: no law {name} stands in the code" for name in sorted(laws - {*clauses}))
     for name in sorted(set(re.findall(r"`((?:\w+::)*[A-Za-z_]\w+)`", text))):
@@ -202,8 +203,7 @@ def what_stands_twice(readme, proofs):
 
 
 def functions_without_a_contract(section):
-    """PROOFS names and counts those that have none. A function of a trait's impl has the trait's contract; any other
-    one has what stands at it."""
+    """PROOFS names and counts them. A function of a trait's impl has the trait's contract."""
     every, bare, alone = 0, 0, set()
     for file in files(SOURCES[0]):
         crate, owner = file.split("/")[1], ""
@@ -233,18 +233,12 @@ def texts_of_faults(section):
     yield from (f"docs/PROTOCOL.md: the fault {text} is told in one place alone" for text in sorted(told ^ texts))
 
 
-def drops_by_hand():
-    """A `Drop` by hand could do anything when a value is let go."""
-    for file in files(SOURCES[0]):
-        for found in re.findall(r"(?m)^ *impl\b[^{;]*?\bDrop\s+for\s+\w+", text_of(file)):
-            yield f"{file}: a `Drop` by hand: {on_one_line(found)}"
-
-
-def uncounted_work():
-    """What no clause `work` would see: a loop in bac_pdu, or a count that is begun from there to bac_device."""
-    for file in files("crates/bac_pdu/src/**/*.rt"):
-        for loop in re.findall(r"(?m)^ *((?:while|for|loop)\b.*)$", text_of(file)):
-            yield f"{file}: a loop, whose work is not counted: {loop}"
+def what_no_clause_sees():
+    """A `Drop` by hand, which could do anything when a value is let go; and work that no clause `work` would see: a
+    loop in bac_pdu, or a count that is begun from there to bac_device."""
+    for what, (place, pattern) in UNSEEN.items():
+        for file in files(place):
+            yield from (f"{file}: {what}: {on_one_line(it)}" for it in re.findall(pattern, text_of(file)))
     for crate in ("bac_pdu", "bac_tsm", "bac_device"):
         if "bac_work" in crates_below()[crate]:
             yield f"crates.txt: {crate} can begin a count of work"
@@ -323,8 +317,7 @@ def wide_lines():
 
 
 def links_and_lines():
-    """Links lead to what a package has: a document, or a file of examples/. Documents have at most 120 columns, but for
-    tables and what is printed."""
+    """Links lead to what a package has. Documents have at most 120 columns, but for tables and what is printed."""
     documents = files("*.md", "docs/**/*.md")
     there, anchors = {"LICENSE", *documents, *glob.glob("examples/*")}, {}
     for file in documents:
@@ -358,8 +351,7 @@ def main():
         *what_stands_twice(readme, sections(proofs)),
         *functions_without_a_contract(sections(proofs)["Functions without a clause"]),
         *texts_of_faults(rules["Statuses and faults"]),
-        *drops_by_hand(),
-        *uncounted_work(),
+        *what_no_clause_sees(),
         *public_names_without_a_law(),
         *rows_are_read_back(rules),
         *links_and_lines(),

@@ -150,8 +150,7 @@ def said_by(calls):
 
 def unheld():
     """The definitions that laws and public clauses name and that no example holds: of a relation one clause says that
-    it holds, and one that it does not, or what follows from it; of a number one says it; anything else stands in what
-    one computes. What is seen of a value of the code, a law on its `==` holds."""
+    it holds, and one that it does not; of a number one says it; anything else stands in what one computes."""
     of_files = lambda name: [it for path, file in SOURCES.items() if name in path for it in file.items.values()]
     named = [call for crate in CRATES if crate not in TRIALS for call in public_calls(crate)[0].values()]
     named += [it for name in ("/laws.rt", "/theorems.rt", "/comparing.rt") for it in of_files(name)]

@@ -68,8 +68,7 @@ def leaves(path):
 
 
 def uses_in(code):
-    """What each use line brings in: a module, a name of it, the name here, and whether it is passed on. Where it is the
-    module itself, None stands for the name."""
+    """What use lines bring in: a module, a name of it or None, the name here, and whether it is passed on."""
     for public, path, group, alias in USE.findall(code):
         for leaf in leaves(f"{path}.{group}") if group else ():
             there, _, here = leaf.partition(" as ")
@@ -123,8 +122,7 @@ class Definition(Item):
 
 
 class Declared(Item):
-    """What src/ declares: its text, and its clauses, each as the names that are brought in there, and its text. What a
-    type shows and what it keeps are such clauses too."""
+    """What src/ declares. A clause, also what a type shows or keeps, is the names brought in there, and its text."""
 
     def __init__(self, file, name, kind, start, end, names, around=""):
         super().__init__(file, name, kind, start, end)

@@ -39,8 +39,7 @@ SPELLED += [("per-min$", "per-minute"), (r"\bkilograms-dry", "kilogram-dry")]
 
 
 def alike(what, one, other):
-    """Two lists have to be the same, and not empty."""
-    same(what, one or ["nothing"], other)
+    same(what, one or ["nothing"], other)  # and not empty
 
 
 def help_of(*words):
@@ -70,8 +69,7 @@ def told_on_page(text):
 
 
 def numbers(entries):
-    """The names, each with its ranges and its default: `1 (most urgent) to 16` is `1 to 16`, as is `1, the most urgent,
-    to 16`."""
+    """The names, each with its ranges and its default: `1 (most urgent) to 16` is `1 to 16`."""
     default = r"\[default(?: port)?: [0-9]+|[0-9]+ by default|without a port it is [0-9]+"
     found = []
     for name, text in sorted(entries):
@@ -120,8 +118,7 @@ def bacsite():
 
 
 def statuses():
-    """The statuses of bactool.1 are those of its help, and each tool's page refers to them. What help says of a tool's
-    statuses, its page says too; and docs/PROTOCOL.md what each means."""
+    """Statuses are those of the help, also of each tool, whose page refers to bactool(1), and of docs/PROTOCOL.md."""
     found = r"(?m)(?:^|: |; |Status )([0-9])[ :]"
     in_help = lambda *tool: sorted({*re.findall(found, "".join(help_of(PROGRAM, *tool).partition("Status")[1:]))})
     texts = re.findall(r"(?m)^\.It ([0-9])\n((?:[^.].*\n)+)", section("bactool", "EXIT STATUS"))
@@ -177,8 +174,7 @@ def mandoc():
 
 
 def wireshark():
-    """The names of numbers. Units have no field of their own: a read of property 117 that is answered by each number is
-    shown to Wireshark."""
+    """The names of numbers. Units have no field: Wireshark is shown a property 117 that has each number."""
     if left_out("tshark", "text2pcap"):
         return
     fields = shown("sh", "-c", "tshark -G values 2>/dev/null")
@@ -238,8 +234,7 @@ def table_of_the_guide(on):
 
 
 def points():
-    """The points on the page of bacdev are those that a survey finds: value, states, whether it has priorities. Answers
-    how many there are, in a word."""
+    """The points on the page of bacdev are those that a survey finds. Answers how many there are, in a word."""
     table = re.search(r"(?ms)^The points;.*?^\.El", text_of("man/bacdev.1"))[0]
     on_page = re.findall(r"(?m)^\.It (\d+:\d+) Ta (.*?) Ta (.*)$", re.sub(r" \([^)]*\)", "", table))
     there = []
@@ -276,8 +271,7 @@ def properties():
 
 
 def examples():
-    """What the pages show is run against the small device, and prints what they show, where they show it; and the pages
-    that they refer to are there."""
+    """What the pages show is run, and prints what they show; and the pages that they refer to are there."""
     for path in sorted(glob.glob(f"{TOP}/man/*.[17]")):
         text = text_of(path).replace("\\", "").replace("/var/lib/prometheus/node-exporter", ROOM.name)
         for name in {*re.findall(r"\bXr (\S+ [0-9])", text)}:

@@ -94,8 +94,7 @@ def what_is_put(room):
 
 
 def what_is_replaced(room, count):
-    """Its own files are replaced without a word; another's are not, and nothing else is put then. What an earlier
-    version put and this one does not have is taken away, where it is still as it was put."""
+    """Another's files are not replaced, and nothing is put then. What an earlier version put is taken away."""
     tool, other = room.put / "bin/bacrp", room.put / "bin/bacwi"
     room.tries("files and links")
     tool.unlink()
@@ -151,8 +150,8 @@ def outside(room, _):
 def places(room):
     """Where nothing else is said, it is all below /usr/local, as README.md has it."""
     room.tries("below /usr/local", PREFIX="")
-    same("README.md there", (room.top / "usr/local" / DOC / "README.md").exists(), True)
-    same("the place of bacrp", (room.top / "usr/local/bin/bacrp").exists(), True)
+    there = [(room.top / "usr/local" / path).exists() for path in (f"{DOC}/README.md", "bin/bacrp")]
+    same("README.md and bacrp are there", there, [True, True])
     place = "into /usr/local/bin, documents into /usr/local/share/doc/bactool"
     same(f"README.md says: {place}", place in text_of("README.md"), True)
     room.tries("taken away from /usr/local", "--remove", PREFIX="")
@@ -188,14 +187,14 @@ def what_a_package_says(room, package):
     same("the C library of README.md", re.search(r"GNU C library (\d[\d.]*)", readme)[1], libc)
     for text in (f"# {os.path.dirname(os.path.relpath(PROGRAM, TOP))}/{name}\n", f"./{name}`"):
         same(f"README.md has {text}", text in readme, True)
-    there = [it for it in (room.top / "there").glob("**/*") if it.is_file() and not it.is_symlink()]
-    sums = told("md5sum", *sorted(map(str, there))).replace(f"{room.top}/there/", "")
+    files = [it for it in (room.top / "there").glob("**/*") if it.is_file() and not it.is_symlink()]
+    sums = told("md5sum", *sorted(map(str, files))).replace(f"{room.top}/there/", "")
     same("sums of the files", read("control/md5sums"), sums)
     changes = gzip.decompress((room.top / f"there/usr/{DOC}/changelog.gz").read_bytes()).decode()
-    same("the head of the changelog", changes.splitlines()[0], f"bactool ({VERSION}) unstable; urgency=medium")
-    day = told("date", "-ud", changes.splitlines()[-1].split("  ")[-1], "+%FT%T")
-    same("the day of the changelog", day, f"{DAY}T00:00:00\n")
-    same("the licence", read(f"there/usr/{DOC}/copyright"), text_of("LICENSE"))
+    wanted = f"bactool ({VERSION}) unstable; urgency=medium", told("date", "-uRd", DAY).strip()
+    same("version and day of the changelog", (changes.splitlines()[0], changes.rpartition("  ")[2].strip()), wanted)
+    licence = read(f"there/usr/{DOC}/copyright").partition("License: Expat\n")[2]
+    same("the licence", re.sub(r"(?m)^ \.?", "", licence), text_of("LICENSE"))
 
 
 def the_package(room):

@@ -22,9 +22,8 @@ from collections import namedtuple
 sys.path.insert(0, os.path.dirname(__file__) + "/..")
 from tree import TOP, failing_library, free_port, text_of
 
-# The errors, by what a receive that fails so is: a fault; a fault to the tool that sent, since its peer refuses what
-# was sent, or no way leads there, while a device has its peers from strangers; and silence to both, an interruption or
-# a time that is over.
+# The errors, by what a receive that fails so is: a fault; a fault to the tool that sent, since its peer refuses, or no
+# way leads there, while a device has its peers from strangers; and silence to both.
 FAULTS = ["EIO", "EPERM", "ENOBUFS"]
 REFUSALS = ["ECONNREFUSED", "ECONNRESET", "ENETUNREACH", "EHOSTUNREACH"]
 SILENCE = ["EINTR", "EAGAIN", "ETIMEDOUT"]
@@ -88,8 +87,8 @@ def expect(is_so, what, ended):
 
 
 def is_fault(ended, call, whole="", status=3):
-    """The last calls are this one and the telling; between them the clock is read where no socket could be copied, and
-    many requests write what was still to be printed. The fault is its, and what was printed is a front of the whole."""
+    """The last calls are this one and the telling, but for the clock behind `fcntl` and what bacrun still writes. The
+    fault is its, and what was printed is a front of the whole."""
     is_told = ended.error == f"bactool: {LINES[call]}\n"
     more = ["clock_gettime"] * (call == "fcntl"), ["write"] * (ended.words[:1] == ["bacrun"])
     is_last = any(ended.said[-2 - len(it):] == [call, *it, "tell"] for it in more)
@@ -172,8 +171,7 @@ def calls_of_the_system():
 
 
 def searching():
-    """Of a script that comes one octet a read, lines of the greatest length may take three times the time that short
-    lines of as many octets take."""
+    """One octet a read, lines of the greatest length may take three times what short lines of as many octets take."""
     took = []
     for length in (32, 4096):
         begun = os.times().children_user

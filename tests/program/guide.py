@@ -33,8 +33,7 @@ def with_ports(text, first, second):
 
 
 def scheduled(line, address):
-    """A command that prints whether a line of crontab, or the command of a check, does what it is to do: the first
-    makes a file that has each point of its list, the second prints a line for Nagios."""
+    """A command that prints whether a line of crontab makes a file of each point, or a check a line for Nagios."""
     words = {"HOSTADDRESS": address, "ARG1": "60:80", "ARG2": "50:90", "ARG3": "0 5 85"}
     told, run = re.fullmatch(r"(.*?)/usr/local/bin/(.*)", line).groups()
     if told.split() == ["command_line"]:
@@ -63,8 +62,7 @@ def commands(first, second):
 
 
 def script(rows, first, second):
-    """A script of the commands, each of which finds the status of the one before; and what it is to print: each
-    command, and behind it what it prints."""
+    """A script of the commands, each of which finds the status of the one before; and all that it is to print."""
     text, shown = "status=0\n", ""
     for command, printed in rows:
         text += f"echo {shlex.quote('$ ' + command)}\n(exit $status)\n{command}\nstatus=$?\n"

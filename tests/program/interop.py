@@ -36,13 +36,6 @@ def sent(port, octets, _, reply, name):
     return [[], [name]]
 
 
-def nmap(port):
-    words = ["nmap", "-sU", "-Pn", "-n", "-p", str(port), "--script", "+bacnet-info", "127.0.0.1"]
-    found = dict(re.findall(r"(?m)^\|[ _]+([^:\n]+): (.+)$", ran(*words).stdout))
-    found.pop("bacnet-info", None)
-    return found
-
-
 def read_by_tshark(file, port):
     """What tshark says of each datagram, its sender's port and its octets; and the places of those it can't read."""
     words = ["tshark", "-r", file, "-d", f"udp.port=={port},bvlc"]
@@ -70,7 +63,9 @@ def main():
                   for it in asked(port, *head.format(*line.split(" | ")).split(" | "))]
         ours = len(wanted)
         wanted += [it for line in by_hand for it in sent(port, *line.split(" | "))]
-        same("nmap", nmap(port), dict(line.split(" | ") for line in of_nmap))
+        told = ran("nmap", "-sU", "-Pn", "-n", "-p", str(port), "--script", "+bacnet-info", "127.0.0.1").stdout
+        found = re.findall(r"(?m)^\|[ _]+(?!bacnet-info)([^:\n]+): (.+)$", told)
+        same("nmap", found, [tuple(line.split(" | ")) for line in of_nmap])
         time.sleep(2)
         recording.stop()
         texts, datagrams, bad = read_by_tshark(f"{room}/pcap", port)

@@ -29,8 +29,7 @@ Run = namedtuple("Run", "status fault journal heard seconds")
 
 
 def answer_to(octets, has_route):
-    """What a device answers to this request: of a read the object's instance, of an analog value so many bits, and of a
-    binary input that there is none; of a write that it was made."""
+    """The answer: of a read the object's instance, or so many bits of an analog value; a binary input is not there."""
     route = octets[6 : 9 + octets[8]] if octets[5] & 32 else b""
     apdu = octets[6 + len(route) + bool(route) :]
     kind, instance = divmod(int.from_bytes(apdu[5:9], "big"), 1 << 22)
@@ -141,25 +140,10 @@ def tried(program, place, row):
     same(f"{place}: {it.seconds:.1f} seconds", it.seconds < most, True)
 
 
-def at_a_terminal(program):
-    """The answer to a line is there before the next one is typed."""
-    words = [program, "bacrun", *SLOW.split()]
-    with local_socket() as field, subprocess.Popen(words, stdin=subprocess.PIPE, stdout=subprocess.PIPE) as process:
-        for number in (7, 8):
-            process.stdin.write(b"read 127.0.0.1:%d 0 %d 85\n" % (field.getsockname()[1], number))
-            process.stdin.flush()
-            octets, desk = field.recvfrom(2048)
-            field.sendto(answer_to(octets, True), desk)
-            while not (line := process.stdout.readline()).startswith(b"# done"):
-                same("more is printed", line != b"", True)
-            same("what is printed before the next line", line, b"# done %d value %d\n" % (number - 7, number))
-
-
 def main(program):
     signal.alarm(300)
     with ThreadPoolExecutor(4) as pool:
         list(pool.map(lambda row: tried(program, *row), blocks(f"{TOP}/tests/program/runs.txt")))
-    at_a_terminal(program)
     return verdict("ends, replays and lines of runs are as they are to be")
 
 

@@ -65,8 +65,7 @@ def datagram(length, head):
 
 
 def heard_by_a_device():
-    """It is asked to write a string to a point that takes none: the answer is an error (2, 9: another type). What lost
-    an octet is not as long as it says, and would be ignored."""
+    """Written a string, a point refuses it (2, 9). What lost an octet is not as long as it says, and is ignored."""
     with device(program=[PROGRAM]) as (_, port), local_socket() as desk:
         desk.settimeout(10)
         desk.connect(("127.0.0.1", port))
