@@ -71,7 +71,7 @@ def any_datagram(dice, datagrams, port):
 # ---- the device ----
 
 BATCH, BATCHES = 16, 3000  # of datagrams that one bacdev answers, each batch with OURS behind it
-OURS, VENDOR = bytes.fromhex("810a0011010400059b0c0c020004d21978"), b"Property tools"
+OURS, VENDOR = bytes.fromhex("810a0011010400059b0c0c020004d21978"), bytes.fromhex("3e2201043f")
 I_AM = bytes.fromhex("1000c4020004d22205c49103220104")
 
 
@@ -81,7 +81,7 @@ def tried(desk, batch):
         desk.send(datagram)
     requests = (read(it).apdu for it in batch if len(it) >= 4)
     asked, reply = {it.invoke for it in requests if it and it.kind == CONFIRMED}, b""
-    while VENDOR not in (reply := desk.recv(2048)) or read(reply).apdu.invoke != read(OURS).apdu.invoke:
+    while not (reply := desk.recv(2048)).endswith(VENDOR) or read(reply).apdu.invoke != read(OURS).apdu.invoke:
         apdu = read(reply).apdu
         if not (reply.endswith(I_AM) or apdu and apdu.is_answer and apdu.invoke in asked):
             sent = "\n".join(it.hex() for it in batch)
