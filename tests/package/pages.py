@@ -207,10 +207,11 @@ def known(rows):
     sends = [found["timeout"] // 1000 * time for time in range(found["retries"] + 2)]
     found.update({"seconds": sends[1], "early": ", ".join(map(str, sends[:-2])), "last": sends[-2], "whole": sends[-1]})
     found.update({"hours": found["turns"] // 3600, "last port": found["first port"] + found["ports"] - 1})
-    found.update((f"{title.split()[0]} {row[1]}", row[0]) for title in FIELDS for row in SECTIONS[title])
+    titles = [*FIELDS, "Types of a value"]
+    found.update((f"{title.split()[0]} {row[1]}", row[0]) for title in titles for row in SECTIONS[title])
     found["others"] = 256 - found["most"]
     times = ["once", "twice", "three times", "four times"][found["site retries"]]
-    return {**found, "site tries": times, "ports of Linux": round(60999 - 32768, -3)}
+    return {**found, "site tries": times, "tries": times.split()[0], "ports of Linux": round(60999 - 32768, -3)}
 
 
 def seen(rows):

@@ -14,7 +14,7 @@ import tempfile
 import time
 
 sys.path.insert(0, os.path.dirname(__file__) + "/..")
-from tree import PROGRAM, Job, device, left_out, local_socket, ran, same, sections_of, text_of, verdict
+from tree import PROGRAM, Job, device, left_out, local_socket, ran, same, sections_of, verdict
 
 IS_BAD = "_ws.malformed or _ws.expert.severity >= 0x600000 or not bacapp"
 
@@ -71,9 +71,6 @@ def main():
         texts, datagrams, bad = read_by_tshark(f"{room}/pcap", port)
     foreign = {at for at in range(ours, len(datagrams)) if datagrams[at][0] != port}
     same("malformed", bad - foreign, set())
-    there = {(sender == port, octets) for sender, octets in datagrams}
-    for _, sender, _, octets in (row.split() for row in text_of("examples/tools.hex").splitlines() if row[0] != "#"):
-        same(f"{octets} of examples/tools.hex was sent", (sender == "127.0.0.1:47808", octets) in there, True)
     places = [at for at in range(len(wanted), len(texts)) if re.match(r".* location *\n", texts[at])]
     same("nmap's questions for a location, which the device hasn't", len(places), 1)
     located = [(at + 1, ["Error readProperty", "Error Code: unknown-property (32)"]) for at in places]
