@@ -18,7 +18,6 @@ import random
 import re
 import subprocess
 import sys
-import time
 from collections import Counter
 
 HERE = os.path.dirname(__file__)
@@ -154,10 +153,8 @@ def soak_runs(dice, count):
 
 def main(what, count, seed=random.randrange(1 << 32)):
     print(f"seed {seed}", flush=True)
-    begun = time.time()
     soaked = {"device": soak_device, "runs": soak_runs}[what]
     counts = soaked(random.Random(int(seed)), int(count))
-    print(f"{what}, {count} in {time.time() - begun:.0f} s")
     for kind, number in sorted(counts.items()):
         print(f"{number:9}  {kind}")
 

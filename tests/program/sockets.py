@@ -1,8 +1,7 @@
 #!/usr/bin/env python3
-"""Runs the built program over sockets of this machine, at ports that nobody else gets: a device beside streams that are
-closed, at each address, to the end of its count, and at a port that is taken; and datagrams of each length from 1,000
-octets to the longest, 2,047, which are heard whole, as a longer one is not at all. Usage: tests/program/sockets.py
-PROGRAM
+"""Runs the built program over sockets of this machine: a device beside streams that are closed, at each address, to
+the end of its count, and at a port that is taken; and datagrams of each length from 1,000 octets to 2,047, which are
+heard whole, as a longer one is not at all. Usage: tests/program/sockets.py PROGRAM
 """
 import contextlib
 import os
@@ -12,7 +11,7 @@ import subprocess
 import sys
 
 sys.path.insert(0, os.path.dirname(__file__) + "/..")
-from tree import device, local_socket, ran, same, verdict
+from tree import TOP, device, is_taken, local_socket, ran, same, verdict
 
 PROGRAM = os.path.realpath(sys.argv[1])
 LONGEST = 2047
@@ -70,12 +69,9 @@ def heard_by_a_device():
         desk.settimeout(10)
         desk.connect(("127.0.0.1", port))
         for length in range(1000, LONGEST + 1):
-            try:
-                for it in (LONGEST + 1, length):
-                    desk.send(datagram(it, bytes([0, 5, it % 256, 15]) + POINT)[0])
-                answer = desk.recv(LONGEST).hex()
-            except OSError as why:
-                return same(f"an answer to {length} octets", why, None)
+            for it in (LONGEST + 1, length):
+                desk.send(datagram(it, bytes([0, 5, it % 256, 15]) + POINT)[0])
+            answer = desk.recv(LONGEST).hex()
             same(f"an answer to {length} octets", answer, f"810a000d010050{length % 256:02x}0f91029109")
 
 
@@ -95,7 +91,18 @@ def heard_by_tools():
                 same(f"an answer of {length} octets", tool.stdout.read(), f"X'{datagram(length, head)[1].hex()}'\n")
 
 
+def ports():
+    """No command is given the port of one that runs, though no socket has it yet; a port of IPv6 alone is taken."""
+    tree = f"python3 {TOP}/tests/tree.py"
+    given = ran("sh", "-c", f"{tree} sh -c '{tree} echo; echo $0'").stdout.split()
+    same("different ports", len({*given}), 2)
+    with contextlib.suppress(OSError), socket.socket(socket.AF_INET6, socket.SOCK_DGRAM) as other:
+        other.bind(("::1", int(given[0])))
+        same("a port of IPv6 is taken", is_taken(given[0]), True)
+
+
 def main():
+    ports()
     devices()
     heard_by_a_device()
     heard_by_tools()
