@@ -20,8 +20,7 @@ import subprocess
 import sys
 from collections import Counter
 
-HERE = os.path.dirname(__file__)
-sys.path[:0] = [HERE + "/../tests", HERE + "/../tests/program", HERE + "/../site"]
+sys.path[:0] = [f"{os.path.dirname(__file__)}/../{it}" for it in ("tests", "tests/program", "site")]
 from bacsite.messages import CONFIRMED, Datagram, message_of
 from rows import row_cases
 from runs import check, run

@@ -18,6 +18,7 @@ import tempfile
 sys.path.insert(0, os.path.dirname(__file__) + "/..")
 from tree import TOP, Job, end_by_signals, free_port, left_out, put_tools, text_of
 
+TIMES = ["[1-5]?[0-9]", "1?[0-9]|2[0-3]", "[12]?[1-9]|[123]0|31", "[1-9]|1[0-2]", "[0-7]"]  # of a line of crontab
 # Waits, for ten seconds at most, until a socket has the port.
 UNTIL_TAKEN = "for _ in {1..1000}; do grep -q ' [0-9A-F]*:%04X ' /proc/net/udp && break; sleep 0.01; done\n"
 
@@ -39,7 +40,7 @@ def scheduled(line, address):
     if told.split() == ["command_line"]:
         command = re.sub(r"\$(\w+)\$", lambda it: words[it[1]], run)
         return f'[ "$({command})" = "BACNET OK - 72.3 | value=72.3;60:80;50:90" ] && echo well'
-    if not re.fullmatch(r"(?:\*|\d+)(?:/[1-9]\d*)? " * 5, told) or "%" in run:
+    if not re.fullmatch("".join(rf"(?:\*|{it})(?:/[1-9]\d*)? " for it in TIMES), told) or "%" in run:
         return f"echo no line of crontab: {line!r}"
     file = run.split()[-1]
     place = "put/" + os.path.basename(file)
