@@ -8,8 +8,8 @@
 # make lint: the manual pages by mandoc and against the help, the numbers against Wireshark's names, the completions in
 #     bash, zsh and fish, make install in a folder of its own, the package by dpkg and lintian, the documents against
 #     the tree, that something reads each row of the rules back, what make says at first, build.py and parts.py where
-#     something fails, bacsite by mypy and pylint, and the scripts by shellcheck. What one of these or a shell would
-#     look at is left out where it is not installed. A minute
+#     something fails, bacsite by mypy and pylint, its page in Chromium, and the scripts by shellcheck. What one of
+#     these or a shell would look at is left out where it is not installed. A minute
 # make guide: runs every command of docs/GUIDE.md, and compares what comes out; make examples runs it too. Half a minute
 # make deb: a Debian package in crates/bactool/out, of the same octets each time; needs dpkg-deb and binutils. A second
 

@@ -48,6 +48,9 @@ class QuickWhoIs:
     def line(self):
         return None
 
+    def is_ready(self, seconds):
+        return True
+
     def outcome(self):
         return Outcome(3 if self.told else 1, told=self.told)
 

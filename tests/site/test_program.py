@@ -17,9 +17,9 @@ from contextlib import suppress
 
 import harness
 import bacsite
+from bacsite.processes import Processes
 from stand_ins import local_socket, real, string
 
-SIGNALS = (signal.SIGINT, signal.SIGHUP, signal.SIGTERM)
 # The names that stand in front of each line of the package's text.
 LINES = re.findall(r"(?m)^    ([a-z_/]+(?:, [a-z_/]+)*)", bacsite.__doc__)
 MODULES = [name for line in LINES for name in line.split(", ")]
@@ -108,6 +108,16 @@ class Surroundings(harness.SiteTest):
             )
 
 
+class Running(unittest.TestCase):
+    def test_lines_that_came_together(self):
+        words = ["sh", "-c", "printf 'a\nb\nc'; exec sleep 9"]
+        process = Processes().start(words, time.monotonic() + 20)
+        self.assertEqual((process.line(), process.is_ready(0), process.line()), ("a", True, "b"))
+        self.assertFalse(process.is_ready(0.05))
+        process.kill()
+        self.assertEqual(process.outcome().lines, ["c"])
+
+
 class Streams(harness.SiteTest):
     def test_full_and_closed_streams(self):
         words = ("read", "DEV", "0", "5", "85")
@@ -159,12 +169,7 @@ class Signals(harness.SiteTest):
             here = "127.0.0.1:%d" % dead.getsockname()[1]
             path = self.path("some-%s" % here, "p %s 0 1 85" % here)
             command, *rest = words.replace("LIST", path).replace("HERE", here).split()
-            process = subprocess.Popen(
-                [*self.world.command, command, "--apdu-timeout", LONG, *rest],
-                stdout=subprocess.PIPE,
-                stderr=subprocess.PIPE,
-                preexec_fn=lambda: [signal.signal(it, signal.SIG_DFL) for it in SIGNALS],
-            )
+            process = self.begun(command, "--apdu-timeout", LONG, *rest)
             dead.recv(99)
             process.send_signal(number)
             begun = time.monotonic()
@@ -181,7 +186,7 @@ class Signals(harness.SiteTest):
             "write HERE 0 1 5",
             "prometheus LIST %s/s.prom" % folder,
         )
-        ends = [(number, words) for number in SIGNALS for words in commands]
+        ends = [(number, words) for number in harness.SIGNALS for words in commands]
         with ThreadPoolExecutor(6) as pool:
             for (number, words), found in zip(ends, pool.map(lambda it: self.ended(*it), ends)):
                 self.assertEqual(found, (-number, b"", b"", True), words)
