@@ -12,6 +12,7 @@ from bacsite.device import Bounds, Device, SiteObject
 from bacsite.earlier import Earlier
 from bacsite.reasons import Why
 from bacsite.report import Columns, Counts, PollList
+from bacsite.search import Search
 from bacsite.standard import What
 from bacsite.values import Kind, Value
 from quick import QuickCalls
@@ -130,6 +131,15 @@ class Order(unittest.TestCase):
         many.start = start
         self.surveyed(many, [A])
         self.assertEqual(begun, [("bacrun", 0), ("bacwi", 1)], "once it is known which device it is")
+
+    def test_a_search_waits_for_whom_it_was_sent_to(self):
+        lines = ["12 %s/5/01 480 3 9" % A, "11 %s 1476 3 9" % A, "", "12 %s/5/01 480 3 9" % A]
+        many = QuickCalls({A: device(11)}, heard=lines)
+        search = Search(many, A + "/5/02", 1000, time.monotonic() + 9)
+        search.wait_for(A, 5)
+        self.assertEqual(many.search.lines, lines[2:], "what is behind its answer is not waited for")
+        self.assertEqual(search.heard(), [(12, A + "/5/01"), (11, A)])
+        self.assertEqual(many.begun, [["bacwi", "--mac", A, "--apdu-timeout", "1000"]])
 
     def asked(self, values, numbers, **more):
         """Which analog inputs are asked for in turn, and the reasons that come."""

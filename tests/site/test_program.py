@@ -18,7 +18,7 @@ from contextlib import suppress
 import harness
 import bacsite
 from bacsite.processes import Processes
-from stand_ins import local_socket, real, string
+from stand_ins import enumerated, local_socket, real, string
 
 # The names that stand in front of each line of the package's text.
 LINES = re.findall(r"(?m)^    ([a-z_/]+(?:, [a-z_/]+)*)", bacsite.__doc__)
@@ -37,6 +37,14 @@ def imported(name, node):
     folder = f"{harness.TOP}/site/bacsite/{inner}"
     there = [it.name for it in node.names if os.path.isfile(f"{folder}{it.name}.py")]
     return {inner + it for it in there}
+
+
+def left_running(word):
+    """The processes that have this word, but for those that go within two seconds."""
+    for _ in range(40):
+        found = still_running(word)
+        time.sleep(0.05 * bool(found))
+    return found
 
 
 def still_running(word):
@@ -190,12 +198,20 @@ class Signals(harness.SiteTest):
         with ThreadPoolExecutor(6) as pool:
             for (number, words), found in zip(ends, pool.map(lambda it: self.ended(*it), ends)):
                 self.assertEqual(found, (-number, b"", b"", True), words)
-        for _ in range(40):  # what is killed takes a moment to go
-            left = still_running(LONG)
-            time.sleep(0.05 * bool(left))
-        self.assertEqual(
-            (left, [name for name in os.listdir(folder) if "s.prom" in name]), ([], [])
-        )
+        self.assertEqual(left_running(LONG), [])
+        self.assertEqual([name for name in os.listdir(folder) if "s.prom" in name], [])
+
+    def test_they_end_a_write(self):
+        """bacwp, which prints nothing meanwhile, would not see that nobody hears it any more."""
+        values = {(0, 1, 77): string("A"), (0, 1, 79): enumerated(0), (0, 1, 85): real("42290000")}
+        device = self.stand_in(values, writes="silent")
+        for number in harness.SIGNALS:
+            device.written.clear()
+            with self.begun("write", "HERE", "0", "1", "5", "--apdu-timeout", LONG) as process:
+                while not device.written:
+                    self.assertIsNone(process.poll())
+                process.send_signal(number)
+            self.assertEqual((process.returncode, left_running(LONG)), (-number, []))
 
     def test_those_of_a_terminal_reach_no_tool(self):
         slow = self.stand_in({(0, 1, 85): real("42290000")}, delay=1)
