@@ -4,8 +4,8 @@
 #     documents and examples. What it did not put there it names and leaves, unless FORCE=1 says so. A second
 # make uninstall: takes away what make install put, where it is still as it was put; it builds nothing. A second
 # make lint: pages, numbers, completions, make install, the package and the documents against the program and the tree,
-#     what make says where something fails, and bacsite and the scripts by linters. What is not installed is left out,
-#     and said. A minute
+#     what make says where something fails, bacsite, its page in Chromium, and the scripts by linters. What is not
+#     installed is left out, and said. A minute
 # make guide: runs every command of docs/GUIDE.md, and compares what comes out; make examples runs it too. Half a minute
 # make deb: a Debian package in crates/bactool/out, of the same octets each time; needs dpkg-deb and binutils. A second
 
