@@ -260,7 +260,7 @@ def drops_by_hand():
 
 
 def uncounted_work():
-    """What no clause `work` would see: a loop in bac_pdu, or a count that is begun from there to bac_device."""
+    """What no clause `walked_once` would see: a loop in bac_pdu, or a count that is begun from there to bac_device."""
     for file in files("crates/bac_pdu/src/**/*.rt"):
         for loop in re.findall(r"(?m)^ *((?:while|for|loop)\b.*)$", text_of(file)):
             yield f"{file}: a loop, whose work is not counted: {loop}"

@@ -54,7 +54,7 @@ impl Device {
             (spec.writes_after self.old.info (points_of self.old) writes (station from) datagram.now) }
         ensures fits { IfSome result (λ peer. ReplyFits (station from) datagram.now (station peer, frame.new)) }
         ensures silent { IfNone result (frame.new ≡ []) }
-        ensures work { work.new.tags ≤ work.old.tags + 2 * length datagram.now }
+        ensures walked_once { work.new.tags ≤ work.old.tags + 2 * length datagram.now }
     {
         frame.clear();
         self.answer_into(from, datagram, frame, work)
@@ -75,7 +75,7 @@ impl Device {
         ensures silent { IfNone result (frame.new ≡ []) }
         ensures after { self.new
             ≡ spec.with_write self.old (spec.write_in_datagram self.old (station from) datagram.now) }
-        ensures work { work.new.tags ≤ work.old.tags + 2 * length datagram.now }
+        ensures walked_once { work.new.tags ≤ work.old.tags + 2 * length datagram.now }
     {
         let carried = open_datagram(from, datagram)?;
         self.reply(carried.broadcast, carried.apdu, frame, work)?;
@@ -101,7 +101,7 @@ impl Device {
         ensures silent { IfNone result (frame.new ≡ []) }
         ensures few { length frame.new ≤ 1476 }
         ensures after { self.new ≡ spec.with_write self.old (write_in_apdu self.old broadcast apdu.now) }
-        ensures work { work.new.tags ≤ work.old.tags + 2 * length apdu.now }
+        ensures walked_once { work.new.tags ≤ work.old.tags + 2 * length apdu.now }
     {
         match read_apdu(apdu)? {
             Apdu::Confirmed {
@@ -138,7 +138,7 @@ impl Device {
             ≡ laid_out (spec.fitting code id (spec.full_reply self.old part id service body.now)) }
         ensures few { length frame.new ≤ 1476 }
         ensures after { self.new ≡ spec.with_write self.old (write_in_request self.old part service body.now) }
-        ensures work { work.new.tags ≤ work.old.tags + 2 * length body.now }
+        ensures walked_once { work.new.tags ≤ work.old.tags + 2 * length body.now }
     {
         match self.full_reply(part, id, service, body, frame, work) {
             Ok(()) if frame.len() <= usize::from(announced(code)) => {}
@@ -162,7 +162,7 @@ impl Device {
         ensures full { OnErr result
             (frame_room < length (laid_out (spec.full_reply self.old part id service body.now))) }
         ensures after { self.new ≡ spec.with_write self.old (write_in_request self.old part service body.now) }
-        ensures work { work.new.tags ≤ work.old.tags + 2 * length body.now }
+        ensures walked_once { work.new.tags ≤ work.old.tags + 2 * length body.now }
     {
         if part.is_some() {
             make_abort(id, frame);
@@ -205,7 +205,7 @@ impl Device {
         ensures ok { OnOk result (frame.new ≡ laid_out (spec.write_reply self.old id body.now)) }
         ensures full { OnErr result (frame_room < length (laid_out (spec.write_reply self.old id body.now))) }
         ensures after { self.new ≡ spec.with_write self.old (write_in_body self.old body.now) }
-        ensures work { work.new.tags ≤ work.old.tags + 2 * length body.now }
+        ensures walked_once { work.new.tags ≤ work.old.tags + 2 * length body.now }
     {
         let request = match read_write(body, work) {
             Ok(request) => request,
