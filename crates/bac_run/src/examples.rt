@@ -18,7 +18,7 @@ ghost use Rattle.bac_run.specs.Journal.{Asked, Came, FitsLine, Passed, Paused, R
 ghost use Rattle.bac_run.specs.Journal.{events_of, notes_of, time_line};
 ghost use Rattle.bac_run.specs.Replay.{AreSent, AskNext, IsLineOf, IsReadBack, posted_in, sent_in};
 ghost use Rattle.bac_run.specs.Run.{EndsAt, journal_of};
-ghost use Rattle.bac_run.specs.Went.{IsGained, IsWithin};
+ghost use Rattle.bac_run.specs.Went.{IsAsked, IsWithin};
 ghost use Rattle.bac_run.specs.declared.fault.RunFault.TheVariants.{Link, Script};
 ghost use Rattle.bac_run.specs.declared.turns.Until.TheVariants.{FewOpen};
 
@@ -122,8 +122,13 @@ fn examples_of_acts()
     ensures lost { AreSent {D = ℕ} unsent (1 ∷ 2 ∷ []) (1 ∷ []) }
     ensures none_lost { AreSent {D = ℕ} unsent (1 ∷ 2 ∷ []) (1 ∷ 2 ∷ []) → ⊥ }
     ensures one_less { AreSent {D = ℕ} (ended 2) (1 ∷ 2 ∷ []) (1 ∷ []) → ⊥ }
-    ensures gained { IsGained unsent (Posted desk octets ∷ []) (Unposted desk octets ∷ []) }
-    ensures gained_all { IsGained unsent (Posted desk octets ∷ []) (Posted desk octets ∷ []) → ⊥ }
+
+    // A send that fails is the last thing that a link is asked, and in the last act, also where the writer fails too.
+    ensures unsent { IsAsked unsent idle (asked ∷ []) (Unposted desk octets ∷ []) }
+    ensures unwritten { IsAsked {A = ℕ} (Err write_failed) idle (asked ∷ []) (Unposted desk octets ∷ []) }
+    ensures all_sent { IsAsked unsent idle (asked ∷ []) (Posted desk octets ∷ []) → ⊥ }
+    ensures gone_on { IsAsked unsent idle (asked ∷ Read 40 ∷ []) (Unposted desk octets ∷ []) → ⊥ }
+    ensures ended_well { IsAsked (ended 2) idle (asked ∷ []) (Unposted desk octets ∷ []) → ⊥ }
 
     ensures no_feed { HasNoFeed (13 ∷ []) }
     ensures feed { HasNoFeed (10 ∷ []) → ⊥ }

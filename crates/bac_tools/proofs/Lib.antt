@@ -1,5 +1,6 @@
 pub mod Statuses
 mod Alike
 pub mod Calls
+pub mod Sessions
 mod Typed
 mod Worked

@@ -17,18 +17,19 @@ use crate::program::Network;
 use crate::running::Binding;
 use std::io::{Read, Write};
 
-/// The program is a function of its words, of what its socket answers and of what it reads; but for many requests
-/// (`bacrun`), of which it is not said when they ask what. Take two runs with the same words, which do not ask for
-/// those; where both asked for a socket, both had one or neither; and the readers gave the same octets, and met their
+/// The program is a function of its words, of what its socket answers and of what it reads. Take two runs with the same
+/// words; where both asked for a socket, both had one or neither; and the readers gave the same octets, and met their
 /// end as often, or where one run was cut off, its reader gave a front of what the other's gave and did not meet its
-/// end. As far as the sockets were answered alike, the runs asked and sent the same. Then they ask the same next; or
-/// both are over with the same report; or one was cut off, since there was no memory for its words, or its writer
-/// failed. Where one or both are over, both printed one text, or a front of it where they were cut off. Where `clap`
-/// does not take the words, each report tells of an error that `clap` may give at these.
+/// end (and where that is one of many requests, it could be read on). As far as the sockets were answered alike, the
+/// runs asked and sent the same. Then they ask the same next; or both are over with the same report; or one was cut
+/// off, since there was no memory for its words, or its writer failed. Where one or both are over, both printed one
+/// text, or a front of it where they were cut off. Where `clap` does not take the words, each report tells of an error
+/// that `clap` may give at these.
 ///
-/// Two calls with the same `typed` run the same words, `words_called typed`, or lack memory for them (`IsCalled`). What
-/// the program that is called with words reports last is a function of the report of the words and of whether its
-/// writer has failed. What it tells on `errors` is said by that report, but for a text of `clap`.
+/// Two calls with the same `typed` run the same words, `words_called typed`, or lack memory for them (law
+/// [`a_call_runs_its_words`]). What the program that is called with words reports last is a function of the report of
+/// the words and of whether its writer has failed. What it tells on `errors` is said by that report, but for a text of
+/// `clap`.
 pub fn the_program_is_a_function<
     M: Network,
     N: Network,

@@ -1,6 +1,6 @@
 -- A run that ended well was printed whole.
-use Rattle.std.proofs.Common.{◌≡◌, ◌∙◌, ◌⊎◌, ℕ, false, true, List, [], ◌++◌, Option, Result, Ok, Err, inl, inr, refl}
-use Rattle.std.proofs.Common.{length, map, subst, sym, ap, rules}
+use Rattle.std.proofs.Common.{◌≡◌, ◌∙◌, ℕ, false, true, List, [], ◌++◌, Option, Result, Ok, Err, inl, inr, refl}
+use Rattle.std.proofs.Common.{length, ◌↔◌, map, subst, sym, ap, rules}
 use Rattle.std.proofs.lemmas.Bool.{cases_Bool}
 use Rattle.std.proofs.lemmas.List.{append-nil}
 use Rattle.std.specs.List.{concat, flat_map}
@@ -11,7 +11,7 @@ use Rattle.bac_print.specs.declared.checked.Checked.{Checked}
 use Rattle.bac_script.specs.declared.tracing.TraceEnd.{TraceEnd}
 use Rattle.bac_script.specs.declared.tracing.TraceFault.TheVariants.{BadLine, LineTooLong, ReadFailed, WriteFailed}
 use Rattle.bac_links.specs.History.{Account, Entry, GainsAll}
-use Rattle.bac_run.specs.Fault.{is_at_link, run_status_of, write_failed}
+use Rattle.bac_run.specs.Fault.{run_status_of, write_failed}
 use Rattle.bac_run.specs.Input.{AllDone}
 use Rattle.bac_run.specs.Journal.{events_of, new_client, notes_of}
 use Rattle.bac_run.specs.Replay.{AreSent, posted_in, sent_in}
@@ -37,14 +37,10 @@ took_whole contents before after text sound writes =
     writes.took
 
 not_failed : {W : Type 0} (after : Checked W) (end : TraceEnd) (result : Result TraceEnd RunFault) → result ≡ Ok end
-    → (has_failed after ≡ true → (result ≡ Err write_failed) ⊎ (is_at_link result ≡ true)) → has_failed after ≡ false
-not_failed after end result is unsaid =
+    → (has_failed after ≡ true) ↔ (result ≡ Err write_failed) → has_failed after ≡ false
+not_failed after end result is told =
     elim (cases_Bool (has_failed after)) [
-      | inl failed ↦
-          elim (unsaid failed) [
-            | inl unwritten ↦ absurd (cc)
-            | inr linked ↦ absurd (let no = rw is at linked in cc)
-          ]
+      | inl failed ↦ absurd (let unwritten = told.0 failed in cc)
       | inr sound ↦ sound
     ]
 
@@ -67,7 +63,7 @@ returns-clause-all g c = λ well.
     let (asked, good, empty, count) = subst (λ (result : Result TraceEnd RunFault).
     AllDone result runs.takes.taken runs.takes.kept runs.acts)
     is runs.takes.all_done in
-    let sound = not_failed c.run_requests.new.writer end c.run_requests.result is c.run_requests.ensures.unsaid in
+    let sound = not_failed c.run_requests.new.writer end c.run_requests.result is c.run_requests.ensures.write_fault in
     let notes = notes_of (new_client session.config.timeout session.config.retries) runs.acts in
     let timed : session.config.timeout ≡ 3000 = search rules in
     let again : session.config.retries ≡ 3 = search rules in
