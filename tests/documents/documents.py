@@ -234,8 +234,8 @@ def texts_of_faults(section):
 
 
 def what_no_clause_sees():
-    """A `Drop` by hand, which could do anything when a value is let go; and work that no clause `work` would see: a
-    loop in bac_pdu, or a count that is begun from there to bac_device."""
+    """A `Drop` by hand, which could do anything when a value is let go; and work that no clause `walked_once` would
+    see: a loop in bac_pdu, or a count that is begun from there to bac_device."""
     for what, (place, pattern) in UNSEEN.items():
         for file in files(place):
             yield from (f"{file}: {what}: {on_one_line(it)}" for it in re.findall(pattern, text_of(file)))

@@ -64,7 +64,7 @@ impl Device {
             (spec.writes_after self.old.info (points_of self.old) writes (station from) datagram.now) }
         ensures fits { IfSome result (λ peer. ReplyFits (station from) datagram.now (station peer, frame.new)) }
         ensures silent { IfNone result (frame.new ≡ []) }
-        ensures work { work.new.tags ≤ work.old.tags + 2 * length datagram.now }
+        ensures walked_once { work.new.tags ≤ work.old.tags + 2 * length datagram.now }
     {
         frame.clear();
         self.answer_into(from, datagram, frame, work)
@@ -85,7 +85,7 @@ impl Device {
         ensures silent { IfNone result (frame.new ≡ []) }
         ensures after { self.new
             ≡ spec.with_write self.old (spec.write_in_datagram self.old (station from) datagram.now) }
-        ensures work { work.new.tags ≤ work.old.tags + 2 * length datagram.now }
+        ensures walked_once { work.new.tags ≤ work.old.tags + 2 * length datagram.now }
     {
         let carried = open_datagram(from, datagram)?;
         self.reply(carried.broadcast, carried.apdu, frame, work)?;
@@ -111,7 +111,7 @@ impl Device {
         ensures silent { IfNone result (frame.new ≡ []) }
         ensures few { length frame.new ≤ 1476 }
         ensures after { self.new ≡ spec.with_write self.old (write_in_apdu self.old broadcast apdu.now) }
-        ensures work { work.new.tags ≤ work.old.tags + 2 * length apdu.now }
+        ensures walked_once { work.new.tags ≤ work.old.tags + 2 * length apdu.now }
     {
         match read_apdu(apdu)? {
             Apdu::Confirmed {
@@ -146,7 +146,7 @@ impl Device {
             ≡ laid_out (spec.fitting request.now.code request.now.id (whole_reply self.old request.now)) }
         ensures few { length frame.new ≤ 1476 }
         ensures after { self.new ≡ spec.with_write self.old (ordered_write self.old request.now) }
-        ensures work { work.new.tags ≤ work.old.tags + 2 * length request.now.body.now }
+        ensures walked_once { work.new.tags ≤ work.old.tags + 2 * length request.now.body.now }
     {
         match self.full_reply(request, frame, work) {
             Ok(()) if frame.len() <= usize::from(announced(request.code)) => {}
@@ -166,7 +166,7 @@ impl Device {
         ensures ok { OnOk result (frame.new ≡ laid_out (whole_reply self.old request.now)) }
         ensures full { OnErr result (frame_room < length (laid_out (whole_reply self.old request.now))) }
         ensures after { self.new ≡ spec.with_write self.old (ordered_write self.old request.now) }
-        ensures work { work.new.tags ≤ work.old.tags + 2 * length request.now.body.now }
+        ensures walked_once { work.new.tags ≤ work.old.tags + 2 * length request.now.body.now }
     {
         let Request { id, body, .. } = *request;
         if request.part.is_some() {
@@ -210,7 +210,7 @@ impl Device {
         ensures ok { OnOk result (frame.new ≡ laid_out (spec.write_reply self.old id body.now)) }
         ensures full { OnErr result (frame_room < length (laid_out (spec.write_reply self.old id body.now))) }
         ensures after { self.new ≡ spec.with_write self.old (write_in_body self.old body.now) }
-        ensures work { work.new.tags ≤ work.old.tags + 2 * length body.now }
+        ensures walked_once { work.new.tags ≤ work.old.tags + 2 * length body.now }
     {
         let request = match read_write(body, work) {
             Ok(request) => request,

@@ -62,7 +62,7 @@ pub(crate) fn enclosed_and_rest<'a>(
     work: &mut Work,
 ) -> Option<(&'a [u8], &'a [u8])>
     ensures found { option_map (λ x. (x.0.now, x.1.now)) result ≡ enclosed_at 3 octets.now }
-    ensures work { work.new.tags ≤ work.old.tags + 2 * length octets.now }
+    ensures walked_once { work.new.tags ≤ work.old.tags + 2 * length octets.now }
 {
     let inside = rest_behind_opening(octets)?;
     let (items, rest) = inside.split_at(region(inside, work)?);

@@ -78,7 +78,7 @@ pub fn read_read(body: &[u8]) -> Result<ReadRequest, RejectReason>
 #[tactic(auto, using(crate::proofs::PropertyLaws::reference_no_longer), unfolding(crate::specs::PropertyReading::write_of))]
 pub fn read_write<'a>(body: &'a [u8], work: &mut Work) -> Result<WriteRequest<'a>, RejectReason>
     ensures value { result_seen order result ≡ write_of body.now }
-    ensures work { work.new.tags ≤ work.old.tags + 2 * length body.now }
+    ensures walked_once { work.new.tags ≤ work.old.tags + 2 * length body.now }
 {
     let (request, rest) = reference_and_rest(body)?;
     if rest.is_empty() {
@@ -110,7 +110,7 @@ pub fn read_write<'a>(body: &'a [u8], work: &mut Work) -> Result<WriteRequest<'a
 #[tactic(auto, using(crate::proofs::PropertyLaws::value_there, crate::proofs::PropertyLaws::reference_no_longer), unfolding(crate::specs::PropertyReading::ack_of))]
 pub fn read_ack<'a>(body: &'a [u8], work: &mut Work) -> Option<Ack<'a>>
     ensures value { option_map ack_seen result ≡ ack_of body.now }
-    ensures work { work.new.tags ≤ work.old.tags + 2 * length body.now }
+    ensures walked_once { work.new.tags ≤ work.old.tags + 2 * length body.now }
 {
     let Ok((request, rest)) = reference_and_rest(body) else {
         return None;

@@ -26,9 +26,10 @@ use std::io::{Read, Write};
 /// text, or a front of it where they were cut off. Where `clap` does not take the words, each report tells of an error
 /// that `clap` may give at these.
 ///
-/// Two calls with the same `typed` run the same words, `words_called typed`, or lack memory for them (`IsCalled`). What
-/// the program that is called with words reports last is a function of the report of the words and of whether its
-/// writer has failed. What it tells on `errors` is said by that report, but for a text of `clap`.
+/// Two calls with the same `typed` run the same words, `words_called typed`, or lack memory for them (law
+/// [`a_call_runs_its_words`]). What the program that is called with words reports last is a function of the report of
+/// the words and of whether its writer has failed. What it tells on `errors` is said by that report, but for a text of
+/// `clap`.
 pub fn the_program_is_a_function<
     M: Network,
     N: Network,
