@@ -1,8 +1,8 @@
 //! Examples of words, worked out by computation. They show what the definitions mean.
 
-ghost use Rattle.std.specs.Prelude.{◌≡◌, ℕ, [], ◌∷◌, codes, replicate};
-ghost use Rattle.bac_text.specs.{Bad, TooLong, peer_of, longest_line, words_behind, words_of};
-ghost use Rattle.bac_text.specs.Inner.{WritesPair, device, far_device, body_with_words};
+ghost use Rattle.std.specs.Prelude.{[], ◌∷◌, ◌≡◌, codes, replicate, ℕ};
+ghost use Rattle.bac_text.specs.{Bad, longest_line, peer_of, TooLong, words_behind, words_of};
+ghost use Rattle.bac_text.specs.Inner.{body_with_words, device, far_device, WritesPair};
 
 // A value of each kind: the number of its tag and a word, and the octets that they write (ANSI/ASHRAE 135, 20.2).
 #[tactic(none)]
