@@ -14,4 +14,3 @@ mod Asking
 pub mod Alike
 pub mod SearchesAlike
 pub mod ServingsAlike
-pub mod Lines

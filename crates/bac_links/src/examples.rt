@@ -1,7 +1,7 @@
 //! Examples of what is said of links and tools, worked out by computation. They show what the definitions mean.
 
 ghost use Rattle.std.specs.Prelude.{◌≡◌, ℕ, [], ◌∷◌, None, true, false, codes};
-ghost use Rattle.bac_links.specs.{Asking.waits_in, Ending.status_of, Limits.{longest_datagram, most_turns, turn_wait}};
+ghost use Rattle.bac_links.specs.{Asking.waits_in, Limits.{longest_datagram, most_turns, turn_wait}};
 ghost use Rattle.bac_links.specs.Fault.{is_link_fault, is_write_fault, link_fault_text, tool_fault_text};
 ghost use Rattle.bac_links.specs.History.{Arrived, Failure, Gains, Posted, Silence, Timed, Unposted, Waited};
 ghost use Rattle.bac_links.specs.History.{heard_by, posted};
@@ -10,7 +10,7 @@ ghost use Rattle.bac_links.specs.Sent.{AllSent, sent_in};
 ghost use Rattle.bac_links.specs.{Serve.arrivals_in, Socket.{Logs, Times}, SystemCall.Elapsed};
 ghost use Rattle.bac_links.specs.declared.fault.ToolFault.TheVariants.{SendFailed, ReceiveFailed, TurnsSpent};
 ghost use Rattle.bac_links.specs.declared.fault.ToolFault.TheVariants.{WriteFailed};
-ghost use Rattle.bac_links.specs.Inner.Examples.{bad, broken, desk, good, nobody, quiet_link, steady, unsent};
+ghost use Rattle.bac_links.specs.Inner.Examples.{broken, desk, good, nobody, quiet_link, steady, unsent};
 ghost use Rattle.bac_links.specs.Inner.Examples.{unwritten};
 ghost use Rattle.bac_links.specs.Inner.Examples.{IsNothing};
 
@@ -70,12 +70,9 @@ fn examples_of_entries()
     ensures unread { Times 5 5 [] → ⊥ }
 {}
 
-// How a tool ends, and what is told of it.
+// Whose fault it is that a tool could not go on, and what is told of it.
 #[tactic(none)]
 fn examples_of_ends()
-    ensures good { status_of good ≡ 0 }
-    ensures bad { status_of bad ≡ 1 }
-    ensures unsent { status_of unsent ≡ 3 }
     ensures of_link { is_link_fault unsent ≡ true }
     ensures not_of_link { is_link_fault unwritten ≡ false }
     ensures of_writer { is_write_fault unwritten ≡ true }

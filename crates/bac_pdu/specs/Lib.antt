@@ -13,6 +13,7 @@ pub mod PropertyReading
 pub mod Discovery
 pub mod Failure
 pub mod ValueReading
+pub mod Found
 pub mod Inner
 unfoldable pub use Steps.*
 unfoldable pub use Bits.*

@@ -7,10 +7,9 @@ ghost use Rattle.bac_script.specs.declared.input.Reading.TheVariants.{AtEnd, Fai
 ghost use Rattle.bac_script.specs.declared.line.LineFault.TheVariants.{TooLong};
 ghost use Rattle.bac_script.specs.declared.tracing.TraceFault.TheVariants.{BadLine, ReadFailed};
 ghost use Rattle.bac_links.specs.History.{Posted, Silence, Timed, Unposted, Waited};
-ghost use Rattle.bac_links.specs.declared.fault.ToolFault.TheVariants.{SendFailed, TurnsSpent};
+ghost use Rattle.bac_links.specs.declared.fault.ToolFault.TheVariants.{TurnsSpent};
 ghost use Rattle.bac_links.specs.Limits.{most_turns};
 ghost use Rattle.bac_run.specs.Course.{AreSteady, Does, Fresh, Goes, IsDue, Turns, aims_of_lines, room_for};
-ghost use Rattle.bac_run.specs.Fault.{run_status_of};
 ghost use Rattle.bac_run.specs.Input.{EndsWithFeed, HasNoFeed, said_of};
 ghost use Rattle.bac_run.specs.Inner.Examples.{about, asked, at_rest, busy, desk, ended, idle, octets, read};
 ghost use Rattle.bac_run.specs.Inner.Examples.{read_line, sent, unsent, waiting};
@@ -121,10 +120,6 @@ fn examples_of_acts()
 
     ensures no_feed { HasNoFeed (13 ∷ []) }
     ensures feed { HasNoFeed (10 ∷ []) → ⊥ }
-
-    ensures good { run_status_of (ended 2) ≡ 0 }
-    ensures bad { run_status_of (Err (Script (BadLine 2))) ≡ 2 }
-    ensures broken { run_status_of (Err (Link SendFailed)) ≡ 3 }
 {}
 
 // What two runs ask, and how far a clock goes at once.

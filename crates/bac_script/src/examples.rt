@@ -5,7 +5,7 @@ ghost use Rattle.bac_script.{
   specs.declared.input.Reading.TheVariants.{Open, AtEnd, Failed},
   specs.declared.tracing.TraceFault.TheVariants.{BadLine, LineTooLong, ReadFailed, WriteFailed},
   specs.{Inner.Examples.{IsTraced, ended, read, sent, answer}, Script.Runs},
-  specs.{Alike.{AreAlike, IsFrontOf, IsWrittenOf}, Input.most_reads, Tracing.trace_status_of},
+  specs.{Alike.{AreAlike, IsFrontOf, IsWrittenOf}, Input.most_reads},
 };
 
 // What is printed of a client's events.
@@ -66,7 +66,7 @@ fn examples_of_ends()
     ensures cut { Runs (codes "tick x") Failed [] (Err ReadFailed) }
 {}
 
-// What two scripts have in common, the status of each end, and the limit of reads.
+// What two scripts have in common, and the limit of reads.
 #[tactic(none)]
 fn examples_of_limits()
     ensures reads { most_reads ≡ 4294967295 }
@@ -78,7 +78,4 @@ fn examples_of_limits()
     ensures alike { AreAlike (1 ∷ []) (Err WriteFailed) (1 ∷ 2 ∷ []) (ended 2) }
     ensures unlike { AreAlike (1 ∷ []) (ended 2) (1 ∷ 2 ∷ []) (ended 2) → ⊥ }
     ensures ended_otherwise { AreAlike [] (ended 1) [] (ended 2) → ⊥ }
-    ensures whole { trace_status_of (ended 2) ≡ 0 }
-    ensures bad_line { trace_status_of (Err (BadLine 2)) ≡ 2 }
-    ensures failed { trace_status_of (Err WriteFailed) ≡ 3 }
 {}

@@ -95,8 +95,8 @@ module _ {Origin Other V W : Type 0} (contents : V → Option (List ℕ)) (conte
             (grind arith) one_text rest rest' on,
       )
   tools (Device serve) (a, unprinted) (b, unprinted') =
-      let (asked, on) = servings_so_far serve.count _ a.device b.device seen left seen' left' a.served b.served first
-      rest first' rest' a.serves b.serves gains gains' same in
+      let (asked, on) = servings_so_far serve.count _ a.device b.device seen left seen' left' answer answer' first rest
+      first' rest' a.serves b.serves gains gains' same in
       (asked, grind arith)
 
 -- ---- one run

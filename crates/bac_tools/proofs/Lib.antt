@@ -1,3 +1,3 @@
-pub mod Statuses
+pub mod StatusLaws
 mod Alike
 pub mod Calls

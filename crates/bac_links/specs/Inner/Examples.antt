@@ -3,7 +3,7 @@ use Rattle.std.specs.Prelude.{◌≡◌, ℕ, ◌*◌, List, [], ◌∷◌, Opti
 use Rattle.bac_pdu.specs.{declared.peer.Peer.Peer, Peer.Station}
 use Rattle.bac_links.specs.{History.{Silence, Entry, Account}, Memory.account_of, Played.Scene, SystemCall.SystemCall}
 use Rattle.bac_links.specs.declared.fault.ToolFault.{ToolFault, TheVariants.{SendFailed, WriteFailed}}
-use Rattle.bac_links.specs.declared.exit.Exit.{Exit, TheVariants.{Good, Bad}}
+use Rattle.bac_links.specs.declared.exit.Exit.{Exit, TheVariants.Good}
 
 -- 127.0.0.1, port 47808.
 abbrev pub desk : Station
@@ -13,12 +13,9 @@ desk = record { ip = 0x7f000001; port = 47808; route = None }
 abbrev pub steady : ℕ → ℕ
 steady waits = 50 * waits
 
--- How a tool ended: as it was meant to; otherwise; by a send or a write that failed. And how a server did.
+-- How a tool ended: as it was meant to; by a send or a write that failed.
 abbrev pub good : Result Exit ToolFault
 good = Ok Good
-
-abbrev pub bad : Result Exit ToolFault
-bad = Ok Bad
 
 abbrev pub unsent : Result Exit ToolFault
 unsent = Err SendFailed
