@@ -10,7 +10,7 @@ ghost use Rattle.bac_links.specs.History.{Arrived, Posted, Silence, Timed, Unpos
 ghost use Rattle.bac_links.specs.declared.fault.ToolFault.TheVariants.{ReceiveFailed, SendFailed, TurnsSpent};
 ghost use Rattle.bac_links.specs.Limits.{most_turns};
 ghost use Rattle.bac_run.specs.Course.{AreSteady, Does, Fresh, Goes, IsDue, Turns, aims_of_lines, room_for};
-ghost use Rattle.bac_run.specs.Fault.{run_status_of, write_failed};
+ghost use Rattle.bac_run.specs.Fault.{write_failed};
 ghost use Rattle.bac_run.specs.Input.{EndsWithFeed, HasNoFeed, said_of};
 ghost use Rattle.bac_run.specs.Inner.Examples.{IsRunOf, about, answer, asked, at_rest, busy, deaf, desk, ended, idle};
 ghost use Rattle.bac_run.specs.Inner.Examples.{long_answer, octets, one_by_one, read, read_line, sent, unsent, waiting};
@@ -132,10 +132,6 @@ fn examples_of_acts()
 
     ensures no_feed { HasNoFeed (13 ∷ []) }
     ensures feed { HasNoFeed (10 ∷ []) → ⊥ }
-
-    ensures good { run_status_of (ended 2) ≡ 0 }
-    ensures bad { run_status_of (Err (Script (BadLine 2))) ≡ 2 }
-    ensures broken { run_status_of (Err (Link SendFailed)) ≡ 3 }
 {}
 
 // A whole run: a request, its answer, and the end of the input.

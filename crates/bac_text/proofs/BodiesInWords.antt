@@ -1,12 +1,11 @@
 -- The body of words orders the values that they write, in the standard's words.
-use Rattle.std.proofs.Common.{◌≡◌, ℕ, ◌^◌, ◌<◌, ◌≤◌, List, length, Option, Some, Result, Ok, Err, refl, sym, subst}
-use Rattle.std.{proofs.Common.arith, specs.{Prelude.IfSome, List.{AllByRecursion, flat_map}}}
+use Rattle.std.proofs.Common.{◌<◌, ◌^◌, ◌≡◌, ◌≤◌, arith, Err, length, List, Ok, Option, refl, Result, Some, subst, sym}
+use Rattle.std.{proofs.Common.ℕ, specs.{List.{AllByRecursion, flat_map}, Prelude.IfSome}}
 use Rattle.bac_pdu.specs.{Parameter.IsParameter, Property.{IsPriority, IsWriteBody, reference_parameters, write_octets}}
 use Rattle.bac_pdu.proofs.{SequenceLaws.whole_spell, ShortestLaws.order_is_written}
-use Rattle.bac_wire.specs.{Datum.{Datum, Spells, InRange, plain}, Front.{IsShortest, SpellsAll}}
-use Rattle.bac_wire.specs.{Identifier.{Identifier, IsIdentifier}, DatumReading.values_of}
-use Rattle.bac_wire.proofs.{PlainDatum.plain_spells, ValueLists.read_all}
-use Rattle.bac_text.specs.{TooLong, values_in, order_of, body_of, IsWritten, Inner.region_of}
+use Rattle.bac_wire.specs.{Datum.{Datum, InRange, plain, Spells}, DatumReading.values_of, Front.{IsShortest, SpellsAll}}
+use Rattle.bac_wire.{specs.Identifier.{Identifier, IsIdentifier}, proofs.{PlainDatum.plain_spells, ValueLists.read_all}}
+use Rattle.bac_text.specs.{body_of, IsWritten, order_of, TooLong, values_in, Inner.region_of}
 use Rattle.bac_text.proofs.{ValueRegions.values_are_region, WordRanges.{values_range, values_spelled}}
 use Rattle.bac_text.proofs.{WordValues.at_most_found, WriteBodies.{body_with, region_within}}
 

@@ -1,5 +1,5 @@
 -- The number that the first word of a text writes.
-use Rattle.std.proofs.Common.{◌≡◌, ℕ, ◌<◌, true, false, List, length, take, drop, get_or, Some, refl, sym, arith}
+use Rattle.std.proofs.Common.{◌<◌, ◌≡◌, arith, drop, false, get_or, length, List, refl, Some, sym, take, true, ℕ}
 use Rattle.std.specs.{Prelude.{not, position, unwrap_or}, Str.Parse.digits_value}
 use Rattle.bac_text.{specs.{is_blank, Inner.{is_not_empty, IsFirstNumber, IsLeading}}, proofs.NumberLemmas.digit_in}
 use Rattle.bac_text.proofs.{Lanes.{position_is, position_none}, WordLemmas.words_some}

@@ -1,10 +1,10 @@
 -- From the mask of one load to the octets that pass a test.
-use Rattle.std.proofs.Common.{◌≡◌, ℕ, ◌+◌, ◌-◌, ◌%◌, ◌^◌, ◌<◌, ◌≤◌, cond, Bool, true, false, not, List, map, length}
-use Rattle.std.proofs.{Common.{get_or, Some, None, refl, ap, ◌∙◌, subst, arith}, lemmas.Bool.not-true}
-use Rattle.std.proofs.lemmas.Simd.{map-map, mask_l-mod, length-chunk, get_or-chunk, leading_from_mask_l}
-use Rattle.std.proofs.lemmas.{Simd.trailing_mask_l, List.length-map}
-use Rattle.std.proofs.lemmas.List.Sums.{prefix_len-le-length, prefix_len_passes, prefix_len_stops, position_or_len_is}
-use Rattle.std.specs.{Prelude.{◌||◌, position, bit_or}, List.{prefix_len, position_or_len}}
+use Rattle.std.proofs.Common.{◌%◌, ◌+◌, ◌-◌, ◌<◌, ◌^◌, ◌∙◌, ◌≡◌, ◌≤◌, ap, arith, Bool, cond, false, get_or, length}
+use Rattle.std.proofs.{Common.{List, map, None, not, refl, Some, subst, true, ℕ}, lemmas.Bool.not-true}
+use Rattle.std.{proofs.lemmas.{List.length-map, Simd.trailing_mask_l}, specs.List.{position_or_len, prefix_len}}
+use Rattle.std.proofs.lemmas.List.Sums.{position_or_len_is, prefix_len-le-length, prefix_len_passes, prefix_len_stops}
+use Rattle.std.proofs.lemmas.Simd.{get_or-chunk, leading_from_mask_l, length-chunk, map-map, mask_l-mod}
+use Rattle.std.specs.Prelude.{◌||◌, bit_or, position}
 use Rattle.bac_text.specs.Inner.{first_set, IsRunIn}
 use lib.Lanes.{chunk, mask_l, top}
 

@@ -1,5 +1,5 @@
 //! The words of a property's value: tags and values in turn.
-ghost use Rattle.std.specs.Prelude.{◌≡◌, ◌∷◌, [], length, MatchResult, MatchOption};
+ghost use Rattle.std.specs.Prelude.{[], ◌∷◌, ◌≡◌, length, MatchOption, MatchResult};
 ghost use Rattle.bac_text.specs.{Bad, words_behind, Inner.region_of};
 
 use crate::value_words::{ValueFault, append_pair};

@@ -1,5 +1,5 @@
 //! The first octet that ends a piece of text, searched for several octets at a time.
-ghost use Rattle.std.specs.Prelude.{◌≡◌, ◌+◌, ◌<◌, ◌≤◌, length, position};
+ghost use Rattle.std.specs.Prelude.{◌+◌, ◌<◌, ◌≡◌, ◌≤◌, length, position};
 ghost use Rattle.bac_text.specs.{ends_at, Inner.{first_set, IsRunIn}};
 
 use crate::words::is_blank;
