@@ -41,7 +41,7 @@ impl From<WriteFailed> for RunFault {
 }
 
 /// The status with which the program ends: 0 at the end of the input, 2 after a line that is bad or too long, 3 where
-/// the link, reading or writing failed, or the turns of a wait are spent.
+/// the link, reading or writing failed.
 pub fn run_status(answer: &Result<TraceEnd, RunFault>) -> u8
     ensures { result ≡ run_status_of answer.now }
 {
