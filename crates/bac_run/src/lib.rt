@@ -8,12 +8,12 @@
 //! `specs/Journal.antt` says what is printed and sent of all that a run does, `specs/Course.antt` when it does what,
 //! and [`laws`] what follows from that.
 //!
-//! A call, of `bac_uses` (`src/run.rt`), where it is proved that with status 0 no line was bad, that the client told
+//! A call, of `bac_uses` (`src/run.rt`), where it is proved that without a fault no line was bad, that the client told
 //! what the look-ahead gives, that `bactrace` prints that of the journal, and that what was sent is what it says:
 //!
 //! ```rust
 //! let session = Session::new(config, 8).unwrap();
-//! run_status(&run_requests(session, link, reader, writer))
+//! run_requests(session, link, reader, writer)
 //! ```
 #![tactic(auto)]
 
