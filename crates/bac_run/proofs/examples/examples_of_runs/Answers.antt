@@ -11,8 +11,11 @@ use Rattle.bac_script.specs.declared.input.Reading.TheVariants.{AtEnd}
 use Rattle.bac_links.specs.History.{Account, Arrived, Posted, Timed, Waited}
 use Rattle.bac_run.specs.Course.{Goes, aims_of_lines, ready}
 use Rattle.bac_run.specs.Input.{HasNoFeed}
-use Rattle.bac_run.specs.Inner.Examples.{answer, asked, desk, octets, read_line}
+use Rattle.bac_run.specs.Inner.Examples.{answer, asked, desk, octets, one_by_one, read_line}
 use Rattle.bac_run.specs.Journal.{Act, Came, Read, history_of, new_client}
+use Rattle.bac_run.specs.Run.{journal_of}
+use Rattle.bac_script.specs.Alike.{IsFrontOf}
+use Rattle.bac_run.proofs.GoOn.{journal_front}
 use Rattle.bac_run.proofs.ReadBack.{settings_read_back}
 use Rattle.bac_run.proofs.examples.examples_of_runs.Goals as goal
 
@@ -61,6 +64,10 @@ returns-clause-answered c = (
       sound = λ sound. (refl, refl);
       stopped = λ stopped. grind arith;
     };
+    out = λ earlier later wait waits is.
+        let session = one_by_one (omega arith) (omega arith) in
+        subst (λ (acts : List Act). IsFrontOf (journal_of session earlier) (journal_of session acts)) (sym is)
+        (journal_front session earlier (wait ∷ later));
     asks = record {
       gained = Timed 0 ∷ Posted desk octets ∷ Timed 5 ∷ Waited 50 (Arrived desk answer) ∷ [];
       gains = refl;
