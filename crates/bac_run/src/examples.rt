@@ -1,6 +1,6 @@
 //! Examples of what a run does, worked out by computation. They show what the definitions mean.
 
-ghost use Rattle.std.specs.Prelude.{◌≡◌, ◌^◌, ◌<◌, ℕ, [], ◌∷◌, ◌++◌, codes, replicate, false, Err};
+ghost use Rattle.std.specs.Prelude.{◌≡◌, ◌^◌, ◌<◌, ℕ, List, [], ◌∷◌, ◌++◌, codes, replicate, false, Err};
 ghost use Rattle.bac_tsm.specs.Events.{Tick};
 ghost use Rattle.bac_script.specs.Line.{Happens, Nothing};
 ghost use Rattle.bac_script.specs.declared.input.Reading.TheVariants.{AtEnd, Failed, Open};
@@ -141,9 +141,11 @@ fn examples_of_runs()
         ++ codes "data 127.0.0.1:47808 810a0017010030010c0c0000000519553e444290999a3f\n# done 0 value 4290999a\n")
         (Timed 0 ∷ Posted desk octets ∷ Timed 5 ∷ Waited 50 (Arrived desk answer) ∷ []) }
 
-    // Over a remark the link is asked for nothing.
-    ensures unasked { IsRunOf (codes "# x\n") (codes "client 3000 3 0\n")
+    // Whatever is printed: over a remark the link is asked for nothing, and what is asked for is sent.
+    ensures unasked { (printed : List ℕ) → IsRunOf (codes "# x\n") printed
         (Timed 0 ∷ Posted desk octets ∷ Timed 5 ∷ Waited 50 (Arrived desk answer) ∷ []) → ⊥ }
+    ensures unsent { (printed : List ℕ) → IsRunOf read_line printed
+        (Timed 0 ∷ Timed 5 ∷ Waited 50 (Arrived desk answer) ∷ []) → ⊥ }
 
     // A remark of 4,122 octets goes on in a second line.
     ensures folded { (timed : 0 < 3000) (some : 0 < 1)
