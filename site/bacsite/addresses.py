@@ -21,7 +21,7 @@ HOST = re.compile(
     r"(?!(?:.*\.)?(?:0[xX][0-9A-Fa-f]*|[0-9]+)\.?(?::|\Z))([A-Za-z0-9._-]{1,253})(?::([0-9]{1,5}))?"
 )
 ROUTE = re.compile(r"([^/]*)/([0-9]{1,5})/((?:[0-9A-Fa-f]{2}){1,7})")
-RANGE = re.compile(r"([0-9.]+)(?:/([0-9]{1,2})|-([0-9.]+))(?::([0-9]{1,5}))?")
+ADDRESS_RANGE = re.compile(r"([0-9.]+)(?:/([0-9]{1,2})|-([0-9.]+))(?::([0-9]{1,5}))?")
 
 
 class Target(NamedTuple):
@@ -75,7 +75,7 @@ def targets(words: Sequence[str]) -> List[Target]:
     """What each word names: one address, or a range of them. None of them stands there twice."""
     found: Dict[str, Target] = {}
     for word in words:
-        many = RANGE.fullmatch(word)
+        many = ADDRESS_RANGE.fullmatch(word)
         addresses = _addresses(many, word) if many else []
         for address in addresses:
             found.setdefault(address, Target(address, (None,), in_range=True))

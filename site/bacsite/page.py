@@ -11,7 +11,7 @@ from collections import Counter
 from typing import Iterator, Optional, Sequence
 
 from .device import Device, SiteObject
-from .texts import clean
+from .display import clean
 
 FLAGS = ("in-alarm", "fault", "overridden", "out-of-service")
 # The class of the cells of each column, and its head.
@@ -71,7 +71,7 @@ def _object_row(found: SiteObject) -> str:
         value += f' <span class="soft">priority {safe(found.held)}</span>'
     flags = [_badge(flag, flag) for flag in found.flags or ()]
     cells = [
-        _cell("id", f"{kind}:{instance}", kind << 22 | instance),
+        _cell("id", str(found.which), kind << 22 | instance),
         _cell("type", safe(found.type_name)),
         _cell("name", _own(found.name) + _soft(found.description)),
         _cell("value", value, found.value.number),

@@ -10,8 +10,8 @@ mod CallSends
 mod Accepted
 mod Progress
 mod Unheard
+mod Worked
 mod Asking
 pub mod Alike
 pub mod SearchesAlike
 pub mod ServingsAlike
-pub mod Lines

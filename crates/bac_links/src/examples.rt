@@ -1,18 +1,27 @@
 //! Examples of what is said of links and tools, worked out by computation. They show what the definitions mean.
 
-ghost use Rattle.std.specs.Prelude.{◌≡◌, ℕ, [], ◌∷◌, None, true, false, codes};
-ghost use Rattle.bac_links.specs.{Asking.waits_in, Ending.status_of, Limits.{longest_datagram, most_turns, turn_wait}};
+ghost use Rattle.std.specs.Prelude.{◌≡◌, ℕ, [], ◌∷◌, Some, None, Ok, Err, true, false, codes};
+ghost use Rattle.std.specs.declared.io.ErrorKind.TheVariants.{TimedOut};
+ghost use Rattle.bac_print.specs.Inner.Examples.{having, unasked, unknown};
+ghost use Rattle.bac_links.specs.{Answered.{AskAlike, OneText}, Asking.waits_in, Call.{IsAccepted, Tells}};
+ghost use Rattle.bac_links.specs.Limits.{longest_datagram, most_turns, turn_wait};
 ghost use Rattle.bac_links.specs.Fault.{is_link_fault, is_write_fault, link_fault_text, tool_fault_text};
 ghost use Rattle.bac_links.specs.History.{Arrived, Failure, Gains, Posted, Silence, Timed, Unposted, Waited};
 ghost use Rattle.bac_links.specs.History.{heard_by, posted};
-ghost use Rattle.bac_links.specs.{Memory.{PlaysItsScenes, sent_by}, Progress.{AreTold, ArePrompt}};
-ghost use Rattle.bac_links.specs.Sent.{AllSent, sent_in};
-ghost use Rattle.bac_links.specs.{Serve.arrivals_in, Socket.{Logs, Times}, SystemCall.Elapsed};
+ghost use Rattle.bac_links.specs.{Memory.{PlaysItsScenes, account_with, sent_by}, Progress.{AreTold, ArePrompt}};
+ghost use Rattle.bac_links.specs.{Search.{Searched, who_is_to}, Sent.{AllSent, sends_of_call, sent_at, sent_in}};
+ghost use Rattle.bac_links.specs.Serve.{Serves, arrivals_in};
+ghost use Rattle.bac_links.specs.Socket.{Binds, BindsAtMost, Logs, LogsHistory, Sends, Times, Waits, account_over};
+ghost use Rattle.bac_links.specs.SystemCall.{Bind, Elapsed, Limit, Receive, SendTo};
+ghost use Rattle.bac_links.specs.declared.ending.Purpose.TheVariants.{Writing};
 ghost use Rattle.bac_links.specs.declared.fault.ToolFault.TheVariants.{SendFailed, ReceiveFailed, TurnsSpent};
 ghost use Rattle.bac_links.specs.declared.fault.ToolFault.TheVariants.{WriteFailed};
-ghost use Rattle.bac_links.specs.Inner.Examples.{bad, broken, desk, good, nobody, quiet_link, steady, unsent};
-ghost use Rattle.bac_links.specs.Inner.Examples.{unwritten};
-ghost use Rattle.bac_links.specs.Inner.Examples.{IsNothing};
+ghost use Rattle.bac_links.specs.declared.udp.OnRefusal.TheVariants.{Fails, IsLost};
+ghost use Rattle.bac_links.specs.Inner.Examples.{answered, asked_so, bad, broken, call, deaf, desk, device, good};
+ghost use Rattle.bac_links.specs.Inner.Examples.{local, lost, nobody, once_asked};
+ghost use Rattle.bac_links.specs.Inner.Examples.{one_step, quiet_link, search, steady, to_desk, twice_asked};
+ghost use Rattle.bac_links.specs.Inner.Examples.{unsearched, unsent, unwritten, write};
+ghost use Rattle.bac_links.specs.Inner.Examples.{AsksInVain, AsksTime, IsNothing, NoCut, Same, SendsOnly};
 
 // What a clock tells, and how long waits take by it.
 #[tactic(none)]
@@ -62,6 +71,9 @@ fn examples_of_entries()
     ensures sent_then { sent_by (quiet_link (Waited 50 Silence ∷ Posted desk [] ∷ []))
         ≡ record { time = 5; to = desk; octets = [] } ∷ [] }
 
+    // A scene is a step of the link.
+    ensures step { account_with one_step [] ≡ quiet_link [] }
+
     // A log has what the system was asked for, and no more. Where the clock fails the time is that before.
     ensures nothing { Logs IsNothing [] [] }
     ensures something { Logs IsNothing [] (Elapsed None ∷ []) → ⊥ }
@@ -70,12 +82,9 @@ fn examples_of_entries()
     ensures unread { Times 5 5 [] → ⊥ }
 {}
 
-// How a tool ends, and what is told of it.
+// Whose fault it is that a tool could not go on, and what is told of it.
 #[tactic(none)]
 fn examples_of_ends()
-    ensures good { status_of good ≡ 0 }
-    ensures bad { status_of bad ≡ 1 }
-    ensures unsent { status_of unsent ≡ 3 }
     ensures of_link { is_link_fault unsent ≡ true }
     ensures not_of_link { is_link_fault unwritten ≡ false }
     ensures of_writer { is_write_fault unwritten ≡ true }
@@ -85,4 +94,99 @@ fn examples_of_ends()
     ensures spent { tool_fault_text TurnsSpent ≡ codes "turns spent" }
     ensures writing { tool_fault_text WriteFailed ≡ codes "writing failed" }
     ensures bind { link_fault_text ≡ codes "bind failed" }
+{}
+
+// What a call asks, sends, prints and answers.
+#[tactic(none)]
+fn examples_of_calls()
+    // Its request is accepted where it is asked for behind the first time, and at no other event.
+    ensures accepted { IsAccepted Writing call once_asked }
+    ensures unaccepted { IsAccepted Writing call [] → ⊥ }
+    ensures twice { IsAccepted Writing call twice_asked → ⊥ }
+
+    // It is sent at the second event.
+    ensures sent { sent_at Writing call answered ≡ (1, desk, write) ∷ [] }
+    ensures unsent { sent_at Writing call lost ≡ [] }
+    ensures due { sends_of_call Writing call answered ≡ (1, desk, write) ∷ [] }
+
+    // What was written is told by `ok`. What could not be sent is told by nothing.
+    ensures told { Tells Writing call unknown unasked (having (codes "ok\n")) (asked_so []) (asked_so answered) good }
+    ensures told_lost { Tells Writing call unknown unasked unasked (asked_so []) (asked_so lost) (Err SendFailed) }
+    ensures bad_end { Tells Writing call unknown unasked (having (codes "ok\n")) (asked_so []) (asked_so answered) bad
+        → ⊥ }
+    ensures untold { Tells Writing call unknown unasked unasked (asked_so []) (asked_so answered) good → ⊥ }
+    ensures early { Tells Writing call unknown unasked unasked (asked_so []) (asked_so []) (Err SendFailed) → ⊥ }
+    ensures no_loss { Tells Writing call unknown unasked unasked (asked_so []) (asked_so answered) (Err SendFailed)
+        → ⊥ }
+    ensures unwritten { Tells Writing call unknown unasked unasked (asked_so []) (asked_so lost) unwritten → ⊥ }
+{}
+
+// What a search asks, prints and answers, and how a server ends.
+#[tactic(none)]
+fn examples_of_searches_and_servers()
+    ensures who_is { who_is_to search ≡ 0x81 ∷ 0x0a ∷ 0x00 ∷ 0x08 ∷ 0x01 ∷ 0x00 ∷ 0x10 ∷ 0x08 ∷ [] }
+    ensures searched { Searched search unknown unasked unasked (asked_so []) (asked_so unsearched) unsent }
+    ensures not_asked { Searched search unknown unasked unasked (asked_so []) (asked_so []) unsent → ⊥ }
+    ensures found { Searched search unknown unasked unasked (asked_so []) (asked_so unsearched) good → ⊥ }
+    ensures printed { Searched search unknown unasked (having (1 ∷ [])) (asked_so []) (asked_so unsearched) unsent
+        → ⊥ }
+    ensures cut_off { Searched search unknown unasked unasked (asked_so []) (asked_so unsearched) unwritten → ⊥ }
+
+    // A server whose first wait fails leaves the device as it was.
+    ensures served { Serves 1 (device 7) (device 7) (asked_so []) (asked_so deaf) (Err ReceiveFailed) }
+    ensures other_device { Serves 1 (device 7) (device 8) (asked_so []) (asked_so deaf) (Err ReceiveFailed) → ⊥ }
+    ensures not_served { Serves 1 (device 7) (device 7) (asked_so []) (asked_so []) (Ok 0) → ⊥ }
+    ensures served_none { Serves 0 (device 7) (device 7) (asked_so []) (asked_so []) (Ok 0) }
+    ensures replied { Serves 0 (device 7) (device 7) (asked_so []) (asked_so []) (Ok 1) → ⊥ }
+{}
+
+// What the system is asked for a link over a socket.
+#[tactic(none)]
+fn examples_of_sockets()
+    ensures bound { Binds to_desk (Bind (local 47808) ∷ []) }
+    ensures other_port { Binds to_desk (Bind (local 47809) ∷ []) → ⊥ }
+    ensures not_bound { Binds to_desk [] → ⊥ }
+    ensures bound_once { BindsAtMost to_desk (Bind (local 47808) ∷ []) }
+    ensures unbound { BindsAtMost to_desk [] }
+    ensures bound_twice { BindsAtMost to_desk (Bind (local 47808) ∷ Bind (local 47808) ∷ []) → ⊥ }
+
+    // A send is good where all octets went, or where what is refused is lost.
+    ensures sent { Sends Fails desk (1 ∷ 2 ∷ []) true (SendTo (1 ∷ 2 ∷ []) (local 47808) (Some 2) ∷ []) }
+    ensures sent_half { Sends Fails desk (1 ∷ 2 ∷ []) true (SendTo (1 ∷ 2 ∷ []) (local 47808) (Some 1) ∷ []) → ⊥ }
+    ensures lost { Sends IsLost desk (1 ∷ 2 ∷ []) true (SendTo (1 ∷ 2 ∷ []) (local 47808) None ∷ []) }
+    ensures sent_elsewhere { Sends Fails desk [] true (SendTo [] (local 47809) (Some 0) ∷ []) → ⊥ }
+    ensures sent_other { Sends Fails desk [] true (SendTo (1 ∷ []) (local 47808) (Some 1) ∷ []) → ⊥ }
+    ensures not_sent { Sends Fails desk [] true [] → ⊥ }
+
+    // A wait of 50 milliseconds sets the limit where it is another, and receives once.
+    ensures waited { Waits Fails 0 50 (Arrived desk (7 ∷ []))
+        (Limit 50000000 true ∷ Receive 2048 (Ok (7 ∷ [], local 47808)) ∷ []) }
+    ensures waited_again { Waits Fails 50 50 Silence (Receive 2048 (Err TimedOut) ∷ []) }
+    ensures unlimited { Waits Fails 0 50 Failure (Limit 50000000 false ∷ []) }
+    ensures unset { Waits Fails 0 50 Silence (Receive 2048 (Err TimedOut) ∷ []) → ⊥ }
+    ensures not_heard { Waits Fails 50 50 Silence [] → ⊥ }
+    ensures other_heard { Waits Fails 50 50 Failure (Receive 2048 (Err TimedOut) ∷ []) → ⊥ }
+
+    // The log of a socket has the calls for its history, behind those that it had made before.
+    ensures logged { LogsHistory (account_over Fails (Elapsed None ∷ []) (Timed 0 ∷ []))
+        (Elapsed None ∷ Elapsed None ∷ []) }
+    ensures not_logged { LogsHistory (account_over Fails [] (Timed 0 ∷ [])) [] → ⊥ }
+    ensures more_logged { LogsHistory (account_over Fails [] []) (Elapsed None ∷ []) → ⊥ }
+    ensures other_time { LogsHistory (account_over Fails [] (Timed 5 ∷ [])) (Elapsed None ∷ []) → ⊥ }
+{}
+
+// That two tools are alike.
+#[tactic(none)]
+fn examples_of_tools()
+    // Both ask the time, and end with it.
+    ensures alike { AskAlike ℕ ℕ AsksTime AsksTime NoCut Same Same }
+    ensures other_question { AskAlike ℕ ℕ AsksTime SendsOnly NoCut Same Same → ⊥ }
+    ensures other_end { AskAlike ℕ ℕ AsksTime AsksInVain NoCut Same Same → ⊥ }
+
+    // Both printed one text; or one writer failed, and took a front of it.
+    ensures one_text { OneText unknown unasked (having (1 ∷ 2 ∷ [])) unknown unasked (having (1 ∷ 2 ∷ [])) good
+        bad }
+    ensures front { OneText unknown unasked (having (1 ∷ 2 ∷ [])) unknown unasked (having (1 ∷ [])) good unwritten }
+    ensures other_text { OneText unknown unasked (having (1 ∷ [])) unknown unasked (having (2 ∷ [])) good bad → ⊥ }
+    ensures half { OneText unknown unasked (having (1 ∷ 2 ∷ [])) unknown unasked (having (1 ∷ [])) good bad → ⊥ }
 {}

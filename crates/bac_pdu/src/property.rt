@@ -1,13 +1,11 @@
 //! ReadProperty, its answer, and WriteProperty, read and written.
 
-ghost use Rattle.std.specs.{Prelude.{◌≡◌, ◌≤◌, ◌+◌, ◌*◌, length, Some, Ok, OnOk, IfSome}, Option.option_map};
-ghost use Rattle.std.specs.List.{AllByRecursion};
-ghost use Rattle.bac_wire.specs.{Limits.deepest, Front.IsShortest, Writing.Appends, Inner.Writing.AppendsFront};
-ghost use Rattle.bac_wire.specs.{Region.IsRegion, Steps.result_seen};
-ghost use Rattle.bac_pdu.specs.{Parameter.IsParameter, Property.{reference, order, ack_seen, reference_parameters}};
-ghost use Rattle.bac_pdu.specs.Property.{IsPriority, IsReadBody, IsWriteBody, IsAckBody, read_octets, write_octets};
-ghost use Rattle.bac_pdu.specs.Property.{ack_octets, ack_front, ack_end};
-ghost use Rattle.bac_pdu.specs.PropertyReading.{reference_at, read_of, write_of, ack_of};
+ghost use Rattle.std.specs.{List.AllByRecursion, Prelude.{◌*◌, ◌+◌, ◌≡◌, ◌≤◌, IfSome, length, OnOk, option_map}};
+ghost use Rattle.bac_wire.specs.{Front.IsShortest, Limits.deepest, Region.IsRegion, Steps.result_seen, Writing.Appends};
+ghost use Rattle.bac_wire.specs.Inner.Writing.{AppendsFront};
+ghost use Rattle.bac_pdu.specs.{ack_end, ack_front, ack_octets, ack_of, ack_seen, IsAckBody, IsParameter, IsPriority};
+ghost use Rattle.bac_pdu.specs.{IsReadBody, IsWriteBody, order, read_octets, read_of, reference, reference_at};
+ghost use Rattle.bac_pdu.specs.{reference_parameters, write_octets, write_of};
 
 use crate::parameter::{
     INDEX, OBJECT, PRIORITY, PROPERTY, append_closing, append_enclosed, append_number,
@@ -80,7 +78,7 @@ pub fn read_read(body: &[u8]) -> Result<ReadRequest, RejectReason>
 #[tactic(auto, using(crate::proofs::PropertyLaws::reference_no_longer), unfolding(crate::specs::PropertyReading::write_of))]
 pub fn read_write<'a>(body: &'a [u8], work: &mut Work) -> Result<WriteRequest<'a>, RejectReason>
     ensures value { result_seen order result ≡ write_of body.now }
-    ensures work { work.new.tags ≤ work.old.tags + 2 * length body.now }
+    ensures walked_once { work.new.tags ≤ work.old.tags + 2 * length body.now }
 {
     let (request, rest) = reference_and_rest(body)?;
     if rest.is_empty() {
@@ -112,7 +110,7 @@ pub fn read_write<'a>(body: &'a [u8], work: &mut Work) -> Result<WriteRequest<'a
 #[tactic(auto, using(crate::proofs::PropertyLaws::value_there, crate::proofs::PropertyLaws::reference_no_longer), unfolding(crate::specs::PropertyReading::ack_of))]
 pub fn read_ack<'a>(body: &'a [u8], work: &mut Work) -> Option<Ack<'a>>
     ensures value { option_map ack_seen result ≡ ack_of body.now }
-    ensures work { work.new.tags ≤ work.old.tags + 2 * length body.now }
+    ensures walked_once { work.new.tags ≤ work.old.tags + 2 * length body.now }
 {
     let Ok((request, rest)) = reference_and_rest(body) else {
         return None;

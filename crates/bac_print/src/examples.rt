@@ -1,8 +1,8 @@
 //! Examples of texts, worked out by computation. They show what the definitions mean.
 
 ghost use Rattle.std.specs.Prelude.{◌≡◌, [], ◌∷◌, codes, replicate};
-ghost use Rattle.bac_print.specs.{Checked.{TookOrFailed, fresh}, Page.Writes};
-ghost use Rattle.bac_print.specs.Inner.Examples.{unknown, written, failed};
+ghost use Rattle.bac_print.specs.{Checked.TookOrFailed, Page.{Prints, Writes}};
+ghost use Rattle.bac_print.specs.Inner.Examples.{having, unasked, unknown, written, failed, page, page_named};
 ghost use Rattle.bac_print.{
   specs.{Inner.Examples.{PrintsAs, device, far_device}, Page.{folded, folded_line, left_after}},
   specs.{PeerTexts.peer_text, Values.region_text},
@@ -49,11 +49,22 @@ fn examples_of_peers()
 // A writer took a text where it has it now, or a front of it where it failed. A page holds what was not written yet.
 #[tactic(none)]
 fn examples_of_writers()
-    ensures took { TookOrFailed unknown (fresh 0) (fresh 0) [] written }
-    ensures took_less { TookOrFailed unknown (fresh 0) (fresh 0) (1 ∷ []) written → ⊥ }
-    ensures took_front { TookOrFailed unknown (fresh 0) (fresh 0) (1 ∷ []) failed }
-    ensures held { Writes unknown (fresh 0) (fresh 0) (1 ∷ []) (1 ∷ 2 ∷ []) (2 ∷ []) }
-    ensures dropped { Writes unknown (fresh 0) (fresh 0) (1 ∷ []) [] (2 ∷ []) → ⊥ }
+    ensures took { TookOrFailed unknown unasked unasked [] written }
+    ensures took_less { TookOrFailed unknown unasked unasked (1 ∷ []) written → ⊥ }
+    ensures took_one { TookOrFailed unknown unasked (having (1 ∷ [])) (1 ∷ []) written }
+    ensures took_front { TookOrFailed unknown unasked unasked (1 ∷ []) failed }
+    ensures held { Writes unknown unasked unasked (1 ∷ []) (1 ∷ 2 ∷ []) (2 ∷ []) }
+    ensures dropped { Writes unknown unasked unasked (1 ∷ []) [] (2 ∷ []) → ⊥ }
+{}
+
+// What is printed on a page is held there until it is written, and the page stays on its way to its writer.
+#[tactic(none)]
+fn examples_of_pages()
+    ensures printed { Prints unknown (page []) (page (1 ∷ [])) (1 ∷ []) }
+    ensures behind { Prints unknown (page (1 ∷ [])) (page (1 ∷ 2 ∷ [])) (2 ∷ []) }
+    ensures lost { Prints unknown (page []) (page []) (1 ∷ []) → ⊥ }
+    ensures other { Prints unknown (page []) (page (2 ∷ [])) (1 ∷ []) → ⊥ }
+    ensures elsewhere { Prints unknown (page []) (page_named 1 []) [] → ⊥ }
 {}
 
 // A text of just the room in its line, one of an octet more, and one with a line feed at the edge. The room is known

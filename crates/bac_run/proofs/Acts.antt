@@ -1,7 +1,7 @@
 -- Acts one after another.
 use Rattle.std.specs.List.{AllByRecursion, flat_map}
-use Rattle.std.proofs.Common.{◌≡◌, ℕ, List, [], ◌∷◌, ◌++◌, Option, Result, Ok, Err, refl, subst, sym, append_assoc}
-use Rattle.std.proofs.Common.{arith, None, Some, ◌<◌, ◌+◌, length, nat_lt, true, take, drop, get_or}
+use Rattle.std.proofs.Common.{◌≡◌, ◌∙◌, ℕ, List, [], ◌∷◌, ◌++◌, Option, Result, Ok, Err, refl, subst, sym, ap, inl, inr}
+use Rattle.std.proofs.Common.{append_assoc, arith, None, Some, ◌<◌, ◌+◌, length, nat_lt, true, take, drop, get_or}
 use Rattle.std.proofs.lemmas.Bool.Decides.{nat_tests}
 use Rattle.std.proofs.lemmas.List.{append-nil, take_more, take-append-drop}
 use Rattle.std.proofs.lemmas.List.Concat.{flat_map-append}
@@ -18,11 +18,13 @@ use Rattle.bac_links.specs.History.{Entry, Account}
 use Rattle.bac_run.specs.declared.fault.RunFault.{RunFault}
 use Rattle.bac_run.specs.declared.fault.RunFault.TheVariants.{Script, Link}
 use Rattle.bac_script.specs.declared.tracing.TraceFault.{TraceFault}
-use Rattle.bac_run.specs.Fault.{send_failed}
+use Rattle.bac_script.specs.declared.tracing.TraceFault.TheVariants.{WriteFailed}
+use Rattle.bac_run.specs.Inner.Went.{send_failed}
 use Rattle.bac_run.specs.Input.{inputs_in}
 use Rattle.bac_run.specs.Journal.{Act, FitsLine, Asked, Paused, Came, Passed, Told, Read, client_after, journal}
-use Rattle.bac_run.specs.Journal.{history_of, turn_at, at_event, posts}
-use Rattle.bac_run.specs.Went.{IsGained, GainsDue, IsWithin}
+use Rattle.bac_run.specs.Journal.{asked_by, history_of, turn_at, at_event, posts}
+use Rattle.bac_run.specs.Went.{HasAsked, IsAsked, IsCut, IsUnsent, IsWithin}
+use Rattle.bac_run.specs.Inner.Went.{GainsDue, IsGained}
 
 pub client_after-append : (client : Client) (xs ys : List Act)
     → client_after client (xs ++ ys) ≡ client_after (client_after client xs) ys
@@ -77,18 +79,113 @@ due_more {done} {result} first second = record {
 abbrev pub failed : (A : Type 0) → RunFault → Result A RunFault
 failed A fault = Err fault
 
-pub gained_err : (A B : Type 0) (fault : RunFault) (due gained : List Entry) → IsGained (failed A fault) due gained
-    → IsGained (failed B fault) due gained
-gained_err A B (Script fault) due gained is = is
-gained_err A B (Link SendFailed) due gained is = is
-gained_err A B (Link fault) due gained is = is
+pub asked_err : (A B : Type 0) (fault : RunFault) (client : Client) (acts : List Act) (gained : List Entry)
+    → IsAsked (failed A fault) client acts gained → IsAsked (failed B fault) client acts gained
+asked_err A B (Script WriteFailed) client acts gained is = is
+asked_err A B (Script fault) client acts gained is = is
+asked_err A B (Link SendFailed) client acts gained is = is
+asked_err A B (Link fault) client acts gained is = is
+
+-- A send of the last of these acts failed, and so of the last of more that end with them.
+unsent_more : (client middle : Client) (xs ys : List Act) (gained further : List Entry)
+    → middle ≡ client_after client xs → gained ≡ history_of client xs → IsUnsent middle ys further
+    → IsUnsent client (xs ++ ys) (gained ++ further)
+unsent_more client middle xs ys gained further is same then =
+    let at = ap (λ (c : Client). history_of c then.before) is in
+    let after = client_after-append client xs then.before in
+    record {
+      before = xs ++ then.before;
+      last = then.last;
+      asked = then.asked;
+      ends = ap (λ (zs : List Act). xs ++ zs) then.ends ∙ sym (append_assoc xs then.before (then.last ∷ []));
+      gains = grind (arith, append_assoc, history-append, same, at, then.gains);
+      cut = subst (λ (c : Client). IsCut (asked_by then.last ++ posts (turn_at c then.last).notes) then.asked)
+          (ap (λ (c : Client). client_after c then.before) is ∙ sym after) then.cut;
+    }
+
+all_more : (client middle : Client) (xs ys : List Act) (gained further : List Entry) → middle ≡ client_after client xs
+    → gained ≡ history_of client xs → further ≡ history_of middle ys
+    → gained ++ further ≡ history_of client (xs ++ ys)
+all_more client middle xs ys gained further is same then =
+    grind (arith, history-append, is, same, then)
+
+asked_on : {B : Type 0} (result : Result B RunFault) (client middle : Client) (xs ys : List Act)
+    (gained further : List Entry) → middle ≡ client_after client xs → gained ≡ history_of client xs
+    → IsAsked result middle ys further → IsAsked result client (xs ++ ys) (gained ++ further)
+asked_on (Ok x) client middle xs ys gained further is same then =
+    all_more client middle xs ys gained further is same then
+asked_on (Err (Script WriteFailed)) client middle xs ys gained further is same (inl then) =
+    inl (all_more client middle xs ys gained further is same then)
+asked_on (Err (Script WriteFailed)) client middle xs ys gained further is same (inr then) =
+    inr (unsent_more client middle xs ys gained further is same then)
+asked_on (Err (Script fault)) client middle xs ys gained further is same then =
+    all_more client middle xs ys gained further is same then
+asked_on (Err (Link SendFailed)) client middle xs ys gained further is same then =
+    unsent_more client middle xs ys gained further is same then
+asked_on (Err (Link fault)) client middle xs ys gained further is same then =
+    all_more client middle xs ys gained further is same then
+
+-- What some acts ask, and then what those behind them do.
+pub asked_more : {Origin A B : Type 0} {x : A} {result : Result B RunFault} {client middle : Client}
+    {xs ys : List Act} {a b c : Account Origin} → middle ≡ client_after client xs → HasAsked (Ok x) client xs a b
+    → HasAsked result middle ys b c → HasAsked result client (xs ++ ys) a c
+asked_more {result} {client} {middle} {xs} {ys} is first second = record {
+  gained = first.gained ++ second.gained;
+  gains = grind (arith, append_assoc, first.gains, second.gains);
+  as_due = asked_on result client middle xs ys _ _ is first.as_due second.as_due;
+}
+
+-- So a send of what these acts ask failed.
+pub unsent_cut : (client : Client) (acts : List Act) (gained : List Entry) → IsUnsent client acts gained
+    → IsCut (history_of client acts) gained
+unsent_cut client acts gained is =
+    let (sent, later, to, octets, whole, was) = is.cut in
+    let all = ap (λ (xs : List Act). history_of client xs) is.ends ∙ history-append client is.before (is.last ∷ []) in (
+      history_of client is.before ++ sent,
+      later,
+      to,
+      octets,
+      grind (arith, append_assoc, append-nil, all, whole),
+      grind (arith, append_assoc, is.gains, was),
+    )
+
+one_asked : {A : Type 0} (result : Result A RunFault) (client : Client) (act : Act) (gained : List Entry)
+    → IsGained result (asked_by act ++ posts (turn_at client act).notes) gained
+    → IsAsked result client (act ∷ []) gained
+one_asked (Ok x) client act gained is = grind (arith, append-nil, is)
+one_asked (Err (Script WriteFailed)) client act gained is = inl (grind (arith, append-nil, is))
+one_asked (Err (Script fault)) client act gained is = grind (arith, append-nil, is)
+one_asked (Err (Link SendFailed)) client act gained is =
+    record { before = []; last = act; asked = gained; ends = refl; gains = refl; cut = is }
+one_asked (Err (Link fault)) client act gained is = grind (arith, append-nil, is)
+
+-- What one act asks.
+pub asked_once : {Origin A : Type 0} {result : Result A RunFault} {client : Client} (act : Act) {a b : Account Origin}
+    → GainsDue result (asked_by act ++ posts (turn_at client act).notes) a b
+    → HasAsked result client (act ∷ []) a b
+asked_once {result} {client} act asked = record {
+  gained = asked.gained;
+  gains = asked.gains;
+  as_due = one_asked result client act asked.gained asked.as_due;
+}
+
+pub asked_nothing : {Origin : Type 0} (client : Client) (a : Account Origin) → HasAsked done client [] a a
+asked_nothing client a = record { gained = []; gains = grind (arith, append-nil); as_due = refl }
+
+nothing_asked : (A : Type 0) (fault : TraceFault) (client : Client) → IsAsked (failed A (Script fault)) client [] []
+nothing_asked A WriteFailed client = inl refl
+nothing_asked A fault client = refl
+
+pub asked_stopped : {Origin : Type 0} (A : Type 0) (fault : TraceFault) (client : Client) (a : Account Origin)
+    → HasAsked (failed A (Script fault)) client [] a a
+asked_stopped A fault client a = record {
+  gained = [];
+  gains = grind (arith, append-nil);
+  as_due = nothing_asked A fault client;
+}
 
 pub due_nothing : {Origin : Type 0} (a : Account Origin) → GainsDue done [] a a
 due_nothing a = record { gained = []; gains = grind (arith, append-nil); as_due = refl }
-
-pub due_stopped : {Origin : Type 0} (A : Type 0) (fault : TraceFault) (a : Account Origin)
-    → GainsDue (failed A (Script fault)) [] a a
-due_stopped A fault a = record { gained = []; gains = grind (arith, append-nil); as_due = refl }
 
 front_gained : (A : Type 0) (due gained rest : List Entry) → IsGained (failed A send_failed) due gained
     → IsGained (failed A send_failed) (due ++ rest) gained

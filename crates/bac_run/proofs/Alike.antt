@@ -1,34 +1,24 @@
 -- Two runs that are answered alike do the same: which act is due is a function of what was done and answered.
 use Rattle.std.specs.Prelude.{⊤}
 use Rattle.std.proofs.Common.{◌≡◌, ◌⊎◌, ◌∙◌, ◌-◌, ◌/◌, ◌==◌, ℕ, suc, nat_lt, Bool, false, true, List, [], ◌∷◌, ◌++◌}
-use Rattle.std.proofs.Common.{Option, Result, Ok, Err, length, refl, sym, ap, subst, inl, inr, append_assoc, is_some}
+use Rattle.std.proofs.Common.{Result, Ok, Err, length, refl, sym, ap, subst, inl, inr}
 use Rattle.std.proofs.lemmas.Bool.{false≢true}
-use Rattle.std.proofs.lemmas.List.{append-nil, append_cancel_left}
 use Rattle.bac_pdu.specs.Peer.{Station}
 use Rattle.bac_tsm.specs.Client.{Client}
 use Rattle.bac_links.specs.Answered.{Brings, answer_of, answers_of}
 use Rattle.bac_links.specs.Asking.{ForDatagram, question_of}
-use Rattle.bac_links.specs.History.{Entry, Heard, Arrived, Silence, Failure, Posted, Timed, Unposted, Waited, Account}
-use Rattle.bac_links.specs.declared.fault.ToolFault.TheVariants.{SendFailed, ReceiveFailed, TurnsSpent, WriteFailed}
-use Rattle.bac_script.specs.Script.{lines}
-use Rattle.bac_script.specs.declared.input.Reading.{Reading}
-use Rattle.bac_script.specs.declared.input.Reading.TheVariants.{Open, AtEnd, Failed}
-use Rattle.bac_run.specs.Course.{aims_for, aims_of_lines, last_aims, room_for, Aim, Does, Fresh, Goes, IsDue, Looked}
+use Rattle.bac_links.specs.History.{Entry, Heard, Arrived, Silence, Failure, Posted, Timed, Unposted, Waited}
+use Rattle.bac_links.specs.declared.fault.ToolFault.TheVariants.{SendFailed}
+use Rattle.bac_script.specs.declared.tracing.TraceFault.TheVariants.{WriteFailed}
+use Rattle.bac_run.specs.Course.{Aim, Does, Fresh, Goes, IsDue, Looked}
 use Rattle.bac_run.specs.Course.{Outside, Phase, Stage, Telling, Broken, DueIn, Turns, acted, freshened, heard_at}
 use Rattle.bac_run.specs.Course.{is_reached, left_of, longest_row, moved, moved_in, open_in, passed_at, settled}
 use Rattle.bac_run.specs.Course.{settled_in, IsPassed, telling}
-use Rattle.bac_run.specs.Input.{acts_of_line}
-use Rattle.bac_run.specs.Run.{first_stage, Runs}
-use Rattle.bac_run.specs.Journal.{new_client, Act, Asked, Came, Passed, Paused, Read, Told, asked_by, has_line}
+use Rattle.bac_run.specs.Journal.{Act, Asked, Came, Passed, Paused, Read, Told, asked_by, has_line}
 use Rattle.bac_run.specs.Journal.{history_of, posts, turn_at}
-use Rattle.bac_run.specs.declared.session.Session.{Session}
-use Rattle.bac_print.specs.Checked.{ends_of, fresh}
-use Rattle.bac_print.specs.declared.checked.Checked.{Checked}
-use Rattle.bac_script.specs.Alike.{GaveSame}
-use Rattle.bac_script.specs.Input.{ReaderStands}
-use Rattle.bac_script.specs.declared.tracing.TraceEnd.{TraceEnd}
 use Rattle.bac_run.specs.Replay.{AskNext}
-use Rattle.bac_run.specs.Went.{IsGained}
+use Rattle.bac_run.specs.Went.{IsAsked, IsCut, IsUnsent}
+use Rattle.bac_run.proofs.Acts.{unsent_cut}
 use Rattle.bac_run.specs.declared.fault.RunFault.{RunFault}
 use Rattle.bac_run.specs.declared.fault.RunFault.TheVariants.{Link, Script}
 
@@ -327,8 +317,9 @@ act_coheres act other after acts others client (inr asking) later =
 abbrev asked_from : Stage → List Act → List Entry
 asked_from stage acts = history_of stage.client acts
 
-histories_cohere : (timeout : ℕ) (stage : Stage) (more : List Aim) (acts others : List Act) → Goes timeout stage acts
-    → Goes timeout (wider stage more) others → Coheres (asked_from stage acts) (asked_from stage others)
+pub histories_cohere : (timeout : ℕ) (stage : Stage) (more : List Aim) (acts others : List Act)
+    → Goes timeout stage acts → Goes timeout (wider stage more) others
+    → Coheres (asked_from stage acts) (asked_from stage others)
 histories_cohere timeout stage more [] others goes goes' = tt
 histories_cohere timeout stage more (act ∷ acts) [] goes goes' = coheres_none (asked_from stage (act ∷ acts))
 histories_cohere timeout stage more (act ∷ acts) (other ∷ others) (due, goes) (due', goes') =
@@ -359,15 +350,24 @@ gets_cut : (sent later : List Entry) (to : Station) (octets : List ℕ)
 gets_cut [] later to octets = inr (to, octets, refl, refl, refl)
 gets_cut (entry ∷ sent) later to octets = inl (refl, gets_cut sent later to octets)
 
-gets_of : {A : Type 0} (result : Result A RunFault) (due gained : List Entry) → IsGained result due gained
-    → Gets due gained
-gets_of (Ok x) due gained is = subst (λ (xs : List Entry). Gets due xs) (sym is) (gets_all due)
-gets_of (Err (Script fault)) due gained is = subst (λ (xs : List Entry). Gets due xs) (sym is) (gets_all due)
-gets_of (Err (Link SendFailed)) due gained (sent, later, to, octets, whole, was) =
-    rw (whole, was) (gets_cut sent later to octets)
-gets_of (Err (Link ReceiveFailed)) due gained is = subst (λ (xs : List Entry). Gets due xs) (sym is) (gets_all due)
-gets_of (Err (Link TurnsSpent)) due gained is = subst (λ (xs : List Entry). Gets due xs) (sym is) (gets_all due)
-gets_of (Err (Link WriteFailed)) due gained is = subst (λ (xs : List Entry). Gets due xs) (sym is) (gets_all due)
+gets_whole : (due gained : List Entry) → gained ≡ due → Gets due gained
+gets_whole due gained is = subst (λ (xs : List Entry). Gets due xs) (sym is) (gets_all due)
+
+gets_before : (due gained : List Entry) → IsCut due gained → Gets due gained
+gets_before due gained (sent, later, to, octets, whole, was) = rw (whole, was) (gets_cut sent later to octets)
+
+gets_unsent : (client : Client) (acts : List Act) (gained : List Entry) → IsUnsent client acts gained
+    → Gets (history_of client acts) gained
+gets_unsent client acts gained is = gets_before (history_of client acts) gained (unsent_cut client acts gained is)
+
+pub gets_of : {A : Type 0} (result : Result A RunFault) (client : Client) (acts : List Act) (gained : List Entry)
+    → IsAsked result client acts gained → Gets (history_of client acts) gained
+gets_of (Ok x) client acts gained is = gets_whole (history_of client acts) gained is
+gets_of (Err (Script WriteFailed)) client acts gained (inl is) = gets_whole (history_of client acts) gained is
+gets_of (Err (Script WriteFailed)) client acts gained (inr is) = gets_unsent client acts gained is
+gets_of (Err (Script fault)) client acts gained is = gets_whole (history_of client acts) gained is
+gets_of (Err (Link SendFailed)) client acts gained is = gets_unsent client acts gained is
+gets_of (Err (Link fault)) client acts gained is = gets_whole (history_of client acts) gained is
 
 -- What was asked is what was due, whether it could be sent or not.
 asked_as : (entry got : Entry) (due gained : List Entry) → Gets (entry ∷ due) (got ∷ gained)
@@ -383,7 +383,7 @@ none_both : (xs ys : List Entry) → xs ++ ys ≡ [] → (xs ≡ []) × (ys ≡ 
 none_both [] ys e = (refl, e)
 none_both (x ∷ xs) ys e = absurd (cc)
 
-next_none : (rest : List Entry) → AskNext [] rest
+pub next_none : (rest : List Entry) → AskNext [] rest
 next_none [] = tt
 next_none (x ∷ rest) = tt
 
@@ -391,7 +391,7 @@ none_next : (rest : List Entry) → AskNext rest []
 none_next [] = tt
 none_next (x ∷ rest) = tt
 
-next : (due others rest rest' : List Entry) → Coheres due others → Gets due rest → Gets others rest'
+pub next : (due others rest rest' : List Entry) → Coheres due others → Gets due rest → Gets others rest'
     → AskNext rest rest'
 next due others [] rest' coheres gets gets' = next_none rest'
 next due others (x ∷ rest) [] coheres gets gets' = tt
@@ -400,7 +400,7 @@ next (entry ∷ due) [] (x ∷ rest) (y ∷ rest') coheres gets gets' = absurd (
 next (entry ∷ due) (other ∷ others) (x ∷ rest) (y ∷ rest') (asks, then) gets gets' =
     asked_as entry x due rest gets ∙ asks ∙ sym (asked_as other y others rest' gets')
 
-aligned : (due others gained got first rest first' rest' : List Entry) → Coheres due others → Gets due gained
+pub aligned : (due others gained got first rest first' rest' : List Entry) → Coheres due others → Gets due gained
     → Gets others got → gained ≡ first ++ rest → got ≡ first' ++ rest' → answers_of first ≡ answers_of first'
     → (first ≡ first') × AskNext rest rest'
 aligned due others gained got [] rest [] rest' coheres gets gets' is is' same = (
@@ -445,130 +445,3 @@ aligned (entry ∷ due) (other ∷ others) gained got (x ∷ first) rest (y
           ap (λ (z : Entry). z ∷ first) one ∙ ap (λ (zs : List Entry). y ∷ zs) (over ∙ sym over'),
           subst (λ (zs : List Entry). AskNext rest zs) (sym out) (none_next rest),
         )
-
--- ---- whole runs
-
--- What a run is about where its reader failed begins as where it may be read on.
-pub aims_open : (window : ℕ) (ls : List (List ℕ)) → (rest : List Aim)
-    × (aims_of_lines window Failed ls ≡ aims_of_lines window Open ls ++ rest)
-aims_open window [] = (last_aims Failed, refl)
-aims_open window (line ∷ later) = go (is_some (acts_of_line line)) refl (aims_open window later)
-  where
-    go : (good : Bool) → is_some (acts_of_line line) ≡ good
-        → (rest : List Aim) × (aims_of_lines window Failed later ≡ aims_of_lines window Open later ++ rest)
-        → (rest : List Aim)
-        × (aims_of_lines window Failed (line ∷ later) ≡ aims_of_lines window Open (line ∷ later) ++ rest)
-    go true e (rest, is) = (
-      rest,
-      rw e (ap (λ (xs : List Aim). room_for window ∷ (aims_for (acts_of_line line) ++ xs)) is
-          ∙ sym (append_assoc (room_for window ∷ aims_for (acts_of_line line)) (aims_of_lines window Open later) rest)),
-    )
-    go false e (rest, is) = ([], rw e (sym (append-nil (room_for window ∷ (aims_for (acts_of_line line) ++ [])))))
-
--- Two runs of one session, of which the second is about more.
-runs_cohere : (session : Session) (aims rest : List Aim) (acts others : List Act)
-    → Goes session.config.timeout (first_stage session aims) acts
-    → Goes session.config.timeout (first_stage session (aims ++ rest)) others
-    → Coheres (history_of (new_client session.config.timeout session.config.retries) acts)
-    (history_of (new_client session.config.timeout session.config.retries) others)
-runs_cohere session aims rest acts others goes goes' =
-    let raw : Stage = record {
-      client = new_client session.config.timeout session.config.retries;
-      behind = 0;
-      phase = Outside;
-      aims = aims;
-    } in
-    let (more, wide) = settled_wider raw rest in
-    histories_cohere session.config.timeout (settled raw) more acts others goes
-    (subst (λ (s : Stage). Goes session.config.timeout s others) wide goes')
-
-swapped : (first first' rest rest' : List Entry) → (first' ≡ first) × AskNext rest' rest
-    → (first ≡ first') × AskNext rest rest'
-swapped first first' [] rest' (is, asks) = (sym is, next_none rest')
-swapped first first' (x ∷ rest) [] (is, asks) = (sym is, tt)
-swapped first first' (x ∷ rest) (y ∷ rest') (is, asks) = (sym is, sym asks)
-
--- How often reading met the end.
-abbrev pub ends : Reading → ℕ
-ends AtEnd = 1
-ends Open = 0
-ends Failed = 0
-
--- The lines are the same where the octets are, and the readers met their end as often.
-module _ (session : Session) (given : List ℕ) (acts others : List Act) where
-  abbrev aims_at : Reading → List Aim
-  aims_at reading = aims_of_lines session.window reading (lines given reading)
-
-  abbrev GoesAt : Reading → List Act → Type 0
-  GoesAt reading = Goes session.config.timeout (first_stage session (aims_at reading))
-
-  abbrev asked : List Act → List Entry
-  asked = history_of (new_client session.config.timeout session.config.retries)
-
-  abbrev both_cohere : Reading → Reading → Type 0
-  both_cohere reading other = GoesAt reading acts → GoesAt other others
-      → Coheres (asked acts) (asked others) ⊎ Coheres (asked others) (asked acts)
-
-  same_reading : (reading : Reading) → both_cohere reading reading
-  same_reading reading goes goes' =
-      inl (runs_cohere session (aims_at reading) [] acts others goes
-      (subst (λ (xs : List Aim). Goes session.config.timeout (first_stage session xs) others)
-      (sym (append-nil (aims_at reading))) goes'))
-
-  cohere_either : (reading other : Reading) → ends reading ≡ ends other → both_cohere reading other
-  cohere_either Open Open e = same_reading Open
-  cohere_either AtEnd AtEnd e = same_reading AtEnd
-  cohere_either Failed Failed e = same_reading Failed
-  cohere_either Open Failed e = λ goes goes'.
-      let (rest, is) = aims_open session.window (lines given Open) in
-      inl (runs_cohere session (aims_at Open) rest acts others goes
-      (subst (λ (xs : List Aim). Goes session.config.timeout (first_stage session xs) others) is goes'))
-  cohere_either Failed Open e = λ goes goes'.
-      let (rest, is) = aims_open session.window (lines given Open) in
-      inr (runs_cohere session (aims_at Open) rest others acts goes'
-      (subst (λ (xs : List Aim). Goes session.config.timeout (first_stage session xs) acts) is goes))
-  cohere_either Open AtEnd e = absurd (cc)
-  cohere_either AtEnd Open e = absurd (cc)
-  cohere_either Failed AtEnd e = absurd (cc)
-  cohere_either AtEnd Failed e = absurd (cc)
-
-pub ends_as_stands : {R : Type 0} (remaining : R → Option (List ℕ)) (reading : Reading) (reader : R) (after : Checked R)
-    → ReaderStands remaining reading (fresh reader) after [] → ends_of after ≡ ends reading
-ends_as_stands remaining Open reader after stands = stands.unended
-ends_as_stands remaining AtEnd reader after stands = stands.once
-ends_as_stands remaining Failed reader after stands = stands.unended
-
-module _ {Origin Other R S V W : Type 0} {remaining : R → Option (List ℕ)} {remaining' : S → Option (List ℕ)}
-    {contents : V → Option (List ℕ)} {contents' : W → Option (List ℕ)} where
-  pub asks_alike : (session : Session) (reader : R) (other_reader : S) (reader' : Checked R) (other_reader' : Checked S)
-      (before after : Checked V) (other_before other_after : Checked W) (seen left : Account Origin)
-      (other_seen other_left : Account Other) (result other : Result TraceEnd RunFault)
-      (first rest other_first other_rest : List Entry)
-      → Runs remaining contents session (fresh reader) reader' before after seen left result
-      → Runs remaining' contents' session (fresh other_reader) other_reader' other_before other_after other_seen
-      other_left other
-      → GaveSame reader' other_reader' → left.history ≡ seen.history ++ (first ++ rest)
-      → other_left.history ≡ other_seen.history ++ (other_first ++ other_rest)
-      → answers_of first ≡ answers_of other_first → (first ≡ other_first) × AskNext rest other_rest
-  asks_alike session reader other_reader reader' other_reader' before after other_before other_after seen left
-      other_seen
-      other_left result other first rest other_first other_rest runs others gave is is' same =
-      let one = runs.course in
-      let two = others.course in
-      let octets : two.given ≡ one.given = sym (two.gave) ∙ sym gave.octets ∙ one.gave in
-      let met = sym (ends_as_stands remaining one.reading reader reader' one.stands) ∙ gave.ends
-      ∙ ends_as_stands remaining' two.reading other_reader other_reader' two.stands in
-      let goes' = subst (λ (xs : List ℕ). Goes session.config.timeout
-      (first_stage session (aims_of_lines session.window two.reading
-      (lines xs two.reading))) others.acts) octets two.goes in
-      let gained : runs.asks.gained ≡ first ++ rest =
-      append_cancel_left seen.history _ _ (sym (ap (λ (a : Account Origin). a.history) runs.asks.gains) ∙ is) in
-      let got : others.asks.gained ≡ other_first ++ other_rest =
-      append_cancel_left other_seen.history _ _ (sym (ap (λ (a : Account Other). a.history) others.asks.gains) ∙ is') in
-      let gets = gets_of result _ _ runs.asks.as_due in
-      let gets' = gets_of other _ _ others.asks.as_due in
-      elim (cohere_either session one.given runs.acts others.acts one.reading two.reading met one.goes goes') [
-        | inl coheres ↦ aligned _ _ _ _ first rest other_first other_rest coheres gets gets' gained got same
-        | inr coheres ↦ swapped first other_first rest other_rest
-            (aligned _ _ _ _ other_first other_rest first rest coheres gets' gets got gained (sym same))
-      ]

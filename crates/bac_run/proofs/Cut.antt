@@ -62,7 +62,7 @@ said_of_long line is =
       | inr short ↦ rw short is
     ]
 
-unsaid : (line : List ℕ) → said false line ≡ Err TooLong → acts_of_line line ≡ None
+pub unsaid : (line : List ℕ) → said false line ≡ Err TooLong → acts_of_line line ≡ None
 unsaid line is = ap (λ (r : Result Said LineFault). option_and_then (acts_of_said line) (result_ok r))
     (said_of_long line is)
 
@@ -80,7 +80,7 @@ pub record IsCut (line now : List ℕ) (reading : Reading) : Type 0 where
 cut_long : (line held : List ℕ) (reading : Reading) → HasNoFeed line → length line ≡ line_room
     → IsCut line (line ++ held) reading
 cut_long line held reading none long =
-    let next = next_long line held reading none long in
+    let next = next_long line held reading none (omega (arith, long)) in
     let here = said-whole_long false line none long in
     let there = next.same false ∙ here in
     record {

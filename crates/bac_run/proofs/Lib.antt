@@ -13,3 +13,8 @@ pub mod Readable
 pub mod Lookahead
 pub mod Alike
 pub mod Ends
+pub mod Ahead
+pub mod Unsent
+pub mod Begun
+pub mod Standing
+pub mod GoOn

@@ -23,16 +23,18 @@ use Rattle.bac_run.specs.declared.fault.RunFault.TheVariants.{Script, Link}
 use Rattle.bac_run.specs.declared.turns.Run.{Run}
 use Rattle.bac_run.specs.declared.turns.Until.{Until}
 use Rattle.bac_run.specs.declared.turns.Until.TheVariants.{FewOpen, TimeTold}
-use Rattle.bac_run.specs.Fault.{send_failed}
+use Rattle.bac_run.specs.Inner.Went.{send_failed}
 use Rattle.bac_run.specs.Inner.Went.{IsOfWait, Went, WentFor, Opened, begins_turn, outside, started}
 use Rattle.bac_run.specs.Course.{Aim, Does, Fresh, Goes, IsDue, Stage, Turns, aims_for, is_reached, moved, open_in}
 use Rattle.bac_run.specs.Course.{ready, stage_after}
 use Rattle.bac_run.specs.Input.{input_in}
 use Rattle.bac_run.specs.Journal.{Act, FitsLine, Turn, remark, Asked, Came, Passed, Told, Read, whole_line}
 use Rattle.bac_run.specs.Journal.{arrival_line, time_line, turn_at, remarks, posts, line_of, asked_by}
-use Rattle.bac_run.specs.Went.{ComesTo, GainsDue, IsGained, IsSpent, IsWithin}
-use Rattle.bac_run.proofs.Acts.{client_after-append, done, due_more, due_nothing, due_stopped, failed, fit_append}
-use Rattle.bac_run.proofs.Acts.{gained_err, history-append, inputs-append, journal-append, posts-answer, quiet_within}
+use Rattle.bac_run.specs.Went.{ComesTo, IsSpent, IsWithin}
+use Rattle.bac_run.specs.Inner.Went.{GainsDue, IsGained}
+use Rattle.bac_run.proofs.Acts.{asked_err, asked_more, asked_nothing, asked_once, asked_stopped, done, failed}
+use Rattle.bac_run.proofs.Acts.{client_after-append, due_nothing, fit_append, inputs-append, journal-append}
+use Rattle.bac_run.proofs.Acts.{posts-answer, quiet_within}
 use Rattle.bac_run.proofs.Acts.{refused_long, within_more, IsQuiet}
 
 -- ---- the course
@@ -137,7 +139,6 @@ module _ {Origin W : Type 0} {contents : W → Option (List ℕ)} where
   went_more {result} {c} {d} {from} {mid} {to} first second =
       let moved' = client_after-append c.client first.acts second.acts in
       let printed = journal-append c.client first.acts second.acts in
-      let asked = history-append c.client first.acts second.acts in
       let here = c.session.config.timeout in
       let there = d.session.config.timeout in
       let same : there ≡ here = rw first.same refl in
@@ -151,7 +152,7 @@ module _ {Origin W : Type 0} {contents : W → Option (List ℕ)} where
             (sym (after_on here there (from i) (mid i) first.acts second.acts same (first.comes i))) (second.comes i);
         client_is = grind (arith, moved', first.client_is, second.client_is);
         prints = printed_as (first.prints ⨾ second.prints) (grind (arith, printed, first.client_is));
-        asks = grind (arith, asked, first.client_is, due_more first.asks second.asks);
+        asks = asked_more first.client_is first.asks second.asks;
         fit = fit_append first.acts second.acts first.fit second.fit;
       }
 
@@ -167,7 +168,7 @@ module _ {Origin W : Type 0} {contents : W → Option (List ℕ)} where
     comes = stages;
     client_is = client;
     prints = prints_nothing p;
-    asks = due_nothing s;
+    asks = asked_nothing c.client s;
     fit = tt;
   }
 
@@ -269,7 +270,7 @@ module _ {Origin W : Type 0} {contents : W → Option (List ℕ)} where
     comes = comes;
     client_is = moved';
     prints = printed_as printed (sym (append-nil _));
-    asks = grind (arith, append-nil, asked);
+    asks = asked_once act asked;
     fit = (fits, tt);
   }
 
@@ -358,7 +359,7 @@ module _ {Origin W : Type 0} {contents : W → Option (List ℕ)} where
     asks = record {
       gained = went.asks.gained;
       gains = went.asks.gains;
-      as_due = gained_err A B fault _ _ went.asks.as_due;
+      as_due = asked_err A B fault _ _ _ went.asks.as_due;
     };
     fit = went.fit;
   }
@@ -384,7 +385,7 @@ module _ {Origin W : Type 0} {contents : W → Option (List ℕ)} where
     asks = record {
       gained = went.asks.gained;
       gains = went.asks.gains;
-      as_due = gained_err A B fault _ _ went.asks.as_due;
+      as_due = asked_err A B fault _ _ _ went.asks.as_due;
     };
     fit = went.fit;
   }
@@ -416,7 +417,7 @@ module _ {Origin W : Type 0} {contents : W → Option (List ℕ)} where
     comes = λ i. comes_stopped A fault (from i);
     client_is = refl;
     prints = prints_nothing p;
-    asks = due_stopped A fault s;
+    asks = asked_stopped A fault c.client s;
     fit = tt;
   }
 

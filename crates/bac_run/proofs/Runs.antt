@@ -2,7 +2,6 @@
 use Rattle.std.proofs.Common.{◌≡◌, ◌⊎◌, ℕ, ◌+◌, false, List, [], ◌∷◌, ◌++◌, length, take, drop, suc}
 use Rattle.std.proofs.Common.{Option, Some, None, Result, Ok, Err, refl, subst, sym, ◌∙◌, ap, inl, inr}
 use Rattle.std.proofs.Common.{append_assoc, arith, length-append, unwrap_or, is_some, IfErr, IfOk}
-use Rattle.std.proofs.lemmas.Bool.{false≢true}
 use Rattle.std.proofs.lemmas.List.{append-nil}
 use Rattle.std.proofs.lemmas.List.Concat.{flat_map-append}
 use Rattle.std.specs.List.{AllByRecursion, concat, flat_map}
@@ -34,12 +33,12 @@ use Rattle.bac_run.specs.Course.{room_for, stage_after}
 use Rattle.bac_script.specs.Script.{lines}
 use Rattle.bac_script.specs.declared.line.LineFault.TheVariants.{Bad, TooLong}
 use Rattle.bac_run.specs.Journal.{Act, new_client, settings_line}
-use Rattle.bac_run.specs.Went.{ComesTo, IsGained, IsOver, IsOverAt, IsWithin}
+use Rattle.bac_run.specs.Went.{ComesTo, IsAsked, IsOver, IsOverAt, IsWithin}
 use Rattle.bac_run.specs.Inner.Went.{IsNamed, IsOfWait, Went, WentFor, started, stopped}
 use Rattle.bac_run.specs.Replay.{AreSettings}
 use Rattle.bac_run.specs.Run.{EndsAt, IsAtRest, Runs, first_stage}
 use Rattle.bac_run.specs.Inner.Run.{RunsOn}
-use Rattle.bac_run.specs.Fault.{is_at_link, is_of_link, write_failed}
+use Rattle.bac_run.specs.Fault.{write_failed}
 use Rattle.bac_run.proofs.Acts.{done, failed}
 use Rattle.bac_run.proofs.Cut.{IsCut, all_push, concat_push, cut_all, cut_push, feed_so, gave_so, reading_on}
 use Rattle.bac_run.proofs.Cut.{reads_on, split_push}
@@ -114,17 +113,14 @@ pub done_front : (result : Result TraceEnd RunFault) (taken : List (List ℕ)) (
 done_front (Ok end) taken kept acts (asked, _, _, _) = ([], sym asked ∙ sym (append-nil _))
 done_front (Err fault) taken kept acts is = is
 
--- What is no fault at the link says that all that is due was asked.
-pub all_asked : (result : Result TraceEnd RunFault) (due gained : List Entry) → is_at_link result ≡ false
-    → IsGained result due gained → gained ≡ due
-all_asked (Ok end) due gained far is = is
-all_asked (Err (Script fault)) due gained far is = is
-all_asked (Err (Link fault)) due gained far is = absurd (false≢true (sym far))
-
-pub not_of_link : (result : Result TraceEnd RunFault) → is_at_link result ≡ false → is_of_link result ≡ false
-not_of_link (Ok end) far = refl
-not_of_link (Err (Script fault)) far = refl
-not_of_link (Err (Link fault)) far = absurd (false≢true (sym far))
+-- Where a writer has failed too, what was asked may end with a send that failed.
+asked_cut : (result : Result TraceEnd RunFault) (client : Client) (acts : List Act) (gained : List Entry)
+    → IsAsked result client acts gained → IsAsked (failed TraceEnd write_failed) client acts gained
+asked_cut (Ok end) client acts gained is = inl is
+asked_cut (Err (Script WriteFailed)) client acts gained is = is
+asked_cut (Err (Script fault)) client acts gained is = inl is
+asked_cut (Err (Link SendFailed)) client acts gained is = inr is
+asked_cut (Err (Link fault)) client acts gained is = inl is
 
 -- A fault that may come while requests are open says nothing of them.
 pub over_wait : (fault : RunFault) (client : Client) → IsOfWait fault → IsOverAt fault client
@@ -653,9 +649,9 @@ module _ {Origin R W : Type 0} {remaining : R → Option (List ℕ)} {contents :
     -- It is told that the writer has failed.
     pub cut_off : {reader reader' : Checked R} {writer after : Checked W} {s t : Account Origin} {result : Result
         TraceEnd RunFault}
-        → Runs remaining contents session reader reader' writer after s t result → is_at_link result ≡ false
+        → Runs remaining contents session reader reader' writer after s t result
         → Runs remaining contents session reader reader' writer after s t (Err write_failed)
-    cut_off {result} runs far = record {
+    cut_off {result} runs = record {
       acts = runs.acts;
       takes = record {
         taken = runs.takes.taken;
@@ -676,7 +672,7 @@ module _ {Origin R W : Type 0} {remaining : R → Option (List ℕ)} {contents :
       asks = record {
         gained = runs.asks.gained;
         gains = runs.asks.gains;
-        as_due = all_asked result _ _ far runs.asks.as_due;
+        as_due = asked_cut result _ _ _ runs.asks.as_due;
       };
       over = tt;
       within = runs.within;

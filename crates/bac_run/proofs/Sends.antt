@@ -1,5 +1,5 @@
 -- What was sent is what the notes say.
-use Rattle.std.proofs.Common.{◌≡◌, ℕ, List, [], ◌∷◌, ◌++◌, Option, Result, Ok, Err, refl, sym, ◌∙◌, ap, arith}
+use Rattle.std.proofs.Common.{◌≡◌, ℕ, List, [], ◌∷◌, ◌++◌, Option, Result, Ok, Err, refl, sym, ◌∙◌, ap, arith, inl, inr}
 use Rattle.std.proofs.lemmas.List.{append-nil, append_cancel_left}
 use Rattle.std.proofs.lemmas.List.Concat.{flat_map-append}
 use Rattle.std.specs.List.{flat_map}
@@ -10,14 +10,16 @@ use Rattle.bac_print.specs.declared.checked.Checked.{Checked}
 use Rattle.bac_script.specs.declared.tracing.TraceEnd.{TraceEnd}
 use Rattle.bac_links.specs.History.{Entry, Account}
 use Rattle.bac_links.specs.declared.fault.ToolFault.TheVariants.{SendFailed}
+use Rattle.bac_script.specs.declared.tracing.TraceFault.TheVariants.{WriteFailed}
 use Rattle.bac_run.specs.declared.session.Session.{Session}
 use Rattle.bac_run.specs.declared.fault.RunFault.{RunFault}
 use Rattle.bac_run.specs.declared.fault.RunFault.TheVariants.{Script, Link}
 use Rattle.bac_run.specs.Journal.{Act, Asked, Paused, Came, Passed, Told, Read, asked_by, posts, history_of}
 use Rattle.bac_run.specs.Journal.{new_client, notes_of, turn_at}
-use Rattle.bac_run.specs.Replay.{AreSent, posted_in, sent_in}
+use Rattle.bac_run.specs.Replay.{AreSent, IsLost, posted_in, sent_in}
 use Rattle.bac_run.specs.Run.{Runs}
-use Rattle.bac_run.specs.Went.{IsGained}
+use Rattle.bac_run.specs.Went.{IsAsked, IsCut, IsUnsent}
+use Rattle.bac_run.proofs.Acts.{unsent_cut}
 
 posts_sent : (notes : List Note) → flat_map posted_in (posts notes) ≡ flat_map sent_in notes
 posts_sent [] = refl
@@ -41,13 +43,25 @@ history_sent client (act ∷ later) =
     let rest = history_sent (turn_at client act).after later in
     grind (arith, flat_map-append, append-nil, none, here, rest)
 
-sent_as_due : (result : Result TraceEnd RunFault) (due gained : List Entry) → IsGained result due gained
-    → AreSent result (flat_map posted_in due) (flat_map posted_in gained)
-sent_as_due (Ok end) due gained is = ap (λ (xs : List Entry). flat_map posted_in xs) is
-sent_as_due (Err (Script fault)) due gained is = ap (λ (xs : List Entry). flat_map posted_in xs) is
-sent_as_due (Err (Link SendFailed)) due gained (sent, later, to, octets, whole, was) =
+-- A send of what is due failed: what was sent is what is due before it.
+cut_sent : (due gained : List Entry) → IsCut due gained → IsLost (flat_map posted_in due) (flat_map posted_in gained)
+cut_sent due gained (sent, later, to, octets, whole, was) =
     ((to, octets), flat_map posted_in later, grind (arith, flat_map-append, append-nil, whole, was))
-sent_as_due (Err (Link fault)) due gained is = ap (λ (xs : List Entry). flat_map posted_in xs) is
+
+unsent_lost : (client : Client) (acts : List Act) (gained : List Entry) → IsUnsent client acts gained
+    → IsLost (flat_map posted_in (history_of client acts)) (flat_map posted_in gained)
+unsent_lost client acts gained is = cut_sent (history_of client acts) gained (unsent_cut client acts gained is)
+
+sent_as_due : (result : Result TraceEnd RunFault) (client : Client) (acts : List Act) (gained : List Entry)
+    → IsAsked result client acts gained
+    → AreSent result (flat_map posted_in (history_of client acts)) (flat_map posted_in gained)
+sent_as_due (Ok end) client acts gained is = ap (λ (xs : List Entry). flat_map posted_in xs) is
+sent_as_due (Err (Script WriteFailed)) client acts gained (inl is) = inl (ap (λ
+    (xs : List Entry). flat_map posted_in xs) is)
+sent_as_due (Err (Script WriteFailed)) client acts gained (inr is) = inr (unsent_lost client acts gained is)
+sent_as_due (Err (Script fault)) client acts gained is = ap (λ (xs : List Entry). flat_map posted_in xs) is
+sent_as_due (Err (Link SendFailed)) client acts gained is = unsent_lost client acts gained is
+sent_as_due (Err (Link fault)) client acts gained is = ap (λ (xs : List Entry). flat_map posted_in xs) is
 
 module _ {Origin R W : Type 0} (remaining : R → Option (List ℕ)) (contents : W → Option (List ℕ)) where
   pub all_sent : (session : Session) (reader reader' : Checked R) (before after : Checked W)
@@ -62,4 +76,4 @@ module _ {Origin R W : Type 0} (remaining : R → Option (List ℕ)) (contents :
       let here : runs.asks.gained ≡ gained =
       append_cancel_left seen.history _ _ (sym (ap (λ (a : Account Origin). a.history) runs.asks.gains) ∙ is) in
       rw (sym (history_sent (new_client session.config.timeout session.config.retries) runs.acts), sym here)
-      (sent_as_due result _ _ runs.asks.as_due)
+      (sent_as_due result _ _ _ runs.asks.as_due)

@@ -1,9 +1,7 @@
--- Why a run stopped, what is told of that, and the status then.
-use Rattle.std.specs.Prelude.{ℕ, Bool, false, true, List, Result, Ok, Err}
-use Rattle.bac_script.specs.declared.tracing.TraceEnd.{TraceEnd}
-use Rattle.bac_script.specs.declared.tracing.TraceFault.TheVariants.{BadLine, LineTooLong, WriteFailed}
+-- Why a run stopped, and what is told of that.
+use Rattle.std.specs.Prelude.{ℕ, Bool, false, List, Result, Err}
+use Rattle.bac_script.specs.declared.tracing.TraceFault.TheVariants.{WriteFailed}
 use Rattle.bac_script.specs.Tracing.{trace_fault_text}
-use Rattle.bac_links.specs.declared.fault.ToolFault.TheVariants.{SendFailed}
 use Rattle.bac_links.specs.Fault.{is_link_fault, tool_fault_text}
 use Rattle.bac_run.specs.declared.fault.RunFault.{RunFault}
 use Rattle.bac_run.specs.declared.fault.RunFault.TheVariants.{Script, Link}
@@ -12,28 +10,12 @@ use Rattle.bac_run.specs.declared.fault.RunFault.TheVariants.{Script, Link}
 abbrev pub write_failed : RunFault
 write_failed = Script WriteFailed
 
--- The link could not send.
-abbrev pub send_failed : RunFault
-send_failed = Link SendFailed
-
 -- The fault is the link's, which has failed then.
 abbrev pub is_of_link : {A : Type 0} → Result A RunFault → Bool
 is_of_link (Err (Link fault)) = is_link_fault {A = Unit {0}} (Err fault)
 is_of_link _ = false
 
--- The fault is one at the link: it failed, or all turns went by.
-abbrev pub is_at_link : {A : Type 0} → Result A RunFault → Bool
-is_at_link (Err (Link fault)) = true
-is_at_link _ = false
-
 -- What is told of it.
 abbrev pub run_fault_text : RunFault → List ℕ
 run_fault_text (Script fault) = trace_fault_text fault
 run_fault_text (Link fault) = tool_fault_text fault
-
--- The status of the program.
-abbrev pub run_status_of : Result TraceEnd RunFault → ℕ
-run_status_of (Ok end) = 0
-run_status_of (Err (Script (BadLine n))) = 2
-run_status_of (Err (Script (LineTooLong n))) = 2
-run_status_of _ = 3

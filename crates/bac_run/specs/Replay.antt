@@ -1,5 +1,5 @@
 -- The journal as a script: what `bactrace` reads in its lines, and what it prints of them.
-use Rattle.std.specs.Prelude.{◌≡◌, ◌≢◌, ℕ, Bool, true, false, List, [], ◌∷◌, ◌++◌, Result, Ok, Err, ⊤}
+use Rattle.std.specs.Prelude.{◌≡◌, ◌≢◌, ◌⊎◌, ℕ, Bool, true, false, List, [], ◌∷◌, ◌++◌, Result, Ok, Err, ⊤}
 use Rattle.std.specs.List.{AllByRecursion}
 use Rattle.bac_pdu.specs.Peer.{Station}
 use Rattle.bac_tsm.specs.Events.{Data, Tick, Note, Sent}
@@ -9,7 +9,8 @@ use Rattle.bac_links.specs.History.{Entry, Posted}
 use Rattle.bac_links.specs.declared.fault.ToolFault.TheVariants.{SendFailed}
 use Rattle.bac_run.specs.declared.session.Session.{Session}
 use Rattle.bac_run.specs.declared.fault.RunFault.{RunFault}
-use Rattle.bac_run.specs.declared.fault.RunFault.TheVariants.{Link}
+use Rattle.bac_run.specs.declared.fault.RunFault.TheVariants.{Link, Script}
+use Rattle.bac_script.specs.declared.tracing.TraceFault.TheVariants.{WriteFailed}
 use Rattle.bac_run.specs.Journal.{Act, Asked, Paused, Came, Told, line_of, settings_line}
 
 -- The text is one line, with its only line feed (10) at its end, and says this. The flag says whether it may be
@@ -42,9 +43,14 @@ abbrev pub sent_in : Note → List (Station × List ℕ)
 sent_in (Sent ticket to octets) = (to, octets) ∷ []
 sent_in _ = []
 
+-- What was to be sent was sent, in order, up to one that was lost.
+abbrev pub IsLost : {D : Type 0} → (due sent : List D) → Type 0
+IsLost {D} due sent = (lost : D) × (later : List D) × (due ≡ sent ++ lost ∷ later)
+
 -- With this result what was to be sent was sent, in order; but where a send failed, that and what is behind it was not.
 abbrev pub AreSent : {A D : Type 0} → Result A RunFault → (due sent : List D) → Type 0
-AreSent {D} (Err (Link SendFailed)) due sent = (lost : D) × (later : List D) × (due ≡ sent ++ lost ∷ later)
+AreSent (Err (Link SendFailed)) due sent = IsLost due sent
+AreSent (Err (Script WriteFailed)) due sent = (sent ≡ due) ⊎ IsLost due sent
 AreSent _ due sent = sent ≡ due
 
 -- Of two runs each was asked and answered this, behind what both were: where both go on, they ask the same next.

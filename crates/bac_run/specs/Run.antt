@@ -10,8 +10,8 @@ use Rattle.bac_script.specs.declared.input.Reading.TheVariants.{AtEnd, Failed}
 use Rattle.bac_script.specs.declared.tracing.TraceEnd.{TraceEnd}
 use Rattle.bac_script.specs.declared.tracing.TraceFault.TheVariants.{ReadFailed, WriteFailed}
 use Rattle.bac_links.specs.History.{Account}
-use Rattle.bac_run.specs.Journal.{Act, FitsLine, client_after, new_client, settings_line, journal, history_of}
-use Rattle.bac_run.specs.Went.{ComesTo, GainsDue, IsOver, IsWithin}
+use Rattle.bac_run.specs.Journal.{Act, FitsLine, client_after, new_client, settings_line, journal}
+use Rattle.bac_run.specs.Went.{ComesTo, HasAsked, IsOver, IsWithin}
 use Rattle.bac_run.specs.Course.{Aim, Goes, Outside, Stage, aims_of_lines, ready, stage_after}
 use Rattle.std.specs.List.{AllByRecursion}
 use Rattle.bac_run.specs.Input.{Takes, fault_in}
@@ -76,7 +76,7 @@ pub record Runs {Origin R W : Type 0} (remaining : R → Option (List ℕ)) (con
   pub takes : Takes remaining reader reader' acts result
   pub course : IsCourse remaining session reader reader' acts result
   pub printed : IsPrinted contents before after (journal_of session acts)
-  pub asks : GainsDue result (history_of (new_client session.config.timeout session.config.retries) acts) seen left
+  pub asks : HasAsked result (new_client session.config.timeout session.config.retries) acts seen left
   pub over : IsOver result (client_after (new_client session.config.timeout session.config.retries) acts)
   pub within : IsWithin session.window (new_client session.config.timeout session.config.retries) acts
   pub fit : AllByRecursion FitsLine acts

@@ -1,5 +1,5 @@
 -- What a part of a run did to its client, its page and its link.
-use Rattle.std.specs.Prelude.{◌≡◌, ◌<◌, ℕ, zero, ⊤, List, [], ◌∷◌, ◌++◌, Result, Ok, Err}
+use Rattle.std.specs.Prelude.{◌≡◌, ◌⊎◌, ◌<◌, ℕ, zero, ⊤, List, [], ◌∷◌, ◌++◌, Result, Ok, Err}
 use Rattle.bac_pdu.specs.Peer.{Station}
 use Rattle.bac_tsm.specs.Client.{Client}
 use Rattle.bac_script.specs.declared.tracing.TraceFault.TheVariants.{WriteFailed}
@@ -7,21 +7,37 @@ use Rattle.bac_links.specs.History.{Entry, Posted, Unposted, Account, GainsAll}
 use Rattle.bac_links.specs.declared.fault.ToolFault.TheVariants.{SendFailed, ReceiveFailed, TurnsSpent}
 use Rattle.bac_run.specs.declared.fault.RunFault.{RunFault}
 use Rattle.bac_run.specs.declared.fault.RunFault.TheVariants.{Link, Script}
-use Rattle.bac_run.specs.Journal.{Act, Asked, turn_at}
+use Rattle.bac_run.specs.Journal.{Act, Asked, asked_by, client_after, history_of, posts, turn_at}
 use Rattle.bac_run.specs.Course.{Aim, Broken, Outside, Phase, Stage, Turns, open_in}
 
--- With this result a link was asked all that is due; but where a send failed, all before that send.
-abbrev pub IsGained : {A : Type 0} → Result A RunFault → (due gained : List Entry) → Type 0
-IsGained (Err (Link SendFailed)) due gained = (sent later : List Entry) × (to : Station) × (octets : List ℕ)
+-- A send of what is due failed: a link was asked all before it.
+abbrev pub IsCut : (due gained : List Entry) → Type 0
+IsCut due gained = (sent later : List Entry) × (to : Station) × (octets : List ℕ)
     × (due ≡ sent ++ Posted to octets ∷ later) × (gained ≡ sent ++ Unposted to octets ∷ [])
-IsGained _ due gained = gained ≡ due
 
--- The history of a link gains what is due, as far as the result says.
-pub record GainsDue {Origin A : Type 0} (result : Result A RunFault) (due : List Entry) (seen left : Account Origin)
-    : Type 0 where
+-- A send of the last of these acts failed: all before it was asked, and nothing was done behind it.
+pub record IsUnsent (client : Client) (acts : List Act) (gained : List Entry) : Type 0 where
+  pub before : List Act
+  pub last : Act
+  pub asked : List Entry
+  pub ends : acts ≡ before ++ last ∷ []
+  pub gains : gained ≡ history_of client before ++ asked
+  pub cut : IsCut (asked_by last ++ posts (turn_at (client_after client before) last).notes) asked
+
+-- With this result a link was asked what these acts ask; but where a send failed, all before that send. A writer that
+-- fails is told of first, so a send may have failed too.
+abbrev pub IsAsked : {A : Type 0} → Result A RunFault → Client → (acts : List Act) → (gained : List Entry) → Type 0
+IsAsked (Err (Link SendFailed)) client acts gained = IsUnsent client acts gained
+IsAsked (Err (Script WriteFailed)) client acts gained =
+    (gained ≡ history_of client acts) ⊎ IsUnsent client acts gained
+IsAsked _ client acts gained = gained ≡ history_of client acts
+
+-- The history of a link gains what these acts of a client ask, as far as the result says.
+pub record HasAsked {Origin A : Type 0} (result : Result A RunFault) (client : Client) (acts : List Act)
+    (seen left : Account Origin) : Type 0 where
   pub gained : List Entry
   pub gains : GainsAll gained seen left
-  pub as_due : IsGained result due gained
+  pub as_due : IsAsked result client acts gained
 
 -- All turns until something is reached are taken.
 abbrev pub IsSpent : Phase → List Aim → Type 0

@@ -10,7 +10,7 @@ ghost use Rattle.bac_links.specs.History.{Arrived, Posted, Silence, Timed, Unpos
 ghost use Rattle.bac_links.specs.declared.fault.ToolFault.TheVariants.{ReceiveFailed, SendFailed, TurnsSpent};
 ghost use Rattle.bac_links.specs.Limits.{most_turns};
 ghost use Rattle.bac_run.specs.Course.{AreSteady, Does, Fresh, Goes, IsDue, Turns, aims_of_lines, room_for};
-ghost use Rattle.bac_run.specs.Fault.{run_status_of, write_failed};
+ghost use Rattle.bac_run.specs.Fault.{write_failed};
 ghost use Rattle.bac_run.specs.Input.{EndsWithFeed, HasNoFeed, said_of};
 ghost use Rattle.bac_run.specs.Inner.Examples.{IsRunOf, about, answer, asked, at_rest, busy, deaf, desk, ended, idle};
 ghost use Rattle.bac_run.specs.Inner.Examples.{long_answer, octets, one_by_one, read, read_line, sent, unsent, waiting};
@@ -18,7 +18,7 @@ ghost use Rattle.bac_run.specs.Journal.{Asked, Came, FitsLine, Passed, Paused, R
 ghost use Rattle.bac_run.specs.Journal.{events_of, notes_of, time_line};
 ghost use Rattle.bac_run.specs.Replay.{AreSent, AskNext, IsLineOf, IsReadBack, posted_in, sent_in};
 ghost use Rattle.bac_run.specs.Run.{EndsAt, journal_of};
-ghost use Rattle.bac_run.specs.Went.{IsGained, IsWithin};
+ghost use Rattle.bac_run.specs.Went.{IsAsked, IsWithin};
 ghost use Rattle.bac_run.specs.declared.fault.RunFault.TheVariants.{Link, Script};
 ghost use Rattle.bac_run.specs.declared.turns.Until.TheVariants.{FewOpen};
 
@@ -122,15 +122,16 @@ fn examples_of_acts()
     ensures lost { AreSent {D = ℕ} unsent (1 ∷ 2 ∷ []) (1 ∷ []) }
     ensures none_lost { AreSent {D = ℕ} unsent (1 ∷ 2 ∷ []) (1 ∷ 2 ∷ []) → ⊥ }
     ensures one_less { AreSent {D = ℕ} (ended 2) (1 ∷ 2 ∷ []) (1 ∷ []) → ⊥ }
-    ensures gained { IsGained unsent (Posted desk octets ∷ []) (Unposted desk octets ∷ []) }
-    ensures gained_all { IsGained unsent (Posted desk octets ∷ []) (Posted desk octets ∷ []) → ⊥ }
+
+    // A send that fails is the last thing that a link is asked, and in the last act, also where the writer fails too.
+    ensures unsent { IsAsked unsent idle (asked ∷ []) (Unposted desk octets ∷ []) }
+    ensures unwritten { IsAsked {A = ℕ} (Err write_failed) idle (asked ∷ []) (Unposted desk octets ∷ []) }
+    ensures all_sent { IsAsked unsent idle (asked ∷ []) (Posted desk octets ∷ []) → ⊥ }
+    ensures gone_on { IsAsked unsent idle (asked ∷ Read 40 ∷ []) (Unposted desk octets ∷ []) → ⊥ }
+    ensures ended_well { IsAsked (ended 2) idle (asked ∷ []) (Unposted desk octets ∷ []) → ⊥ }
 
     ensures no_feed { HasNoFeed (13 ∷ []) }
     ensures feed { HasNoFeed (10 ∷ []) → ⊥ }
-
-    ensures good { run_status_of (ended 2) ≡ 0 }
-    ensures bad { run_status_of (Err (Script (BadLine 2))) ≡ 2 }
-    ensures broken { run_status_of (Err (Link SendFailed)) ≡ 3 }
 {}
 
 // A whole run: a request, its answer, and the end of the input.

@@ -20,7 +20,7 @@ ghost use Rattle.bac_links.specs.Answered.{answers_of};
 ghost use Rattle.bac_links.specs.History.{Account, Entry};
 ghost use Rattle.bac_run.specs.Input.{EndsWithFeed, HasNoFeed, said_of};
 ghost use Rattle.bac_run.specs.Course.{AreSteady};
-ghost use Rattle.bac_run.specs.Fault.{send_failed, write_failed};
+ghost use Rattle.bac_run.specs.Fault.{write_failed};
 ghost use Rattle.bac_run.specs.Journal.{Act, Asked, Paused, Told, arrival_line, client_after, events_of, new_client};
 ghost use Rattle.bac_run.specs.Journal.{notes_of, settings_line};
 ghost use Rattle.bac_run.specs.Replay.{AreSent, AskNext, IsLineOf, IsReadBack, posted_in, sent_in};
@@ -74,7 +74,7 @@ pub fn a_run_asks_by_its_answers<K: Link, L: Link, R: Read, S: Read, V: Write, W
 {}
 
 /// How a run ends is such a function too. Where two runs of one session over the same input were answered alike to
-/// their ends, and neither failed to write or to send, they did the same and ended alike: so they have one journal.
+/// their ends, and neither failed to write, they did the same and ended alike: so they have one journal.
 pub fn a_run_ends_by_its_answers<K: Link, L: Link, R: Read, S: Read, V: Write, W: Write>()
     ensures { (session : Settings) (reader : R) (other_reader : S) (reader' : Checked R) (other_reader' : Checked S)
         (before after : Checked V) (other_before other_after : Checked W) (seen left : Account K.Origin)
@@ -84,8 +84,7 @@ pub fn a_run_ends_by_its_answers<K: Link, L: Link, R: Read, S: Read, V: Write, W
         → (others : Runs S.remaining W.contents session (fresh other_reader) other_reader' other_before other_after
         other_seen other_left other) → GaveSame reader' other_reader' → left.history ≡ seen.history ++ gained
         → other_left.history ≡ other_seen.history ++ other_gained → answers_of gained ≡ answers_of other_gained
-        → result ≢ Err write_failed → other ≢ Err write_failed → result ≢ Err send_failed → other ≢ Err send_failed
-        → (result ≡ other) × (runs.acts ≡ others.acts) }
+        → result ≢ Err write_failed → other ≢ Err write_failed → (result ≡ other) × (runs.acts ≡ others.acts) }
 {}
 
 /// Every request is over within (retries + 1) x (timeout + longest): take any events of which none, behind the request,

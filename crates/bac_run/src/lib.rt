@@ -3,7 +3,7 @@
 //!
 //! [`run_requests`] reads lines `read ..` and `write ..`, hands them to a client, sends over the link what it is told
 //! to, and prints a journal: the line of each thing that the client is handed, as `bactrace` reads it, and behind it
-//! what the client tells of that, each note a remark. [`run_status`] is the program's status after that.
+//! what the client tells of that, each note a remark.
 //!
 //! `specs/Journal.antt` says what is printed and sent of all that a run does, `specs/Course.antt` when it does what,
 //! and [`laws`] what follows from that.
@@ -25,6 +25,6 @@ mod running;
 mod session;
 mod turns;
 
-pub use fault::{RunFault, run_status};
+pub use fault::RunFault;
 pub use running::run_requests;
 pub use session::Session;

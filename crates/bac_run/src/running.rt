@@ -1,13 +1,14 @@
 //! A run of many requests over one link.
 
-ghost use Rattle.std.specs.Prelude.{◌≡◌, ◌≢◌, ◌⊎◌, ◌-◌, ◌<◌, [], ◌∷◌, Some, false, true, Err, IfErr, IfOk};
+ghost use Rattle.std.specs.Prelude.{◌≡◌, ◌≢◌, ◌⊎◌, ◌↔◌, ◌-◌, ◌<◌, [], ◌∷◌, Some, false, true, Err, IfErr, IfOk};
 ghost use Rattle.bac_wire.specs.Steps.{result_seen};
 ghost use Rattle.bac_pdu.specs.Peer.{station};
 ghost use Rattle.bac_script.specs.LineSeen.{line_seen};
 ghost use Rattle.bac_tsm.specs.Events.{Ask};
 ghost use Rattle.bac_print.specs.Checked.{has_failed};
 ghost use Rattle.bac_print.specs.Page.{held, writer_of};
-ghost use Rattle.bac_run.specs.Fault.{is_at_link, is_of_link, write_failed, send_failed};
+ghost use Rattle.bac_run.specs.Fault.{is_of_link, write_failed};
+ghost use Rattle.bac_run.specs.Inner.Went.{send_failed};
 ghost use Rattle.bac_run.specs.Inner.Went.{stopped, IsNamed, IsOfWait, Opened, Went, WentFor, started};
 ghost use Rattle.bac_script.specs.declared.tracing.TraceFault.TheVariants.{WriteFailed};
 ghost use Rattle.bac_run.specs.Course.{Turns, open_in};
@@ -42,25 +43,15 @@ pub fn run_requests<L: Link, R: Read, W: Write>(
     requires link { L.has_failed link.old ≡ false }
     requires reader { has_failed reader.old ≡ false }
     requires writer { has_failed writer.old ≡ false }
-    ensures fault { L.has_failed link.new ≡ is_of_link result }
     ensures runs { Runs R.remaining W.contents session reader.old reader.new writer.old writer.new (L.seen link.old)
         (L.seen link.new) result }
-    ensures not_written { result ≡ Err write_failed → has_failed writer.new ≡ true }
-    ensures unsaid { has_failed writer.new ≡ true → (result ≡ Err write_failed) ⊎ (is_at_link result ≡ true) }
+    ensures link_fault { result ≢ Err write_failed → L.has_failed link.new ≡ is_of_link result }
+    ensures write_fault { (has_failed writer.new ≡ true) ↔ (result ≡ Err write_failed) }
 {
     let mut page = Page::folding(writer);
     let answer = run_lines(session, link, reader, &mut page);
-    if page.finish().is_err() && !is_at_link(&answer) {
-        return Err(RunFault::Script(TraceFault::WriteFailed));
-    }
+    page.finish()?;
     answer
-}
-
-// Whether the answer is a fault at the link. Such a fault is told, also where the writer has failed too.
-fn is_at_link(answer: &Result<TraceEnd, RunFault>) -> bool
-    ensures { result ≡ is_at_link answer.now }
-{
-    matches!(answer, Err(RunFault::Link(_)))
 }
 
 // Asks for what the lines say. In the end some of the journal may still be on the page.

@@ -7,11 +7,12 @@ ghost use Rattle.bac_print.specs.Page.{held, writer_of};
 ghost use Rattle.bac_tsm.specs.Machine.{sent, due_notes};
 ghost use Rattle.bac_links.specs.Limits.{most_turns};
 ghost use Rattle.bac_run.specs.Course.{Aim, Fresh, Turns, heard_at, is_reached, open_in, settled, wait_at};
-ghost use Rattle.bac_run.specs.Fault.{is_of_link, write_failed, send_failed};
+ghost use Rattle.bac_run.specs.Fault.{is_of_link, write_failed};
+ghost use Rattle.bac_run.specs.Inner.Went.{send_failed};
 ghost use Rattle.bac_run.specs.Inner.Went.{IsOfWait, Went, begins_turn, ends_turn, heard_until, hearing, looking};
 ghost use Rattle.bac_run.specs.Inner.Went.{outside, started, to_tell};
 ghost use Rattle.bac_run.specs.Journal.{posts};
-ghost use Rattle.bac_run.specs.Went.{GainsDue};
+ghost use Rattle.bac_run.specs.Inner.Went.{GainsDue};
 
 use crate::fault::RunFault;
 use crate::journal::{has_line, print_arrival, print_time, remark_due, remark_end};

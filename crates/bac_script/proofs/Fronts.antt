@@ -11,13 +11,13 @@ use Rattle.bac_script.{
 }
 
 -- The octets up to the first line feed, and those behind it.
-record FirstLine (octets : List ℕ) : Type 0 where
-  line : List ℕ
-  rest : List ℕ
-  none : HasNoFeed line
-  is : octets ≡ (line ++ 10 ∷ []) ++ rest
+pub record FirstLine (octets : List ℕ) : Type 0 where
+  pub line : List ℕ
+  pub rest : List ℕ
+  pub none : HasNoFeed line
+  pub is : octets ≡ (line ++ 10 ∷ []) ++ rest
 
-first_line : (octets : List ℕ) → HasNoFeed octets ⊎ FirstLine octets
+pub first_line : (octets : List ℕ) → HasNoFeed octets ⊎ FirstLine octets
 first_line [] = inl tt
 first_line (x ∷ xs) = here (x == 10) refl (first_line xs)
   where

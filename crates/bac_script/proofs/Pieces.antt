@@ -64,7 +64,7 @@ lines-last [] = grind arith
 lines-last (x ∷ xs) = grind (arith, pieces-open)
 
 -- A line is as long without its line feed as it is, or one shorter
-without_feed_long : (line front : List ℕ) → HasNoFeed line → length line ≡ line_room
+without_feed_long : (line front : List ℕ) → HasNoFeed line → longest_line < length line
     → longest_line < length (without_feed (line ++ front))
 without_feed_long = grind (arith, append-nil, ends_with_feed-none, common_steps, length-append)
 
@@ -79,7 +79,7 @@ pub record NextLine (line held : List ℕ) (reading : Reading) : Type 0 where
   pub split : lines (line ++ held) reading ≡ whole ∷ others
   pub same : (is_first : Bool) → said is_first whole ≡ said is_first line
 
-pub next_long : (line held : List ℕ) (reading : Reading) → HasNoFeed line → length line ≡ line_room
+pub next_long : (line held : List ℕ) (reading : Reading) → HasNoFeed line → longest_line < length line
     → NextLine line held reading
 next_long [] _ _ h long = absurd (omega arith)
 next_long (x ∷ xs) held reading h long =

@@ -1,11 +1,15 @@
 //! Examples of scripts, worked out by computation. They show what the definitions mean.
 
 ghost use Rattle.std.specs.Prelude.{◌≡◌, [], ◌∷◌, codes, replicate, Err};
+ghost use Rattle.bac_tsm.specs.{Client.client_rules, Events.{Ask, Tick, request_of}};
+ghost use Rattle.bac_print.specs.Inner.Examples.{having, page, unasked, unknown};
 ghost use Rattle.bac_script.{
   specs.declared.input.Reading.TheVariants.{Open, AtEnd, Failed},
   specs.declared.tracing.TraceFault.TheVariants.{BadLine, LineTooLong, ReadFailed, WriteFailed},
-  specs.{Inner.Examples.{IsTraced, ended, read, sent, answer}, Script.Runs},
-  specs.{Alike.{AreAlike, IsFrontOf, IsWrittenOf}, Input.most_reads, Tracing.trace_status_of},
+  specs.{Inner.Examples.{IsTraced, ended, read, sent, answer}, Line.Happens, Script.{Runs, requests_in}},
+  specs.Inner.Examples.{broken, desk, gave, has_read},
+  specs.{Alike.{AreAlike, GaveFront, GaveSame, IsFrontOf, IsWrittenOf}, Input.{ReaderStands, ReadsNoMore, most_reads}},
+  specs.{NextLine.{IsNext, ReadForLine, TakesAndKeeps}, Tracing.Traces},
 };
 
 // What is printed of a client's events.
@@ -66,7 +70,7 @@ fn examples_of_ends()
     ensures cut { Runs (codes "tick x") Failed [] (Err ReadFailed) }
 {}
 
-// What two scripts have in common, the status of each end, and the limit of reads.
+// What two scripts have in common, and the limit of reads.
 #[tactic(none)]
 fn examples_of_limits()
     ensures reads { most_reads ≡ 4294967295 }
@@ -78,7 +82,56 @@ fn examples_of_limits()
     ensures alike { AreAlike (1 ∷ []) (Err WriteFailed) (1 ∷ 2 ∷ []) (ended 2) }
     ensures unlike { AreAlike (1 ∷ []) (ended 2) (1 ∷ 2 ∷ []) (ended 2) → ⊥ }
     ensures ended_otherwise { AreAlike [] (ended 1) [] (ended 2) → ⊥ }
-    ensures whole { trace_status_of (ended 2) ≡ 0 }
-    ensures bad_line { trace_status_of (Err (BadLine 2)) ≡ 2 }
-    ensures failed { trace_status_of (Err WriteFailed) ≡ 3 }
+{}
+
+// What two readers gave, how a reader stands, and what was taken from it.
+#[tactic(none)]
+fn examples_of_readers()
+    ensures same { GaveSame (gave (1 ∷ [])) (gave (1 ∷ [])) }
+    ensures other { GaveSame (gave (1 ∷ [])) (gave (2 ∷ [])) → ⊥ }
+    ensures other_end { GaveSame (gave []) unasked → ⊥ }
+    ensures front { GaveFront (gave (1 ∷ [])) (gave (1 ∷ 2 ∷ [])) }
+    ensures no_front { GaveFront (gave (2 ∷ [])) (gave (1 ∷ 2 ∷ [])) → ⊥ }
+    ensures front_to_end { GaveFront (gave []) (gave (1 ∷ 2 ∷ [])) → ⊥ }
+    ensures few { ReadsNoMore unasked (has_read 4294967295) }
+    ensures many { ReadsNoMore unasked (has_read 4294967296) → ⊥ }
+    ensures going { ReaderStands unknown Open unasked (gave (1 ∷ [])) (2 ∷ []) }
+    ensures not_going { ReaderStands unknown Open unasked (gave []) [] → ⊥ }
+    ensures at_end { ReaderStands unknown AtEnd unasked (gave []) [] }
+    ensures not_at_end { ReaderStands unknown AtEnd unasked (gave (1 ∷ [])) [] → ⊥ }
+    ensures held_at_end { ReaderStands unknown AtEnd unasked (gave []) (1 ∷ []) → ⊥ }
+    ensures failed { ReaderStands unknown Failed unasked broken [] }
+    ensures not_failed { ReaderStands unknown Failed unasked (gave (1 ∷ [])) [] → ⊥ }
+    ensures taken { TakesAndKeeps unknown unasked (gave (1 ∷ 2 ∷ [])) [] (2 ∷ []) (1 ∷ []) }
+    ensures dropped { TakesAndKeeps unknown unasked (gave (1 ∷ 2 ∷ [])) [] [] (1 ∷ []) → ⊥ }
+{}
+
+// When a reader is read for the next line, and which line is next.
+#[tactic(none)]
+fn examples_of_lines()
+    ensures read_on { ReadForLine unasked (gave (1 ∷ [])) (page []) (page []) (2 ∷ []) (2 ∷ 1 ∷ []) }
+    ensures unread { ReadForLine unasked unasked (page (1 ∷ [])) (page (1 ∷ [])) (2 ∷ []) (2 ∷ []) }
+    ensures before_print { ReadForLine unasked (gave (1 ∷ [])) (page (3 ∷ [])) (page (3 ∷ [])) (2 ∷ []) (2 ∷ 1 ∷ [])
+        → ⊥ }
+    ensures in_vain { ReadForLine unasked (gave (1 ∷ [])) (page []) (page []) (10 ∷ []) (10 ∷ 1 ∷ []) → ⊥ }
+    ensures next { IsNext unknown unasked unasked (7 ∷ 10 ∷ 8 ∷ []) Open 2 }
+    ensures no_feed { IsNext unknown unasked unasked (7 ∷ 10 ∷ 8 ∷ []) Open 1 → ⊥ }
+    ensures not_held { IsNext unknown unasked unasked (10 ∷ []) Open 2 → ⊥ }
+    ensures rest { IsNext unknown unasked (gave []) (7 ∷ []) AtEnd 1 }
+    ensures feed_left { IsNext unknown unasked (gave []) (10 ∷ []) AtEnd 1 → ⊥ }
+
+    // The requests that a script asks for: this one is asked for by its second event.
+    ensures requests { requests_in (Happens (Tick 5) ∷ Happens (Ask desk 12 []) ∷ [])
+        ≡ record { position = 1; request = request_of (client_rules 3000 3) 0 desk 12 [] 1 } ∷ [] }
+{}
+
+// Whole runs: of no line, and of one that is bad.
+#[tactic(none)]
+fn examples_of_traces()
+    ensures empty { Traces unknown unknown unasked (gave []) unasked unasked (ended 0) }
+    ensures counted { Traces unknown unknown unasked (gave []) unasked unasked (ended 1) → ⊥ }
+    ensures printed { Traces unknown unknown unasked (gave []) unasked (having (1 ∷ [])) (ended 0) → ⊥ }
+    ensures unread { Traces unknown unknown unasked unasked unasked unasked (ended 0) → ⊥ }
+    ensures bad { Traces unknown unknown unasked (gave (120 ∷ 10 ∷ [])) unasked unasked (Err (BadLine 1)) }
+    ensures untold { Traces unknown unknown unasked (gave (120 ∷ 10 ∷ [])) unasked unasked (ended 1) → ⊥ }
 {}

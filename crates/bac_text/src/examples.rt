@@ -1,9 +1,10 @@
 //! Examples of words, worked out by computation. They show what the definitions mean.
 
-ghost use Rattle.std.specs.Prelude.{◌≡◌, ℕ, [], ◌∷◌, codes, replicate, Some, None, Ok, Err};
-ghost use Rattle.bac_text.specs.{declared.pairs.PairFault.TheVariants.{Bad, TooLong}, Address.peer_of};
-ghost use Rattle.bac_text.specs.{Limits.longest_line, Pairs.words_behind};
-ghost use Rattle.bac_text.specs.{Inner.Examples.{WritesPair, device, far_device, body_with_words}, Words.words_of};
+ghost use Rattle.std.specs.Prelude.{◌≡◌, ℕ, [], ◌∷◌, codes, replicate};
+ghost use Rattle.bac_text.specs.{Bad, TooLong, peer_of, longest_line, words_behind, words_of};
+ghost use Rattle.bac_text.specs.PairsInWords.{IsWritten};
+ghost use Rattle.bac_text.specs.Inner.{WritesPair, device, far_device, body_with_words};
+ghost use Rattle.bac_text.specs.Inner.Examples.{minus_five, value};
 
 // A value of each kind: the number of its tag and a word, and the octets that they write (ANSI/ASHRAE 135, 20.2).
 #[tactic(none)]
@@ -36,8 +37,7 @@ fn examples_of_words()
     ensures three_numbers { peer_of (codes "1.2.3") ≡ None }
 
     // A WriteProperty body: the object, the property, the value between its tags, the priority (clause 15.9).
-    ensures body { body_with_words (codes "3" ∷ codes "-5" ∷ []) ≡
-        Ok (0x0c ∷ 0x00 ∷ 0x80 ∷ 0x00 ∷ 0x02 ∷ 0x19 ∷ 0x55 ∷ 0x3e ∷ 0x31 ∷ 0xfb ∷ 0x3f ∷ 0x49 ∷ 0x10 ∷ []) }
+    ensures body { body_with_words (codes "3" ∷ codes "-5" ∷ []) ≡ Ok minus_five }
     // The second pair has no value.
     ensures bad { body_with_words (codes "3" ∷ codes "-5" ∷ codes "4" ∷ codes "21.0" ∷ []) ≡ Err (Bad 2) }
     ensures too_long { body_with_words (codes "7" ∷ replicate 600 120 ∷ []) ≡ Err TooLong }
@@ -49,4 +49,13 @@ fn examples_of_limits()
     ensures line { longest_line ≡ 4096 }
     ensures behind { words_behind {A = ℕ} (Err (Bad 1)) (codes "2" ∷ codes "x" ∷ codes "3" ∷ []) ≡ codes "3" ∷ [] }
     ensures whole { words_behind {A = ℕ} (Ok 0) (codes "2" ∷ []) ≡ [] }
+{}
+
+// What the words order, in the standard's words: that the present value of analog-value 2 is -5, at priority 16.
+#[tactic(none)]
+fn examples_of_writes()
+    ensures written { IsWritten value 85 None (Some 16) (codes "3" ∷ codes "-5" ∷ []) minus_five }
+    ensures nothing { IsWritten value 85 None (Some 16) (codes "3" ∷ codes "-5" ∷ []) [] → ⊥ }
+    ensures other { IsWritten value 85 None (Some 16) (codes "3" ∷ codes "-6" ∷ []) minus_five → ⊥ }
+    ensures no_words { IsWritten value 85 None (Some 16) [] minus_five → ⊥ }
 {}

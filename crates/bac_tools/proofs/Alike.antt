@@ -21,9 +21,22 @@ use Rattle.bac_words.{
 }
 use Rattle.bac_tools.{
   specs.{Program.{RunsAsRead, IsGiven}, Binding.asked_by, declared.{running.Binding.Binding, report.Report.Report}},
-  specs.{Outside.Outside, Report.{report_of, tool_report}, Runs.{Runs, RunsOver, RunsScript, ToolRuns}},
-  specs.Alike.{AreAlike, AreGivenAlike, EndAlike, Gained, IsCutOff, IsPrinted, PrintAlike, ProgramRun, is_socket},
+  specs.{Outside.Outside, Report.{report_of, run_report, tool_report}},
+  specs.Runs.{Runs, RunsBatch, RunsOver, RunsScript, ToolRuns},
+  specs.Alike.{AreAlike, AreGivenAlike, EndAlike, Gained, IsCutOff, IsCutShort, IsPrinted, PrintAlike, ProgramRun},
+  specs.Alike.{is_socket},
 }
+use Rattle.bac_script.specs.Alike.{GaveSame}
+use Rattle.bac_script.specs.declared.tracing.TraceEnd.{TraceEnd}
+use Rattle.bac_script.specs.declared.tracing.TraceFault.TheVariants as stops
+use Rattle.bac_run.specs.declared.fault.RunFault.{RunFault}
+use Rattle.bac_run.specs.declared.fault.RunFault.TheVariants.{Link, Script}
+use Rattle.bac_run.specs.Fault.{write_failed}
+use Rattle.bac_run.specs.Run.{Runs as Requested, journal_of}
+use Rattle.bac_run.proofs.GoOn.{IsCutShort as IsBatchCut, IsTaken, one_text as one_journal, runs_on, taken}
+use Rattle.bac_run.proofs.Standing.{Meets}
+use Rattle.bac_tools.proofs.Sessions.{one_session}
+use Rattle.bac_run.specs.declared.session.Session.{Session}
 use Rattle.bac_tools.specs.declared.report.Fault.TheVariants as faults
 
 -- ---- how runs go on
@@ -38,6 +51,25 @@ module _ {A B : Type 0} (IsCut : A → Type 0) (Ended Printed' : A → A → Typ
   going (x ∷ xs) [] both = search
 
 -- ---- two tools over their links
+
+-- A report that says so tells that the writer of many requests failed.
+cut_write : (answer : Result TraceEnd RunFault) → IsCutOff (run_report answer) → answer ≡ Err write_failed
+cut_write (Ok end) cut = absurd cut
+cut_write (Err (Script stops.WriteFailed)) cut = refl
+cut_write (Err (Script fault)) cut = absurd cut
+cut_write (Err (Link fault)) cut = absurd cut
+
+batch_cut : {R S : Type 0} (batch : Batch) (answer : Result TraceEnd RunFault) (report : Report)
+    (asked : Result Job UsageFault) (reader : Checked R) (other : Checked S) → asked ≡ Ok (Run batch)
+    → report ≡ run_report answer → IsCutShort report asked reader other → IsBatchCut answer reader other
+batch_cut batch answer report asked reader other asks reported short =
+    let (sound, few) = short.reads (rw asks tt) in
+    record {
+      cut = cut_write answer (subst IsCutOff reported short.cut);
+      gave = short.gave;
+      sound = sound;
+      few = few;
+    }
 
 failed_cut : (answer : Result Exit ToolFault) → answer ≡ Err WriteFailed → IsCutOff (tool_report answer)
 failed_cut _ failed = rw failed tt
@@ -95,8 +127,8 @@ module _ {Origin Other V W : Type 0} (contents : V → Option (List ℕ)) (conte
             (grind arith) one_text rest rest' on,
       )
   tools (Device serve) (a, unprinted) (b, unprinted') =
-      let (asked, on) = servings_so_far serve.count _ a.device b.device seen left seen' left' a.served b.served first
-      rest first' rest' a.serves b.serves gains gains' same in
+      let (asked, on) = servings_so_far serve.count _ a.device b.device seen left seen' left' answer answer' first rest
+      first' rest' a.serves b.serves gains gains' same in
       (asked, grind arith)
 
 -- ---- one run
@@ -233,25 +265,113 @@ module _ {N Origin L R W M Other K S V : Type 0} {gives : N → Binding → Resu
       | inl same ↦ let both = traces_alike one.reader other.reader one.reader' other.reader' one.writer other.writer
           one.writer' other.writer' r.answer s.answer r.script s.script same in (grind arith, grind arith)
       | inr less ↦ elim less [
-        | inl (cut, ours) ↦ let front = traces_front one.reader other.reader one.reader' other.reader' one.writer
-            other.writer one.writer' other.writer' r.answer s.answer r.script s.script ours in
+        | inl ours ↦ let cut = ours.cut in
+            let front = traces_front one.reader other.reader one.reader' other.reader' one.writer
+            other.writer one.writer' other.writer' r.answer s.answer r.script s.script ours.gave in
             (λ whole _. absurd (whole cut), grind arith)
-        | inr (cut, theirs) ↦ let front = traces_front other.reader one.reader other.reader' one.reader' other.writer
-            one.writer other.writer' one.writer' s.answer r.answer s.script r.script theirs in
+        | inr theirs ↦ let cut = theirs.cut in
+            let front = traces_front other.reader one.reader other.reader' one.reader' other.writer
+            one.writer other.writer' one.writer' s.answer r.answer s.script r.script theirs.gave in
             (λ _ whole. absurd (whole cut), grind arith)
       ]
     ]
 
-  jobs : (job : Job) → ((batch : Batch) → job ≡ Run batch → ⊥)
+  -- ---- many requests
+
+  batch_over : (batch : Batch) → one.program.answer ≡ Ok (Run batch) → other.program.answer ≡ Ok (Run batch)
+      → (link left : L) (link' left' : K)
+      → RunsBatch out (fresh one.reader) one.reader' (fresh one.writer) one.writer' one.ran.report batch link left →
+      RunsBatch out' (fresh other.reader) other.reader' (fresh other.writer) other.writer' other.ran.report batch link'
+      left' → (out.seen left).history ≡ (out.seen link).history ++ one.gained
+      → (out'.seen left').history ≡ (out'.seen link').history ++ other.gained → Alike
+  batch_over batch asks asks' link left link' left' r s gains gains' =
+      let (asked, on) = runs_on session one.reader other.reader one.reader' other.reader' (fresh one.writer) one.writer'
+      (fresh other.writer) other.writer' (out.seen link) (out.seen left) (out'.seen link') (out'.seen left') r.answer
+      s.answer first rest first' rest' r.runs.requested runs' (read h.read)
+      (gains ∙ ap (λ (xs : List Entry). (out.seen link).history ++ xs) h.gained)
+      (gains' ∙ ap (λ (xs : List Entry). (out'.seen link').history ++ xs) h.other_gained) h.answers in (
+        asked,
+        going (λ r. r ≡ Err write_failed) (λ r s. r ≢ Err write_failed → s ≢ Err write_failed → r ≡ s)
+            (λ r s. Meets r₁.acts runs'.acts r s) IsCutOff (EndAlike one other) (PrintAlike one other) r.answer s.answer
+            one.ran.report other.ran.report cut cut' ends prints rest rest' on,
+      )
+    where
+      session : Session
+      session = r.runs.session
+
+      r₁ : Requested out.remaining out.contents session (fresh one.reader) one.reader' (fresh one.writer) one.writer'
+          (out.seen link) (out.seen left) r.answer
+      r₁ = r.runs.requested
+
+      runs' : Requested out'.remaining out'.contents session (fresh other.reader) other.reader' (fresh other.writer)
+          other.writer' (out'.seen link') (out'.seen left') s.answer
+      runs' =
+          subst (λ (x : Session). Requested out'.remaining out'.contents x (fresh other.reader) other.reader'
+          (fresh other.writer) other.writer' (out'.seen link') (out'.seen left') s.answer)
+          (one_session batch s.runs.session r.runs.session s.runs.of_batch r.runs.of_batch) s.runs.requested
+
+      cut : r.answer ≡ Err write_failed → IsCutOff one.ran.report
+      cut is = rw (r.reported, is) tt
+
+      cut' : s.answer ≡ Err write_failed → IsCutOff other.ran.report
+      cut' is = rw (s.reported, is) tt
+
+      read : GaveSame one.reader' other.reader'
+          ⊎ IsCutShort one.ran.report one.program.answer one.reader' other.reader'
+          ⊎ IsCutShort other.ran.report other.program.answer other.reader' one.reader'
+          → GaveSame one.reader' other.reader' ⊎ IsBatchCut r.answer one.reader' other.reader'
+          ⊎ IsBatchCut s.answer other.reader' one.reader'
+      read (inl same) = inl same
+      read (inr (inl short)) =
+          inr (inl (batch_cut batch r.answer one.ran.report one.program.answer one.reader' other.reader' asks
+          r.reported short))
+      read (inr (inr short)) =
+          inr (inr (batch_cut batch s.answer other.ran.report other.program.answer other.reader' one.reader' asks'
+          s.reported short))
+
+      ends : (r.answer ≢ Err write_failed → s.answer ≢ Err write_failed → r.answer ≡ s.answer)
+          → EndAlike one other one.ran.report other.ran.report
+      ends same uncut uncut' =
+          inl (r.reported ∙ ap run_report (same (λ is. uncut (cut is)) (λ is. uncut' (cut' is))) ∙ sym s.reported)
+
+      printed : {written text : List ℕ} {answer : Result TraceEnd RunFault} (report : Report)
+          → (answer ≡ Err write_failed → IsCutOff report) → IsTaken written text answer
+          → IsPrinted written text report
+      printed report cuts (inl all) = inl all
+      printed report cuts (inr (is, some)) = inr (cuts is, some)
+
+      prints : Meets r₁.acts runs'.acts r.answer s.answer → PrintAlike one other one.ran.report other.ran.report
+      prints meet =
+          let (text, took, took') = one_journal session r₁.acts runs'.acts r.answer s.answer (octets_of one.writer')
+          (octets_of other.writer') meet
+          (taken out.contents one.writer one.writer' (journal_of session r₁.acts) r.answer r₁.printed r.write_fault)
+          (taken out'.contents other.writer other.writer' (journal_of session runs'.acts) s.answer runs'.printed
+          s.write_fault) in
+          (text, printed one.ran.report cut took, printed other.ran.report cut' took')
+
+  batches : (batch : Batch) → one.program.answer ≡ Ok (Run batch) → other.program.answer ≡ Ok (Run batch)
+      → (o p : Option (Result L NoSocket)) (o' p' : Option (Result K NoSocket)) →
+      Mine one (Run batch) o p → Mine other (Run batch) o' p' →
+      Gained out.seen o p one.gained → Gained out'.seen o' p' other.gained → BothHad o o' → Alike
+  batches batch asks asks' (Some (Err f)) p (Some (Err g)) p' r s gains gains' e =
+      grind (arith, none_asked, unprinted)
+  batches batch asks asks' (Some (Ok l)) (Some (Ok m)) (Some (Ok k)) (Some (Ok n)) r s gains gains' e =
+      batch_over batch asks asks' l m k n r s gains gains'
+  batches batch asks asks' (Some (Err f)) p (Some (Ok k)) p' r s gains gains' e = let both = e refl refl in cc
+  batches batch asks asks' (Some (Ok l)) p (Some (Err g)) p' r s gains gains' e = let both = e refl refl in cc
+  batches _ _ _ _ _ _ _ r s gains gains' e = grind arith
+
+  jobs : (job : Job) → one.program.answer ≡ Ok job → other.program.answer ≡ Ok job
       → (o p : Option (Result L NoSocket)) (o' p' : Option (Result K NoSocket))
       → IsGiven gives out one.network (asked_by job) o → IsGiven gives' out' other.network (asked_by job) o' →
       Mine one job o p → Mine other job o' p' → Gained out.seen o p one.gained → Gained out'.seen o' p' other.gained
       → BothHad o o' → Alike
-  jobs Trace unrun None p None p' given given' (r, _) (s, _) gains gains' e =
+  jobs Trace asks asks' None p None p' given given' (r, _) (s, _) gains gains' e =
       let (ends, prints) = scripts r s in none_asked gains gains' ends prints
-  jobs Trace unrun o p o' p' given given' r s gains gains' e = cc
-  jobs (Run batch) unrun o p o' p' _ _ r s gains gains' e = absurd (unrun batch refl)
-  jobs (Over tool) unrun o p o' p' _ _ r s gains gains' e = opened tool o p o' p' r s gains gains' e
+  jobs Trace asks asks' o p o' p' given given' r s gains gains' e = cc
+  jobs (Run batch) asks asks' o p o' p' _ _ r s gains gains' e =
+      batches batch asks asks' o p o' p' r s gains gains' e
+  jobs (Over tool) asks asks' o p o' p' _ _ r s gains gains' e = opened tool o p o' p' r s gains gains' e
 
   abbrev Given : Result Job UsageFault → Type 0
   Given r = IsGiven gives out one.network (option_and_then asked_by (result_ok r)) one.program.opened
@@ -263,17 +383,17 @@ module _ {N Origin L R W M Other K S V : Type 0} {gives : N → Binding → Resu
       → OtherGiven (Err g) → (one.ran.report ≡ other.ran.report) ⊎ Refused → Alike
   both_refused f g r s given given' told = grind (arith, none_asked, ungained, unprinted)
 
-  same_answer : (r : Result Job UsageFault) → one.program.answer ≡ r → Given r → OtherGiven r
-      → MyEnd one r one.program.opened → MyEnd other r other.program.opened → Alike
-  same_answer (Err f) is given given' r s = grind (arith, both_refused, reported)
-  same_answer (Ok j) is given given' r s =
-      jobs j (λ batch same. h.no_batch batch (is ∙ ap Ok same)) one.program.opened one.ran.socket other.program.opened
-      other.ran.socket given given' r s one.gains other.gains h.socket
+  same_answer : (r : Result Job UsageFault) → one.program.answer ≡ r → other.program.answer ≡ r → Given r
+      → OtherGiven r → MyEnd one r one.program.opened → MyEnd other r other.program.opened → Alike
+  same_answer (Err f) is is' given given' r s = grind (arith, both_refused, reported)
+  same_answer (Ok j) is is' given given' r s =
+      jobs j is is' one.program.opened one.ran.socket other.program.opened other.ran.socket given given' r s one.gains
+      other.gains h.socket
 
   compared : (r s : Result Job UsageFault) → one.program.answer ≡ r → other.program.answer ≡ s
       → IsErrAnd r (IsRefusal words) ⊎ Answers words r → IsErrAnd s (IsRefusal words) ⊎ Answers words s → Given r
       → OtherGiven s → MyEnd one r one.program.opened → MyEnd other s other.program.opened → Alike
-  compared r s is _ (inr answers) (inr answers') given given' ends ends' = grind (arith, same_answer, one_answer)
+  compared r s is is' (inr answers) (inr answers') given given' ends ends' = grind (arith, same_answer, one_answer)
   compared (Err f) (Err g) is is' (inl refused) (inl refused') given given' r s =
       both_refused f g r s given given' (grind arith)
   compared (Err f) _ is _ (inl refused) (inr answers) given _ r s =

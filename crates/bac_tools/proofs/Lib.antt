@@ -1,3 +1,6 @@
-pub mod Statuses
+pub mod StatusLaws
 mod Alike
 pub mod Calls
+pub mod Sessions
+mod Typed
+mod Worked

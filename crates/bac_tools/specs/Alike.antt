@@ -1,16 +1,17 @@
 -- That two runs of the program with the same words are alike.
-use Rattle.std.specs.Prelude.{◌≡◌, ◌⊎◌, ◌++◌, ℕ, ⊤, Bool, IsTrue, is_some}
+use Rattle.std.specs.Prelude.{◌≡◌, ◌⊎◌, ◌++◌, ◌<◌, ℕ, ⊤, Bool, false, IsTrue, is_some}
 use Rattle.std.specs.{Prelude.{List, [], Option, Some, option_and_then, Result, Ok, IsErrAnd}, Result.result_ok}
 use Rattle.std.specs.declared.io.ErrorKind.{ErrorKind}
 use Rattle.clap.specs.Words.{Text}
-use Rattle.bac_print.specs.{Checked.{fresh, octets_of}, declared.checked.Checked.Checked}
-use Rattle.bac_script.specs.Alike.{IsFrontOf, GaveFront, GaveSame}
+use Rattle.bac_print.specs.{Checked.{fresh, has_failed, octets_of, reads_of}, declared.checked.Checked.Checked}
+use Rattle.bac_script.specs.{Alike.{IsFrontOf, GaveFront, GaveSame}, Input.most_reads}
 use Rattle.bac_script.specs.declared.tracing.TraceFault.TheVariants as stops
 use Rattle.bac_links.specs.Answered.{answers_of, GoOnAlike}
 use Rattle.bac_links.specs.{History.{Account, Entry}, declared.socket.NoSocket.NoSocket}
 use Rattle.bac_links.specs.declared.fault.ToolFault.TheVariants as tools
 use Rattle.bac_words.specs.{Line.IsRefusal, declared.faults.UsageFault.TheVariants.Memory}
-use Rattle.bac_words.specs.declared.job.{Batch.Batch, Job.TheVariants.Run}
+use Rattle.bac_words.specs.declared.{faults.UsageFault.UsageFault, job.Job.{Job, TheVariants.Run}}
+use Rattle.bac_run.specs.declared.fault.RunFault.TheVariants.{Script}
 use Rattle.bac_tools.specs.{Outside.Outside, Program.{IsRun, Program}}
 use Rattle.bac_tools.specs.declared.{running.Binding.Binding, program.Ran.Ran, report.{Fault.Fault, Report.Report}}
 use Rattle.bac_tools.specs.declared.report.Fault.TheVariants as faults
@@ -30,6 +31,7 @@ abbrev pub CutsOff : Option Fault → Type 0
 CutsOff (Some (faults.Usage Memory)) = ⊤
 CutsOff (Some (faults.Tool tools.WriteFailed)) = ⊤
 CutsOff (Some (faults.Trace stops.WriteFailed)) = ⊤
+CutsOff (Some (faults.Run (Script stops.WriteFailed))) = ⊤
 CutsOff _ = ⊥
 
 -- The run with this report was.
@@ -52,6 +54,23 @@ pub record ProgramRun {N Origin L R W : Type 0} (gives : N → Binding → Resul
   pub program : Program gives out network (fresh reader) reader' (fresh writer) writer' ran words
   pub gained : List Entry
   pub gains : Gained out.seen program.opened ran.socket gained
+
+-- The words ask for many requests (`bacrun`).
+abbrev pub IsBatch : Result Job UsageFault → Type 0
+IsBatch (Ok (Run batch)) = ⊤
+IsBatch _ = ⊥
+
+-- The reader can be read on: it has not failed, and its reads are not spent.
+abbrev pub IsReadable : {R : Type 0} → Checked R → Type 0
+IsReadable reader = (has_failed reader ≡ false) × (reads_of reader < most_reads)
+
+-- A run was cut off. Its reader gave a front of what the other's gave, and did not meet its end; and for many requests,
+-- which wait where a reader fails, it could be read on.
+pub record IsCutShort {R S : Type 0} (report : Report) (answer : Result Job UsageFault) (reader : Checked R)
+    (other : Checked S) : Type 0 where
+  pub cut : IsCutOff report
+  pub gave : GaveFront reader other
+  pub reads : IsBatch answer → IsReadable reader
 
 -- A whole call of the program, with what it tells at its end.
 pub record CalledRun {N Origin L R W E : Type 0} (gives : N → Binding → Result L NoSocket → Type 0)
@@ -84,19 +103,17 @@ module _ {N Origin L R W M Other K S V : Type 0} {gives : N → Binding → Resu
       × IsPrinted (octets_of other.writer') text other_report
 
   module _ (first rest other_first other_rest : List Entry) where
-    -- The words do not ask for many requests (`bacrun`): it is not said when these ask what. Where both asked for a
-    -- socket, both had one or neither; so far the sockets were answered alike; and the readers gave the same octets and
-    -- met their end as often, or that of a run that was cut off gave a front of what the other gave and did not meet
-    -- its end.
+    -- Where both asked for a socket, both had one or neither; so far the sockets were answered alike; and the readers
+    -- gave the same octets and met their end as often, or that of a run that was cut off gave a front.
     pub record AreGivenAlike : Type 0 where
-      pub no_batch : (batch : Batch) → one.program.answer ≡ Ok (Run batch) → ⊥
       pub socket : IsTrue (is_some one.program.opened) → IsTrue (is_some other.program.opened)
           → is_socket one.program.opened ≡ is_socket other.program.opened
       pub gained : one.gained ≡ first ++ rest
       pub other_gained : other.gained ≡ other_first ++ other_rest
       pub answers : answers_of first ≡ answers_of other_first
-      pub read : GaveSame one.reader' other.reader' ⊎ (IsCutOff one.ran.report × GaveFront one.reader' other.reader')
-          ⊎ (IsCutOff other.ran.report × GaveFront other.reader' one.reader')
+      pub read : GaveSame one.reader' other.reader'
+          ⊎ IsCutShort one.ran.report one.program.answer one.reader' other.reader'
+          ⊎ IsCutShort other.ran.report other.program.answer other.reader' one.reader'
 
     -- So far they asked and sent the same; and they go on alike.
     pub record AreAlike : Type 0 where

@@ -1,13 +1,13 @@
 -- What a job prints, sends and leaves, and how the program ends: for each job by the definition of its tool.
-use Rattle.std.specs.{Prelude.{◌≡◌, ◌↔◌, ◌⊎◌, ℕ, true, [], List, Option, Some, Result, Ok, Err}, Result.result_map_both}
+use Rattle.std.specs.Prelude.{◌≡◌, ◌≢◌, ◌↔◌, ℕ, true, [], List, Option, Some, Result, Ok, Err}
 use Rattle.bac_device.specs.{Demo.demo_points, Device.{DeviceState, device_after}}
 use Rattle.bac_print.specs.{Checked.has_failed, declared.checked.Checked.Checked}
 use Rattle.bac_script.specs.{Tracing.Traces, declared.tracing.{TraceEnd.TraceEnd, TraceFault.TraceFault}}
 use Rattle.bac_script.specs.declared.tracing.TraceFault.TheVariants as stops
 use Rattle.bac_links.specs.{Call.Tells, Fault.{is_link_fault, is_write_fault}, History.Account, Search.Searched}
 use Rattle.bac_links.specs.{Serve.Serves, declared.{ending.Purpose.TheVariants.{Reading, Writing}, exit.Exit.Exit}}
-use Rattle.bac_links.specs.declared.{exit.Exit.TheVariants.Good, fault.ToolFault.ToolFault, socket.NoSocket.NoSocket}
-use Rattle.bac_run.specs.{Fault.{is_at_link, is_of_link, write_failed}, Run.{Runs as Requested}}
+use Rattle.bac_links.specs.declared.{fault.ToolFault.ToolFault, socket.NoSocket.NoSocket}
+use Rattle.bac_run.specs.{Fault.{is_of_link, write_failed}, Run.{Runs as Requested}}
 use Rattle.bac_run.specs.declared.{fault.RunFault.RunFault, session.Session.Session}
 use Rattle.bac_words.specs.declared.{
   job.{Batch.Batch, Job.{Job, TheVariants.{Over, Run, Trace}}, Serve.Serve},
@@ -18,13 +18,11 @@ use Rattle.bac_tools.{
 }
 use Rattle.bac_tools.specs.declared.report.Fault.TheVariants as faults
 
--- A demonstration device: its replies to the datagrams that come. However many they are, its exit is good.
+-- A demonstration device: its replies to the datagrams that come.
 pub record DevicePlays {Origin : Type 0} (serve : Serve) (seen left : Account Origin) (answer : Result Exit ToolFault)
     : Type 0 where
   pub device : DeviceState
-  pub served : Result ℕ ToolFault
-  pub serves : Serves serve.count (device_after serve.info demo_points []) device seen left served
-  pub answers : answer ≡ result_map_both (λ replied. Good) (λ fault. fault) served
+  pub serves : Serves serve.count (device_after serve.info demo_points []) device seen left answer
 
 -- ---- the tools over a link: what each does to its writer and its link, and its answer
 
@@ -68,15 +66,14 @@ module _ {Origin L R W : Type 0} (out : Outside Origin L R W) (reader reader' : 
     pub unread : reader' ≡ reader
     pub reported : report ≡ tool_report answer
 
-  -- Many requests were made over a link: the report is that of their answer. The link has failed exactly where it is
-  -- its fault; a writer that failed is told of, unless the fault is at the link.
+  -- Many requests were made over a link: the report is that of their answer. A writer that failed is told of; else the
+  -- link has failed exactly where it is its fault.
   pub record RunsBatch (batch : Batch) (link link' : L) : Type 0 where
     pub answer : Result TraceEnd RunFault
     pub runs : BatchRuns out.remaining out.contents batch reader reader' writer writer' (out.seen link) (out.seen link')
         answer
-    pub link_fault : out.failed link' ≡ is_of_link answer
-    pub not_written : answer ≡ Err write_failed → has_failed writer' ≡ true
-    pub unsaid : has_failed writer' ≡ true → (answer ≡ Err write_failed) ⊎ (is_at_link answer ≡ true)
+    pub link_fault : answer ≢ Err write_failed → out.failed link' ≡ is_of_link answer
+    pub write_fault : (has_failed writer' ≡ true) ↔ (answer ≡ Err write_failed)
     pub reported : report ≡ run_report answer
 
   -- A script was run: its text was printed, and the report says how it ended.

@@ -1,31 +1,35 @@
 //! What holds of the definitions that the contracts cite, and of the public types: the clause of a function with an
 //! empty body is the law.
-ghost use Rattle.std.specs.{Prelude.{◌≡◌, List, Some, None, Result, Ok, Err}, declared.io.ErrorKind.ErrorKind};
+ghost use Rattle.std.specs.{Prelude.{◌≡◌, ◌⊎◌, List, Some, None, Result, Ok, Err}, declared.io.ErrorKind.ErrorKind};
 ghost use Rattle.clap.specs.Words.{Text};
 ghost use Rattle.bac_wire.specs.Copies.{MakesCopies};
-ghost use Rattle.bac_print.specs.{Checked.has_failed, declared.checked.Checked.Checked};
+ghost use Rattle.bac_print.specs.{Checked.{fresh, has_failed}, declared.checked.Checked.Checked};
 ghost use Rattle.bac_links.specs.{History.Entry, SystemCall.SystemCall, declared.socket.NoSocket.NoSocket};
 ghost use Rattle.bac_words.specs.Called.{words_called};
 ghost use Rattle.bac_tools.specs.Alike.{ProgramRun, CalledRun, AreGivenAlike, AreAlike};
 ghost use Rattle.bac_tools.specs.Calls.{AsksAtMostOnce, GivesSockets, RunsAsCalls, RunsUnasked, RunsWithout};
-ghost use Rattle.bac_tools.specs.{Program.{IsRun, Program}, Report.IsStatusOf, declared.program.Ran.Ran};
+ghost use Rattle.bac_tools.specs.Program.{IsRun, Only, Program};
+ghost use Rattle.bac_tools.specs.{Report.{IsStatusOf, report_of}, declared.program.Ran.Ran};
+ghost use Rattle.bac_words.specs.declared.faults.UsageFault.TheVariants.{Memory};
+ghost use Rattle.bac_tools.specs.declared.report.Fault.TheVariants.{Usage};
 
 use crate::program::Network;
 use crate::running::Binding;
 use std::io::{Read, Write};
 
-/// The program is a function of its words, of what its socket answers and of what it reads; but for many requests
-/// (`bacrun`), of which it is not said when they ask what. Take two runs with the same words, which do not ask for
-/// those; where both asked for a socket, both had one or neither; and the readers gave the same octets, and met their
+/// The program is a function of its words, of what its socket answers and of what it reads. Take two runs with the same
+/// words; where both asked for a socket, both had one or neither; and the readers gave the same octets, and met their
 /// end as often, or where one run was cut off, its reader gave a front of what the other's gave and did not meet its
-/// end. As far as the sockets were answered alike, the runs asked and sent the same. Then they ask the same next; or
-/// both are over with the same report; or one was cut off, since there was no memory for its words, or its writer
-/// failed. Where one or both are over, both printed one text, or a front of it where they were cut off. Where `clap`
-/// does not take the words, each report tells of an error that `clap` may give at these.
+/// end (and where that is one of many requests, it could be read on). As far as the sockets were answered alike, the
+/// runs asked and sent the same. Then they ask the same next; or both are over with the same report; or one was cut
+/// off, since there was no memory for its words, or its writer failed. Where one or both are over, both printed one
+/// text, or a front of it where they were cut off. Where `clap` does not take the words, each report tells of an error
+/// that `clap` may give at these.
 ///
-/// Two calls with the same `typed` run the same words, `words_called typed`, or lack memory for them (`IsCalled`). What
-/// the program that is called with words reports last is a function of the report of the words and of whether its
-/// writer has failed. What it tells on `errors` is said by that report, but for a text of `clap`.
+/// Two calls with the same `typed` run the same words, `words_called typed`, or lack memory for them (law
+/// [`a_call_runs_its_words`]). What the program that is called with words reports last is a function of the report of
+/// the words and of whether its writer has failed. What it tells on `errors` is said by that report, but for a text of
+/// `clap`.
 pub fn the_program_is_a_function<
     M: Network,
     N: Network,
@@ -55,6 +59,26 @@ pub fn the_program_is_a_function<
         E.contents typed)
         → one.run.report ≡ other.run.report → has_failed one.writer' ≡ has_failed other.writer'
         → one.ran.report ≡ other.ran.report }
+{}
+
+/// A call that was told words runs `words_called` of them, or lacks memory for them. So two calls with the same `typed`
+/// run the same words, of which [`the_program_is_a_function`] has its clause `words`: over the network, the reader and
+/// the writer of the call, up to where help is given.
+pub fn a_call_runs_its_words<N: Network, R: Read, W: Write, E: Write>()
+    ensures { (network : N) (reader : R) (reader' : Checked R) (writer : W) (writer' : Checked W)
+        (errors errors' : Checked E) (ran : Ran N N.Socket) (typed : List Text)
+        (run : IsRun N.gives
+        record { seen = N.Socket.seen; failed = N.Socket.has_failed; remaining = R.remaining; contents = W.contents }
+        E.contents network (fresh reader) reader' (fresh writer) writer' errors errors' ran (Ok typed))
+        → ((words : ProgramRun N.gives
+        record { seen = N.Socket.seen; failed = N.Socket.has_failed; remaining = R.remaining; contents = W.contents }
+        (words_called typed))
+        × (words.network ≡ network) × (words.reader ≡ reader) × (words.reader' ≡ reader') × (words.writer ≡ writer)
+        × (words.writer' ≡ run.unhelped) × (words.ran ≡ record ran { report = run.report }))
+        ⊎ Only N.gives
+        record { seen = N.Socket.seen; failed = N.Socket.has_failed; remaining = R.remaining; contents = W.contents }
+        network (fresh reader) reader' (fresh writer) run.unhelped (record ran { report = run.report })
+        (report_of (Usage Memory)) }
 {}
 
 /// However the words are run, the status is that of the fault that is told, and 0 or 1 where none is.

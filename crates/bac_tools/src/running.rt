@@ -1,8 +1,8 @@
 //! A tool: the socket that it asks for, and its run over that and its writer.
-ghost use Rattle.std.specs.Prelude.{◌≡◌, ◌⊎◌, false, true, Err};
+ghost use Rattle.std.specs.Prelude.{◌≡◌, ◌≢◌, ◌↔◌, false, true, Err};
 ghost use Rattle.bac_print.specs.Checked.{has_failed};
 ghost use Rattle.bac_links.specs.Fault.{is_link_fault, is_write_fault};
-ghost use Rattle.bac_run.specs.Fault.{is_at_link, is_of_link, write_failed};
+ghost use Rattle.bac_run.specs.Fault.{is_of_link, write_failed};
 ghost use Rattle.bac_words.specs.Job.{CanOpen, IsReady};
 ghost use Rattle.bac_tools.specs.Binding.{binding_of, client_at};
 ghost use Rattle.bac_tools.specs.Runs.{BatchRuns, DevicePlays, IsSessionOf, ToolRuns};
@@ -75,9 +75,8 @@ pub fn run_batch<L: Link, R: Read, W: Write>(
     requires writer { has_failed writer.old ≡ false }
     ensures runs { BatchRuns R.remaining W.contents batch.now reader.old reader.new writer.old writer.new
         (L.seen link.old) (L.seen link.new) result }
-    ensures link_fault { L.has_failed link.new ≡ is_of_link result }
-    ensures not_written { result ≡ Err write_failed → has_failed writer.new ≡ true }
-    ensures unsaid { has_failed writer.new ≡ true → (result ≡ Err write_failed) ⊎ (is_at_link result ≡ true) }
+    ensures link_fault { result ≢ Err write_failed → L.has_failed link.new ≡ is_of_link result }
+    ensures write_fault { (has_failed writer.new ≡ true) ↔ (result ≡ Err write_failed) }
 {
     run_requests(session_of(batch), link, reader, writer)
 }
@@ -118,8 +117,5 @@ fn play<L: Link>(device: Serve, link: &mut L) -> Result<Exit, ToolFault>
     ensures write_fault { is_write_fault result ≡ false }
 {
     let mut played = demo(device.info);
-    match serve(link, &mut played, device.count) {
-        Ok(_) => Ok(Exit::Good),
-        Err(fault) => Err(fault),
-    }
+    serve(link, &mut played, device.count)
 }

@@ -1,10 +1,8 @@
 //! Where the items of a service body end, passed over by their lengths.
 
-ghost use Rattle.std.specs.Prelude.{◌≡◌, ◌↔◌, ◌+◌, ◌*◌, ◌<◌, ◌≤◌, List, ℕ, Some, IfSome, IsTrue, length};
-ghost use Rattle.std.specs.Option.{option_map};
-ghost use Rattle.bac_wire.specs.{Limits.deepest, Inner.Front.Finds, TagReading.tag_at, ItemReading.behind_closing};
-ghost use Rattle.bac_wire.specs.{Region.{IsRegion, FindsRegion, LeavesRest}, Inner.Region.{CountsBehind, LeavesBehind}};
-ghost use Rattle.bac_wire.specs.Inner.Work.{ReadsTwice};
+ghost use Rattle.std.specs.Prelude.{◌*◌, ◌+◌, ◌<◌, ◌↔◌, ◌≡◌, ◌≤◌, IfSome, IsTrue, length, List, option_map, ℕ};
+ghost use Rattle.bac_wire.specs.{behind_closing, deepest, FindsRegion, IsRegion, LeavesRest, tag_at};
+ghost use Rattle.bac_wire.specs.Inner.{CountsBehind, Finds, LeavesBehind, ReadsTwice};
 
 use crate::tag::{Shape, Tag, tag_and_rest};
 use crate::work::Work;
@@ -20,7 +18,7 @@ const REGION_END: u8 = 3;
 /// them ends nothing (ANSI/ASHRAE 135, 20.2.1.3). At most two tags are read for each octet, and two more.
 pub fn region(octets: &[u8], work: &mut Work) -> Option<usize>
     ensures found { FindsRegion deepest 3 octets.now result }
-    ensures work { work.new.tags ≤ work.old.tags + 2 * length octets.now + 2 }
+    ensures walked_once { work.new.tags ≤ work.old.tags + 2 * length octets.now + 2 }
 {
     let rest = behind_items(octets, NESTING, work)?;
     behind_closing(rest, REGION_END, work)?;
@@ -31,7 +29,7 @@ pub fn region(octets: &[u8], work: &mut Work) -> Option<usize>
 /// that too. At most two tags are read for each octet, and one more.
 pub fn is_region(octets: &[u8], work: &mut Work) -> bool
     ensures found { IsTrue result ↔ IsRegion deepest octets.now }
-    ensures work { work.new.tags ≤ work.old.tags + 2 * length octets.now + 1 }
+    ensures walked_once { work.new.tags ≤ work.old.tags + 2 * length octets.now + 1 }
 {
     match behind_items(octets, NESTING, work) {
         Some(rest) => rest.is_empty(),
@@ -43,7 +41,7 @@ pub fn is_region(octets: &[u8], work: &mut Work) -> bool
 #[cycle(nesting)]
 fn behind_items<'a>(octets: &'a [u8], depth: u8, work: &mut Work) -> Option<&'a [u8]>
     ensures found { Finds (LeavesRest depth octets.now) (option_map (λ r. r.now) result) }
-    ensures work { ReadsTwice 1 work.old.tags work.new.tags octets.now (option_map (λ r. r.now) result) }
+    ensures walked_once { ReadsTwice 1 work.old.tags work.new.tags octets.now (option_map (λ r. r.now) result) }
 {
     let mut rest = octets;
     while let Some((tag, behind)) = next_tag(rest, work) {
@@ -58,7 +56,7 @@ fn behind_items<'a>(octets: &'a [u8], depth: u8, work: &mut Work) -> Option<&'a 
 // The octets behind the item that begins with this tag, where `behind` is what stands behind the tag.
 #[cycle(nesting)]
 fn behind_item<'a>(tag: Tag, behind: &'a [u8], depth: u8, work: &mut Work) -> Option<&'a [u8]>
-    ensures work { ReadsTwice 2 work.old.tags work.new.tags behind.now (option_map (λ r. r.now) result) }
+    ensures walked_once { ReadsTwice 2 work.old.tags work.new.tags behind.now (option_map (λ r. r.now) result) }
     ensures found { (octets : List ℕ) → Some (tag, behind.now) ≡ tag_at octets
         → Finds (LeavesBehind depth octets) (option_map (λ r. r.now) result) }
 {
@@ -88,7 +86,7 @@ fn behind_octets(octets: &[u8], count: u32) -> Option<&[u8]>
 fn behind_closing<'a>(octets: &'a [u8], number: u8, work: &mut Work) -> Option<&'a [u8]>
     ensures found { option_map (λ r. r.now) result ≡ behind_closing number octets.now }
     ensures shorter { IfSome result (λ r. length r.now < length octets.now) }
-    ensures work { work.new.tags ≡ work.old.tags + 1 }
+    ensures counted { work.new.tags ≡ work.old.tags + 1 }
 {
     let (tag, rest) = next_tag(octets, work)?;
     match tag.shape {
@@ -103,7 +101,7 @@ fn behind_closing<'a>(octets: &'a [u8], number: u8, work: &mut Work) -> Option<&
 fn next_tag<'a>(octets: &'a [u8], work: &mut Work) -> Option<(Tag, &'a [u8])>
     ensures tag { option_map (λ x. (x.0, x.1.now)) result ≡ tag_at octets.now }
     ensures shorter { IfSome result (λ x. length x.1.now < length octets.now) }
-    ensures work { work.new.tags ≡ work.old.tags + 1 }
+    ensures counted { work.new.tags ≡ work.old.tags + 1 }
 {
     work.count_one();
     tag_and_rest(octets)

@@ -1,9 +1,25 @@
--- Entries, clocks, results and links, for examples of what is said of them.
+-- Entries, clocks, results, links and calls, for examples of what is said of them.
 use Rattle.std.specs.Prelude.{◌≡◌, ℕ, ◌*◌, List, [], ◌∷◌, Option, Some, None, Result, Ok, Err}
-use Rattle.bac_pdu.specs.{declared.peer.Peer.Peer, Peer.Station}
-use Rattle.bac_links.specs.{History.{Silence, Entry, Account}, Memory.account_of, Played.Scene, SystemCall.SystemCall}
-use Rattle.bac_links.specs.declared.fault.ToolFault.{ToolFault, TheVariants.{SendFailed, WriteFailed}}
-use Rattle.bac_links.specs.declared.exit.Exit.{Exit, TheVariants.{Good, Bad}}
+use Rattle.std.specs.declared.net.socket_addr.SocketAddr.{SocketAddr}
+use Rattle.std.specs.declared.net.socket_addr.SocketAddr.TheVariants.{V4}
+use Rattle.bac_pdu.specs.declared.discovery.WhoIs.TheVariants.{All}
+use Rattle.bac_pdu.specs.declared.peer.Peer.{Peer}
+use Rattle.bac_pdu.specs.Peer.{Station}
+use Rattle.bac_tsm.specs.Events.{Event, Ask, Tick}
+use Rattle.bac_text.specs.declared.jobs.Call.{Call}
+use Rattle.bac_text.specs.declared.jobs.Search.{Search}
+use Rattle.bac_device.specs.Device.{DeviceState, device_after}
+use Rattle.bac_links.specs.History.{Silence, Arrived, Failure, Entry, Waited, Timed, Posted, Unposted, Account}
+use Rattle.bac_links.specs.Memory.{account_of}
+use Rattle.bac_links.specs.Played.{Scene}
+use Rattle.bac_links.specs.Search.{who_is_to}
+use Rattle.bac_links.specs.SystemCall.{SystemCall}
+use Rattle.bac_links.specs.declared.fault.ToolFault.{ToolFault}
+use Rattle.bac_links.specs.declared.fault.ToolFault.TheVariants.{SendFailed, WriteFailed}
+use Rattle.bac_links.specs.declared.memory.Kept.{Kept}
+use Rattle.bac_links.specs.declared.memory.Kept.TheVariants.{Quiet}
+use Rattle.bac_links.specs.declared.exit.Exit.{Exit}
+use Rattle.bac_links.specs.declared.exit.Exit.TheVariants.{Good, Bad}
 
 -- 127.0.0.1, port 47808.
 abbrev pub desk : Station
@@ -13,12 +29,9 @@ desk = record { ip = 0x7f000001; port = 47808; route = None }
 abbrev pub steady : ℕ → ℕ
 steady waits = 50 * waits
 
--- How a tool ended: as it was meant to; otherwise; by a send or a write that failed. And how a server did.
+-- How a tool ended: as it was meant to; by a send or a write that failed.
 abbrev pub good : Result Exit ToolFault
 good = Ok Good
-
-abbrev pub bad : Result Exit ToolFault
-bad = Ok Bad
 
 abbrev pub unsent : Result Exit ToolFault
 unsent = Err SendFailed
@@ -37,6 +50,90 @@ broken = Err SendFailed
 abbrev pub quiet_link : List Entry → Account (List Scene)
 quiet_link = account_of (record { heard = Silence; time = Some 5 } ∷ [])
 
+-- The step that this scene is.
+abbrev pub one_step : List (Kept ℕ)
+one_step = Quiet 5 ∷ []
+
 -- Nothing was asked of the system.
 abbrev pub IsNothing : List SystemCall → Type 0
 IsNothing calls = calls ≡ []
+
+-- What is seen of a link that was asked and answered this.
+abbrev pub asked_so : List Entry → Account ℕ
+asked_so history = record { made = 0; history = history }
+
+-- ---- a call, a search and a server
+
+-- The desk, as the code says it.
+abbrev pub to_desk : Peer
+to_desk = record { ip = 0x7f000001; port = 47808; route = None }
+
+-- A WriteProperty to the desk with an empty body, which is sent once, and its datagram; and the answer that it is done.
+abbrev pub call : Call
+call = record { to = to_desk; timeout = 3000; retries = 0; port = 0; body = record { items = [] } }
+
+abbrev pub write : List ℕ
+write = 0x81 ∷ 0x0a ∷ 0x00 ∷ 0x0a ∷ 0x01 ∷ 0x04 ∷ 0x00 ∷ 0x05 ∷ 0x01 ∷ 0x0f ∷ []
+
+abbrev pub is_done : List ℕ
+is_done = 0x81 ∷ 0x0a ∷ 0x00 ∷ 0x09 ∷ 0x01 ∷ 0x00 ∷ 0x20 ∷ 0x01 ∷ 0x0f ∷ []
+
+-- The call was sent and answered; and it could not be sent.
+abbrev pub answered : List Entry
+answered = Timed 0 ∷ Posted desk write ∷ Waited 50 (Arrived desk is_done) ∷ []
+
+abbrev pub lost : List Entry
+lost = Timed 0 ∷ Unposted desk write ∷ []
+
+-- It is asked for once, and twice.
+abbrev pub once_asked : List Event
+once_asked = Tick 0 ∷ Ask desk 15 [] ∷ []
+
+abbrev pub twice_asked : List Event
+twice_asked = Tick 0 ∷ Ask desk 15 [] ∷ Ask desk 15 [] ∷ []
+
+-- A search for all devices at the desk, whose Who-Is could not be sent.
+abbrev pub search : Search
+search = record { to = to_desk; timeout = 3000; port = 0; who = All }
+
+abbrev pub unsearched : List Entry
+unsearched = Timed 0 ∷ Unposted desk (who_is_to search) ∷ []
+
+-- A device without points, under an instance.
+abbrev pub device : ℕ → DeviceState
+device instance = device_after (record { instance = instance; name = [] }) [] []
+
+-- The first wait of a server fails.
+abbrev pub deaf : List Entry
+deaf = Waited 1000 Failure ∷ []
+
+-- ---- sockets
+
+-- 127.0.0.1 at this port.
+abbrev pub local : ℕ → SocketAddr
+local port = V4 (record { ip = record { octets = 127 ∷ 0 ∷ 0 ∷ 1 ∷ [] }; port = port })
+
+-- ---- two tools
+
+-- None of them is cut off; and what two have in common is that they are the same.
+abbrev pub NoCut : ℕ → Type 0
+NoCut result = ⊥
+
+abbrev pub Same : ℕ → ℕ → Type 0
+Same result other = result ≡ other
+
+-- A tool that asks the time once, and ends with it; and one that ends with another number.
+pub record AsksTime (seen left : Account ℕ) (result : ℕ) : Type 0 where
+  pub none : seen.history ≡ []
+  pub one : left.history ≡ Timed result ∷ []
+
+pub record AsksInVain (seen left : Account ℕ) (result : ℕ) : Type 0 where
+  pub none : seen.history ≡ []
+  pub time : ℕ
+  pub one : left.history ≡ Timed time ∷ []
+  pub other : result ≡ 0
+
+-- A tool that sends nothing to the desk, and ends with this.
+pub record SendsOnly (seen left : Account ℕ) (result : ℕ) : Type 0 where
+  pub none : seen.history ≡ []
+  pub one : left.history ≡ Posted desk [] ∷ []

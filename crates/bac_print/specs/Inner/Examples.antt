@@ -1,8 +1,12 @@
--- The octets and the peers of examples.
-use Rattle.std.specs.Prelude.{◌≡◌, ℕ, List, [], ◌∷◌, codes, Option, Some, None, Result, Ok, Err}
+-- The octets, the peers, the streams and the pages of examples.
+use Rattle.std.specs.Prelude.{◌≡◌, ℕ, List, [], ◌∷◌, codes, false, length, Option, Some, None, Result, Ok, Err}
 use Prim.Native.String.{String}
 use Rattle.bac_pdu.specs.Peer.{Station}
+use Rattle.bac_print.specs.Checked.{fresh}
+use Rattle.bac_print.specs.StreamCall.{WriteCall}
 use Rattle.bac_print.specs.Values.{region_text}
+use Rattle.bac_print.specs.declared.checked.Checked.{Checked}
+use Rattle.bac_print.specs.declared.page.Page.{Page}
 
 -- These octets are printed so.
 abbrev pub PrintsAs : List ℕ → String → Type 0
@@ -20,9 +24,34 @@ far_device = record { ip = 0x7f000001; port = 47808; route = Some (record { netw
 abbrev pub unknown : ℕ → Option (List ℕ)
 unknown writer = None
 
+-- A reader or writer that was asked for nothing, and a writer that took these octets.
+abbrev pub unasked : Checked ℕ
+unasked = fresh 0
+
+abbrev pub having : List ℕ → Checked ℕ
+having octets = record {
+  inner = record {
+    stream = 0;
+    transcript = record { of = record {}; items = WriteCall octets (Ok (length octets)) ∷ [] };
+  };
+  failed = false;
+  reads = 0;
+}
+
 -- How a write ended.
 abbrev pub written : Result ℕ ℕ
 written = Ok 0
 
 abbrev pub failed : Result ℕ ℕ
 failed = Err 0
+
+-- A page on its way to a writer that was asked for nothing, by this name of it, which holds these octets.
+abbrev pub page_named : ℕ → List ℕ → Page ℕ
+page_named name octets = record {
+  writer = record { now = unasked; ref_ptr = (0, 0); ghost_name = name };
+  held = record { items = octets };
+  room = None;
+}
+
+abbrev pub page : List ℕ → Page ℕ
+page = page_named 0

@@ -5,8 +5,8 @@ use Rattle.bac_print.specs.declared.page.Page.{Page}
 use Rattle.bac_print.specs.Page.{Prints}
 use Rattle.bac_script.specs.declared.tracing.TraceEnd.{TraceEnd}
 use Rattle.bac_links.specs.History.{Account}
-use Rattle.bac_run.specs.Journal.{Act, FitsLine, client_after, new_client, history_of}
-use Rattle.bac_run.specs.Went.{GainsDue, IsOver, IsWithin}
+use Rattle.bac_run.specs.Journal.{Act, FitsLine, client_after, new_client}
+use Rattle.bac_run.specs.Went.{HasAsked, IsOver, IsWithin}
 use Rattle.std.specs.List.{AllByRecursion}
 use Rattle.bac_run.specs.Input.{Takes}
 use Rattle.bac_run.specs.declared.session.Session.{Session}
@@ -21,7 +21,7 @@ pub record RunsOn {Origin R W : Type 0} (remaining : R → Option (List ℕ)) (c
   pub takes : Takes remaining reader reader' acts result
   pub course : IsCourse remaining session reader reader' acts result
   pub prints : Prints contents page page' (journal_lines session acts)
-  pub asks : GainsDue result (history_of (new_client session.config.timeout session.config.retries) acts) seen left
+  pub asks : HasAsked result (new_client session.config.timeout session.config.retries) acts seen left
   pub over : IsOver result (client_after (new_client session.config.timeout session.config.retries) acts)
   pub within : IsWithin session.window (new_client session.config.timeout session.config.retries) acts
   pub fit : AllByRecursion FitsLine acts

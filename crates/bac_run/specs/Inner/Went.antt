@@ -7,19 +7,36 @@ use Rattle.bac_tsm.specs.Events.{Event}
 use Rattle.bac_print.specs.declared.page.Page.{Page}
 use Rattle.bac_print.specs.Page.{Prints}
 use Rattle.bac_script.specs.declared.tracing.TraceFault.TheVariants.{WriteFailed}
-use Rattle.bac_links.specs.History.{Account}
+use Rattle.bac_links.specs.History.{Account, Entry, GainsAll}
+use Rattle.bac_links.specs.declared.fault.ToolFault.TheVariants.{SendFailed}
 use Rattle.bac_run.specs.declared.fault.RunFault.{RunFault}
 use Rattle.bac_run.specs.declared.fault.RunFault.TheVariants.{Link, Script}
 use Rattle.bac_run.specs.declared.turns.Run.{Run}
 use Rattle.bac_run.specs.declared.turns.Until.{Until}
 use Rattle.bac_run.specs.Input.{acts_of_line, fault_of_line, inputs_in}
-use Rattle.bac_run.specs.Journal.{Act, FitsLine, client_after, journal, history_of, at_event, remarks, posts}
+use Rattle.bac_run.specs.Journal.{Act, FitsLine, client_after, journal, at_event, remarks, posts}
 use Rattle.bac_run.specs.Course.{Aim, Goes, Looked, Outside, Stage, Turns, aims_for, settled, stage_after, telling}
-use Rattle.bac_run.specs.Went.{GainsDue, IsWithin, ComesTo}
+use Rattle.bac_run.specs.Went.{ComesTo, HasAsked, IsCut, IsWithin}
 
 -- It stopped.
 abbrev pub stopped : RunFault → Result (Unit {0}) RunFault
 stopped fault = Err fault
+
+-- The link could not send.
+abbrev pub send_failed : RunFault
+send_failed = Link SendFailed
+
+-- With this result a link was asked all that is due; but where a send failed, all before that send.
+abbrev pub IsGained : {A : Type 0} → Result A RunFault → (due gained : List Entry) → Type 0
+IsGained (Err (Link SendFailed)) due gained = IsCut due gained
+IsGained _ due gained = gained ≡ due
+
+-- The history of a link gains what is due, as far as the result says.
+pub record GainsDue {Origin A : Type 0} (result : Result A RunFault) (due : List Entry) (seen left : Account Origin)
+    : Type 0 where
+  pub gained : List Entry
+  pub gains : GainsAll gained seen left
+  pub as_due : IsGained result due gained
 
 -- With this result all that was wanted was done, and the line was no bad one; or a front of it.
 abbrev pub IsDone : {A : Type 0} → Result A RunFault → (wanted : Option (List Act)) → (inputs : List Act) → Type 0
@@ -68,7 +85,7 @@ pub record Went {Origin W A I : Type 0} (contents : W → Option (List ℕ)) (ru
   pub comes : (i : I) → ComesTo result (to i) (stage_after run.session.config.timeout (from i) acts)
   pub client_is : run'.client ≡ client_after run.client acts
   pub prints : Prints contents page page' (journal run.client acts)
-  pub asks : GainsDue result (history_of run.client acts) seen left
+  pub asks : HasAsked result run.client acts seen left
   pub fit : AllByRecursion FitsLine acts
 
 -- The client made its step at this event, its notes were printed as remarks, and what it sends was sent.

@@ -1,9 +1,13 @@
--- The scripts of examples. All their peers are at 127.0.0.1.
+-- The scripts of examples, whose peers are all at 127.0.0.1; and readers.
 use Prim.Native.String.{String}
-use Rattle.std.specs.Prelude.{ℕ, List, [], ◌∷◌, ◌++◌, codes, Result, Ok}
-use Rattle.bac_script.{
-  specs.{declared.{input.Reading.TheVariants.AtEnd, tracing.{TraceEnd.TraceEnd, TraceFault.TraceFault}}, Script.Runs},
-}
+use Rattle.std.specs.Prelude.{ℕ, Bool, false, true, List, [], ◌∷◌, ◌++◌, codes, None, Result, Ok}
+use Rattle.bac_pdu.specs.Peer.{Station}
+use Rattle.bac_print.specs.StreamCall.{StreamCall, ReadCall}
+use Rattle.bac_print.specs.declared.checked.Checked.{Checked}
+use Rattle.bac_script.specs.declared.input.Reading.TheVariants.{AtEnd}
+use Rattle.bac_script.specs.declared.tracing.TraceEnd.{TraceEnd}
+use Rattle.bac_script.specs.declared.tracing.TraceFault.{TraceFault}
+use Rattle.bac_script.specs.Script.{Runs}
 
 -- Each line with its line feed.
 abbrev pub lined : List String → List ℕ
@@ -29,3 +33,25 @@ sent = "send 0 127.0.0.1:47808 810a001101040005010c0c000000051955"
 -- The answer: it is 72.3, a Real.
 abbrev pub answer : String
 answer = "data 127.0.0.1 810a0017010030010c0c0000000519553e444290999a3f"
+
+-- The address that peers have, at port 47808.
+abbrev pub desk : Station
+desk = record { ip = 0x7f000001; port = 47808; route = None }
+
+-- A reader that was asked these calls, failed then or not, and was read so often.
+abbrev pub asked_for : List StreamCall → Bool → ℕ → Checked ℕ
+asked_for calls failed reads = record {
+  inner = record { stream = 0; transcript = record { of = record {}; items = calls } };
+  failed = failed;
+  reads = reads;
+}
+
+-- A reader that gave these octets in one read; one that was read so often; and one that failed.
+abbrev pub gave : List ℕ → Checked ℕ
+gave octets = asked_for (ReadCall 32768 (Ok octets) ∷ []) false 1
+
+abbrev pub has_read : ℕ → Checked ℕ
+has_read = asked_for [] false
+
+abbrev pub broken : Checked ℕ
+broken = asked_for [] true 1

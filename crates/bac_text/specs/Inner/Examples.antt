@@ -1,6 +1,7 @@
 -- The words of examples.
 use Rattle.std.specs.Prelude.{◌≡◌, ℕ, List, [], ◌∷◌, codes, Some, None, Result, Ok}
 use Prim.Native.String.{String}
+use Rattle.bac_wire.specs.Identifier.{Identifier}
 use Rattle.bac_pdu.specs.Peer.{Station}
 use Rattle.bac_text.specs.{declared.pairs.PairFault.PairFault, Pairs.body_of, Inner.Pairs.region_of}
 
@@ -16,6 +17,15 @@ device = record { ip = 0x7f000001; port = 47808; route = None }
 abbrev pub far_device : Station
 far_device = record { ip = 0x7f000001; port = 47808; route = Some (record { network = 5; address = 7 ∷ [] }) }
 
--- The body of a request to write these tags and words to the present value (85) of analog-value 2 at priority 16.
+-- analog-value 2.
+abbrev pub value : Identifier
+value = record { kind = 2; instance = 2 }
+
+-- The body of a request to write these tags and words to its present value (85) at priority 16.
 abbrev pub body_with_words : List (List ℕ) → Result (List ℕ) PairFault
-body_with_words words = body_of (record { kind = 2; instance = 2 }) 85 None (Some 16) words
+body_with_words words = body_of value 85 None (Some 16) words
+
+-- The body that makes it -5, a Signed.
+abbrev pub minus_five : List ℕ
+minus_five =
+    0x0c ∷ 0x00 ∷ 0x80 ∷ 0x00 ∷ 0x02 ∷ 0x19 ∷ 0x55 ∷ 0x3e ∷ 0x31 ∷ 0xfb ∷ 0x3f ∷ 0x49 ∷ 0x10 ∷ []

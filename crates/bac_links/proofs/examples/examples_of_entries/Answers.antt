@@ -22,6 +22,7 @@ returns c = record {
   other_time = λ h. grind arith;
   other_heard = λ h. grind arith;
   sent_then = refl;
+  step = refl;
   nothing = record { calls = []; logged = refl; are = refl };
   something = λ h. let logged = h.logged in let are = h.are in grind arith;
   time = record { passed = None; time = refl; asked = refl };

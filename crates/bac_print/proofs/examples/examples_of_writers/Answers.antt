@@ -1,15 +1,18 @@
 -- A writer that was asked for nothing took nothing.
 use Rattle.std.proofs.Common.{[], ◌∷◌, refl, arith}
-use Rattle.bac_print.specs.{Checked.{Took, fresh}, Inner.Examples.unknown}
+use Rattle.bac_print.specs.Checked.{Took}
+use Rattle.bac_print.specs.Inner.Examples.{unasked, unknown}
 use Rattle.bac_print.proofs.examples.examples_of_writers.Goals as goal
 
-nothing : Took unknown (fresh 0) (fresh 0) []
+nothing : Took unknown unasked unasked []
 nothing = record { passed = refl; known = grind arith; made = []; calls = refl; asked = refl }
 
 pub returns : goal.returns
 returns c = record {
   took = nothing;
   took_less = λ t. let passed = t.passed in grind arith;
+  took_one =
+      record { passed = refl; known = tt; made = _; calls = refl; asked = (refl, (λ none. grind arith), refl) };
   took_front = ([], 1 ∷ [], refl, nothing);
   held = record {
     taken = [];

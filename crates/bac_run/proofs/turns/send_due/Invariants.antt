@@ -2,7 +2,7 @@ use Rattle.std.proofs.Common.{◌≡◌, false, take}
 use Rattle.std.specs.List.{flat_map}
 use Rattle.bac_tsm.specs.Machine.{due_notes}
 use Rattle.bac_run.specs.Journal.{posts}
-use Rattle.bac_run.specs.Went.{GainsDue}
+use Rattle.bac_run.specs.Inner.Went.{GainsDue}
 use Rattle.bac_run.proofs.Acts.{done}
 use Rattle.bac_run.proofs.turns.send_due.Given as goal
 

@@ -5,7 +5,6 @@ use Rattle.bac_tools.proofs.examples.examples_of_runs.Goals as goal
 pub returns : goal.returns
 returns c = record {
   given = record {
-    no_batch = λ batch e. grind arith;
     socket = λ one other. refl;
     gained = refl;
     other_gained = refl;

@@ -10,8 +10,7 @@ returns-in-Ok g c = record {
     answer = c.run_batch.result;
     runs = c.run_batch.ensures.runs;
     link_fault = c.run_batch.ensures.link_fault;
-    not_written = c.run_batch.ensures.not_written;
-    unsaid = c.run_batch.ensures.unsaid;
+    write_fault = c.run_batch.ensures.write_fault;
     reported = c.from.ensures;
   };
   unasked = tt;

@@ -50,7 +50,7 @@ returns-clause-all g c = if_ok _ c.run_requests.result (λ end is.
     is runs.takes.all_done in
     let sound : has_failed c.run_requests.new.writer ≡ false =
     elim (cases_Bool (has_failed c.run_requests.new.writer)) [
-      | inl failed ↦ absurd (let told = c.run_requests.ensures.unsaid failed in grind (arith, is, told))
+      | inl failed ↦ absurd (let told = c.run_requests.ensures.write_fault.0 failed in grind (arith, is, told))
       | inr sound ↦ sound
     ] in
     let notes = notes_of (new_client session.config.timeout session.config.retries) runs.acts in

@@ -1,0 +1,21 @@
+-- What examples of whole runs have in common.
+use Rattle.std.proofs.Common.{◌≡◌, List, [], Option, sym, ap, subst, arith, refl}
+use Rattle.bac_print.specs.Checked.{Took}
+use Rattle.bac_print.specs.Inner.Examples.{unasked, unknown}
+use Rattle.bac_links.specs.History.{Entry, GainsAll}
+use Rattle.bac_links.specs.Asking.{Move, Over, Plays, next_move}
+use Rattle.bac_links.specs.Inner.Examples.{asked_so}
+
+module _ {h : List Entry} where
+  -- What a link gained that had been asked nothing is its history.
+  pub gained : {g : List Entry} → GainsAll g (asked_so []) (asked_so h) → g ≡ h
+  gained e = sym (ap (λ account. account.history) e)
+
+  -- A run of such a link is over where its history says so.
+  pub ends : {R : Type 0} {move : List Entry → Option Entry → Move R} {result : R}
+      → Plays move (asked_so []) (asked_so h) result → next_move move h ≡ Over result
+  ends {move = move} {result = result} p = subst (λ g. next_move move g ≡ Over result) (gained p.gains) p.over
+
+-- A writer that was asked for nothing took nothing.
+pub nothing : Took unknown unasked unasked []
+nothing = record { passed = refl; known = grind arith; made = []; calls = refl; asked = refl }

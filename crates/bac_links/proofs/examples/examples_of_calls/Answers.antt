@@ -1,0 +1,48 @@
+-- Each computes once the definitions that read and write a datagram are opened. What is not so, a run's end tells.
+use Rattle.std.proofs.Common.{◌≡◌, Ok, Some, refl, sym, ◌∙◌, arith}
+use Rattle.bac_pdu.specs.Datagram.{wrapped}
+use Rattle.bac_pdu.specs.ApduReading.{parts_at, apdu_of}
+use Rattle.bac_pdu.specs.DatagramReading.{address_at, header_at, link_at, carried}
+use Rattle.bac_tsm.specs.Events.{Simple}
+use Rattle.bac_tsm.specs.Lookahead.{next_invoke_id, refusal_of}
+use Rattle.bac_tsm.specs.Answers.{answer_in_datagram, same_station, is_answer_to}
+use Rattle.bac_links.specs.Asking.{Over, next_move}
+use Rattle.bac_links.specs.Call.{move}
+use Rattle.bac_links.specs.declared.ending.Purpose.TheVariants.{Writing}
+use Rattle.bac_links.specs.Inner.Examples.{answered, call, lost}
+use Rattle.bac_links.proofs.Worked.{ends}
+use Rattle.bac_links.proofs.examples.examples_of_calls.Goals as goal
+
+-- The answer is that the write is done.
+done : next_move (move Writing call) answered ≡ Over (Ok (Some Simple))
+unfolding next_invoke_id refusal_of answer_in_datagram same_station is_answer_to wrapped address_at header_at link_at
+    carried parts_at apdu_of
+done = refl
+
+pub returns : goal.returns
+unfolding next_invoke_id refusal_of answer_in_datagram same_station is_answer_to wrapped address_at header_at link_at
+    carried parts_at apdu_of
+returns c = record {
+  accepted = refl;
+  unaccepted = λ e. grind arith;
+  twice = λ e. grind arith;
+  sent = refl;
+  unsent = refl;
+  due = refl;
+  told = record {
+    ending = Some Simple;
+    exit_is = refl;
+    printed =
+        record { passed = refl; known = grind arith; made = _; calls = refl; asked = (refl, λ e. grind arith, refl) };
+    plays = record { gained = answered; gains = refl; follows = (refl, (refl, (refl, tt))); over = done };
+  };
+  told_lost = record {
+    unprinted = refl;
+    plays = record { gained = lost; gains = refl; follows = (refl, (refl, tt)); over = refl };
+  };
+  bad_end = λ h. let over = sym done ∙ ends h.plays in let exit = h.exit_is in grind arith;
+  untold = λ h. let over = sym done ∙ ends h.plays in let passed = h.printed.passed in grind arith;
+  early = λ h. let over = ends h.plays in grind arith;
+  no_loss = λ h. let over = sym done ∙ ends h.plays in grind arith;
+  unwritten = λ h. let over = ends h.plays in grind arith;
+}

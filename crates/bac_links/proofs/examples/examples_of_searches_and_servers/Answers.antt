@@ -1,0 +1,33 @@
+-- Each computes; what is not so the end of the run tells.
+use Rattle.std.proofs.Common.{◌≡◌, [], None, refl, sym, ap, ◌∙◌, subst, arith}
+use Rattle.std.specs.List.{last_or}
+use Rattle.bac_pdu.specs.Datagram.{wrapped}
+use Rattle.bac_links.specs.Serve.{arrivals_in, device_behind}
+use Rattle.bac_links.specs.Inner.Examples.{deaf, device, unsearched}
+use Rattle.bac_links.proofs.Asking.{last_push}
+use Rattle.bac_links.proofs.Worked.{ends, gained, nothing}
+use Rattle.bac_links.proofs.examples.examples_of_searches_and_servers.Goals as goal
+
+pub returns : goal.returns
+unfolding wrapped
+returns c = record {
+  who_is = refl;
+  searched = record {
+    plays = record { gained = unsearched; gains = refl; follows = (refl, (refl, tt)); over = refl };
+    printed = nothing;
+  };
+  not_asked = λ h. let over = ends h.plays in grind arith;
+  found = λ h. let over = ends h.plays in grind arith;
+  printed = λ h. let passed = h.printed.passed in let here = gained h.plays.gains in grind arith;
+  cut_off = λ h. let last = sym (ap (last_or None) (gained h.gains)) ∙ last_push None h.earlier _ in grind arith;
+  served = record {
+    plays = record { gained = deaf; gains = refl; follows = (refl, tt); over = refl };
+    device = refl;
+  };
+  other_device = λ h.
+      let after = subst (λ g. device 8 ≡ device_behind (device 7) (arrivals_in g)) (gained h.plays.gains) h.device in
+      grind arith;
+  not_served = λ h. let over = ends h.plays in grind arith;
+  served_none = record { plays = record { gained = []; gains = refl; follows = tt; over = refl }; device = refl };
+  replied = λ h. let over = ends h.plays in grind arith;
+}

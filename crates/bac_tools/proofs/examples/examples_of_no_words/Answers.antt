@@ -1,0 +1,108 @@
+-- A run that was told no words reports that alone, and its report and its writers tell what is not so.
+use Rattle.std.proofs.Common.{◌≡◌, ◌∙◌, ℕ, Option, Some, None, Result, Ok, Err, inl, inr, refl, sym, ap, subst, arith}
+use Rattle.std.proofs.Common.{option_and_then}
+use Rattle.std.specs.Prelude.{codes, false}
+use Rattle.std.specs.Result.{result_ok}
+use Rattle.std.specs.declared.io.ErrorKind.TheVariants.{NotFound}
+use Rattle.bac_print.specs.declared.checked.Checked.{Checked}
+use Rattle.bac_script.specs.declared.tracing.TraceEnd.{TraceEnd}
+use Rattle.bac_script.specs.declared.tracing.TraceFault.{TraceFault}
+use Rattle.bac_links.specs.declared.socket.NoSocket.{NoSocket}
+use Rattle.bac_words.specs.declared.faults.UsageFault.{UsageFault}
+use Rattle.bac_words.specs.declared.job.Job.{Job}
+use Rattle.bac_words.specs.declared.job.Job.TheVariants.{Over, Run, Trace}
+use Rattle.bac_tools.specs.Binding.{asked_by}
+use Rattle.bac_tools.specs.Calls.{RunsUnasked}
+use Rattle.bac_tools.specs.Program.{IsGiven, IsRun, RunsAsRead}
+use Rattle.bac_tools.specs.Report.{trace_report}
+use Rattle.bac_tools.specs.Telling.{IsTold, on_output, once_given}
+use Rattle.bac_tools.specs.declared.program.Ran.{Ran}
+use Rattle.bac_tools.specs.Inner.Examples.{forgotten, gives_none, no_contents, no_socket, no_text, ran_without}
+use Rattle.bac_tools.specs.Inner.Examples.{told_no_socket, told_no_text, unasked, unknown}
+use Rattle.bac_tools.proofs.Worked.{given, silent, untaken}
+use Rattle.bac_tools.proofs.examples.examples_of_no_words.Goals as goal
+
+-- A run that was told no words, since they were not found.
+run : IsRun gives_none unknown no_contents 0 unasked unasked unasked unasked unasked told_no_text
+    (ran_without no_text (Some 0)) (Err NotFound)
+run = record {
+  unhelped = unasked;
+  report = no_text;
+  called = (refl, refl, refl);
+  help = refl;
+  reported = refl;
+  fault = (codes "bactool: words that are not UTF-8\n", refl, given _ (λ none. grind arith) refl refl refl);
+}
+
+-- What such a run reports.
+module _ {reader reader' writer writer' errors errors' : Checked ℕ} {network : ℕ} {ran : Ran ℕ ℕ}
+    (h : IsRun gives_none unknown no_contents network reader reader' writer writer' errors errors' ran
+    (Err NotFound)) where
+  reports : h.report ≡ no_text
+  reports = ap (λ ran. ran.report) h.called.2
+
+  unprinted : writer' ≡ writer
+  unprinted = subst (λ r. IsTold no_contents h.unhelped writer' (on_output r.fault)) reports h.help ∙ h.called.1
+
+  reported : ran.report ≡ no_text
+  reported = subst (λ r. ran.report ≡ once_given r.fault _ r) reports h.reported
+
+-- The report of a script tells no fault of words, and no other of a run without a network is that.
+not_traced : (answer : Result TraceEnd TraceFault) → no_text ≡ trace_report answer → ⊥
+not_traced (Ok end) e = grind arith
+not_traced (Err fault) e = grind arith
+
+not_run : (answer : Result Job UsageFault) (opened : Option (Result ℕ NoSocket))
+    → IsGiven gives_none unknown 0 (option_and_then asked_by (result_ok answer)) opened
+    → RunsAsRead gives_none unknown 0 unasked unasked unasked unasked (ran_without no_text (Some 0)) answer opened → ⊥
+not_run (Err fault) opened given ends = let ran = ends.2 in grind arith
+not_run (Ok Trace) opened given ends = not_traced ends.0.answer ends.0.reported
+not_run (Ok (Run batch)) None given ends = given
+not_run (Ok (Run batch)) (Some socket) given ends = absurd (grind arith)
+not_run (Ok (Over tool)) None given ends = given
+not_run (Ok (Over tool)) (Some socket) given ends = absurd (grind arith)
+
+not_reported : RunsUnasked {L = ℕ} no_contents no_contents no_contents 0 unasked unasked unasked unasked unasked
+    told_no_socket (ran_without no_socket (Some 0)) (Err NotFound) → ⊥
+not_reported h = elim (h.did) as (λ _. ⊥) [
+  | inl (asks, script) ↦ asks
+  | inr (reports, gives, only) ↦
+      let reported = subst (λ r. no_socket ≡ once_given r.fault false r) gives only.reported in grind arith
+]
+
+pub returns : goal.returns
+returns c = record {
+  run = run;
+  untold = λ h. silent (codes "words that are not UTF-8") h.fault;
+  printed = λ h. untaken _ (unprinted h);
+  no_memory = λ h.
+      let report = ap (λ ran. ran.report) h.called.2 in
+      let reported = subst (λ r. no_text ≡ once_given r.fault _ r) report h.reported in grind arith;
+  called = record {
+    network = 0;
+    reader = unasked;
+    reader' = unasked;
+    writer = unasked;
+    writer' = unasked;
+    errors = unasked;
+    errors' = told_no_text;
+    ran = ran_without no_text (Some 0);
+    run = run;
+  };
+  otherwise = λ one other. let same = sym (reported one.run) ∙ other in grind arith;
+  no_call = record {
+    unasked = refl;
+    did = inr (no_text, refl, record { unread = refl; helped = refl; reported = refl });
+    told = run.fault;
+  };
+  other_network = λ h. let network = h.unasked in grind arith;
+  other_report = not_reported;
+  only = (refl, refl, refl);
+  not_only = λ h. untaken _ h.1;
+  lacked = forgotten.program;
+  lacked_otherwise = λ h. not_run h.answer h.opened h.given h.ends;
+  told = (codes "bactool: x\n", refl, given _ (λ none. grind arith) refl refl refl);
+  not_told = silent (codes "x");
+  nothing = refl;
+  too_much = untaken _;
+}

@@ -1,0 +1,7 @@
+-- It is a lemma.
+use Rattle.bac_tools.proofs.Typed.{runs_typed}
+use Rattle.bac_tools.proofs.laws.a_call_runs_its_words.Goals as goal
+
+pub returns : goal.returns
+returns g c network reader reader' writer writer' errors errors' ran typed run =
+    runs_typed _ _ _ network reader reader' writer writer' errors errors' ran typed run

@@ -1,0 +1,21 @@
+-- A program with one tool, rules and entries, for examples of what is said of them.
+use Rattle.std.specs.Prelude.{List, Some, None, codes}
+use Rattle.clap.specs.Words.{App, Rule, Text, new_app, new_rule, with_subcommand}
+use Rattle.clap.specs.Walk.{Row, reading_by}
+use Rattle.clap.specs.declared.builder.action.ArgAction.TheVariants.{SetTrue}
+use Rattle.clap_laws.specs.Commands.{needed, wanting}
+
+-- A program that wants its one tool, which takes no words.
+abbrev pub program : App
+program = with_subcommand (wanting (new_app (codes "program"))) (new_app (codes "tool")).top
+
+-- A word that has to be there, and an argument without a value.
+abbrev pub word : Rule
+word = needed (new_rule (codes "word"))
+
+abbrev pub flag : Rule
+flag = record (new_rule (codes "flag")) { action = Some SetTrue }
+
+-- The entry of an argument with such a rule that was given these values.
+abbrev pub named : Text → List Text → Row
+named id values = record { id = id; values = values; count = None; source = None; reading = reading_by word }

@@ -1,0 +1,216 @@
+"""The numbers of BACnet and their names, and which values a property has, from numbers.txt."""
+
+from __future__ import annotations
+
+import pkgutil
+import re
+from functools import lru_cache
+from typing import Dict, Iterator, List, NamedTuple, Optional, Tuple
+
+NULL, BOOLEAN, UNSIGNED, SIGNED, REAL, DOUBLE, OCTETS, STRING, BITS, ENUMERATED = range(10)
+DATE, TIME, OBJECT = 10, 11, 12
+INTEGERS = (UNSIGNED, SIGNED, ENUMERATED)
+LOOK_ALIKE = (*INTEGERS, REAL, DOUBLE)  # the tags whose values bacrp spells by digits alone
+LONG = 1 << 32  # octets
+
+
+class ValueType(NamedTuple):
+    """A type of values: what it is called in words, and how many octets its contents have."""
+
+    name: str
+    least: int
+    most: int
+
+
+VALUE_TYPES = (  # by their tags
+    ValueType("null", 0, 0),
+    ValueType("boolean", 0, 0),  # its value is the length
+    ValueType("unsigned", 1, 8),
+    ValueType("signed", 1, 8),
+    ValueType("real", 4, 4),
+    ValueType("double", 8, 8),
+    ValueType("octets", 0, LONG),
+    ValueType("text", 1, LONG),
+    ValueType("bits", 1, LONG),
+    ValueType("enumerated", 1, 4),
+    ValueType("date", 4, 4),
+    ValueType("time", 4, 4),
+    ValueType("object", 4, 4),
+)
+TAGS = [it.name for it in VALUE_TYPES]
+
+BINARY, MULTI_STATE = (3, 4, 5), (13, 14, 19)
+COMMAND_OBJECT, DEVICE = 7, 8
+THIS_DEVICE = 4194303  # the instance that whichever device is asked takes for its own
+
+ACTION, ACTIVE_TEXT, ALARM_VALUE, ALARM_VALUES, INACTIVE_TEXT = 2, 4, 6, 7, 46
+DATABASE_REVISION, DESCRIPTION, EVENT_STATE = 155, 28, 36
+COV_INCREMENT, DEADBAND = 22, 25
+MAX_VALUE, MIN_VALUE, MODEL_NAME, NUMBER_OF_STATES = 65, 69, 70, 74
+OBJECT_ID, OBJECT_LIST, OBJECT_NAME, OBJECT_TYPE = 75, 76, 77, 79
+PRESENT_VALUE, PRIORITY_ARRAY, RELIABILITY, RELINQUISH_DEFAULT = 85, 87, 103, 104
+STATE_TEXT, STATUS_FLAGS, UNITS, VENDOR_NAME, PROPERTY_LIST = 110, 111, 117, 121, 371
+
+# What the standard keeps each priority for; the others are free.
+PRIORITY_NAMES = {
+    1: "manual-life-safety",
+    2: "automatic-life-safety",
+    5: "critical-equipment-control",
+    6: "minimum-on-off",
+    8: "manual-operator",
+}
+BY_HAND = 8  # an entry of the priority array at this place, or before, stands above the program
+NOT_COMMANDED = (0, 3, 6, 7, 12, 13, 17, 21, 22, 23, 24, 28)  # types without a priority array
+
+
+class Which(NamedTuple):
+    """An object."""
+
+    object_type: int
+    instance: int
+
+    def what(self, number: int, element: Optional[int] = None) -> What:
+        """A property of it, or an element of that."""
+        return What(self.object_type, self.instance, number, element)
+
+    def __str__(self) -> str:
+        return f"{self.object_type}:{self.instance}"
+
+
+class What(NamedTuple):
+    """A property of an object, or an element of it."""
+
+    object_type: int
+    instance: int
+    number: int  # of the property
+    element: Optional[int] = None
+
+    @property
+    def which(self) -> Which:
+        """The object."""
+        return Which(self.object_type, self.instance)
+
+    def other(self, number: int) -> What:
+        """Another property of the same object."""
+        return self.which.what(number)
+
+    def at(self, element: int) -> What:
+        """An element of it."""
+        return What(self.object_type, self.instance, self.number, element)
+
+    def numbers(self) -> List[int]:
+        """All its numbers."""
+        found = [self.object_type, self.instance, self.number]
+        return found if self.element is None else [*found, self.element]
+
+    def words(self) -> str:
+        """It as a read has it in a script."""
+        return " ".join(map(str, self.numbers()))
+
+    def words_at(self, priority: Optional[int]) -> str:
+        """It as a write has it in a script, where 0 is no priority, and -1 no index."""
+        element = -1 if self.element is None else self.element
+        return f"{self.object_type} {self.instance} {self.number} {priority or 0} {element}"
+
+
+class Form(NamedTuple):
+    """Which values a property has. Without tags any: it is a vendor's own, or made of parts."""
+
+    tags: Tuple[int, ...] = ()  # those that a value may have, or in a row those of its parts
+    is_list: bool = False  # a list or an array of such values
+    is_row: bool = False  # a part of each tag, as a date and a time
+    states: Optional[Tuple[int, int]] = None  # the least and the greatest of a state
+    names: Dict[int, str] = {}  # of numbers, or of the bits that are set
+
+
+TEXT = (pkgutil.get_data(__name__, "numbers.txt") or b"").decode()
+
+
+def rows(title: str) -> List[List[str]]:
+    """The rows of a section of numbers.txt, without their heading."""
+    section = TEXT.split(f"\n= {title} | ", 1)[1].split("\n= ", 1)[0]
+    lines = [line for line in section.splitlines()[1:] if line and line[0] not in ":#"]
+    return [line.split(" | ") for line in lines[1:]]
+
+
+def numbered(title: str) -> Tuple[Dict[int, str], Dict[int, str]]:
+    """The names, and what is told of their types, by number."""
+    table = rows(title)
+    return {int(it[0]): it[1] for it in table}, {int(it[0]): it[-1] for it in table}
+
+
+def meanings() -> Iterator[Tuple[str, Dict[int, str]]]:
+    """What the numbers of a property's values mean, or its bits in their order."""
+    for properties, told in rows("What numbers of a value mean"):
+        words = [word.split(" ") for word in told.split(", ")]
+        found = {
+            int(word[0]) if word[0].isdigit() else at: "-".join(word[word[0].isdigit() :])
+            for at, word in enumerate(words)
+        }
+        for name in properties.split(", "):
+            yield name, found
+
+
+OBJECT_TYPES, TYPE_TELLS = numbered("Object types")
+PROPERTIES, PROPERTY_TELLS = numbered("Properties")
+UNIT_NAMES = numbered("Units")[0]
+STATES = {0: "inactive", 1: "active"}
+MEANINGS = dict(meanings())
+MEANINGS.update(
+    {"object-type": OBJECT_TYPES, "property-list": PROPERTIES, "units": UNIT_NAMES},
+    **{name: UNIT_NAMES for name in PROPERTIES.values() if name.endswith("-units")},
+)
+
+
+def tags_of(told: str) -> Tuple[int, ...]:
+    """The tags that a row names, as 10 and 11 for `10 Date, 11 Time`."""
+    return tuple(int(it) for it in re.findall(r"(?:^|, )([0-9]+) [A-Z]", told))
+
+
+def has_value(object_type: int) -> bool:
+    """Whether an object of this type has a present value, as far as is known."""
+    return TYPE_TELLS.get(object_type, "") != "-"
+
+
+def may_be_commanded(object_type: int) -> bool:
+    """Whether an object of this type may have a priority array."""
+    return has_value(object_type) and object_type not in NOT_COMMANDED
+
+
+def present_form(object_type: int) -> Form:
+    """Which present value an object has."""
+    tags = tags_of(TYPE_TELLS.get(object_type, ""))
+    if object_type in BINARY:
+        return Form(tags, states=(0, 1), names=STATES)
+    if object_type in MULTI_STATE:
+        return Form(tags, states=(1, 65535))
+    return Form(tags, is_row=len(tags) > 1)
+
+
+def form_of(what: What) -> Form:
+    """Which values a property of an object has, or an element of it."""
+    if what.element == 0:
+        return Form((UNSIGNED,))
+    return _form(what.object_type, what.number, what.element is not None)
+
+
+@lru_cache(maxsize=4096)
+def _form(object_type: int, number: int, is_element: bool) -> Form:
+    told, present = PROPERTY_TELLS.get(number, ""), present_form(object_type)
+    tags, is_list = tags_of(told), "each of" in told and not is_element
+    if number == PRIORITY_ARRAY:
+        tags = present.tags and (*present.tags, NULL)
+        found = present._replace(tags=tags, is_list=not is_element)
+        return found._replace(is_row=False)
+    if re.search("present value|by the object type", told):
+        return present
+    if (object_type, number) == (COMMAND_OBJECT, ACTION):
+        return Form()  # a list of what it writes
+    if number in (ALARM_VALUE, ALARM_VALUES):
+        return present._replace(is_list=is_list)
+    if tags == (REAL,) and (not present.tags or present.tags[0] in LOOK_ALIKE):
+        tags = present.tags  # limits of an accumulator are integers
+    if tags == (SIGNED,) and number in (COV_INCREMENT, DEADBAND):
+        tags = (UNSIGNED,)  # no step is below 0
+    names = MEANINGS.get(PROPERTIES.get(number, ""), {})
+    return Form(tags, is_list, len(tags) > 1, names=names)
