@@ -7,7 +7,7 @@ ghost use Rattle.bac_script.specs.declared.input.Reading.TheVariants.{AtEnd, Fai
 ghost use Rattle.bac_script.specs.declared.line.LineFault.TheVariants.{TooLong};
 ghost use Rattle.bac_script.specs.declared.tracing.TraceFault.TheVariants.{BadLine, ReadFailed};
 ghost use Rattle.bac_links.specs.History.{Arrived, Posted, Silence, Timed, Unposted, Waited};
-ghost use Rattle.bac_links.specs.declared.fault.ToolFault.TheVariants.{ReceiveFailed, SendFailed, TurnsSpent};
+ghost use Rattle.bac_links.specs.declared.fault.ToolFault.TheVariants.{ReceiveFailed, TurnsSpent};
 ghost use Rattle.bac_links.specs.Limits.{most_turns};
 ghost use Rattle.bac_run.specs.Course.{AreSteady, Does, Fresh, Goes, IsDue, Turns, aims_of_lines, room_for};
 ghost use Rattle.bac_run.specs.Fault.{write_failed};
