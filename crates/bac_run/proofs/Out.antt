@@ -1,6 +1,6 @@
 -- What is out before a wait.
-use Rattle.std.proofs.Common.{◌≡◌, ◌⊎◌, ◌∙◌, ℕ, false, List, [], ◌∷◌, ◌++◌, Option, Some, refl, sym, ap, subst, inl, inr}
-use Rattle.std.proofs.Common.{append_assoc}
+use Rattle.std.proofs.Common.{◌≡◌, ◌⊎◌, ◌∙◌, ℕ, false, List, [], ◌∷◌, ◌++◌, Option, Some, append_assoc, refl, sym, ap}
+use Rattle.std.proofs.Common.{subst, inl, inr}
 use Rattle.std.proofs.lemmas.List.{append-nil}
 use Rattle.bac_tsm.specs.Client.{Client}
 use Rattle.bac_print.specs.declared.checked.Checked.{Checked}
@@ -143,4 +143,5 @@ module _ {W : Type 0} {contents : W → Option (List ℕ)} where
   pub out_behind : (client : Client) (p q r : Page W) {text : List ℕ} {xs : List Act} → Prints contents p q text
       → IsOutAt client q r xs → (earlier later : List Act) (wait : Act) → IsWait wait → xs ≡ earlier ++ wait ∷ later
       → HasPassed p (writer_of r) (text ++ journal client earlier)
-  out_behind client p q r printed out earlier later wait waits is = passed_before printed (out earlier later wait waits is)
+  out_behind client p q r printed out earlier later wait waits is =
+      passed_before printed (out earlier later wait waits is)

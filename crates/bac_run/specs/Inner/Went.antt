@@ -1,6 +1,6 @@
 -- What a part of a run did to its client, its page and its link.
-use Rattle.std.specs.Prelude.{◌≡◌, ℕ, suc, Bool, false, ⊤, List, [], ◌∷◌, ◌++◌, if◌then◌else◌, Option, None, Result, Ok, Err}
-use Rattle.std.specs.Prelude.{Some, unwrap_or}
+use Rattle.std.specs.Prelude.{◌≡◌, ℕ, suc, Bool, false, ⊤, List, [], ◌∷◌, ◌++◌, if◌then◌else◌, Option, None, Some}
+use Rattle.std.specs.Prelude.{Result, Ok, Err, unwrap_or}
 use Rattle.std.specs.List.{AllByRecursion}
 use Rattle.bac_tsm.specs.Client.{Client}
 use Rattle.bac_tsm.specs.Events.{Event}

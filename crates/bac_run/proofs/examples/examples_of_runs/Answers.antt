@@ -13,7 +13,8 @@ use Rattle.bac_links.specs.History.{Account, Arrived, Entry, Posted, Silence, Ti
 use Rattle.bac_links.specs.Limits.{most_turns}
 use Rattle.bac_run.specs.Course.{Does, Goes, Turns, aims_of_lines, ready, room_for}
 use Rattle.bac_run.specs.Input.{HasNoFeed}
-use Rattle.bac_run.specs.Inner.Examples.{IsRunOf, about, answer, asked, desk, drained, idle, octets, one_by_one, read_line}
+use Rattle.bac_run.specs.Inner.Examples.{IsRunOf, about, answer, asked, desk, drained, idle, octets, one_by_one}
+use Rattle.bac_run.specs.Inner.Examples.{read_line}
 use Rattle.bac_run.specs.Journal.{Act, Asked, Came, Passed, Paused, Read, Told, history_of}
 use Rattle.bac_run.specs.declared.turns.Until.TheVariants.{FewOpen}
 use Rattle.bac_run.specs.Run.{journal_of}

@@ -14,7 +14,8 @@ pub returns-in-Ok-None-clause-went : goal.returns-in-Ok-None-clause-went
 returns-in-Ok-None-clause-went g c =
     went_passed _ _ _ c.longest_wait-wait_ms.result Silence refl refl (λ (time, aims).
     (c.longest_wait-wait_ms.ensures, tt))
-    (λ (time, aims). refl) (λ gained is. is) c.requires.sound c.requires.out (rw c.in-Ok-None.field-0-is at c.in-Ok-None.ensures.told)
+    (λ (time, aims). refl) (λ gained is. is) c.requires.sound c.requires.out
+    (rw c.in-Ok-None.field-0-is at c.in-Ok-None.ensures.told)
 
 pub returns-in-Err-clause-went : goal.returns-in-Err-clause-went
 returns-in-Err-clause-went g c =
