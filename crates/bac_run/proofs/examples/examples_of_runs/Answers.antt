@@ -8,11 +8,14 @@ use Rattle.bac_script.proofs.Computed.{computed}
 use Rattle.bac_script.specs.Script.{lines}
 use Rattle.bac_script.specs.declared.input.Reading.{Reading}
 use Rattle.bac_script.specs.declared.input.Reading.TheVariants.{AtEnd}
-use Rattle.bac_links.specs.History.{Account, Arrived, Posted, Timed, Waited}
+use Rattle.bac_links.specs.History.{Account, Arrived, Posted, Silence, Timed, Waited}
 use Rattle.bac_run.specs.Course.{Goes, aims_of_lines, ready}
 use Rattle.bac_run.specs.Input.{HasNoFeed}
-use Rattle.bac_run.specs.Inner.Examples.{answer, asked, desk, octets, read_line}
-use Rattle.bac_run.specs.Journal.{Act, Came, Read, history_of, new_client}
+use Rattle.bac_run.specs.Inner.Examples.{answer, asked, desk, octets, one_by_one, read_line}
+use Rattle.bac_run.specs.Journal.{Act, Came, Passed, Read, history_of, new_client}
+use Rattle.bac_run.specs.Run.{journal_of}
+use Rattle.bac_script.specs.Alike.{IsFrontOf}
+use Rattle.bac_run.proofs.GoOn.{journal_front}
 use Rattle.bac_run.proofs.ReadBack.{settings_read_back}
 use Rattle.bac_run.proofs.examples.examples_of_runs.Goals as goal
 
@@ -61,6 +64,10 @@ returns-clause-answered c = (
       sound = λ sound. (refl, refl);
       stopped = λ stopped. grind arith;
     };
+    out = λ earlier later wait waits is.
+        let session = one_by_one (omega arith) (omega arith) in
+        subst (λ (acts : List Act). IsFrontOf (journal_of session earlier) (journal_of session acts)) (sym is)
+        (journal_front session earlier (wait ∷ later));
     asks = record {
       gained = Timed 0 ∷ Posted desk octets ∷ Timed 5 ∷ Waited 50 (Arrived desk answer) ∷ [];
       gains = refl;
@@ -90,6 +97,27 @@ returns-clause-unasked c = λ (timed, some, runs).
     let asked = ap (λ (account : Account ℕ). account.history) runs.asks.gains ∙ runs.asks.as_due
     ∙ ap (λ (acts : List Act). history_of (new_client 3000 3) acts) none in
     absurd (cc)
+
+-- One act is the first.
+first_alone : (act : Act) (earlier later : List Act) (wait : Act) → act ∷ [] ≡ earlier ++ wait ∷ later → earlier ≡ []
+first_alone act [] later wait is = refl
+first_alone act (x ∷ []) later wait is = absurd (cc)
+first_alone act (x ∷ y ∷ earlier) later wait is = absurd (cc)
+
+pub returns-clause-out : goal.returns-clause-out
+unfolding computed
+returns-clause-out c = λ timed some earlier later wait waits is.
+    subst (λ (acts : List Act). IsFrontOf (journal_of (one_by_one timed some) acts) (codes "client 3000 3 0\n"))
+    (sym (first_alone (Passed 50 Silence) earlier later wait is)) ([], refl)
+
+unsettled : (rest : List ℕ) → [] ≡ codes "client 3000 3 0\n" ++ rest → ⊥
+unfolding computed
+unsettled rest is = absurd (cc)
+
+pub returns-clause-kept_back : goal.returns-clause-kept_back
+unfolding computed
+returns-clause-kept_back c = λ timed some out.
+    let (rest, is) = out [] [] (Passed 50 Silence) tt refl in unsettled rest is
 
 pub returns-clause-folded : goal.returns-clause-folded
 unfolding computed
