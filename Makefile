@@ -2,14 +2,11 @@
 # make try: runs a first script by the toolchain's runner, in a minute or two; nothing is proved yet
 # make program: proves and builds the program: 8 to 20 minutes the first time, then only what has changed
 # make demo: the same, and shows what it does, with a small device on this machine
-# make check: proves every crate, without tests and wrong bodies, over what earlier checks kept; for daily work. A few
-#     minutes where little has changed
-# make test: over what make demo keeps: the tests of the crates, the examples, rows and guide, make lint, and some wrong
-#     bodies of each crate; 5 to 10 minutes
-# make gate: what a change has to pass: proves every crate and its tests from nothing, tries every wrong body, and runs
-#     everything; half an hour to three quarters with four processors, an hour and more with two
-# make examples: runs each script of examples/, the demonstration, the program's own tests, those of bacsite and the
-#     guide, and compares what they write. Two minutes
+# make check: proves every crate, without tests and wrong bodies, over what earlier checks kept; for daily work
+# make test: over what make demo keeps, the tests of the crates, some wrong bodies, make examples and make lint; minutes
+# make gate: what a change has to pass: proves and tries everything from nothing; half an hour to three quarters with
+#     four processors, an hour and more with two
+# make examples: runs examples/, the program's own tests, those of bacsite and the guide. Two minutes
 # make forget: takes away what the prover keeps, 3.2 GB, but not the program; the next check proves from nothing
 # make documents: compares the documents, the reading lists and what reads the rules back with the tree. Seconds
 # make reading: writes docs/reading/ anew, and the sizes of its lists in README.md. Seconds

@@ -1,18 +1,14 @@
 #!/usr/bin/env python3
 """Proves the crates that the program rests on, and builds the program. Usage: ./build.py [--tests]
 
-With --tests it runs the tests of the trials, over what is kept of the crates below, and says how many passed. Those
-of bac_trials are proved the first time. To prove those of tool_trials takes 12 to 19 minutes of processor time: so they
-are run as the sources stand, by `rt try`, until `rt test` was run there.
+With --tests it runs the tests of the trials, over what is kept of the crates below. Those of bac_trials are proved the
+first time; those of tool_trials, which take 12 to 19 minutes of processor time, are run as the sources stand, by
+`rt try`, until `rt test` was run there.
 
-Crates that don't rest on one another are proved side by side, as many as there are processors and memory for, each by
-its share of the processors, rounded up. RT_JOBS is another number of processors to use. There is a line for each crate,
-and one each minute. What the prover says of a crate goes to out/build/CRATE.log; where it refuses a crate, the end of
-that file is shown.
-
-`rt` lets nobody else into a crate that it works in, nor into the crates below. So each crate is proved in a room of its
-own, out/build/CRATE: a copy of the sources, with links to what is built of the crates below. What is kept of the crate
-goes there and comes back.
+Crates that don't rest on one another are proved side by side, as many as there are processors (or RT_JOBS) and memory
+for. `rt` lets nobody else into a crate that it works in, nor into the crates below. So each crate is proved in a room
+of its own, out/build/CRATE: a copy of the sources, with links to what is built of the crates below. What is kept of the
+crate goes there and comes back. What the prover says of a crate goes to out/build/CRATE.log.
 """
 import fcntl
 import os
@@ -74,10 +70,6 @@ class Work(tree.Job):
             os.rename(f"{self.room}/{self.home}/out", f"{self.home}/out")
         shutil.rmtree(self.room, ignore_errors=True)
 
-    def progress(self):
-        counts = re.findall(r"(?:^so far: |, )(\d+) of (\d+)(?: functions|$)", self.said(), re.M)
-        return f"{self.crate} {counts[-1][0]} of {counts[-1][1]} functions" if counts else self.crate
-
     def came(self):
         """What came of it, once it has ended; "" where it is not well."""
         tests = re.findall(r"^test result: ok\. ([1-9]\d*) passed; 0 failed", self.said(), re.M)
@@ -93,7 +85,7 @@ class Work(tree.Job):
 
 def build(crates, below, done):
     """Builds these crates, each once those below it are done. Answers whether each was proved."""
-    began, told, left, working = time.monotonic(), 0.0, sorted(crates, key=size, reverse=True), []
+    began, left, working = time.monotonic(), sorted(crates, key=size, reverse=True), []
     places = max(min(processors(), tree.free_memory() // CRATE_MEMORY), 1)
     try:
         while left or working:
@@ -104,8 +96,7 @@ def build(crates, below, done):
                 working.append(Work(crate, below[crate], max(min(share, size(crate) // PROCESS_CODE), 1)))
                 left.remove(crate)
             time.sleep(0.5)
-            passed = time.monotonic() - began
-            clock = f"{int(passed) // 60}:{int(passed) % 60:02}"
+            clock = "{}:{:02}".format(*divmod(int(time.monotonic() - began), 60))
             for work in [it for it in working if it.has_ended()]:
                 working.remove(work)
                 work.stop()
@@ -117,9 +108,6 @@ def build(crates, below, done):
                 done = done | {work.crate}
                 count = len(crates) - len(left) - len(working)
                 print(f"{count:2} of {len(crates)}  {work.crate:12} {work.came()}  {clock}", flush=True)
-            if working and passed - told >= 60:
-                told = passed
-                print(f"at work, {clock}: {', '.join(work.progress() for work in working)}", flush=True)
         return True
     finally:
         for work in working:

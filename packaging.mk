@@ -1,15 +1,11 @@
 # Puts the built program where a Unix expects it, takes it away again, and packs it.
 #
 # make install PREFIX=/usr/local DESTDIR=: the program, links of the tools' names to it, manual pages, completions,
-#     documents and examples. What is there and was not put by it, such as another vendor's bacrp, is named and not
-#     replaced, unless FORCE=1 says so. A second
-# make uninstall: takes away what make install put, where it is still as it was put, with the same PREFIX and DESTDIR.
-#     It builds nothing. A second
-# make lint: the manual pages by mandoc and against the help, the numbers against Wireshark's names, the completions in
-#     bash, zsh and fish, make install in a folder of its own, the package by dpkg and lintian, the documents against
-#     the tree, that something reads each row of the rules back, what make says at first, build.py and parts.py where
-#     something fails, bacsite by mypy and pylint, and the scripts by shellcheck. What one of these or a shell would
-#     look at is left out where it is not installed. A minute
+#     documents and examples. What it did not put there it names and leaves, unless FORCE=1 says so. A second
+# make uninstall: takes away what make install put, where it is still as it was put; it builds nothing. A second
+# make lint: pages, numbers, completions, make install, the package and the documents against the program and the tree,
+#     what make says where something fails, bacsite, its page in Chromium, and the scripts by linters. What is not
+#     installed is left out, and said. A minute
 # make guide: runs every command of docs/GUIDE.md, and compares what comes out; make examples runs it too. Half a minute
 # make deb: a Debian package in crates/bactool/out, of the same octets each time; needs dpkg-deb and binutils. A second
 

@@ -2,10 +2,9 @@
 """Measures the built program as docs/SPEED.md shows it. Usage: bench/measure.py [--write] [PART ..]: these parts, or
 all; with --write what comes is written there.
 
-    network       over 127.0.0.1: bacdev beside a bare echo server, bacrp beside a bare client, and memory
+    network       over 127.0.0.1: bacdev beside a bare echo server, and memory
     runs          over 127.0.0.1: reads by one bacrun beside a bare client, and beside a process of bacrp each
     instructions  by callgrind, where valgrind is installed: the same numbers whatever else is at work
-    script        a million mixed lines, beside other programs over the same file
     calls         the benchmarks of this folder, files .rattle, which are proved first: some minutes
 
 BACTOOL names another program than the repository's own, and ROUNDS how often two servers are compared.
@@ -46,13 +45,10 @@ def mixed(count):
 
 
 def timed(words, given=None, output=subprocess.DEVNULL):
-    """The seconds that a command takes, and those of the processor."""
+    """The seconds that a command takes."""
     begun = time.monotonic()
-    process = subprocess.Popen(words, stdin=given, stdout=output)
-    _, status, used = os.wait4(process.pid, 0)
-    if status != 0:
-        sys.exit(f"{words}: its status is not 0")
-    return time.monotonic() - begun, used.ru_utime + used.ru_stime
+    subprocess.run(words, stdin=given, stdout=output, check=True)
+    return time.monotonic() - begun
 
 
 def row(name, *cells):
@@ -76,34 +72,24 @@ def spread(numbers, form="{}"):
     return "{:>8} ({} to {})".format(*shown)
 
 
-def servers():
-    rates = {(program, outstanding): [] for outstanding in (1, 32) for program in (UDP, PROGRAM)}
+def rounds(windows, asked):
+    """Of the echo server and of bacdev, what is asked of each with so many requests open, by turns."""
+    rates = {(program, window): [] for window in windows for program in (UDP, PROGRAM)}
     for _ in range(ROUNDS):
-        for (program, outstanding), found in rates.items():
+        for (program, window), found in rates.items():
             with device(program=[program]) as (_, port):
-                found.append(load(port, outstanding, REPLIES))
-    echoes, ours = ([rates[program, outstanding] for outstanding in (1, 32)] for program in (UDP, PROGRAM))
+                found.append(asked(program, port, window))
+    return ([rates[program, window] for window in windows] for program in (UDP, PROGRAM))
+
+
+def servers():
+    echoes, ours = rounds((1, 32), lambda _, port, window: load(port, window, REPLIES))
     yield wide(f"replies a second, {ROUNDS} x {REPLIES}", "one outstanding", "32 outstanding")
     yield wide("bare echo server", *map(spread, echoes))
     yield wide("bacdev, a ReadProperty", *map(spread, ours))
-    # The median over the rounds, each beside the other, and the best rounds, which tell more where other work disturbs.
     ratios = [[one / echo for one, echo in zip(*both)] for both in zip(ours, echoes)]
     yield wide("bacdev by echo, round by round", *(spread(it, "{:.2f}") for it in ratios))
     yield wide("bacdev by echo, best by best", *(f"{max(one) / max(echo):8.2f}" for one, echo in zip(ours, echoes)))
-
-
-def clients():
-    """The median and the least of the microseconds that a command takes, run one after the other."""
-    yield row(f"\nmicroseconds a run, {RUNS} runs", "median", "least")
-    with device() as (_, port):
-        for name, *words in [
-            ("true, a process alone", "true"),
-            ("bactool --help, with its words", PROGRAM, "--help"),
-            ("bare client, one question", UDP, "load", str(port), "1", "1"),
-            ("bacrp, one value", PROGRAM, *BACRP, f"127.0.0.1:{port}"),
-        ]:
-            took = [1e6 * timed(words)[0] for _ in range(RUNS)]
-            yield row(name, f"{statistics.median(took):.0f}", f"{min(took):.0f}")
 
 
 def grown(words, lines, count):
@@ -132,8 +118,8 @@ def memory():
 
 
 def network():
-    for part in (servers, clients, memory):
-        yield from part()
+    yield from servers()
+    yield from memory()
 
 
 # ---- many requests ----
@@ -143,7 +129,7 @@ def batch(port, window):
     with tempfile.TemporaryFile("w+") as lines, tempfile.TemporaryFile("w+") as journal:
         lines.write(f"read 127.0.0.1:{port} 0 5 85\n" * REPLIES)
         lines.seek(0)
-        seconds, _ = timed([PROGRAM, "bacrun", "--window", str(window)], lines, journal)
+        seconds = timed([PROGRAM, "bacrun", "--window", str(window)], lines, journal)
         journal.seek(0)
         if journal.read().count("\n# done ") != REPLIES:
             sys.exit("bacrun: a read has no answer")
@@ -151,14 +137,10 @@ def batch(port, window):
 
 
 def runs():
-    rates = {(program, window): [] for program in (UDP, PROGRAM) for window in (1, 8, 64)}
-    for _ in range(ROUNDS):
-        for (program, window), found in rates.items():
-            with device(program=[program]) as (_, port):
-                found.append(batch(port, window) if program == PROGRAM else load(port, window, REPLIES))
+    read = lambda program, port, window: batch(port, window) if program == PROGRAM else load(port, window, REPLIES)
+    bare, ours = (list(map(statistics.median, rates)) for rates in rounds((1, 8, 64), read))
     with device() as (_, port):
-        alone = RUNS / sum(timed([PROGRAM, *BACRP, f"127.0.0.1:{port}"])[0] for _ in range(RUNS))
-    bare, ours = ([statistics.median(rates[program, window]) for window in (1, 8, 64)] for program in (UDP, PROGRAM))
+        alone = RUNS / sum(timed([PROGRAM, *BACRP, f"127.0.0.1:{port}"]) for _ in range(RUNS))
     yield row(f"reads a second, {ROUNDS} x {REPLIES}", "1 open", "8 open", "64 open")
     yield row("bare client, bare echo server", *(f"{it:.0f}" for it in bare))
     yield row("bacrun, bacdev", *(f"{it:.0f}" for it in ours))
@@ -199,29 +181,11 @@ def instructions():
     yield f"{of_a_run('--help'):9} for a run that prints the help"
 
 
-# ---- a script ----
-
-def script():
-    """What programs take over the same file, run by turns: the least of five rounds of each."""
-    took = {(PROGRAM, "bactrace"): [], ("sha256sum",): [], ("wc", "-l"): [], ("cat",): []}
-    with tempfile.TemporaryFile("w+") as lines, tempfile.TemporaryFile() as output:
-        lines.writelines(mixed(1000000))
-        for words in list(took) * 5:
-            lines.seek(0)
-            output.seek(0)
-            took[words].append(timed(words, lines, output))
-    least = [[min(seconds) for seconds in zip(*rounds)] for rounds in took.values()]
-    for words, (passed, used) in zip(took, least):
-        yield f"{' '.join(words).split('/')[-1]:16} {passed:5.2f} s in all, {used:5.2f} s of processor time"
-    ratios = [one / by for one, by in zip(*least[:2])]
-    yield "bactrace by sha256sum: {:.2f}, {:.2f} of processor time".format(*ratios)
-
-
 # ---- calls in memory ----
 
 def calls():
-    """What each benchmark prints; of the client's calls the least of nine runs, in a table by the open requests. They
-    are proved and built beside a copy of the crates that they call: in the tree the gate would prove them too."""
+    """What each benchmark prints; of the client's calls the least of nine runs. They are proved beside a copy of the
+    crates that they call: in the tree the gate would prove them too."""
     below, texts = ["bac_wire", "bac_work", "bac_pdu", "bac_tsm", "bac_device"], {}
     with tempfile.TemporaryDirectory(dir=f"{TOP}/out") as room:
         os.mkdir(f"{room}/.git")  # the top of a repository, for rt
@@ -245,7 +209,7 @@ def calls():
 
 # ---- the boxes of SPEED ----
 
-PARTS = {"network": network, "runs": runs, "instructions": instructions, "script": script, "calls": calls}
+PARTS = {"network": network, "runs": runs, "instructions": instructions, "calls": calls}
 
 
 def lines_of(part):

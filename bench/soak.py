@@ -2,26 +2,15 @@
 """Gives the built program random input, and follows what it answers and prints: the lines and datagrams of the rows
 that it is tried by, as they are and damaged.
 
-Usage: bench/soak.py device DATAGRAMS [SEED], script LINES [SEED], runs RUNS [SEED], or readers ANSWERS [SEED]; BACTOOL
-names another program than the tree's.
+Usage: bench/soak.py device DATAGRAMS [SEED], or runs RUNS [SEED]; BACTOOL names another program than the tree's.
 
-`device` sends datagrams to bacdev over 127.0.0.1, and reads every reply. What each must get is told from what bacsite
-reads of it, by the rules of docs/PROTOCOL.md: silence, an I-Am, or one reply to its confirmed request, to its own
-invoke id and of no more octets than it announced. Everything stays on this machine: a forwarded datagram names
-127.0.0.1 as its originator, or port 0 there.
-
-`script` runs one long script through bactrace, and follows each request through what it prints. Each line but a tick
-prints one line. A request that is sent gets the next ticket, and is sent again three times at most; it ends once, and
-only while it is open; at most 64 are open, under different invoke numbers, and `full` comes only where 64 are.
-
-`runs` runs bacrun over random requests, against two peers that answer, lose, double, hold back and damage what they
-send, and looks at each run as tests/program/runs.py does: bactrace prints the remarks of its journal, octet for octet.
-
-`readers` has bactrace take odd answers to a read, and compares how each ended the request with what bacsite reads.
+`device` sends datagrams to bacdev over 127.0.0.1, and reads every reply by bacsite's reader; each batch ends in a
+question of ours, which has to be answered. Everything stays on this machine: a forwarded datagram names 127.0.0.1 as
+its originator, or port 0 there. `runs` runs bacrun over random requests, against two peers that answer, lose, double,
+hold back and damage what they send, and looks at each run as tests/program/runs.py does.
 
 It stops at the first that is not so, and shows it.
 """
-import contextlib
 import glob
 import itertools
 import os
@@ -29,17 +18,13 @@ import random
 import re
 import subprocess
 import sys
-import time
 from collections import Counter
 
-HERE = os.path.dirname(__file__)
-sys.path[:0] = [HERE + "/../tests", HERE + "/../tests/program", HERE + "/../site"]
-from bacsite.answers import outcome_of
-from bacsite.bodies import parameters, read_ack
-from bacsite.messages import CONFIRMED, DISTRIBUTE, UNCONFIRMED, UNICAST, Datagram, message_of
+sys.path[:0] = [f"{os.path.dirname(__file__)}/../{it}" for it in ("tests", "tests/program", "site")]
+from bacsite.messages import CONFIRMED, Datagram, message_of
 from rows import row_cases
 from runs import check, run
-from tree import PROGRAM, TOP, WRONG, device, local_socket, resident
+from tree import PROGRAM, TOP, WRONG, device, local_socket
 
 # ---- random datagrams ----
 
@@ -83,83 +68,23 @@ def any_datagram(dice, datagrams, port):
 
 # ---- the device ----
 
-INSTANCE = 1234
-BATCH, BATCHES = 16, 3000  # of datagrams that one bacdev answers, each batch with one of ours behind it
-VENDOR = bytes.fromhex("810a0011010400059b0c0c020004d21978")
-ANNOUNCED = [50, 128, 206, 480, 1024, 1476] + [50] * 10
-I_AM = "1000c4020004d22205c49103220104"
-# Replies to a confirmed request, without its invoke id.
-KINDS = {
-    "SimpleACK": "200f",
-    "ComplexACK": "300c.*",
-    "Error {} {}": "500[cf]91(..)91(..)",
-    "Reject {}": "60(0[45679])",
-    "Abort {}": "71(04)",
-}
-
-
-def is_asked(body):
-    """Whether a Who-Is with this body asks for the device."""
-    limits = list(parameters(body))
-    if [number for number, _ in limits] not in ([], [0, 1]) or not all(1 <= len(it) <= 4 for _, it in limits):
-        return False
-    low, high = (int.from_bytes(it, "big") for _, it in limits) if limits else (0, 4194303)
-    return low <= INSTANCE <= high
-
-
-def expected(datagram):
-    """What comes back: None for nothing, else the route, the invoke id (of an I-Am None), and what was announced."""
-    if len(datagram) < 4 or datagram[0] != 0x81 or int.from_bytes(datagram[2:4], "big") != len(datagram):
-        return None
-    message = read(datagram)
-    origin, *source = message.sender.split("/")
-    is_to_all = datagram[1] != UNICAST or message.receiver != ""
-    is_here = datagram[1] != DISTRIBUTE and message.receiver.split("/")[1:2] in ([], ["65535"])
-    if not message.apdu or not is_here or origin.endswith(":0"):  # to the port 0 no reply can be sent
-        return None
-    route = b""
-    if source:
-        network, station = int(source[0]), bytes.fromhex(source[1].strip("*"))
-        if network in (0, 65535) or not 1 <= len(station) <= 7:
-            return None
-        route = network.to_bytes(2, "big") + bytes([len(station)]) + station
-    apdu = message.apdu
-    if apdu.kind == UNCONFIRMED:
-        return (route, None, 50) if apdu.service == 8 and is_asked(apdu.body) else None
-    if apdu.kind != CONFIRMED or is_to_all:
-        return None
-    return route, apdu.invoke, ANNOUNCED[datagram[message.at + 1] & 15]
-
-
-def kind_of(reply, route, invoke_id, room):
-    """What kind of reply this is, where it is one that can be read and fits; else None."""
-    network = b"\x01\x20" + route + b"\xff" if route else b"\x01\x00"
-    head = b"\x81\x0a" + len(reply).to_bytes(2, "big") + network
-    octets = reply[len(head) :]
-    if not reply.startswith(head) or len(octets) > room:
-        return None
-    if invoke_id is None:
-        return "I-Am" if octets.hex() == I_AM else None
-    if octets[1:2] != bytes([invoke_id]) or octets[:1] == b"\x30" and not read_ack(octets[3:]):
-        return None
-    without = (octets[:1] + octets[2:]).hex()
-    matches = ((kind, re.fullmatch(form, without)) for kind, form in KINDS.items())
-    return next((kind.format(*(int(it, 16) for it in found.groups())) for kind, found in matches if found), None)
+BATCH, BATCHES = 16, 3000  # of datagrams that one bacdev answers, each batch with OURS behind it
+OURS, VENDOR = bytes.fromhex("810a0011010400059b0c0c020004d21978"), bytes.fromhex("3e2201043f")
+I_AM = bytes.fromhex("1000c4020004d22205c49103220104")
 
 
 def tried(desk, batch):
-    """The kinds of what a batch gets. Its last datagram is ours, and has its reply in its place only where no reply was
-    too many."""
-    wanted, replies = [it for it in map(expected, batch) if it], []
-    with contextlib.suppress(OSError):
-        for datagram in batch:
-            desk.send(datagram)
-        replies.extend(desk.recv(2048) for _ in wanted)
-    kinds = [kind_of(reply, *one) for reply, one in itertools.zip_longest(replies, wanted, fillvalue=b"")]
-    if not all(kinds):
-        sent = "\n".join(f"  {it.hex()} expects {expected(it)}" for it in batch)
-        sys.exit(f"not as expected, {[reply.hex() for reply in replies]}; sent:\n{sent}")
-    return kinds + ["no reply"] * (len(batch) - len(wanted))
+    """The kinds of the replies to a batch. Each is an I-Am, or an answer with the invoke id of one of its requests."""
+    for datagram in [*batch, OURS]:
+        desk.send(datagram)
+    requests = (read(it).apdu for it in batch if len(it) >= 4)
+    asked, reply = {it.invoke for it in requests if it and it.kind == CONFIRMED}, b""
+    while not (reply := desk.recv(2048)).endswith(VENDOR) or read(reply).apdu.invoke != read(OURS).apdu.invoke:
+        apdu = read(reply).apdu
+        if not (reply.endswith(I_AM) or apdu and apdu.is_answer and apdu.invoke in asked):
+            sent = "\n".join(it.hex() for it in batch)
+            sys.exit(f"a reply to nothing, {reply.hex()}; sent:\n{sent}")
+        yield f"replies of kind {apdu.kind}"
 
 
 def soak_device(dice, left):
@@ -168,28 +93,18 @@ def soak_device(dice, left):
     while left > 0:
         batches = min(BATCHES, -(-left // BATCH))
         left -= batches * BATCH
-        how = {"stderr": subprocess.PIPE}
-        with device("--count", str(batches * (BATCH + 1)), **how) as (process, port), local_socket() as desk:
+        words = ["--count", str(batches * (BATCH + 1))]
+        with device(*words, stderr=subprocess.PIPE) as (process, port), local_socket() as desk:
             desk.settimeout(5)
             desk.connect(("127.0.0.1", port))
             for _ in range(batches):
-                batch = [any_datagram(dice, datagrams, desk.getsockname()[1]) for _ in range(BATCH)]
-                counts.update(tried(desk, [*batch, VENDOR]))
+                counts.update(tried(desk, [any_datagram(dice, datagrams, desk.getsockname()[1]) for _ in range(BATCH)]))
             if process.wait(10) != 0 or process.stderr.read() != b"":
                 sys.exit("it didn't end by its count")
     return counts
 
 
-# ---- scripts ----
-
-PLACES, RETRIES = 64, 3
-BLOCK = 200
-# Each block ends by a question, whose answer says that all before it has been printed.
-ASK, REPLY = "ask 127.0.0.9:9 810a001101040005010c0c000000051955", "reply 127.0.0.9:9 810a0017010030010c"
-PRINTED = re.compile(
-    r"send \d+ \S+ [0-9a-f]+|done \d+ .+|timeout \d+|full|too-long|drop|silent|reply \S+ 810a[0-9a-f]+"
-)
-
+# ---- runs ----
 
 def answers_among(datagrams):
     """The answers among these, each with the place of its invoke number."""
@@ -202,78 +117,6 @@ def any_answer(dice, answers, number):
     octets = octets[:at] + bytes([number]) + octets[at + 1 :]
     return (damaged(dice, octets) if dice.random() < 0.2 else octets).hex()
 
-
-def pool(dice):
-    """Lines to choose from, but for ticks, in the shares that they are to have. An answer has any invoke number."""
-    asks, datagrams = known()
-    peers, answers = [line.split()[1].split("/")[0] for line in asks], answers_among(datagrams)
-    lines = dice.choices(asks, k=6000) + ["", "# a comment", "  \t"]
-    for _ in range(24000):
-        lines.append(f"data {dice.choice(peers)} {any_answer(dice, answers, dice.randrange(256)) or '81'}")
-    for _ in range(6000):
-        lines.append(f"ask {dice.choice(peers)} {any_datagram(dice, datagrams, 47808).hex() or '81'}")
-    return lines
-
-
-class Followed:
-    """What the printed lines say of the requests: those that are open, each with its datagram, its number, and how
-    often it was sent again."""
-
-    def __init__(self):
-        self.open, self.next, self.counts = {}, 0, Counter()
-
-    def holds(self, line):
-        """Whether a line fits those before it."""
-        if not PRINTED.fullmatch(line):
-            return False
-        word, *words = line.split(" ", 2)
-        self.counts[word] += 1
-        if word not in ("send", "done", "timeout"):
-            return word != "full" or len(self.open) == PLACES
-        ticket = int(words[0])
-        if word == "send" and ticket == self.next:
-            number = read(bytes.fromhex(words[1].split()[1])).apdu.invoke
-            is_free = len(self.open) < PLACES and all(number != it[1] for it in self.open.values())
-            self.open[ticket], self.next = [words[1], number, 0], ticket + 1
-            return is_free
-        datagram, number, again = self.open.pop(ticket, (None, None, None))
-        if word == "send" and datagram:
-            self.counts["sent again"] += 1
-            self.open[ticket] = [datagram, number, again + 1]
-            return words[1] == datagram and again < RETRIES
-        return bool(datagram) and (word == "done" or again == RETRIES)
-
-    def asked(self):
-        """The lines of the script that these lines answer."""
-        return sum(self.counts.values()) - 2 * self.counts["sent again"] - self.counts["timeout"]
-
-
-def soak_script(dice, lines):
-    """Runs a script of so many lines, with a tick now and then, and counts what it prints."""
-    seen, chosen, asked, now = Followed(), pool(dice), 0, 0
-    how = {"stdin": subprocess.PIPE, "stdout": subprocess.PIPE, "text": True}
-    with subprocess.Popen([PROGRAM, "bactrace"], **how) as process:
-        for _ in range(0, lines, BLOCK):
-            part = dice.choices(chosen, k=BLOCK)
-            for at in range(0, BLOCK, 20):
-                now += dice.choice([0, 1, 50, 200, 3000 if dice.random() < 0.02 else 100])
-                part[at] = f"tick {now}"
-            asked += sum(line.startswith(("read", "write", "data", "ask")) for line in part)
-            process.stdin.write("\n".join([*part, ASK, ""]))
-            process.stdin.flush()
-            while not (line := process.stdout.readline()).startswith(REPLY):
-                if not seen.holds(line.rstrip("\n")):
-                    sys.exit(f"does not fit: {line!r}; it was printed over:\n" + "\n".join(part))
-            if seen.asked() != asked:
-                sys.exit(f"{seen.asked()} lines printed for {asked}, the last of them:\n" + "\n".join(part))
-        seen.counts["KB of memory at most"] = resident(process)
-        process.stdin.close()
-        if process.wait(10) != 0:
-            sys.exit(f"status {process.returncode}")
-    return seen.counts
-
-
-# ---- runs ----
 
 def plan(dice, answers):
     """What the peers do with each datagram that they hear, as tests/program/runs.txt has it: mostly they answer it."""
@@ -307,51 +150,10 @@ def soak_runs(dice, count):
     return counts
 
 
-# ---- the two readers ----
-
-ASKED, HEADS = "127.0.0.9:47808", ["0100"] * 4 + ["0103", "0120ffff00ff", "0157"]
-
-
-def odd_answer(dice, number, body=bytes.fromhex("0c4b00000119553e")):
-    """A datagram that answers a read of a vendor's value, perhaps damaged behind its invoke id."""
-    parts = [bytes([dice.randrange(256)]) + dice.randbytes(dice.randrange(9)) for _ in range(dice.randrange(3))]
-    for tag in dice.choices(range(13), k=dice.randrange(4)):
-        octets = dice.randbytes(dice.choice([1, 4, 4, 8, 20]))
-        parts.append(bytes([tag << 4 | min(len(octets), 5)]) + bytes([len(octets)] * (len(octets) > 4)) + octets)
-    dice.shuffle(parts)
-    whole = bytes([0x30, number, 12]) + body + b"".join(parts) + b"\x3f"
-    if dice.random() < 0.4:
-        whole = whole[:2] + damaged(dice, whole[2:])
-    if dice.random() < 0.1:
-        whole = bytes([dice.choice([0x20, 0x38, 0x50, 0x60, 0x71]), number]) + dice.randbytes(dice.randrange(9))
-    rest = bytes.fromhex(dice.choice(HEADS)) + whole
-    return b"\x81\x0a" + (4 + len(rest)).to_bytes(2, "big") + rest
-
-
-def soak_readers(dice, count):
-    """Each answer meets a request of its own, which a Reject ends where the answer does not."""
-    answers = [odd_answer(dice, (at + 1) % 256) for at in range(count)]
-    ends = ["810a0009010060%02x09" % ((at + 1) % 256) for at in range(count)]
-    lines = (f"read {ASKED} 300 1 85\ndata {ASKED} {it.hex()}\ndata {ASKED} {end}\n" for it, end in zip(answers, ends))
-    done = subprocess.run([PROGRAM, "bactrace"], input="".join(lines), stdout=subprocess.PIPE, text=True, check=True)
-    told, counts = done.stdout.splitlines(), Counter()
-    for at, (octets, line) in enumerate(zip(answers, told[1::3])):
-        apdu = read(octets).apdu
-        taken = bool(apdu and apdu.is_answer and apdu.invoke == (at + 1) % 256 and line != "drop")
-        if line != (f"done {at} {outcome_of(apdu)}" if taken else "drop"):
-            sys.exit(f"{octets.hex()}: bactrace prints {line!r}, bacsite reads {apdu and outcome_of(apdu)!r}")
-        counts[line.split(" ")[2] if taken else line] += 1
-    return counts
-
-
 def main(what, count, seed=random.randrange(1 << 32)):
     print(f"seed {seed}", flush=True)
-    begun = time.time()
-    kinds = {"device": (soak_device, "datagrams"), "script": (soak_script, "lines")}
-    kinds |= {"runs": (soak_runs, "runs"), "readers": (soak_readers, "answers")}
-    soaked, unit = kinds[what]
+    soaked = {"device": soak_device, "runs": soak_runs}[what]
     counts = soaked(random.Random(int(seed)), int(count))
-    print(f"{count} {unit} in {time.time() - begun:.0f} s")
     for kind, number in sorted(counts.items()):
         print(f"{number:9}  {kind}")
 

@@ -1,9 +1,8 @@
-/* The yardsticks of the device and of its clients: plain programs over UDP on 127.0.0.1, as measure.py calls them.
+/* The yardsticks of the device and of its clients, as measure.py calls them.
  *
- * udp bacdev 1234 --port PORT: sends each datagram back to where it came from. It has bacdev's words, and as that does
- *     it listens on all addresses.
- * udp load PORT OUTSTANDING COUNT: asks a server for one property, COUNT times, and prints how many requests it answers
- *     a second. OUTSTANDING are on their way at a time, and are answered in their order. */
+ * udp bacdev 1234 --port PORT: sends each datagram back to where it came from, with bacdev's words and addresses.
+ * udp load PORT OUTSTANDING COUNT: asks a server for one property, COUNT times, OUTSTANDING at a time, and prints how
+ *     many requests it answers a second. */
 #include <arpa/inet.h>
 #include <err.h>
 #include <stdio.h>

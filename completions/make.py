@@ -25,8 +25,7 @@ SHELLS = {
 
 
 class Tool:
-    """A tool or a command: its name, what it does, the kinds of its words, and its options, each with the kind of its
-    value and a text."""
+    """A tool or a command. Each of its options has its name, the kind of its value, and a text."""
 
     def __init__(self, name, text, words=""):
         self.name, self.text = name, text

@@ -4,10 +4,9 @@ PREFIX, or takes them away again. Usage: packaging/install.py PROGRAM | --remove
 (/usr/local), DESTDIR, which stands in front of all paths, and ZSH_COMPLETIONS (PREFIX/share/zsh/site-functions), which
 has to lie below PREFIX.
 
-PREFIX/share/bactool/installed lists what was put, by its path behind PREFIX, with a sum of each. A file that is there
-and is not in this list as it stands, such as another vendor's bacrp, is not replaced: all of these are named, and
-nothing is put. FORCE=1 replaces them. What is taken away is what the list has, where it is still as it was put, and
-nothing that is not below PREFIX.
+PREFIX/share/bactool/installed lists what was put, with a sum of each. A file that is there and not in this list as it
+stands, such as another vendor's bacrp, is not replaced: all of these are named, and nothing is put, unless FORCE=1 says
+so. What is taken away is what the list has, where it is still as it was put, and nothing that is not below PREFIX.
 """
 import contextlib
 import os
@@ -26,8 +25,7 @@ TOOLS = ["bacrp", "bacwp", "bacwi", "bacdev", "bacrun", "bactrace"]
 
 def lay_out(program, version, tree, prefix, zsh):
     """Makes in a folder the tree of all that is put below a prefix. A manual page has the version at its foot, and what
-    names a place below /usr/local names the one below the prefix. The documents are in the folders that they have in
-    the repository, so that their links lead on."""
+    names a place below /usr/local names the one below the prefix. Documents keep their folders, for their links."""
 
     def put(source, path, mode=0o644):
         target = tree / path
@@ -71,25 +69,21 @@ def sums(root, paths):
 
 
 def listed(root):
-    """The sums of the list by their paths, and the paths that are not below PREFIX or lead out of it, which nothing
-    touches."""
+    """The sums of the list by their paths; nothing touches a path that is not below PREFIX or leads out of it."""
     text = (root / LIST).read_text(encoding="utf-8") if (root / LIST).is_file() else ""
-    rows = {path: found for found, _, path in (line.partition(" ") for line in text.splitlines())}
-    outside = [path for path in rows if path.startswith("/") or ".." in path.split("/")]
-    return {path: found for path, found in rows.items() if path not in outside}, outside
+    rows = (line.partition(" ")[::2] for line in text.splitlines())
+    return {path: found for found, path in rows if not path.startswith("/") and ".." not in path.split("/")}
 
 
 def remove(root, prefix):
     if not (root / LIST).is_file():
         sys.exit(f"make install put nothing below {prefix}: there is no {prefix}/{LIST}")
-    had, outside = listed(root)
+    had = listed(root)
     for path, found in sums(root, had).items():
         if found == had[path]:
             (root / path).unlink()
         else:
             print(f"left there, since it is not as it was put: {prefix}/{path}")
-    for path in outside:
-        print(f"left there, since it is not below {prefix}: {path}")
     (root / LIST).unlink()
     # The folders that only its own files were in.
     folders = {str(folder) for path in had for folder in pathlib.Path(path).parents if str(folder).startswith(DOC)}
@@ -102,7 +96,7 @@ def remove(root, prefix):
 def install(tree, root, prefix):
     """Puts a tree in its place, and answers how many files and links it has."""
     paths = sorted(str(path.relative_to(tree)) for path in tree.rglob("*") if path.is_symlink() or path.is_file())
-    had, outside = listed(root)
+    had = listed(root)
     new, there = sums(tree, paths), sums(root, {*paths, *had})
     foreign = [f"{prefix}/{path}" for path in paths if there.get(path, new[path]) not in (new[path], had.get(path))]
     if foreign and os.environ.get("FORCE") != "1":
@@ -113,8 +107,6 @@ def install(tree, root, prefix):
     for path in had:  # what an earlier version put and this one does not have
         if path not in new and there.get(path) == had[path]:
             (root / path).unlink()
-    for path in outside:
-        print(f"left there, since it is not below {prefix}: {path}")
     for path in paths:
         (root / path).parent.mkdir(parents=True, exist_ok=True)
         with contextlib.suppress(FileNotFoundError):

@@ -7,19 +7,17 @@ import contextlib
 import os
 import re
 import shutil
-import subprocess
 import sys
 import tempfile
 from concurrent.futures import ThreadPoolExecutor
 
-from tree import TOP, end_by_signals, processors, sections_of, text_of, write
+from tree import TOP, end_by_signals, processors, ran, sections_of, text_of, write
 
 NOT_COPIED = shutil.ignore_patterns(".git", "out", "__pycache__", "*_cache")
 
 
 def plant(tree, path, old, new):
-    """Plants a fault in a copy of the tree, whose files are those of the tree itself until they are written anew. What
-    is not there for it is answered."""
+    """Plants a fault in a copy of the tree, in a new file. What is not there for it is answered."""
     text = text_of(f"{tree}/{path}") if os.path.exists(f"{tree}/{path}") else ""
     mode = os.stat(f"{tree}/{path}").st_mode if text else 0o644
     with contextlib.suppress(FileNotFoundError):
@@ -35,8 +33,7 @@ def missed(command, faults, check):
         tree = f"{room}/tree"
         shutil.copytree(TOP, tree, symlinks=True, ignore=NOT_COPIED, copy_function=os.link)
         lost = [it for row in [*faults, *check] for it in plant(tree, *row[:3])]
-        how = {"stdout": subprocess.PIPE, "stderr": subprocess.STDOUT, "errors": "replace", "timeout": 300}
-        done = subprocess.run([sys.executable, *command], cwd=tree, check=False, **how)
+        done = ran("timeout", "1200", sys.executable, *command, cwd=tree)
     lost += [message for *_, message in faults if message not in done.stdout]
     return lost if done.returncode else [*lost, "status 0"]
 
@@ -59,7 +56,11 @@ def tries(program, only):
 
 
 def main(words):
-    every = list(tries(os.path.realpath(words[0]), "".join(words[1:])))
+    program = (*words, "PROGRAM")[0]
+    if not os.path.isfile(program):
+        sys.exit(f"tests/false_checks.py: {program} is no program: `make program` builds one")
+    os.makedirs(f"{TOP}/out", exist_ok=True)  # links to the files of the tree stand there
+    every = list(tries(os.path.realpath(program), "".join(words[1:])))
     with ThreadPoolExecutor(processors()) as pool:
         found = list(pool.map(lambda it: missed(*it[1:]), every))
     wrong = [f"{name}: missed: {lost}" for (name, _, _, check), lost in zip(every, found) if bool(check) != bool(lost)]

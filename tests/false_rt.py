@@ -13,7 +13,7 @@ import tempfile
 import time
 from concurrent.futures import ThreadPoolExecutor
 
-from tree import TOP, text_of, write
+from tree import ran, text_of, write
 
 # A false command does what FALSE says of its words: `lib low: exit 1; bad: echo ..` are rules, of which the first whose
 # front the words have is run. Else it does well.
@@ -59,8 +59,7 @@ ROWS = [
     (["./build.py"], "rt lib: echo 'fn x: no proof'; exit 1", 1, r"low is not proved .*low\.log:\nfn x: no proof\n$"),
     (["./build.py"], "rt lib: kill -9 $$", 1, r"low is not proved"),
     (["./build.py"], "rt run: exit 2", 1, r"1 of 2 +low +proved(.|\n)*bactool is not proved"),
-    (TRIALS, "", 0, r"bac_trials +7 tests passed"),
-    (TRIALS, "", 0, r"tool_trials +7 tests passed, not proved"),
+    (TRIALS, "", 0, r"bac_trials +7 tests passed  (.|\n)*tool_trials +7 tests passed, not proved"),
     (TRIALS, "rt test: echo 'test result: ok. 0 passed; 0 failed'", 1, r"bac_trials has a test"),
     (TRIALS, "rt test: true", 1, r"bac_trials has a test that is not proved, or failed"),
     (TRIALS, "rt try: echo 'test result: FAILED. 6 passed; 1 failed'; exit 1", 1, r"tool_trials has"),
@@ -70,7 +69,6 @@ ROWS = [
     (TEST, says("two.sh", "0 calls as they are to be"), 1, r"failed: examples\n\d+ passed, 1 " + GOOD),
     (TEST, "two.sh: true", 1, r"failed: examples\n\d+ passed, 1 " + GOOD),
     (TEST, says("two.sh", "9 calls, 3 not as they are to be", 1), 1, r"\d+ passed, 3 " + GOOD),
-    (TEST, "one.sh: exit 1", 1, r"failed: examples\n"),
     (TEST, says("three.sh", "cc is not installed, left out"), 1, r"left out\n(.|\n)*failed, 1 skipped$"),
     (TEST, "three.sh: echo 'tests/three.sh: 2 calls'; echo 'x: cc is not installed, left out'", 0, r", 1 skipped$"),
     (TEST, "wrong_bodies.py: true", 1, r"failed: wrong bodies\n\d+ passed, 1 " + GOOD),
@@ -81,10 +79,8 @@ ROWS = [
     ([".ci/run"], "", 0, r"\n65 passed, 0 " + GOOD),
     (GATE, "four.sh: exit 1", 1, r"^((?!rt ci)(.|\n))*failed: documents\n\d+ passed, 1 " + GOOD),
     (GATE, says(WRONG, "9 bodies, of which 2 don't fit the code", 1, " --list"), 1, r"failed: fit\n"),
-    (GATE, "wrong_bodies.py --list: true", 1, r"failed: fit\n"),
     (GATE, "rt ci: echo 'rt: low NOT PROVED'; sleep 600", 1, r"failed: rt ci\n\d+ passed, 1 " + GOOD),
     (GATE, "rt ci: echo '19 passed, 1 failed'; exit 1", 1, r"failed: rt ci\n"),
-    (GATE, "rt ci: echo '0 passed, 0 failed'", 1, r"failed: rt ci\n"),
     (GATE, "rt ci: echo '20 passed, 0 failed'", 1, r"failed: program\n"),
     (GATE, says(SELF_TEST, "6 bodies, 1 not told as they are to be"), 1, r"failed: self test\n"),
     (GATE, says(REFUSED, "10 drops, 1 not refused", 1), 1, r"failed: refused\n\d+ passed, 1 " + GOOD),
@@ -138,15 +134,13 @@ def stopped(command):
 
 
 def without_kit():
-    """What make says at first: alone it lists the targets and builds nothing, and each target stands in that list. What
-    needs rt says so in one line, where that is not there."""
+    """Alone make lists each target and builds nothing. What needs rt says so in one line, where that is not there."""
     texts = [text_of(name) for name in ("Makefile", "packaging.mk", "measuring.mk")]
     targets = {name for text in texts for row in re.findall(r"(?m)^\.PHONY: (.*)", text) for name in row.split()}
     with tempfile.TemporaryDirectory() as room:
         for name in ("sh", "bash", "env", "make", "sed", "find", "python3"):
             os.symlink(sys.executable if name == "python3" else shutil.which(name), f"{room}/{name}")
-        how = {"cwd": TOP, "env": {"PATH": room}, "text": True, "stdout": subprocess.PIPE, "stderr": subprocess.STDOUT}
-        told = lambda *words: subprocess.run(words, check=False, **how)
+        told = lambda *words: ran(*words, env={"PATH": room})
         listed = told("make", "--no-print-directory")
         if listed.returncode or listed.stdout != told("make", "--no-print-directory", "help").stdout:
             yield f"make alone is not make help: status {listed.returncode}: {listed.stdout}"

@@ -3,15 +3,11 @@
 
 CONTRIBUTING.md (The gate) says what the parts of each are, and in which order they come. In `test` a part that fails
 ends no other; in `gate` it ends all. There `rt ci` sets aside what is kept of the proofs: so it goes on in a copy of
-the tree. That has no must-fail/, for whose edits it would prove each crate once more: they are tried with the wrong
-bodies, each crate's once `rt ci` has proved the crates below. Two parts go side by side where there are 4 GB of free
-memory for each processor. How far a part is stands here, behind the minutes since the beginning; all that it says is
-in out/parts, and the end of that is shown where it fails.
+the tree, without must-fail/, whose edits it would try one by one. Two parts go side by side where there are 4 GB of
+free memory for each processor. All that a part says is in out/parts, and the end of that is shown where it fails.
 
-The last line is `N passed, M failed, K skipped`: so much was left out, as for a tool that is not installed here. Above
-it stand what took longest, what was left out, how many wrong bodies are shown wrong, only refused, or holes, and the
-names of the parts that failed. A part that tried nothing has failed, and so has one of make a script of which says
-nothing.
+The last line is `N passed, M failed, K skipped`: so much was left out, as for a tool that is not installed here. A part
+that tried nothing has failed, and so has one of make a script of which says nothing.
 """
 import glob
 import os
@@ -25,7 +21,7 @@ import typing
 
 from tree import TOP, Job, end_by_signals, free_memory, processors
 
-LOGS = "out/parts"
+LOGS, GENTLY = "out/parts", ["nice", "-n", "5"]
 PROGRAM = "crates/bactool/out/bactool"
 BEGAN = time.monotonic()
 LEFT_OUT, SHOWN = [], []  # what the parts say of what was left out, and of what shows the wrong bodies wrong
@@ -52,10 +48,6 @@ class Part(typing.NamedTuple):
 def beside(*rows):
     """These rows of parts, or one behind the other where memory is short: each takes some 2 GB a processor."""
     return rows if free_memory() >= 4000000000 * processors() else [[part for row in rows for part in row]]
-
-
-def gently(name, *command):
-    return Part(name, ["nice", "-n", "5", *command])
 
 
 def target(name):
@@ -141,8 +133,7 @@ class Work(Job):
 
 
 def run(steps, ends_at_failure):
-    """Runs steps one behind the other, of each the rows of parts side by side. Gives how many passed, and how many
-    failed of which part."""
+    """Runs step behind step, of each the rows of parts side by side. Gives how many passed, and failed of a part."""
     passed, lost = 0, {}
     for rows in steps:
         left, working = [list(row) for row in rows], {}
@@ -172,7 +163,7 @@ def test(_):
     if not all(os.path.isdir(f"{it}/out/incremental") for it in glob.glob("crates/*") if not it.endswith(others)):
         yield [[Part("build", ["./build.py"], tried=r"^ *\d+ of \d+ +\w+ +proved")]]
     trials = Part("trials", ["./build.py", "--tests"], tried=r"(\d+) tests passed")
-    yield beside([trials], [gently("wrong bodies", "tests/bodies/wrong_bodies.py", "--sample")])
+    yield beside([trials], [Part("wrong bodies", [*GENTLY, "tests/bodies/wrong_bodies.py", "--sample"])])
     yield [[target("examples"), target("lint")]]
 
 
@@ -181,8 +172,8 @@ def gate(room):
     tree, wrong = f"{room}/tree", "tests/bodies/wrong_bodies.py"
     documents = Part("documents", ["make", "--no-print-directory", "documents"])
     yield [[documents, Part("fit", [wrong, "--list"], shown=r"^crates/|fit")]]
-    tried = [gently("self test", "tests/bodies/self_test.py"), gently("wrong bodies", wrong, "--over", tree)]
-    yield beside([whole_proof(room)], tried)
+    self_test = Part("self test", [*GENTLY, "tests/bodies/self_test.py"])
+    yield beside([whole_proof(room)], [self_test, Part("wrong bodies", [*GENTLY, wrong, "--over", tree])])
     refused = Part("refused", ["tests/bodies/refused.py", "--over", tree])
     program = Part("program", ["install", "-D", f"{tree}/{PROGRAM}", PROGRAM], tried="")
     false = Part("false checks", ["tests/false_checks.py", PROGRAM])

@@ -57,11 +57,16 @@ def crates_below():
     return below
 
 
+def ran(*words, **how):
+    """A command that has ended, with what it said, errors among it."""
+    how = {"stdin": subprocess.DEVNULL, "stdout": subprocess.PIPE, "stderr": subprocess.STDOUT, "cwd": TOP, **how}
+    return subprocess.run(words, text=True, errors="replace", check=False, **how)
+
+
 @functools.lru_cache(maxsize=None)  # as Python 3.8 has it
 def shown(*words):
     """What a command prints, as on a wide terminal."""
-    how = {"env": {**os.environ, "COLUMNS": "200"}, "cwd": TOP, "stdout": subprocess.PIPE, "text": True}
-    return subprocess.run(words, check=False, **how).stdout
+    return ran(*words, env={**os.environ, "COLUMNS": "200"}, stderr=None).stdout
 
 
 def same(what, one, other):
@@ -157,18 +162,11 @@ class Job:
 
 
 def end_by_signals(main):
-    """Ends with the status of a call with the words of the script. The first signal stops it; a second would cut that
-    short. One that nohup has ignored stays so."""
-
-    def stop(*_):
-        for number in stopping:
-            signal.signal(number, signal.SIG_IGN)
-        raise KeyboardInterrupt
-
-    every = (signal.SIGINT, signal.SIGTERM, signal.SIGHUP)
-    stopping = [number for number in every if signal.getsignal(number) != signal.SIG_IGN]
-    for number in stopping:
-        signal.signal(number, stop)
+    """Ends with the status of a call with the words of the script. Signals stop it as ^C does, but for one that nohup
+    has ignored."""
+    for number in (signal.SIGTERM, signal.SIGHUP):
+        if signal.getsignal(number) != signal.SIG_IGN:
+            signal.signal(number, signal.default_int_handler)
     try:
         sys.exit(main(sys.argv[1:]))
     except KeyboardInterrupt:
@@ -188,8 +186,7 @@ def local_socket():
 
 
 def free_port(first=47808):
-    """The first UDP port from this one on that no socket of this machine has. Until this process ends, no other call
-    gives it."""
+    """The first UDP port from this one on that no socket has, and no call gives until this process ends."""
     for port in range(first, 65536):
         lock = open(f"{tempfile.gettempdir()}/bactool-port-{port}-{os.getuid()}", "a", encoding="utf-8")
         with contextlib.suppress(BlockingIOError):

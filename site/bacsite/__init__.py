@@ -2,15 +2,16 @@
 
 It asks by bactool, whose behaviour is proved; this package is not. The modules, from below:
 
-    texts, failures, output        what is shown, how the program fails, where it writes
+    display, failures, output      what is shown, how the program fails, where it writes
     reasons                        why there is no value
-    names, decimals, bodies        numbers and their names, Reals, tags and bodies of requests
+    standard, decimals, bodies     numbers and their names, Reals, tags and bodies of requests
     values                         values in plain form
     messages, answers              the headers of a datagram, and how an answer ends a request
+    journals                       what each bacrun prints is kept
     files, processes, calls        files are read, or replaced as a whole; bactool is run
     addresses, points              the words that say what is asked
-    workers, session, asking, controller    many controllers side by side, each asked by one bacrun
-    command                        what a command is, and the words that several have
+    workers, session, search, asking, controller    many controllers, each asked by one bacrun
+    parsing                        what a command is, and the words that several have
     device, earlier                what a device has, and had in an earlier survey
     survey, page, report           who is at the addresses of a site, and how that is printed
     poll, read, check, prometheus, convert    the other commands that change nothing
@@ -20,7 +21,7 @@ It asks by bactool, whose behaviour is proved; this package is not. The modules,
     capture/services, capture/lines, capture/tally    these in words, and counted
     capture/requests, capture/trace    a script for bactrace
     capture/command                the command
-    words, main                    the table of all commands, and the program
+    commands, main                 the table of all commands, and the program
 """
 
 VERSION = "0.4.0"

@@ -4,15 +4,15 @@ from __future__ import annotations
 
 from .bodies import error_body, read_ack, region_text
 from .messages import ABORT, ERROR, REJECT, SIMPLE, Apdu
-from .names import DEVICE, THIS_DEVICE, What
+from .standard import DEVICE, THIS_DEVICE, What
 
 READ, WRITE = 12, 15  # services
 
 
 def is_about(told: What, asked: What) -> bool:
     """Whether an answer is about what was asked for: THIS_DEVICE is whichever is asked."""
-    is_own = asked[:2] == (DEVICE, THIS_DEVICE)
-    return told == ((DEVICE, told[1], *asked[2:]) if is_own else asked)
+    is_own = asked.which == (DEVICE, THIS_DEVICE)
+    return told == (asked._replace(instance=told.instance) if is_own else asked)
 
 
 def outcome_of(apdu: Apdu) -> str:

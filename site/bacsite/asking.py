@@ -6,16 +6,16 @@ import time
 from collections import Counter, deque
 from typing import Counter as Counts, Deque, Dict, Iterator, List, Optional, Sequence, TypeVar
 
-from .calls import BIND_FAILED, MOST_TRIES, Calls
-from .names import What
+from .calls import BIND_FAILED, MOST_TIMEOUT, MOST_TRIES, Calls
 from .processes import FOREVER, NotBegun, Outcome
 from .reasons import NOT_ASKED, TIMEOUT, TOO_LATE, Why
-from .session import Answer, Ended, Session, answer_of, journal_of, read_by
+from .session import Ended, ReadResult, Session, answer_of, read_by
+from .standard import What
 
 MOST_PATIENCE = 4  # times --apdu-timeout, for one who answers late
 PART = 8  # times the window: so much is asked for before the answers are looked at
 
-Item = TypeVar("Item")
+Each = TypeVar("Each")
 Self = TypeVar("Self", bound="Asking")
 
 
@@ -52,7 +52,7 @@ class Asking:
         """Asks one who was silent once more, since he is there."""
         self.silent = False
 
-    def parts(self, items: Sequence[Item]) -> Iterator[Sequence[Item]]:
+    def parts(self, items: Sequence[Each]) -> Iterator[Sequence[Each]]:
         """The items, so many at a time as are well asked for together."""
         at = 0
         while at < len(items):
@@ -64,13 +64,13 @@ class Asking:
         """How and where a tool is to send."""
         return self.calls.options(self.address, self._patience)
 
-    def ask(self, *what: int) -> Answer:
+    def ask(self, what: What) -> ReadResult:
         """What a property or an element has; who is busy is asked again, after a pause."""
         return self.ask_all([what])[0]
 
-    def ask_all(self, whats: Sequence[What]) -> List[Answer]:
+    def ask_all(self, whats: Sequence[What]) -> List[ReadResult]:
         """What properties and elements have, in their order."""
-        answers: Dict[int, Answer] = {}
+        answers: Dict[int, ReadResult] = {}
         tries: Counts[int] = Counter()
         left = deque(range(len(whats)))
         while left:
@@ -81,7 +81,7 @@ class Asking:
                 break
             tries.update(again)
             left.extendleft(reversed(again))
-        return [answers.get(at, Answer(reason=NOT_ASKED)) for at in range(len(whats))]
+        return [answers.get(at, ReadResult(reason=NOT_ASKED)) for at in range(len(whats))]
 
     def write(self, request: str) -> Outcome:
         """Writes, once, by a line of a script; how that ended is told as bacwp tells it.
@@ -104,20 +104,20 @@ class Asking:
                     return over
 
     def _round(
-        self, whats: Sequence[What], left: Deque[int], answers: Dict[int, Answer]
+        self, whats: Sequence[What], left: Deque[int], answers: Dict[int, ReadResult]
     ) -> List[int]:
         """Asks for what is left, as long as nobody is busy; which were answered so."""
         busy: List[int] = []
         opened: Dict[int, int] = {}  # places by tickets
         while opened or (left and not busy):
             if self._is_done(opened):
-                answers.update({at: Answer(reason=self._lost()) for at in opened.values()})
+                answers.update({at: ReadResult(reason=self._lost()) for at in opened.values()})
                 left.clear()
                 break
             try:
                 ended = self._next(whats, left if not busy else deque(), opened)
             except NotBegun as why:
-                answers[left.popleft()] = Answer(reason=str(why))
+                answers[left.popleft()] = ReadResult(reason=str(why))
                 continue
             if ended is None:
                 self._give_up(left, opened, answers)
@@ -149,13 +149,13 @@ class Asking:
         assert session, "what is open is open there"
         while left and session.has_room and not (opened and (self._is_stale or not self._heard)):
             at = left[0]
-            ticket = session.put(f"read {self.address} {' '.join(map(str, whats[at]))}")
+            ticket = session.put(f"read {self.address} {whats[at].words()}")
             opened[ticket] = left.popleft()
             self.calls.counted()
         return session.ended()
 
     def _give_up(
-        self, left: Deque[int], opened: Dict[int, int], answers: Dict[int, Answer]
+        self, left: Deque[int], opened: Dict[int, int], answers: Dict[int, ReadResult]
     ) -> None:
         """bacrun has ended: what is open is lost, or is asked for from another port."""
         over = self._close()
@@ -163,7 +163,7 @@ class Asking:
             left.extendleft(reversed(list(opened.values())))
         else:
             told = over.told or f"no line of bacrun, status {over.status}"
-            answers.update({at: Answer(reason=told) for at in opened.values()})
+            answers.update({at: ReadResult(reason=told) for at in opened.values()})
         opened.clear()
 
     def _ready(self) -> Session:
@@ -172,7 +172,7 @@ class Asking:
             self._close()
         if not self._session:
             process = self.calls.session(self._patience, self._window, self.deadline)
-            journal = journal_of(self.calls.journals, self.address)
+            journal = self.calls.journals.begun(self.address)
             self._session = Session(process, journal, self._window)
         return self._session
 
@@ -201,7 +201,9 @@ class Asking:
         answered = why is not Why.SILENT
         self.silent = not answered and not self._heard
         self._heard = answered
-        taken, most = int(ended.seconds * 1000), min(60000, MOST_PATIENCE * self.calls.timeout)
+        taken, most = int(ended.seconds * 1000), min(
+            MOST_TIMEOUT, MOST_PATIENCE * self.calls.timeout
+        )
         patience, window = self._patience, self._window
         if answered and taken > patience:
             patience = max(patience, min(most, 2 * taken))

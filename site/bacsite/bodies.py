@@ -5,11 +5,12 @@ from __future__ import annotations
 from functools import lru_cache
 from typing import Iterator, List, NamedTuple, Optional, Tuple
 
-from . import names
+from . import standard
+from .standard import What, Which
 
 MOST_OPEN = 32  # opening tags at once
 OPENING, CLOSING = -1, -2  # in place of the length of a tag
-QUOTES = {names.OCTETS: "X", names.DATE: "D", names.TIME: "T"}
+QUOTES = {standard.OCTETS: "X", standard.DATE: "D", standard.TIME: "T"}
 
 
 class Tag(NamedTuple):
@@ -30,20 +31,25 @@ class Element(NamedTuple):
     @property
     def number(self) -> int:
         """The contents as a number."""
-        return int.from_bytes(self.octets, "big", signed=self.kind == names.SIGNED)
+        return int.from_bytes(self.octets, "big", signed=self.kind == standard.SIGNED)
 
     @property
-    def of_object(self) -> Tuple[int, int]:
-        """The type and the instance of an object."""
-        return self.number >> 22, self.number & names.THIS_DEVICE
+    def of_object(self) -> Which:
+        """The object that it names."""
+        return which_of(self.number)
 
 
 class Body(NamedTuple):
-    """What a read or a write is about: type, instance, property, perhaps index; and its value."""
+    """What a read or a write is about, and its value."""
 
-    what: Tuple[int, ...]
+    what: What
     value: Optional[bytes] = None
     priority: Optional[int] = None
+
+
+def which_of(number: int) -> Which:
+    """The object of the number that stands for it."""
+    return Which(number >> 22, number & standard.THIS_DEVICE)
 
 
 def tag_at(octets: bytes, at: int) -> Optional[Tag]:
@@ -82,7 +88,7 @@ def region_end(octets: bytes, at: int) -> Optional[int]:
                 return None
         elif tag.length == OPENING:
             opened.append(tag.number)
-        is_boolean = tag.number == names.BOOLEAN and not tag.context
+        is_boolean = tag.number == standard.BOOLEAN and not tag.context
         at = tag.end + (0 if is_boolean else max(tag.length, 0))
         if at > len(octets) or len(opened) > MOST_OPEN:
             return None
@@ -107,19 +113,19 @@ def element_at(region: bytes, at: int) -> Optional[Tuple[Element, int]]:
     element = _element_of(region, tag) if tag else None
     if not tag or not element:
         return None
-    return element, tag.end + (0 if tag.number == names.BOOLEAN else tag.length)
+    return element, tag.end + (0 if tag.number == standard.BOOLEAN else tag.length)
 
 
 def _element_of(octets: bytes, tag: Tag) -> Optional[Element]:
-    if tag.context or tag.number > names.OBJECT:
+    if tag.context or tag.number > standard.OBJECT:
         return None
-    if tag.number == names.BOOLEAN:
+    if tag.number == standard.BOOLEAN:
         return Element(tag.number, bytes([tag.length])) if tag.length < 2 else None
     contents = octets[tag.end : tag.end + tag.length]
-    _, least, most = names.VALUE_TYPES[tag.number]
+    _, least, most = standard.VALUE_TYPES[tag.number]
     if len(contents) < tag.length or not least <= tag.length <= most:
         return None
-    if tag.number == names.BITS and contents[0] > (7 if contents[1:] else 0):
+    if tag.number == standard.BITS and contents[0] > (7 if contents[1:] else 0):
         return None
     return Element(tag.number, contents)
 
@@ -138,17 +144,17 @@ def _quoted(octets: bytes) -> str:
 def element_text(element: Element) -> str:
     """A value as bacrp prints it."""
     kind, octets = element
-    if kind in (names.NULL, names.BOOLEAN):
-        return "null" if kind == names.NULL else ("false", "true")[octets[0]]
-    if kind == names.STRING:
+    if kind in (standard.NULL, standard.BOOLEAN):
+        return "null" if kind == standard.NULL else ("false", "true")[octets[0]]
+    if kind == standard.STRING:
         return (f"{octets[0]}:" if octets[0] else "") + _quoted(octets[1:])
-    if kind == names.BITS:
+    if kind == standard.BITS:
         return f"B'{bits_of(octets)}'"
     if kind in QUOTES:
         return f"{QUOTES[kind]}'{octets.hex()}'"
-    if kind in (names.REAL, names.DOUBLE):
+    if kind in (standard.REAL, standard.DOUBLE):
         return octets.hex()
-    return ":".join(map(str, element.of_object if kind == names.OBJECT else [element.number]))
+    return str(element.of_object if kind == standard.OBJECT else element.number)
 
 
 def region_text(region: bytes) -> str:
@@ -195,7 +201,7 @@ def body_of(octets: bytes, has_value: bool, may_command: bool = False) -> Option
     number = {tag: int.from_bytes(contents, "big") for tag, contents in found if tag != 3}
     if 4 in number and not (may_command and 1 <= number[4] <= 16):
         return None
-    what = (number[0] >> 22, number[0] & 4194303, *(number[it] for it in (1, 2) if it in number))
+    what = which_of(number[0]).what(number[1], number.get(2))
     return Body(what, by_tag.get(3), number.get(4))
 
 
@@ -220,7 +226,7 @@ def error_body(octets: bytes) -> Optional[Tuple[int, int]]:
     numbers, at = [], 0
     for _ in range(2):
         found = element_at(octets, at)
-        if not found or found[0].kind != names.ENUMERATED:
+        if not found or found[0].kind != standard.ENUMERATED:
             return None
         numbers.append(found[0].number)
         at = found[1]

@@ -13,11 +13,13 @@ from types import FrameType
 from typing import Dict, Iterator, List, Optional, Sequence
 
 from .failures import BROKEN, SIGNALS, Failure
+from .journals import Journals
 from .output import show
 from .processes import FOREVER, Asks, NotBegun, Outcome, Processes
 
 FIRST_PORT, PORTS = 49152, 16384  # those that nobody has for long, by RFC 6335
 FAR_APART = 6229  # process numbers within 700 of each other, times this, lie 8 ports or more apart
+MOST_TIMEOUT = 60000  # milliseconds that a tool takes
 MOST_TRIES = 100  # of other ports, where somebody has one
 BIND_FAILED = "bactool: bind failed"
 
@@ -46,7 +48,7 @@ class Calls:
     def __init__(self, tool: str, timeout: int, retries: int, at_once: int) -> None:
         self.tool, self.timeout, self.retries, self.at_once = tool, timeout, retries, at_once
         self.window = 1  # how many requests one controller has at the same time
-        self.journals = ""  # the folder for what each bacrun prints, where that is kept
+        self.journals = Journals()
         self.processes = Processes()
         self.count = 0  # of the requests
         self.writes = 0  # how many are under way, or were when all was ended
@@ -58,9 +60,7 @@ class Calls:
     def of(cls, words: argparse.Namespace) -> "Calls":
         """Those that the words ask for; signals end them from now on."""
         calls = cls(_found(words.tools), words.apdu_timeout, words.apdu_retries, words.at_once)
-        calls.window, calls.journals = words.window, words.journal or ""
-        if calls.journals and not os.path.isdir(calls.journals):
-            raise Failure("no folder: " + calls.journals, BROKEN)
+        calls.window, calls.journals = words.window, words.journal
         calls._heed_signals()
         return calls
 
@@ -71,16 +71,20 @@ class Calls:
         command = [self.tool, words[0], "--port", str(port), *words[1:]]
         return self.processes.start(command, until)
 
-    def run(self, words: Sequence[str], until: float = FOREVER) -> Outcome:
-        """How a tool ended that asks for one thing."""
-        self.counted()
+    def run(
+        self, words: Sequence[str], until: float = FOREVER, first: Optional[Asks] = None
+    ) -> Outcome:
+        """How a tool ended that asks for one thing; `first` is one that runs already."""
+        if not first:
+            self.counted()
         for _ in range(MOST_TRIES):
             try:
-                outcome = self.processes.over(self.start(words, until))
+                outcome = self.processes.over(first or self.start(words, until))
             except NotBegun as why:
                 return Outcome(None, told=str(why))
             if outcome.told != BIND_FAILED:
                 break
+            first = None
         return outcome
 
     def line(self, address: str) -> threading.Lock:

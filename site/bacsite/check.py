@@ -10,12 +10,12 @@ from decimal import Decimal
 from queue import Empty, SimpleQueue
 from typing import NamedTuple, Optional, Sequence, Tuple, Union
 
-from . import names
+from . import standard
 from .calls import Calls
-from .command import Command, add_version, within
 from .controller import Controller
 from .failures import Failure, wrong
 from .output import put
+from .parsing import Command, add_version, within
 from .points import POINT, Point, point_of
 from .poll import Reading, reading_of
 from .processes import FOREVER, deadline_of
@@ -26,8 +26,8 @@ from .workers import alone
 OK, WARNING, CRITICAL, UNKNOWN = range(4)
 STATUSES = ("OK", "WARNING", "CRITICAL", "UNKNOWN")
 EVERYTHING = "~:"
-NUMBER = r"-?(?:[0-9]+(?:\.[0-9]*)?|\.[0-9]+)"
-RANGE = re.compile(rf"(@?)(?:(~|{NUMBER})?:({NUMBER})?|({NUMBER}))")
+BOUND = r"-?(?:[0-9]+(?:\.[0-9]*)?|\.[0-9]+)"
+RANGE = re.compile(rf"(@?)(?:(~|{BOUND})?:({BOUND})?|({BOUND}))")
 
 
 class Range(NamedTuple):
@@ -106,7 +106,7 @@ def _worse(one: int, other: int) -> int:
 
 def reliability_of(controller: Controller, point: Point) -> str:
     """Why the object has a fault, as it says; empty where it does not say."""
-    value = controller.value(*point.what[:2], names.RELIABILITY)
+    value = controller.value(point.what.other(standard.RELIABILITY))
     return "" if value.fault or value.text == "0" else value.meaning or value.text
 
 

@@ -2,18 +2,21 @@
 
 from __future__ import annotations
 
+import time
 from dataclasses import dataclass, field
-from typing import Dict, List, Optional, Sequence, Tuple
+from typing import List, Optional, Sequence, Tuple
 
 from .asking import Asking
 from .bodies import elements_of
 from .calls import Calls
-from .names import DEVICE, INTEGERS, OBJECT, OBJECT_ID, THIS_DEVICE, Form, What, form_of
 from .processes import FOREVER
 from .reasons import NOT_ASKED, Why
-from .session import Answer
+from .search import ITSELF, Search
+from .session import ReadResult
+from .standard import DEVICE, INTEGERS, OBJECT, OBJECT_ID, Form, What, Which, form_of
 from .values import Value, fault, shown, value_of
 
+LEAST_WAIT = 0.1  # seconds, for an answer that may not come
 MOST_ELEMENTS = 100000  # of a list which is read element by element
 
 
@@ -33,33 +36,40 @@ class Controller(Asking):
     def __init__(self, calls: Calls, address: str, deadline: float = FOREVER) -> None:
         super().__init__(calls, address, deadline)
         self.instance: Optional[int] = None  # which device it is, once it has said so
+        self._took = 0.0  # how many seconds it took to say that
 
-    def read(self, *what: int) -> Answer:
+    @property
+    def own(self) -> Which:
+        """The object that it is itself."""
+        assert self.instance is not None, "it was identified"
+        return Which(DEVICE, self.instance)
+
+    def read(self, what: What) -> ReadResult:
         """As `ask`; what is too long for a datagram is put together of its elements."""
-        return self._whole(what, self.ask(*what))
+        return self._whole(what, self.ask(what))
 
-    def _whole(self, what: What, answer: Answer) -> Answer:
-        if len(what) == 4 or answer.why is not Why.TOO_LONG:
+    def _whole(self, what: What, answer: ReadResult) -> ReadResult:
+        if what.element is not None or answer.why is not Why.TOO_LONG:
             return answer
-        elements = self.elements(MOST_ELEMENTS, *what, whole=True)
+        elements = self.elements(MOST_ELEMENTS, what, whole=True)
         if elements.reasons:
-            return Answer(reason=elements.reasons[0]) if elements.lost else answer
-        return Answer(b"".join(elements.found))
+            return ReadResult(reason=elements.reasons[0]) if elements.lost else answer
+        return ReadResult(b"".join(elements.found))
 
-    def count(self, *what: int) -> Tuple[int, str]:
+    def count(self, what: What) -> Tuple[int, str]:
         """How many elements an array says that it has; or -1, and why that is not known."""
-        answer = self.ask(*what, 0)
+        answer = self.ask(what.at(0))
         counts = elements_of(answer.region) or []
         if answer.reason or [it.kind in INTEGERS for it in counts] != [True]:
             return -1, answer.reason or shown(answer.region)
         return counts[0].number, ""
 
-    def elements(self, most: int, *what: int, whole: bool = False) -> Elements:
+    def elements(self, most: int, what: What, whole: bool = False) -> Elements:
         """The elements of a list, one by one, up to so many.
 
         Those that are lost are passed over; where the list is wanted whole, it ends there.
         """
-        count, why = self.count(*what)
+        count, why = self.count(what)
         if why:
             return Elements(reasons=["number of elements: " + why])
         elements = Elements(count=count)
@@ -68,7 +78,7 @@ class Controller(Asking):
         for places in self.parts(range(1, min(count, most) + 1)):
             if self.is_over or (whole and elements.lost):
                 break
-            answers = self.ask_all([(*what, place) for place in places])
+            answers = self.ask_all([what.at(place) for place in places])
             for place, answer in zip(places, answers):
                 if not answer.reason:
                     elements.found.append(answer.region)
@@ -80,7 +90,7 @@ class Controller(Asking):
             elements.reasons.append(f"{left} of {count} elements not asked")
         return elements
 
-    def read_all(self, whats: Sequence[What]) -> List[Answer]:
+    def read_all(self, whats: Sequence[What]) -> List[ReadResult]:
         """As `read`, of several."""
         return [self._whole(*it) for it in zip(whats, self.ask_all(whats))]
 
@@ -94,17 +104,18 @@ class Controller(Asking):
             for what, form, it in zip(whats, forms, self.read_all(whats))
         ]
 
-    def value(self, *what: int, form: Optional[Form] = None) -> Value:
+    def value(self, what: What, form: Optional[Form] = None) -> Value:
         """The value of a property, or of an element of it, in plain form."""
         return self.values([what], [form])[0]
 
     def identify(self, wanted: Optional[int] = None) -> str:
         """Why it is not to be asked as this device, or as any; empty where it is."""
         if self.instance is None:
+            begun = time.monotonic()
             found, reason = self._own_object(wanted)
             if found is None:
                 return reason
-            self.instance = found
+            self.instance, self._took = found, time.monotonic() - begun
         if wanted not in (None, self.instance):
             return f"another device: 8:{self.instance}"
         return ""
@@ -124,26 +135,23 @@ class Controller(Asking):
             return None, answer.reason or "no device: " + shown(answer.region)
         return found[0].of_object[1], ""
 
-    def _own_name(self, wanted: Optional[int]) -> Answer:
+    def _own_name(self, wanted: Optional[int]) -> ReadResult:
         """The object that it is. An old device knows itself by its number alone, not by 4194303:
         then it is asked by the number that is wanted, or by the one that a Who-Is brings."""
-        answer = self.ask(DEVICE, THIS_DEVICE, OBJECT_ID)
+        answer = self.ask(ITSELF)
         if not answer.reason or answer.why.is_gone:
             return answer
         if wanted is not None:
-            other = self.ask(DEVICE, wanted, OBJECT_ID)
+            other = self.ask(What(DEVICE, wanted, OBJECT_ID))
             if not other.reason or other.why is Why.SILENT:
                 return other
-        found = [instance for instance, address in self.who_is() if address == self.address]
-        return self.ask(DEVICE, found[0], OBJECT_ID) if len(found) == 1 else answer
+        found = [instance for instance, address in self.search().heard() if address == self.address]
+        return self.ask(What(DEVICE, found[0], OBJECT_ID)) if len(found) == 1 else answer
 
-    def who_is(self) -> List[Tuple[int, str]]:
-        """Who answers a Who-Is that is sent to here, or to the router: instance and address."""
-        where = self.address.partition("/")[0]
-        words = ["bacwi", "--mac", where, "--apdu-timeout", str(self._patience)]
-        found: Dict[Tuple[int, str], None] = {}
-        for line in self.calls.run(words, self.deadline).lines:
-            instance, address, *_ = [*line.split(), "", ""]
-            if instance.isdigit():
-                found[int(instance), address] = None
-        return list(found)
+    def search(self) -> Search:
+        """A Who-Is that is sent to here, or to the router. Nothing else is sent until it is
+        answered, or for twice as long as it took to say which device that is."""
+        with self._line:
+            search = Search(self.calls, self.address, self._patience, self.deadline)
+            search.wait_for(self.address, max(LEAST_WAIT, 2 * self._took))
+        return search

@@ -5,10 +5,10 @@ from __future__ import annotations
 import argparse
 import re
 
-from .command import Command
 from .decimals import NO_NUMBERS, encoded, shortest
 from .failures import MISSING, wrong
 from .output import put
+from .parsing import Command
 
 
 def real_arguments(parser: argparse.ArgumentParser) -> None:

@@ -10,7 +10,7 @@ from decimal import ROUND_HALF_EVEN, ROUND_UP, Context, Decimal
 from .failures import wrong
 
 NO_NUMBERS = ("NaN", "Inf", "-Inf")
-NUMBER = re.compile(r"[-+]?([0-9]+\.?[0-9]*|\.[0-9]+)([eE][-+]?[0-9]+)?")
+DECIMAL = re.compile(r"[-+]?([0-9]+\.?[0-9]*|\.[0-9]+)([eE][-+]?[0-9]+)?")
 
 
 def number_of(octets: str) -> float:
@@ -54,7 +54,7 @@ def _shortest_of_real(number: float, octets: str) -> float:
 
 def encoded(word: str, double: bool = False) -> str:
     """The octets of a decimal number as somebody writes it; it fails where that is none."""
-    if not NUMBER.fullmatch(word):
+    if not DECIMAL.fullmatch(word):
         raise wrong("no number: " + repr(word))
     number = float(word)
     is_zero = not re.match("[^eE]*[1-9]", word)

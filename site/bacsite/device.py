@@ -5,25 +5,24 @@ from __future__ import annotations
 from dataclasses import dataclass, field
 from typing import Callable, Dict, List, Mapping, Optional, Sequence, Tuple
 
-from . import names
+from . import standard
 from .bodies import elements_of
 from .controller import Controller, Elements
-from .names import (
+from .reasons import TIMEOUT, Why
+from .session import ReadResult
+from .standard import (
     BINARY,
     DEVICE,
     LOOK_ALIKE,
     MULTI_STATE,
     OBJECT,
+    OBJECT_TYPES,
     PROPERTIES,
-    TYPES,
     What,
+    Which,
     form_of,
 )
-from .reasons import TIMEOUT, Why
-from .session import Answer
 from .values import NOTHING, Kind, Value, flags_of, shown, told, values_of
-
-Which = Tuple[int, int]  # the type and the instance of an object
 
 
 @dataclass
@@ -43,9 +42,14 @@ class SiteObject:
     reasons: List[str] = field(default_factory=list)
 
     @property
+    def which(self) -> Which:
+        """Which one it is."""
+        return Which(self.object_type, self.instance)
+
+    @property
     def type_name(self) -> str:
         """The name of its type; empty for a vendor's own."""
-        return TYPES.get(self.object_type, "")
+        return OBJECT_TYPES.get(self.object_type, "")
 
     @property
     def told_flags(self) -> str:
@@ -99,15 +103,15 @@ class _Read:
         """Asks for more."""
         self.values.update(zip(whats, self.controller.values(whats)))
 
-    def value(self, reasons: List[str], *what: int, optional: bool = True) -> Value:
+    def value(self, reasons: List[str], what: What, optional: bool = True) -> Value:
         """A value, or nothing. That there is no such property is no fault where it is optional."""
         value = self.values.get(what, NOTHING)
-        if what[2] == names.STATUS_FLAGS and value is not NOTHING:
+        if what.number == standard.STATUS_FLAGS and value is not NOTHING:
             value = flags_of(value)
         if not value.fault:
             return value
         if not (optional and value.why is Why.NO_PROPERTY):
-            reasons.append(f"{PROPERTIES[what[2]]}: {value.fault}")
+            reasons.append(f"{PROPERTIES[what.number]}: {value.fault}")
         return NOTHING
 
 
@@ -118,17 +122,16 @@ def device_of(
 
     `names_of` has the names of objects that are known already, and are not asked for.
     """
-    assert controller.instance is not None, "it was identified"
-    what = (DEVICE, controller.instance)
-    device, read = Device(controller.address, controller.instance), _Read(controller)
-    revision = [] if bounds.devices_alone else [names.DATABASE_REVISION]
-    texts = [names.OBJECT_NAME, names.VENDOR_NAME, names.MODEL_NAME]
-    read.ask([(*what, it) for it in texts + revision])
-    device.name = read.value(device.reasons, *what, names.OBJECT_NAME, optional=False).text
-    device.vendor = read.value(device.reasons, *what, names.VENDOR_NAME, optional=False).text
-    device.model = read.value(device.reasons, *what, names.MODEL_NAME, optional=False).text
+    own, read = controller.own, _Read(controller)
+    device = Device(controller.address, own.instance)
+    revision = [] if bounds.devices_alone else [standard.DATABASE_REVISION]
+    texts = [standard.OBJECT_NAME, standard.VENDOR_NAME, standard.MODEL_NAME]
+    read.ask([own.what(it) for it in texts + revision])
+    device.name = read.value(device.reasons, own.what(standard.OBJECT_NAME), optional=False).text
+    device.vendor = read.value(device.reasons, own.what(standard.VENDOR_NAME), optional=False).text
+    device.model = read.value(device.reasons, own.what(standard.MODEL_NAME), optional=False).text
     if not bounds.devices_alone:
-        device.revision = _revision_of(read.values[(*what, names.DATABASE_REVISION)])
+        device.revision = _revision_of(read.values[own.what(standard.DATABASE_REVISION)])
         _add_objects(device, controller, bounds, names_of(device))
     if controller.is_over:
         device.reasons.append("deadline" if controller.late else TIMEOUT)
@@ -146,7 +149,7 @@ def _add_objects(
 ) -> None:
     listed, reasons = _object_list(controller, bounds)
     device.reasons += ["object-list: " + reason for reason in shortened(reasons)]
-    objects = [it for it in dict.fromkeys(listed) if it[0] != DEVICE]
+    objects = [it for it in dict.fromkeys(listed) if it.object_type != DEVICE]
     if not reasons:
         device.listed = objects
     wanted, left = objects[: bounds.objects], len(objects)
@@ -160,7 +163,7 @@ def _add_objects(
             break
         device.objects += _objects_of(controller, which, bounds, known)
     for it in device.objects:
-        it.held, reason = held.get((it.object_type, it.instance), ("", ""))
+        it.held, reason = held.get(it.which, ("", ""))
         it.reasons += filter(None, [reason])
     if left > len(device.objects):
         device.reasons.append(f"{left - len(device.objects)} of {len(objects)} objects not asked")
@@ -170,13 +173,12 @@ def _add_objects(
 
 def _changed_meanwhile(device: Device, controller: Controller, count: int) -> List[str]:
     """What tells that the objects are others than when they were listed."""
-    own = (DEVICE, controller.instance or 0)
-    now, why = controller.count(*own, names.OBJECT_LIST)
+    now, why = controller.count(controller.own.what(standard.OBJECT_LIST))
     found = []
     if count >= 0 and not why and now != count:
         found.append(f"object-list: {count} listed, {now} at the end")
-    value = controller.value(*own, names.DATABASE_REVISION) if device.revision else NOTHING
-    revision = _revision_of(value)
+    what = controller.own.what(standard.DATABASE_REVISION)
+    revision = _revision_of(controller.value(what)) if device.revision else ""
     if revision and revision != device.revision:
         found.append(f"database-revision: {device.revision}, {revision} at the end")
     return found
@@ -184,11 +186,10 @@ def _changed_meanwhile(device: Device, controller: Controller, count: int) -> Li
 
 def _object_list(controller: Controller, bounds: Bounds) -> Tuple[List[Which], List[str]]:
     """The objects that a device says it has, and why some are lost."""
-    assert controller.instance is not None, "it was identified"
-    what = (DEVICE, controller.instance, names.OBJECT_LIST)
-    answer = controller.ask(*what)
+    what = controller.own.what(standard.OBJECT_LIST)
+    answer = controller.ask(what)
     if answer.why is Why.TOO_LONG:
-        listed = controller.elements(bounds.objects + 1, *what)  # the device itself is one of them
+        listed = controller.elements(bounds.objects + 1, what)  # the device itself is one of them
     else:
         listed = Elements([answer.region], reasons=[answer.reason] if answer.reason else [])
     found: List[Which] = []
@@ -198,9 +199,9 @@ def _object_list(controller: Controller, bounds: Bounds) -> Tuple[List[Which], L
         found += [it.of_object for it in elements or [] if it.kind == OBJECT]
         strange += [shown(region)] if elements is None else []
         strange += [told(it) for it in elements or [] if it.kind != OBJECT]
-    others = [it for it in found if it[0] == DEVICE and it[1] != controller.instance]
+    others = [it for it in found if it.object_type == DEVICE and it != controller.own]
     reasons = listed.reasons + ["no object: " + it for it in strange]
-    return found, reasons + [f"another device: 8:{it[1]}" for it in others]
+    return found, reasons + [f"another device: {it}" for it in others]
 
 
 def shortened(reasons: Sequence[str]) -> List[str]:
@@ -215,37 +216,38 @@ def _objects_of(
 ) -> List[SiteObject]:
     """What objects have; those whose names were not asked for any more are left out."""
     read = _Read(controller)
-    read.ask([(*it, names.OBJECT_NAME) for it in which if it not in known])
+    read.ask([it.what(standard.OBJECT_NAME) for it in which if it not in known])
     for it in (it for it in which if it in known):
-        read.values[(*it, names.OBJECT_NAME)] = Value(Kind.TEXT, known[it])
+        read.values[it.what(standard.OBJECT_NAME)] = Value(Kind.TEXT, known[it])
     there = [it for it in which if _name_of(read, it).why is not Why.NO_OBJECT]
-    read.ask([(*it, number) for it in there for number in _numbers(it[0], bounds)])
-    values = {it: read.values.get((*it, names.PRESENT_VALUE), NOTHING) for it in there}
+    read.ask([it.what(number) for it in there for number in _numbers(it.object_type, bounds)])
+    values = {it: read.values.get(it.what(standard.PRESENT_VALUE), NOTHING) for it in there}
     read.ask([state for it in there for state in _state(it, values[it])])
     asked = [it for it in which if _name_of(read, it).why is not Why.NOT_ASKED]
     return [_object_of(read, it) for it in asked]
 
 
 def _name_of(read: _Read, which: Which) -> Value:
-    return read.values.get((*which, names.OBJECT_NAME), NOTHING)
+    return read.values.get(which.what(standard.OBJECT_NAME), NOTHING)
 
 
 def _object_of(read: _Read, which: Which) -> SiteObject:
-    object_type = which[0]
     made = SiteObject(*which)
     reasons = made.reasons
-    made.name = read.value(reasons, *which, names.OBJECT_NAME, optional=False).text
-    is_known = object_type in TYPES  # then it is told where its present value is missing
-    made.value = read.value(reasons, *which, names.PRESENT_VALUE, optional=not is_known)
-    flags = read.value(reasons, *which, names.STATUS_FLAGS)
+    made.name = read.value(reasons, which.what(standard.OBJECT_NAME), optional=False).text
+    is_known = (
+        which.object_type in OBJECT_TYPES
+    )  # then it is told where its present value is missing
+    made.value = read.value(reasons, which.what(standard.PRESENT_VALUE), optional=not is_known)
+    flags = read.value(reasons, which.what(standard.STATUS_FLAGS))
     made.flags = None if flags is NOTHING else flags.bits
-    unit = read.value(reasons, *which, names.UNITS)
+    unit = read.value(reasons, which.what(standard.UNITS))
     made.unit = unit.meaning or unit.text
     for state in _state(which, made.value):
-        made.meaning = read.value(reasons, *state).text
+        made.meaning = read.value(reasons, state).text
     made.meaning = made.meaning or made.value.meaning
-    made.description = read.value(reasons, *which, names.DESCRIPTION).text
-    event_state = read.value(reasons, *which, names.EVENT_STATE)
+    made.description = read.value(reasons, which.what(standard.DESCRIPTION)).text
+    event_state = read.value(reasons, which.what(standard.EVENT_STATE))
     made.event_state = event_state.meaning or event_state.text
     return made
 
@@ -253,17 +255,17 @@ def _object_of(read: _Read, which: Which) -> SiteObject:
 def _numbers(object_type: int, bounds: Bounds) -> List[int]:
     """The properties that an object of a type is asked for, beside its name."""
     found: List[int] = []
-    if names.has_value(object_type):
-        found += [names.PRESENT_VALUE, names.STATUS_FLAGS]
+    if standard.has_value(object_type):
+        found += [standard.PRESENT_VALUE, standard.STATUS_FLAGS]
     if _has_unit(object_type):
-        found.append(names.UNITS)
-    return found + [names.DESCRIPTION, names.EVENT_STATE] * bounds.details
+        found.append(standard.UNITS)
+    return found + [standard.DESCRIPTION, standard.EVENT_STATE] * bounds.details
 
 
 def _has_unit(object_type: int) -> bool:
-    if object_type in BINARY + MULTI_STATE or not names.has_value(object_type):
+    if object_type in BINARY + MULTI_STATE or not standard.has_value(object_type):
         return False
-    tags = names.present_form(object_type).tags
+    tags = standard.present_form(object_type).tags
     return not tags or tags[0] in LOOK_ALIKE
 
 
@@ -272,10 +274,10 @@ def _state(which: Which, value: Value) -> List[What]:
     if value.kind is not Kind.NUMBER:
         return []
     state = int(value.number or 0)
-    if which[0] in MULTI_STATE:
-        return [(*which, names.STATE_TEXT, state)]
-    if which[0] in BINARY:
-        return [(*which, names.ACTIVE_TEXT if state else names.INACTIVE_TEXT)]
+    if which.object_type in MULTI_STATE:
+        return [which.what(standard.STATE_TEXT, state)]
+    if which.object_type in BINARY:
+        return [which.what(standard.ACTIVE_TEXT if state else standard.INACTIVE_TEXT)]
     return []
 
 
@@ -287,8 +289,8 @@ def _held(
     found: Dict[Which, Tuple[str, str]] = {}
     count = 0
     for part in controller.parts(which):
-        asked = [it for it in part if names.may_be_commanded(it[0])]
-        answers = controller.read_all([(*it, names.PRIORITY_ARRAY) for it in asked])
+        asked = [it for it in part if standard.may_be_commanded(it.object_type)]
+        answers = controller.read_all([it.what(standard.PRIORITY_ARRAY) for it in asked])
         for it, answer in zip(asked, answers):
             if answer.why is Why.NOT_ASKED:
                 return found, count
@@ -299,13 +301,13 @@ def _held(
     return found, count
 
 
-def _held_by(which: Which, answer: Answer) -> Tuple[str, str]:
+def _held_by(which: Which, answer: ReadResult) -> Tuple[str, str]:
     if answer.why in (Why.NO_PROPERTY, Why.NO_OBJECT):
         return "", ""
     if answer.reason:
         return "", "priority-array: " + answer.reason
-    form = form_of((*which, names.PRIORITY_ARRAY, 1))
-    values = values_of(answer.region, form)[: names.BY_HAND]
+    form = form_of(which.what(standard.PRIORITY_ARRAY, 1))
+    values = values_of(answer.region, form)[: standard.BY_HAND]
     number = next((at for at, it in enumerate(values, 1) if it.text != "null"), 0)
-    name = names.PRIORITY_NAMES.get(number, "")
+    name = standard.PRIORITY_NAMES.get(number, "")
     return f"{number} ({name})" if name else str(number or ""), ""

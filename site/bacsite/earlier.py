@@ -5,9 +5,10 @@ from __future__ import annotations
 import json
 from typing import Dict, Iterator, List, Mapping, NamedTuple, Optional, Tuple
 
-from .device import Device, SiteObject, Which
+from .device import Device, SiteObject
 from .failures import BROKEN, Failure, wrong
 from .files import opened
+from .standard import Which
 
 
 class Known(NamedTuple):
@@ -51,7 +52,7 @@ class Earlier:
 
 def _changed_objects(device: Device, known: Known) -> Iterator[str]:
     """Only what was read now is compared."""
-    now = {(it.object_type, it.instance): it for it in device.objects}
+    now = {it.which: it for it in device.objects}
     for which in known.objects:
         if device.listed is not None and which not in device.listed:
             yield f"gone: {_told(which, known.objects[which][0])}"
@@ -69,7 +70,7 @@ def _changed(which: Which, now: SiteObject, name: str, unit: str) -> Iterator[st
 
 
 def _told(which: Which, name: str) -> str:
-    return f"{which[0]}:{which[1]} {name}".rstrip()
+    return f"{which} {name}".rstrip()
 
 
 def earlier_of(path: str) -> Earlier:
@@ -92,7 +93,7 @@ def _known_of(line: bytes) -> Optional[Tuple[str, Known]]:
     if instance is None:
         return None
     objects = {
-        (int(it["type"]), int(it["instance"])): (str(it["name"]), str(it["unit"]))
+        Which(int(it["type"]), int(it["instance"])): (str(it["name"]), str(it["unit"]))
         for it in told["objects"]
     }
     texts = {what: str(told[what]) for what in ("name", "vendor", "model")}

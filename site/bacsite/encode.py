@@ -6,18 +6,18 @@ import datetime
 import re
 from typing import Callable, Dict, NamedTuple
 
-from . import names
+from . import standard
 from .decimals import encoded, shortest
+from .display import escaped
 from .failures import wrong
 from .points import instance, object_type
-from .texts import escaped
 
 LIMITS = {
-    names.UNSIGNED: (0, 2**64 - 1),
-    names.SIGNED: (-(2**63), 2**63 - 1),
-    names.ENUMERATED: (0, 2**32 - 1),
+    standard.UNSIGNED: (0, 2**64 - 1),
+    standard.SIGNED: (-(2**63), 2**63 - 1),
+    standard.ENUMERATED: (0, 2**32 - 1),
 }
-NUMBER = re.compile("-?[0-9]+")
+WHOLE = re.compile("-?[0-9]+")
 WORD = re.compile(rb"[!-\xff]+")  # what can be a word of a line of a script
 LAST_YEAR = 2154  # the octet of the next one stands for any
 TIME = re.compile(r"([0-9]{1,2}):([0-9]{2})(?::([0-9]{2})(?:\.([0-9]{2}))?)?")
@@ -32,26 +32,26 @@ class Encoded(NamedTuple):
 
     def shown(self) -> str:
         """The value in plain form, a text in quotation marks."""
-        return f'"{self.text}"' if self.tag == names.STRING else self.text
+        return f'"{self.text}"' if self.tag == standard.STRING else self.text
 
 
-NULL = Encoded(names.NULL, "null", "null")
+NULL = Encoded(standard.NULL, "null", "null")
 
 
 def encode(word: str, tag: int) -> Encoded:
     """The value of a word as one of this tag; it fails where it is none."""
-    if tag in names.INTEGERS:
+    if tag in standard.INTEGERS:
         return _integer(word, tag)
-    if tag in (names.REAL, names.DOUBLE):
-        octets = encoded(word, tag == names.DOUBLE)
+    if tag in (standard.REAL, standard.DOUBLE):
+        octets = encoded(word, tag == standard.DOUBLE)
         return Encoded(tag, octets, shortest(octets))
-    if tag == names.STRING:
+    if tag == standard.STRING:
         return Encoded(tag, word, escaped(word))
     return OTHERS[tag](word)
 
 
 def _integer(word: str, tag: int) -> Encoded:
-    if not NUMBER.fullmatch(word):
+    if not WHOLE.fullmatch(word):
         raise wrong("no number: " + word)
     least, most = LIMITS[tag]
     if not least <= int(word) <= most:
@@ -63,19 +63,19 @@ def _integer(word: str, tag: int) -> Encoded:
 def _boolean(word: str) -> Encoded:
     if word not in ("true", "false"):
         raise wrong("neither true nor false: " + word)
-    return Encoded(names.BOOLEAN, word, word)
+    return Encoded(standard.BOOLEAN, word, word)
 
 
 def _bits(word: str) -> Encoded:
     if not re.fullmatch("[01]+", word):
         raise wrong("no bits, as 0101: " + word)
-    return Encoded(names.BITS, word, f"B'{word}'")
+    return Encoded(standard.BITS, word, f"B'{word}'")
 
 
 def _octets(word: str) -> Encoded:
     if not re.fullmatch("(?:[0-9a-f]{2})+", word):
         raise wrong("no octets in hexadecimal digits, as 01ff: " + word)
-    return Encoded(names.OCTETS, word, f"X'{word}'")
+    return Encoded(standard.OCTETS, word, f"X'{word}'")
 
 
 def _date(word: str) -> Encoded:
@@ -86,7 +86,7 @@ def _date(word: str) -> Encoded:
     if not 1900 <= date.year <= LAST_YEAR:
         raise wrong(f"no date of 1900 to {LAST_YEAR}: {word}")
     octets = bytes([date.year - 1900, date.month, date.day, date.isoweekday()])
-    return Encoded(names.DATE, octets.hex(), date.strftime("%Y-%m-%d"))
+    return Encoded(standard.DATE, octets.hex(), date.strftime("%Y-%m-%d"))
 
 
 def _time(word: str) -> Encoded:
@@ -95,7 +95,9 @@ def _time(word: str) -> Encoded:
     if parts[0] > 23 or parts[1] > 59 or parts[2] > 59:
         raise wrong("no time, as 12:30 or 12:30:05.00: " + word)
     return Encoded(
-        names.TIME, bytes(parts).hex(), f"{parts[0]:02}:{parts[1]:02}:{parts[2]:02}.{parts[3]:02}"
+        standard.TIME,
+        bytes(parts).hex(),
+        f"{parts[0]:02}:{parts[1]:02}:{parts[2]:02}.{parts[3]:02}",
     )
 
 
@@ -104,7 +106,7 @@ def _object(word: str) -> Encoded:
     if not colon:
         raise wrong("no object, as 0:5 or analog-input:5: " + word)
     text = f"{object_type(kind)}:{instance(number)}"
-    return Encoded(names.OBJECT, text, text)
+    return Encoded(standard.OBJECT, text, text)
 
 
 def _null(word: str) -> Encoded:
@@ -114,11 +116,11 @@ def _null(word: str) -> Encoded:
 
 
 OTHERS: Dict[int, Callable[[str], Encoded]] = {
-    names.NULL: _null,
-    names.BOOLEAN: _boolean,
-    names.BITS: _bits,
-    names.OCTETS: _octets,
-    names.DATE: _date,
-    names.TIME: _time,
-    names.OBJECT: _object,
+    standard.NULL: _null,
+    standard.BOOLEAN: _boolean,
+    standard.BITS: _bits,
+    standard.OCTETS: _octets,
+    standard.DATE: _date,
+    standard.TIME: _time,
+    standard.OBJECT: _object,
 }

@@ -4,7 +4,7 @@ from __future__ import annotations
 
 import signal
 
-from .texts import clean
+from .display import clean
 
 MISSING, WRONG_WORDS, BROKEN = 1, 2, 3  # statuses; 0 is that all which was asked for came
 SIGNALS = (signal.SIGINT, signal.SIGHUP, signal.SIGTERM)  # which end it

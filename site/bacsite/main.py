@@ -7,9 +7,10 @@ import sys
 import traceback
 from contextlib import suppress
 
+from .commands import parsed
+from .display import clean
 from .failures import BROKEN, Failure
 from .output import put, show
-from .words import parsed
 
 UNKNOWN = 3  # to monitoring
 
@@ -23,7 +24,10 @@ def main() -> int:
             raise Failure("writing failed", BROKEN)
         words = parsed(given)
         status: int = words.work(words)
-        return status
+        fault = words.journal.fault if "journal" in words else ""
+        if fault:
+            show(f"bacsite: {clean(fault)}\n")
+        return BROKEN if fault and not (checks and status) else status
     except SystemExit:  # help or the version was asked for
         return UNKNOWN if checks else 0
     except Failure as failure:

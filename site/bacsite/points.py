@@ -6,15 +6,18 @@ import difflib
 from typing import Dict, Iterable, List, NamedTuple, Optional, Sequence
 
 from . import addresses
+from .display import clean
 from .failures import BROKEN, Failure, wrong
 from .files import opened
-from .names import DOUBLE, INTEGERS, PROPERTIES, REAL, TYPES, Form, What
-from .texts import clean
+from .standard import DOUBLE, INTEGERS, OBJECT_TYPES, PROPERTIES, REAL, Form, What
 
 POINT = "[INSTANCE@]ADDRESS [real|double|integer] TYPE INSTANCE PROPERTY [INDEX]"
 MOST_TYPE, MOST_INSTANCE, MOST_INDEX = 1023, 4194303, 4294967295
 # What a list may name in front of a type: a value of another one is a reason then.
 FORMS = {"integer": Form(INTEGERS), "real": Form((REAL,)), "double": Form((DOUBLE,))}
+
+
+NOWHERE = What(-1, -1, -1)  # of a point that can't be read
 
 
 class Point(NamedTuple):
@@ -23,7 +26,7 @@ class Point(NamedTuple):
     name: str
     address: str = ""
     device: Optional[int] = None
-    what: What = ()
+    what: What = NOWHERE
     form: Optional[Form] = None
     fault: str = ""
 
@@ -49,7 +52,7 @@ def _hint(word: str, names: Iterable[str]) -> str:
 
 def object_type(word: str) -> int:
     """The type of an object."""
-    return number(word, "object type", MOST_TYPE, TYPES)
+    return number(word, "object type", MOST_TYPE, OBJECT_TYPES)
 
 
 def instance(word: str) -> int:
@@ -75,7 +78,7 @@ def point_of(name: str, words: Sequence[str]) -> Point:
         raise wrong("wanted: " + POINT)
     device, where = addresses.one(words[0])
     readers = (object_type, instance, property_number, index)
-    what = tuple(reader(word) for reader, word in zip(readers, rest))
+    what = What(*(reader(word) for reader, word in zip(readers, rest)))
     return Point(name, where, device, what, FORMS.get(words[1]) if has_form else None)
 
 

@@ -6,15 +6,15 @@ import argparse
 from typing import Dict, Iterator, List, NamedTuple, Sequence
 
 from .calls import Calls
-from .command import Command
 from .controller import Controller
+from .display import stamp
 from .failures import MISSING
-from .names import PRESENT_VALUE, STATUS_FLAGS
 from .output import put
+from .parsing import Command
 from .points import POINT, Point, points_of
 from .processes import FOREVER
 from .reasons import Why
-from .texts import stamp
+from .standard import PRESENT_VALUE, STATUS_FLAGS
 from .values import NOTHING, Value, fault, flags_of
 from .workers import side_by_side
 
@@ -62,9 +62,7 @@ def reading_of(controller: Controller, point: Point, with_flags: bool) -> Readin
     return readings_of(controller, [point], with_flags)[0]
 
 
-def readings_of(
-    controller: Controller, points: Sequence[Point], with_flags: bool
-) -> List[Reading]:
+def readings_of(controller: Controller, points: Sequence[Point], with_flags: bool) -> List[Reading]:
     """The same of several points."""
     reasons = [it.fault or _other_device(controller, it) for it in points]
     asked = [point for point, reason in zip(points, reasons) if not reason]
@@ -73,9 +71,9 @@ def readings_of(
     flagged = [
         point.what
         for point, value in zip(points, values)
-        if with_flags and not value.fault and point.what[2:] == (PRESENT_VALUE,)
+        if with_flags and not value.fault and point.what == point.what.other(PRESENT_VALUE)
     ]
-    asked_flags = controller.values([(*what[:2], STATUS_FLAGS) for what in flagged])
+    asked_flags = controller.values([it.other(STATUS_FLAGS) for it in flagged])
     flags, at = dict(zip(flagged, map(flags_of, asked_flags))), stamp()
     none = [what for what, found in flags.items() if found.why is Why.NO_PROPERTY]
     flags.update((what, NOTHING) for what in none)

@@ -11,8 +11,8 @@ from contextlib import suppress
 from dataclasses import dataclass, field
 from typing import List, Optional, Protocol, Sequence, Set
 
+from .display import clean
 from .reasons import TOO_LATE
-from .texts import clean
 
 FOREVER = float("inf")
 LONGEST_START = 1.0  # seconds
@@ -41,6 +41,9 @@ class Asks(Protocol):
 
     def line(self) -> Optional[str]:
         """The next line, once that has come; nothing where it has ended."""
+
+    def is_ready(self, seconds: float) -> bool:
+        """Whether something more of it, or its end, comes within so many seconds."""
 
     def outcome(self) -> Outcome:
         """Lets it end, and says how it did."""
@@ -80,6 +83,10 @@ class Process:
         line, _, self._kept = self._kept.partition(b"\n")
         return _text(line)
 
+    def is_ready(self, seconds: float) -> bool:
+        """Whether something more of it, or its end, comes within so many seconds."""
+        return b"\n" in self._kept or bool(self._waits.poll(seconds * 1000))
+
     def outcome(self) -> Outcome:
         """Lets it end, and says how it did, with the lines that nobody has read."""
         try:
@@ -87,10 +94,10 @@ class Process:
         except subprocess.TimeoutExpired:
             self._end()
             out, err = self._popen.communicate()
+        lines, told = _lines(self._kept + out), _lines(err)
         if self._is_late:
-            return Outcome(None, told=TOO_LATE)
-        told = _lines(err)
-        return Outcome(self._popen.returncode, _lines(out), told[0] if told else "")
+            return Outcome(None, lines, TOO_LATE)
+        return Outcome(self._popen.returncode, lines, told[0] if told else "")
 
     def kill(self) -> None:
         """Ends it at once."""

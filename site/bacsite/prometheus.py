@@ -6,9 +6,9 @@ import argparse
 from typing import Sequence
 
 from .calls import Calls
-from .command import Command
 from .failures import MISSING, wrong
 from .files import is_replaceable, replace_file
+from .parsing import Command
 from .points import Point, points_of
 from .poll import Reading, add_list, in_order, polled
 from .values import Kind

@@ -3,18 +3,26 @@
 from __future__ import annotations
 
 import argparse
-from typing import Dict, List, Sequence
+from typing import Dict, List
 
 from .bodies import elements_of
 from .calls import Calls
-from .command import Command, add_number
 from .controller import Controller
 from .failures import MISSING
-from .names import INTEGERS, OBJECT_ID, OBJECT_NAME, OBJECT_TYPE, PROPERTIES, PROPERTY_LIST
 from .output import put
+from .parsing import Command, add_number
 from .points import MOST_INSTANCE, POINT, Point, point_of
 from .poll import reading_of
 from .reasons import Why
+from .standard import (
+    INTEGERS,
+    OBJECT_ID,
+    OBJECT_NAME,
+    OBJECT_TYPE,
+    PROPERTIES,
+    PROPERTY_LIST,
+    Which,
+)
 from .values import Value, fault
 from .workers import alone
 
@@ -61,21 +69,21 @@ def properties(words: argparse.Namespace) -> int:
 
 def _values(controller: Controller, point: Point, last: int) -> Dict[int, Value]:
     """The values by the numbers of the properties, the name alone where it is the wrong object."""
-    what = point.what[:2]
+    which = point.what.which
     reason = "" if point.device is None else controller.identify(point.device)
-    name = fault(reason) if reason else controller.value(*what, OBJECT_NAME)
+    name = fault(reason) if reason else controller.value(which.what(OBJECT_NAME))
     if name.why not in (Why.NONE, Why.NO_PROPERTY):
         return {OBJECT_NAME: name}
     values = {OBJECT_NAME: name}
-    numbers = [it for it in _numbers(controller, what, last) if it != OBJECT_NAME]
+    numbers = [it for it in _numbers(controller, which, last) if it != OBJECT_NAME]
     for part in controller.parts(numbers):
-        values.update(zip(part, controller.values([(*what, number) for number in part])))
+        values.update(zip(part, controller.values([which.what(number) for number in part])))
     return dict(sorted(values.items()))
 
 
-def _numbers(controller: Controller, what: Sequence[int], last: int) -> List[int]:
+def _numbers(controller: Controller, which: Which, last: int) -> List[int]:
     """The numbers that are asked for: by the property-list, or all of them up to the last."""
-    answer = controller.read(*what, PROPERTY_LIST)
+    answer = controller.read(which.what(PROPERTY_LIST))
     listed = None if answer.reason else elements_of(answer.region)
     if listed is None or not all(it.kind in INTEGERS for it in listed):
         return list(range(last + 1))
@@ -83,7 +91,9 @@ def _numbers(controller: Controller, what: Sequence[int], last: int) -> List[int
     return sorted({OBJECT_ID, OBJECT_NAME, OBJECT_TYPE, *numbers})
 
 
-READ = Command("prints the value of one property, or why there is none", read_arguments, read)
+READ_COMMAND = Command(
+    "prints the value of one property, or why there is none", read_arguments, read
+)
 PROPERTIES_COMMAND = Command(
     "prints the properties that an object has: number, name and value",
     properties_arguments,

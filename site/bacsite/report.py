@@ -11,21 +11,21 @@ from typing import Callable, Dict, List, NamedTuple, Sequence, Set, Tuple
 
 from . import addresses
 from .calls import Calls
-from .command import Command, add_number
 from .device import Bounds, Device, SiteObject
+from .display import stamp, table
 from .earlier import Earlier, earlier_of
 from .failures import MISSING, wrong
 from .files import is_replaceable, replace_file
 from .output import put, show
 from .page import page_of
+from .parsing import Command, add_number
 from .survey import surveyed
-from .texts import stamp, table
 from .values import NOTHING
 
 MISSES = "present-value: "  # so begins why there is none
 
 FORMULA = re.compile(r"[=+\-@\t\r]")
-NUMBER = re.compile(r"-?[0-9.]+(e[-+]?[0-9]+)?")
+PLAIN_NUMBER = re.compile(r"-?[0-9.]+(e[-+]?[0-9]+)?")
 
 # What is told of a device and of an object, by the names of the columns.
 OF_DEVICE: Dict[str, Callable[[Device], object]] = {
@@ -73,13 +73,23 @@ def as_lines(device: Device, columns: Columns) -> str:
     return "".join(line + "\n" for line in lines)
 
 
-def _cells(found: SiteObject, columns: Columns) -> List[str]:
-    shown = f"{found.value.text} ({found.meaning})" if found.meaning else found.value.text
-    shown = " ".join(filter(None, [shown, found.unit])) if shown else ""
-    which = f"{found.object_type}:{found.instance}"
-    more = [str(OF_OBJECT[it](found)) for it in columns.objects]
-    told = [which, found.type_name, found.name, shown, found.told_flags, *more]
-    return [*told, "; ".join(found.reasons)]
+def _cells(site_object: SiteObject, columns: Columns) -> List[str]:
+    shown = (
+        f"{site_object.value.text} ({site_object.meaning})"
+        if site_object.meaning
+        else site_object.value.text
+    )
+    shown = " ".join(filter(None, [shown, site_object.unit])) if shown else ""
+    more = [str(OF_OBJECT[it](site_object)) for it in columns.objects]
+    told = [
+        str(site_object.which),
+        site_object.type_name,
+        site_object.name,
+        shown,
+        site_object.told_flags,
+        *more,
+    ]
+    return [*told, "; ".join(site_object.reasons)]
 
 
 def as_csv(device: Device, columns: Columns) -> str:
@@ -105,7 +115,7 @@ def csv_lines(rows: Sequence[Sequence[str]]) -> str:
 
 def _harmless(cell: str) -> str:
     """The cell; behind a quotation mark where a spreadsheet would take it for a formula."""
-    return "'" + cell if FORMULA.match(cell) and not NUMBER.fullmatch(cell) else cell
+    return "'" + cell if FORMULA.match(cell) and not PLAIN_NUMBER.fullmatch(cell) else cell
 
 
 def as_json(device: Device, columns: Columns) -> str:
@@ -163,9 +173,7 @@ def arguments(parser: argparse.ArgumentParser) -> None:
         "--sorted", action="store_true", help="in the order of the words, not as they come"
     )
     parser.add_argument("--devices", action="store_true", help="devices alone, no objects")
-    parser.add_argument(
-        "--details", action="store_true", help="descriptions and event states too"
-    )
+    parser.add_argument("--details", action="store_true", help="descriptions and event states too")
     told = "only what priority 8 or a more urgent one commands, and which one"
     parser.add_argument("--held", action="store_true", help=told)
     parser.add_argument(
@@ -192,20 +200,20 @@ def work(words: argparse.Namespace) -> int:
     bounds = Bounds(
         words.objects, words.deadline, words.devices, words.details, words.held, words.stations
     )
-    counts, found = Counts(len(targets)), []
+    counts, devices = Counts(len(targets)), []
     in_order = words.sorted or bool(words.html)
     for device in surveyed(Calls.of(words), targets, bounds, earlier, in_order):
         counts.add(device)
         if device.hidden and not words.silent:
             continue
-        found.append(device)
+        devices.append(device)
         if not words.html:
             put(form(device, columns))
     if words.html:
-        replace_file(words.html, page_of(found, stamp()))
+        replace_file(words.html, page_of(devices, stamp()))
     if any(it.in_range for it in targets):
         show(counts.line())
-    return MISSING if counts.missing or not found else 0
+    return MISSING if counts.missing or not devices else 0
 
 
 class Counts:

@@ -2,8 +2,6 @@
 
 from __future__ import annotations
 
-import io
-import os
 import re
 import time
 from contextlib import suppress
@@ -12,18 +10,18 @@ from typing import Dict, NamedTuple, Optional
 
 from .answers import is_about, outcome_of
 from .bodies import read_ack
-from .failures import BROKEN, Failure
+from .journals import Journal
 from .messages import Apdu, Datagram, message_of
-from .names import What
 from .processes import Asks
 from .reasons import STRANGE, TIMEOUT, Why, why_of
+from .standard import What
 
 FAULT = "a fault of bacsite: "
 ENDED = re.compile("# (done|timeout) ([0-9]+) ?(.*)")
 MOST_LINE, MORE = 4096, "#+"  # a remark of so many octets goes on in a line that begins so
 
 
-class Answer(NamedTuple):
+class ReadResult(NamedTuple):
     """The octets of a value that was read; or why there are none."""
 
     region: bytes = b""
@@ -61,9 +59,7 @@ class Session:
     has an empty line, by which it waits until none is open.
     """
 
-    def __init__(
-        self, asks: Asks, journal: Optional[io.RawIOBase] = None, window: int = 1
-    ) -> None:
+    def __init__(self, asks: Asks, journal: Optional[Journal] = None, window: int = 1) -> None:
         self.asks, self.journal = asks, journal
         self._most = 1 if window == 1 else window + 1
         self._open: Dict[int, _Open] = {}  # by their tickets
@@ -125,7 +121,7 @@ class Session:
     def _read(self) -> Optional[str]:
         line = self.asks.line()
         if self.journal and line is not None:
-            self.journal.write(os.fsencode(line) + b"\n")
+            self.journal.add(line)
         return line
 
     def _take(self, line: str) -> Optional[Ended]:
@@ -162,35 +158,21 @@ def _read_by(ended: Ended, apdu: Optional[Apdu]) -> str:
     return f"{FAULT}it reads {found} and bactool {ended.outcome} in {octets}"
 
 
-def answer_of(ended: Ended, asked: What) -> Answer:
+def answer_of(ended: Ended, asked: What) -> ReadResult:
     """The answer to a read that has ended.
 
     bacrun knows an answer by its number alone, which a late one to an earlier request may have. So
     a value is taken only where the answer itself says that it is what was asked for.
     """
     if ended.outcome == TIMEOUT:
-        return Answer(reason=TIMEOUT)
+        return ReadResult(reason=TIMEOUT)
     apdu = _apdu_of(ended.datagram)
     outcome = _read_by(ended, apdu)
     body = read_ack(apdu.body) if apdu and outcome[:6] == "value " else None
     if not body or body.value is None:
-        return Answer(reason="bad-ack" if outcome == "ok" else outcome)
-    return Answer(body.value) if is_about(body.what, asked) else Answer(reason=STRANGE)
+        return ReadResult(reason="bad-ack" if outcome == "ok" else outcome)
+    return ReadResult(body.value) if is_about(body.what, asked) else ReadResult(reason=STRANGE)
 
 
 def _apdu_of(octets: bytes) -> Optional[Apdu]:
     return message_of(Datagram(0, "", "", octets)).apdu if len(octets) > 1 else None
-
-
-def journal_of(folder: str, address: str) -> Optional[io.RawIOBase]:
-    """A new file in the folder, if there is one, for what a bacrun prints of this address."""
-    if not folder:
-        return None
-    path, count = os.path.join(folder, re.sub("[:/]", "_", address)), 1
-    while True:
-        try:
-            return open(f"{path}-{count}.trace", "xb", buffering=0)
-        except FileExistsError:
-            count += 1
-        except OSError as error:
-            raise Failure(f"cannot write {path}: {error.strerror}", BROKEN) from error

@@ -6,7 +6,7 @@ import enum
 from dataclasses import dataclass
 from typing import Dict, List, Optional, Sequence, Tuple
 
-from . import names
+from . import standard
 from .bodies import (
     OPENING,
     Element,
@@ -18,9 +18,9 @@ from .bodies import (
     tag_at,
 )
 from .decimals import NO_NUMBERS, shortest
-from .names import Form
+from .display import escaped
 from .reasons import Why, why_of
-from .texts import escaped
+from .standard import Form
 
 
 class Kind(enum.Enum):
@@ -116,17 +116,17 @@ def _listed(found: Sequence[Value]) -> str:
 def _none(form: Form, found: str) -> Value:
     """The fault that a value is of another type than it has to be."""
     tags = form.tags if form.is_row else form.tags[:1]
-    called = ["integer" if it in names.INTEGERS else names.TAGS[it] for it in tags]
+    called = ["integer" if it in standard.INTEGERS else standard.TAGS[it] for it in tags]
     return fault(f'no {" and ".join(called)}: {found}')
 
 
 def _value(element: Element, form: Form) -> Value:
     """A value of this form. Whole numbers of all types are one, but for a sign where none is."""
     value, kind, tags = _plain(element, form.names), element.kind, form.tags
-    whole = kind in names.INTEGERS and any(it in names.INTEGERS for it in tags)
-    is_below = whole and element.number < 0 and names.SIGNED not in tags
+    whole = kind in standard.INTEGERS and any(it in standard.INTEGERS for it in tags)
+    is_below = whole and element.number < 0 and standard.SIGNED not in tags
     if tags and (is_below or not (whole or kind in tags)):
-        type_ = f"{names.TAGS[kind]} " if kind in names.LOOK_ALIKE else ""
+        type_ = f"{standard.TAGS[kind]} " if kind in standard.LOOK_ALIKE else ""
         return _none(form, type_ + value.told())
     if value.text in NO_NUMBERS and value.kind is Kind.NUMBER:  # as of a sensor that has failed
         return fault("no number: " + value.text)
@@ -138,21 +138,21 @@ def _value(element: Element, form: Form) -> Value:
 def _plain(element: Element, meanings: Optional[Dict[int, str]] = None) -> Value:
     """A value of any type, with what its number or its bits mean."""
     kind, octets, text, known = *element, element_text(element), meanings or {}
-    if kind in (names.REAL, names.DOUBLE):
+    if kind in (standard.REAL, standard.DOUBLE):
         return Value(Kind.NUMBER, shortest(text))
-    if kind in names.INTEGERS:
+    if kind in standard.INTEGERS:
         return Value(Kind.NUMBER, text, known.get(int(text), ""))
-    if kind == names.STRING:
+    if kind == standard.STRING:
         return Value(Kind.TEXT, _decoded(octets, text))
     meaning = ""
-    if kind == names.BITS:
+    if kind == standard.BITS:
         places = [at for at, bit in enumerate(bits_of(octets)) if bit == "1"] if known else []
         bits = tuple(known.get(at, f"bit {at}") for at in places)
         return Value(Kind.OTHER, text, ", ".join(bits), bits)
-    if kind in (names.DATE, names.TIME):
+    if kind in (standard.DATE, standard.TIME):
         text = _moment_of(kind, octets) or text
-    elif kind == names.OBJECT:
-        meaning = names.TYPES.get(element.number >> 22, "")
+    elif kind == standard.OBJECT:
+        meaning = standard.OBJECT_TYPES.get(element.number >> 22, "")
     return Value(Kind.OTHER, text, meaning)
 
 
@@ -167,7 +167,7 @@ def _decoded(octets: bytes, text: str) -> str:
 def _moment_of(kind: int, octets: bytes) -> str:
     """A Date or a Time as 2024-10-31 or 12:30:00.00; empty where a part is any."""
     first, second, third, last = octets
-    if kind == names.DATE:
+    if kind == standard.DATE:
         is_date = first < 255 and 1 <= second <= 12 and 1 <= third <= 31
         return f"{1900 + first}-{second:02d}-{third:02d}" if is_date else ""
     is_time = first < 24 and second < 60 and third < 60 and last < 100

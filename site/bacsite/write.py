@@ -6,18 +6,18 @@ import argparse
 import os
 from typing import NamedTuple, Optional, Tuple
 
-from . import addresses, names
+from . import addresses, standard
 from .addresses import is_routed
 from .bodies import elements_of
 from .calls import BIND_FAILED, Calls
-from .command import Command, within
 from .controller import Controller
 from .encode import WORD, Encoded
 from .failures import BROKEN, MISSING, WRONG_WORDS, Failure, wrong
-from .names import DEVICE, OBJECT, OBJECT_ID, PRESENT_VALUE, PRIORITY_NAMES
 from .output import put
+from .parsing import Command, within
 from .points import index, instance, object_type, property_number
 from .processes import Outcome
+from .standard import OBJECT, OBJECT_ID, PRESENT_VALUE, PRIORITY_NAMES, Which
 from .target import Place, Priorities, encoded_for, looked_at, priorities
 from .values import Value
 from .workers import alone
@@ -113,10 +113,10 @@ def _checked(
 
 def _another(controller: Controller) -> str:
     """Why it may be another device than before, as one that took over its address."""
-    own = (DEVICE, controller.instance or 0)
-    answer = controller.ask(*own, OBJECT_ID)
+    answer = controller.ask(controller.own.what(OBJECT_ID))
     found = [(it.kind, it.of_object) for it in elements_of(answer.region) or []]
-    return answer.reason or ("" if found == [(OBJECT, own)] else "it says another number")
+    is_same = found == [(OBJECT, controller.own)]
+    return answer.reason or ("" if is_same else "it says another number")
 
 
 def prepared(controller: Controller, order: Order) -> Tuple[Place, Encoded]:
@@ -132,23 +132,22 @@ def prepared(controller: Controller, order: Order) -> Tuple[Place, Encoded]:
     if is_routed(place.address) and not WORD.fullmatch(os.fsencode(value.word)):
         raise wrong("no text with a space, and no empty one, can be sent behind a router")
     may_let_go = commandable or (place.priorities.fault and order.priority)
-    if value.tag == names.NULL and not may_let_go:
+    if value.tag == standard.NULL and not may_let_go:
         raise wrong(f"null lets go of a priority: {place.which()} has no priority array")
     return place, value
 
 
 def _sent(controller: Controller, order: Order, value: Encoded) -> Outcome:
-    what, element = order.place.what[:3], order.place.what[3:] or (-1,)
-    where = [str(it) for it in (*what, order.priority or 0, *element)]
+    where = order.place.what.words_at(order.priority)
     if is_routed(order.place.address):
-        return controller.write(" ".join([*where, str(value.tag), value.word]))
-    device, value_words = str(controller.instance or 0), ["--", str(value.tag), value.word]
-    return controller.calls.write([*controller.options(), device, *where, *value_words])
+        return controller.write(f"{where} {value.tag} {value.word}")
+    words = [str(controller.own.instance), *where.split(), "--", str(value.tag), value.word]
+    return controller.calls.write([*controller.options(), *words])
 
 
 def _read_back(controller: Controller, order: Order, place: Place) -> Value:
     """Prints what the property is now. It gives what stands where the value was written."""
-    now = controller.value(*place.what)
+    now = controller.value(place.what)
     put(f"now: {place.shown(now)}\n")
     array = priorities(controller, place) if place.is_present_value else Priorities()
     if array.fault:
@@ -158,7 +157,7 @@ def _read_back(controller: Controller, order: Order, place: Place) -> Value:
         put(f"{_priority(priority)}: {place.shown(found)}\n")
     if not array.values:
         return now
-    default = controller.value(*place.what[:2], names.RELINQUISH_DEFAULT)
+    default = controller.value(place.what.other(standard.RELINQUISH_DEFAULT))
     put(f"relinquish-default: {place.shown(default)}\n")
     least, written_at = min(standing, default=16), order.priority or 16
     if least < written_at and written_at in standing:
@@ -184,7 +183,7 @@ def arguments(parser: argparse.ArgumentParser) -> None:
     parser.add_argument("--property", default="present-value", help="where not present-value")
     parser.add_argument("--index", metavar="N", help="the element of an array")
     parser.add_argument(
-        "--type", choices=names.TAGS[1:], help="where it is not known, as a vendor's own"
+        "--type", choices=standard.TAGS[1:], help="where it is not known, as a vendor's own"
     )
     parser.add_argument("--dry-run", action="store_true", help="look at all, and send no write")
 
@@ -192,13 +191,12 @@ def arguments(parser: argparse.ArgumentParser) -> None:
 def order_of(words: argparse.Namespace) -> Order:
     """What the words order; it fails where they are wrong."""
     device, address = addresses.one(words.address)
-    what = [object_type(words.object_type), instance(words.instance)]
-    what.append(property_number(words.property))
-    if words.index is not None:
-        what.append(index(words.index))
+    which = Which(object_type(words.object_type), instance(words.instance))
+    at = None if words.index is None else index(words.index)
+    what = which.what(property_number(words.property), at)
     if words.priority == 6:
         raise wrong("priority 6 is the device's own")
-    place = Place(address, tuple(what), is_present_value=what[2:] == [PRESENT_VALUE])
+    place = Place(address, what, is_present_value=what == which.what(PRESENT_VALUE))
     return Order(device, place, words.value, words.type, words.priority, words.dry_run)
 
 

@@ -8,10 +8,10 @@ from typing import List, NamedTuple, Sequence
 
 from . import write
 from .calls import Calls
-from .command import Command, Parser
 from .controller import Controller
 from .failures import Failure, wrong
 from .output import put
+from .parsing import Command, Parser
 from .points import text_of
 from .workers import alone
 from .write import Order

@@ -84,8 +84,7 @@ def module_of(path):
 
 
 def home_of(crate, path, kind):
-    """Where a check has what this file holds, in parts: in its module, or with a method of this type, where the type is
-    declared."""
+    """Where a check has what this file holds, in parts: in its module, or where the type of a method is declared."""
     declares = re.compile(rf"(?m)^(?:pub(?:\([^)]*\))? )?(?:struct|enum) {kind}\b")
     files = (it for it, text in sources_of(crate).items() if declares.search(text))
     return [*module_of(next(files)), kind] if kind else module_of(path)
@@ -177,8 +176,7 @@ def entries_in(file, source):
 
 
 def entries_of(crate):
-    """The entries of a crate: those of must-fail by their names, the others by their files. In must-fail a line that
-    `rt` does not read, and would tell of, stands behind `# `."""
+    """The entries of a crate. In must-fail a line that `rt` does not read, and would tell of, stands behind `# `."""
     home = f"{ROOT}/crates/{crate}"
     for file in sorted(glob.glob(f"{home}/must-fail/*.edit")):
         text = re.sub(r"(?m)^(?!file: |old: |new:|# )", "bare: ", text_of(file).rstrip("\n"))
@@ -187,10 +185,9 @@ def entries_of(crate):
         yield from entries_in(file, f"file: src/{os.path.relpath(file, f'{home}/wrong')[: -len('.edits')]}.rt")
 
 
-# What is tried of an entry: the wrong body; its twin; the twin with nothing in one of its branches, each of which has a
-# number; the twin of an `impl` with the wrong one's ghost clauses; the wrong body under a contract that says that the
-# clause is false; the right body under that contract; and the wrong one under a contract that says that there are no
-# such arguments.
+# What is tried of an entry: the wrong body; its twin; the twin with nothing in one of its branches, by their numbers;
+# the twin of an `impl` with the wrong one's ghost clauses; the wrong body, and the right one, under a contract that
+# says that the clause is false; and the wrong one under one that says that there are no such arguments.
 WRONG, TWIN, EMPTIED, GHOST = "", "twin", "emptied twin", "ghost clause alone"
 REFUTED, CONTROL, NEVER = "refuted", "control", "never called"
 GHOSTS = re.compile(r"ghost .*?; (?=fn )")  # of an `impl`
@@ -312,8 +309,7 @@ class Edit:
         return [name for kind, name, _ in self.head() if kind == "ensures"]
 
     def is_beside(self):
-        """Whether it is tried in a copy beside its function. With answers, which name their own place, only a body that
-        needs none is."""
+        """Whether it is tried beside its function. With answers, which name their place, only what needs none is."""
         of = self.functions[0][1]
         in_place = self.way_back or any(map(of.symbols.match, answered(self.crate)))
         return bool(of.behind) and (self.is_apart or not in_place)

@@ -3,13 +3,10 @@
 test which that line names, and says so where the test passes.
 
 Usage: tests/bodies/holes.py [--only PATTERN] [--jobs N]. The status is 0 where each test fails, and passes without a
-body.
-
-A line `hole:` names a file: of src/tests/ of bac_trials or tool_trials, one of whose tests has to fail; of
-tests/program/rows/, one of whose rows has to; or a script of tests/program/, which has to. The trials are run by
-`rt try --test`, those of the file's module alone; the program is one that `rt try` makes, in which an index or a sum
-out of bounds also ends it. Nothing is proved here: wrong_bodies.py does that. Each body takes a build of some 70
-seconds of processor time, so this is no part of the gate.
+body. A line `hole:` names a file: of src/tests/ of a crate of trials, one of whose tests has to fail; of
+tests/program/rows/, one of whose rows has to; or a script of tests/program/. The trials of that file's module are run
+by `rt try --test`; the program is one that `rt try` makes, in which an index or a sum out of bounds also ends it. Each
+body takes a build of some 70 seconds of processor time, so this is no part of the gate.
 """
 import argparse
 import collections
@@ -20,8 +17,6 @@ import os
 import pathlib
 import re
 import shutil
-import socket
-import subprocess
 import sys
 import tempfile
 import threading
@@ -29,7 +24,7 @@ import time
 
 sys.path.insert(0, os.path.dirname(__file__) + "/..")
 from edits import ROOT, Edit, entries_of
-from tree import all_crates, copy_sources, free_port, text_of, write
+from tree import Job, all_crates, copy_sources, free_port, local_socket, ran, text_of, write
 
 TRIALS = re.compile(r"(crates/(?:bac|tool)_trials)/src/tests/(.*)\.rt")
 MOST = "1800"  # seconds that a build may take, on a machine with much else to do
@@ -38,11 +33,6 @@ USES = collections.defaultdict(threading.Lock)  # of each test: its ports are th
 
 class NotTried(Exception):
     """A body that could not be tried, with what was said of it."""
-
-
-def run(command, folder):
-    how = {"stdin": subprocess.DEVNULL, "capture_output": True, "text": True, "errors": "replace"}
-    return subprocess.run(command, cwd=folder, check=False, **how)
 
 
 def leave_one_module(trials, module):
@@ -65,31 +55,29 @@ def of_trials(room, test):
     """The tests of the file that fail."""
     crate, place = TRIALS.fullmatch(test).groups()
     leave_one_module(f"{room}/{crate}/src/tests", place.split("/")[0])
-    said = run(["rt", "try", "--test", "--seconds", "200"], f"{room}/{crate}")
+    said = ran("rt", "try", "--test", "--seconds", "200", cwd=f"{room}/{crate}")
     if said.returncode in (4, 6):
         return ["a test stops, or does not end"]
     told = re.findall(rf"(?m)^test (tests::{place.replace('/', '::')}::\S+) \.\.\. (\w+)", said.stdout)
     if not told:
-        raise NotTried(f"none of its tests was run:\n{said.stdout[-2000:]}{said.stderr[-2000:]}")
+        raise NotTried(f"none of its tests was run:\n{said.stdout[-4000:]}")
     return [name for name, how in told if how != "ok"]
 
 
 def built(room):
     """The program as `rt try` makes it: a device that is copied while it plays, and ends by the datagram it hears."""
-    port, program, said = str(free_port()), f"{room}/bactool", pathlib.Path(f"{room}/said")
+    port, program = str(free_port()), f"{room}/bactool"
     words = ["rt", "try", "--seconds", MOST, "--", "bacdev", "1", "--port", port, "--count", "1"]
-    with said.open("w", encoding="utf-8") as log, socket.socket(socket.AF_INET, socket.SOCK_DGRAM) as desk:
-        device = subprocess.Popen(
-            words, cwd=f"{room}/crates/bactool", stdin=subprocess.DEVNULL, stdout=log, stderr=subprocess.STDOUT
-        )
-        while device.poll() is None:
+    device = Job(words, f"{room}/said", cwd=f"{room}/crates/bactool")
+    with local_socket() as desk:
+        while not device.has_ended():
             for file in programs_with(port):
                 if not os.path.exists(program):
                     shutil.copy(file, program)
                 desk.sendto(b"\x81", ("127.0.0.1", int(port)))
             time.sleep(0.5)
     if not os.path.exists(program):
-        raise NotTried(f"the program was not made:\n{said.read_text('utf-8', 'replace')[-3000:]}")
+        raise NotTried(f"the program was not made:\n{device.said()[-3000:]}")
     return program
 
 
@@ -105,12 +93,12 @@ def of_program(room, test):
     """What the test says of what is not as it is to be."""
     program = built(room)
     words = [f"{ROOT}/tests/program/rows.py", program, test] if test.endswith(".rows") else [f"{ROOT}/{test}", program]
-    ran = run(["timeout", "300", *words, *["tried"] * test.endswith("/failing.py")], ROOT)
-    if ran.returncode == 124:
+    it = ran("timeout", "300", *words, *["tried"] * test.endswith("/failing.py"))
+    if it.returncode == 124:
         return ["it does not end in five minutes"]
-    if ran.returncode not in (0, 1) or "Traceback" in ran.stderr or not ran.stdout:
-        raise NotTried(f"status {ran.returncode}:\n{ran.stdout[-2000:]}{ran.stderr[-2000:]}")
-    return ran.stdout.splitlines()[-1:] if ran.returncode else []
+    if it.returncode not in (0, 1) or "Traceback" in it.stdout or not it.stdout:
+        raise NotTried(f"status {it.returncode}:\n{it.stdout[-4000:]}")
+    return it.stdout.splitlines()[-1:] if it.returncode else []
 
 
 def tried(edit, test):

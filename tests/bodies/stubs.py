@@ -35,8 +35,7 @@ LINKED = "//bazel/native:glibc"
 
 
 def may_be_stub(lines, it):
-    """Whether this function may have one: none that a trait declares, that is constant, that is in a cycle of calls, or
-    whose body has no line of its own."""
+    """Whether it may have one: none of a trait, that is constant, in a cycle of calls, or without a line of its own."""
     head = lines[it.first]
     indent = head[: len(head) - len(head.lstrip())]
     is_of_trait = bool(indent) and "::" not in it.shown
@@ -45,8 +44,8 @@ def may_be_stub(lines, it):
 
 
 def put_stubs(crate, home, texts, is_tried):
-    """Writes a crate into this folder, with these texts of its files, and stubs but for functions of which `is_tried`
-    says, by file and function, that they are tried. What answers goals of the bodies goes with them."""
+    """Writes a crate into this folder, with these texts, and stubs but for functions of which `is_tried` says, by file
+    and function, that they are tried. What answers goals of the bodies goes with them."""
     gone = []
     for path, text in {**sources_of(crate), **texts}.items():
         lines = text.split("\n")

@@ -56,8 +56,7 @@ def unfolded(said):
 
 
 def plain(text):
-    """The words of this text without brackets and references, a named part in the place of its name, and no arithmetic
-    that changes nothing."""
+    """The words of this text without brackets, names of parts, and arithmetic that changes nothing."""
     said, before = f" {' '.join(words(re.sub(r'[iu](?:size|[0-9]+)::MIN', '0', text)))} ", ""
     while said != before:
         before = said
@@ -126,8 +125,7 @@ def closing(text, begin):
 
 
 def branches(twin):
-    """The branches of a twin: what they are entered by, and where what they do begins and ends; those behind `if` and
-    `else`, and arms that answer something else than what they match."""
+    """What the branches of a twin are entered by, and where they begin and end: of `if` and `else`, and arms."""
     for it in re.finditer(r"(?:\bif (?:let .*? = )?[^{}]*?|\belse )\{(?!\s*\})", twin):
         end = closing(twin, it.end() - 1)
         if " => " not in it[0] and end:

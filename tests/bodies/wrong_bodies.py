@@ -1,24 +1,20 @@
 #!/usr/bin/env python3
 """Tries wrong bodies of functions, many in one check, and says of each by what the prover refuses it.
 
-CONTRIBUTING.md (A wrong body) says how one is written, and what shows it to be wrong: values, a proof or a twin. Many
-bodies of a crate stand together in one copy of it, where other functions have stubs for bodies (stubs.py), over the
-libraries of the crates below. A body stands beside its function, as one more function with the same contract, under a
-name of its own. What can't stand so is tried in its function's place, where a round has one of each function: a body of
-a function with answers, or of a method with a trait's contract. Edits of constants and types, which a law refuses, have
-rounds of their own. What is refused for nothing but a callee is tried again alone. A check is asked for copies and laws
-alone, and for the modules of what stands in its function's place: what no edit touches there must be proved. A body is
-refused by a
+CONTRIBUTING.md (A wrong body) says how one is written, and what shows it to be wrong. Many bodies of a crate stand
+together in one copy of it, where other functions have stubs for bodies (stubs.py), over the libraries of the crates
+below. A body stands beside its function, as one more function with the same contract. What can't stand so is tried in
+its function's place, where a round has one of each function: a body of a function with answers, or of a method with a
+trait's contract. Edits of constants and types, which a law refuses, have rounds of their own. What is refused for
+nothing but a callee is tried again alone. What no edit touches must be proved. A body is refused by a
 
     clause  of the function, or its type's invariant; false: there are values at which it does not hold; open: no proof
             is found; limit: none in time
     safety  a callee's `requires`, an index, a sum, a cast
     step    only a loop's invariant that is not kept, or an answer in a proof file that no longer proves its goal
 
-or it is PROVED, which is a hole in the contract. Of a loop, a closure or a function that a body brings less is known
-than holds, and a right one may be refused so at values: these don't show it to be wrong. The status is 0 where each
-body is refused and shown wrong, and each twin and each known hole is proved. Bodies that no longer fit the code are all
-named before any check.
+or it is PROVED, which is a hole in the contract. The status is 0 where each body is refused and shown wrong, and each
+twin and each known hole is proved. Bodies that no longer fit the code are all named before any check.
 """
 import argparse
 import collections
@@ -30,7 +26,6 @@ import re
 import resource
 import shutil
 import signal
-import subprocess
 import sys
 import tempfile
 import time
@@ -40,7 +35,7 @@ import twins
 from edits import CONTROL, EMPTIED, GHOST, GHOSTS, INVARIANT, NEVER, REFUTED, ROOT, TWIN, WRONG
 from edits import IMPL, Edit, entries_of, functions_of, module_of, sources_of, symbol_of
 from stubs import LINKED, PLACE, put_fault, put_stubs
-from tree import all_crates, copy_crate, crates_below, free_memory, processors
+from tree import all_crates, copy_crate, crates_below, free_memory, processors, ran
 
 KINDS = ["clause", "safety", "step", "PROVED", "bad"]
 CHECK_MEMORY = 3000000000  # what a check takes of the machine's memory, in octets
@@ -79,8 +74,7 @@ class Body(Edit):
         return of.name == self.copy.name if self.copy else (path, of.symbols) in own or of.name in self.way_back
 
     def asked(self):
-        """What a check that tries this edit is asked for: a copy; a law, with the modules that get an `impl`; else the
-        function in whose place it stands, or for a trait's method the module."""
+        """What a check of it is asked for: a copy; a law, with modules that get an `impl`; a function, or a module."""
         if self.copy:
             return [self.copy.name]
         if self.is_wide:
@@ -92,8 +86,8 @@ class Body(Edit):
         return [of.shown if "::" in of.shown else "::".join([*module_of(path), of.name])]
 
     def may_be_spoilt(self):
-        """Whether a fault may be its answer: once, where it is to be refused, and not by a type's invariant, which the
-        fault hides. What the fault alone refuses is tried again without it. In a function's place others answer."""
+        """Whether a fault may be its answer: once, where it is to be refused, and not by an invariant, which the fault
+        hides. What the fault alone refuses is tried again without it."""
         is_right = self.part in (TWIN, REFUTED, GHOST) or self.hole or INVARIANT in self.promised
         return not (self.tries or is_right) and bool(self.copy or self.is_wide)
 
@@ -245,9 +239,7 @@ class Round:
                 put_fault(self.crate, here, place)
             names = sorted({name for it in self.edits for name in it.asked()})
             words = [*command(self.crate, over), *(f"--only={name}" for name in names)]
-            how = {"stdin": subprocess.DEVNULL, "stdout": subprocess.PIPE, "stderr": subprocess.STDOUT}
-            ran = subprocess.run(words, cwd=here, text=True, errors="replace", check=False, **how)
-        return ran.stdout, texts
+            return ran(*words, cwd=here).stdout, texts
 
     def judge(self, said, texts):
         """Judges the edits by what the check said. Returns what is refused with no edit in it."""
@@ -265,8 +257,7 @@ class Round:
         return [f"{symbol}: no edit touches it, and it is refused: {goal}" for symbol, goal in strange]
 
     def misfits(self, said, texts):
-        """The edits that make no program, each with what the check says: those in which an error is, or the only edit
-        of a round. The others are tried again."""
+        """The edits that make no program, each with what the check says. The others are tried again."""
         found = {}
         for error in REFUSED.finditer(said):
             path, line = error[1], int(error[2]) - 1
@@ -325,8 +316,7 @@ class Bodies:
             lines.append(f"    {len(bare)} of {len(clauses)} clauses of public functions are left open by no body")
             lines += [f"    no body leaves open {path}: {name}: {it or 'its clause'}" for path, name, it in bare]
         for it in self.edits:
-            shown = "" if it.part else it.shown()
-            if options.goals or (shown == REFUSED_ONLY and options.shown):
+            if options.goals:
                 lines.append(f"    {it.name}: {it.kind}, {it.part or it.told()}: {'; '.join(it.why)}")
         return "\n".join(lines)
 
@@ -391,7 +381,7 @@ def build(crates):
     for it in (it for it in all_crates() if it in crates):
         if not os.path.isdir(library(ROOT, it)):
             return f"no library of {it}: run `make program` first"
-        if subprocess.run(["rt", "lib"], cwd=f"{ROOT}/crates/{it}", stdout=subprocess.DEVNULL, check=False).returncode:
+        if ran("rt", "lib", cwd=f"{ROOT}/crates/{it}", stderr=None).returncode:
             return f"{it} is not proved"
     return ""
 
@@ -416,7 +406,6 @@ def options_of():
     flag, word = functools.partial(parser.add_argument, action="store_true"), parser.add_argument
     flag("--list", help="try nothing: name the bodies that don't fit the code")
     flag("--goals", help="print each refusal, and by what it is shown")
-    flag("--shown", help="print the bodies that are refused and not shown wrong")
     flag("--clauses", help="print the clauses of public functions that no body leaves open")
     flag("--sample", help=f"take {SAMPLE} of each crate that values show wrong, in one check, those of must-fail first")
     word("--only", default="", metavar="PATTERN", help="take the bodies whose CRATE/NAME the pattern is found in")

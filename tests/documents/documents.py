@@ -1,61 +1,37 @@
 #!/usr/bin/env python3
-"""Compares the documents with the tree and with one another. Usage: tests/documents/documents.py; it ends with 1
-where they differ, and says in what.
-
-- docs/CODE.md: each crate of crates.txt has a row, and stands in the drawing below the crates that it rests on.
-  `Beside the crates` names each other folder and file at the top, and each file of docs/, bench/, tests/ and its rooms.
-  Each script of tests/ that can be run is run by a target of make, or `by hand`, as that table says. What each target
-  runs is that of targets.txt, and the program is made of all sources.
-- Each file of src/ begins with a line `//!` that says what it has, and each of specs/ and proofs/ with one `--`, but
-  for lists of modules and answers to single functions. What the head of a library shows stands in its examples; the
-  calls that it shows stand in bac_uses.
-- docs/PROOFS.md, and what README.md says is proved: each name in backquotes is defined in the sources, is a clause, a
-  file or a crate, or one of std's; a law is a function, and a name behind a function, as in "`run`, `notes`", one of
-  its clauses. PROOFS names and counts rightly the functions that have no contract.
-- README.md: the lines of its box stand in docs/GUIDE.md, whose commands are run, and the rule stands so in specs/. It
-  names each crate of the program, and the functions that PROOFS says are trusted. It has at most 125 lines and 1,300
-  words.
-- docs/PROTOCOL.md: the texts of faults are those of the code. Each row of a table is read back from outside: named in
-  pins.txt, once, with the worked row or example that would fail were it wrong in a definition and in the code at once.
-  What is named there stands in the document, and the text which is named for it in its file; a number of three digits
-  or more, or one beside it, stands in these texts too, in decimal or as octets.
-- No type has a `Drop` that is written by hand, which could do anything when a value is let go. bac_pdu has no loop, and
-  no crate from there to bac_device can begin a count of work. Each public constant, and the clone and the `==` of each
-  public type, is said by a law.
-- Links lead to what a package has: a document, or a file of examples/.
-- Python can read each of its files. What has no name or mark of a test in the tests of `bacsite` and of the crates is
-  called by something. Each fault of planted.diff still has its place.
-- Lines have at most 120 columns, in the documents but for tables and what is printed; in scripts; and in src/, specs/
-  and proofs/ but for attributes, which `rt fmt` lays out, and words that are longer.
+"""Compares the documents with the tree and with one another, as the head of each look says. Usage:
+tests/documents/documents.py; it ends with 1 where they differ, and says in what.
 """
 import collections
 import glob
 import os
 import re
-import subprocess
 import sys
 import textwrap
 
 sys.path[:0] = [os.path.dirname(__file__) + "/..", os.path.dirname(__file__) + "/../site"]
 import planted
 from program.rows import LETTERS
-from tree import TOP, all_crates, crates_below, sections_of, text_of
+from sources import code_of
+from tree import TOP, all_crates, crates_below, ran, sections_of, text_of
 
 SOURCES = ["crates/*/src/**/*.rt", "crates/*/specs/**/*.antt", "crates/*/proofs/**/*.antt"]
 OF_STD = {"arrayvec", "byteorder", "clap", "hex", "thiserror", "std", "fault_of", "map", "filter", "flat_map"}
 # What defines a name: of a type or a member, of a variant, of antt, and of a wrong body.
 DEFINES = {
     SOURCES[0]: r"\b(?:struct|enum|trait|const|type|mod|ghost|fn|ensures) +(\w+)|^ +([A-Z]\w*)(?=[,({])",
-    SOURCES[1]: r"^ *(?:(?:abbrev|record|data|pub|unfoldable) +)*(\w+)(?: [^:\n]*)? :",
-    SOURCES[2]: r"^ *(?:(?:abbrev|record|data|pub|unfoldable) +)*(\w+)(?: [^:\n]*)? :",
+    **dict.fromkeys(SOURCES[1:], r"^ *(?:(?:abbrev|record|data|pub|unfoldable) +)*(\w+)(?: [^:\n]*)? :"),
     "crates/*/wrong/*.edits": r"^\[(\w+)\]$",
-    "crates/*/must-fail/*.edit": r"^\[(\w+)\]$",
 }
 TRIALS = {"bac_uses", "bac_trials", "tool_trials"}  # crates that the program does not rest on
 WHOLE = ["docs/", "bench/", "tests/", "tests/[a-z]*/"]  # folders whose row names each file
 PAGES = {"README.md", "CONTRIBUTING.md", "SECURITY.md", "CHANGELOG.md"}
 WELL_KNOWN = PAGES | {"LICENSE", ".gitignore", ".git", "crates", "out"}
 WIDTH = 120
+UNSEEN = {
+    "a `Drop` by hand": (SOURCES[0], r"(?m)^ *impl\b[^{;]*?\bDrop\s+for\s+\w+"),
+    "a loop, whose work is not counted": ("crates/bac_pdu/src/**/*.rt", r"(?m)^ *((?:while|for|loop)\b.*)$"),
+}
 # What tries nothing where nothing calls it: functions beside the tests of bacsite, and of the crates.
 BESIDE_TESTS = {
     "tests/site/*.py": r"(?m)^    def (?!test_|setUp|tearDown|handle_|_)(\w+)\(self",
@@ -91,10 +67,6 @@ def on_one_line(text):
     return " ".join(text.split())
 
 
-def code_of(file):
-    return re.sub(r"//.*" if file.endswith(".rt") else "--.*", "", text_of(file))
-
-
 def files(*places):
     return sorted(file for place in places for file in glob.glob(place, recursive=True) if os.path.isfile(file))
 
@@ -106,6 +78,7 @@ def compare(what, said, there):
 
 
 def map_of_crates(section):
+    """Each crate has a row, and stands in the drawing below the crates that it rests on."""
     below = all_crates()
     yield from compare("the table of crates", names_below(section, "Crate"), {*below})
     drawn = re.search(r"```\n(.*?)```", section, re.S)[1].splitlines()
@@ -118,6 +91,7 @@ def map_of_crates(section):
 
 
 def map_beside_the_crates(section):
+    """Each other folder and file at the top is named, and each file of WHOLE."""
     named = names_below(section, "Folder or file")
     tops = {name + "/" if os.path.isdir(name) else name for name in os.listdir(".") if name not in WELL_KNOWN}
     yield from compare("beside the crates", {name for name in named if "/" not in name.rstrip("/")}, tops)
@@ -128,6 +102,7 @@ def map_beside_the_crates(section):
 
 
 def scripts_are_run(section):
+    """Each script of tests/ that can be run is run by a target of make, or `by hand`, as the map says."""
     runs = text_of("tests/documents/targets.txt") + text_of("tests/parts.py")
     by_hand = {name for row in tables(section) for name in names(row["What it has"].partition("by hand")[2])}
     for file in files("tests/*/*"):
@@ -136,9 +111,8 @@ def scripts_are_run(section):
 
 
 def targets():
-    """A section of targets.txt has what a target runs, or the whole text of a file."""
-    how = {"env": {"PATH": os.environ["PATH"]}, "text": True, "stdout": subprocess.PIPE}
-    made = lambda *words: subprocess.run(["make", "-sB", "--old-file=kit", *words], check=False, **how).stdout
+    """A section of targets.txt has what a target runs, or a whole file. The program is made of all sources."""
+    made = lambda *words: ran("make", "-sB", "--old-file=kit", *words, env={"PATH": os.environ["PATH"]}).stdout
     for name, wanted in sections_of("tests/documents/targets.txt"):
         runs = (text_of(name) if os.path.isfile(name) else made("-n", name)).splitlines()
         if runs != wanted:
@@ -148,6 +122,7 @@ def targets():
 
 
 def what_tries_nothing():
+    """What is no test beside the tests is called; each fault of planted.diff has its place; Python reads its files."""
     for place, pattern in BESIDE_TESTS.items():
         texts = "".join(map(text_of, files(place)))
         for name in re.findall(pattern, texts):
@@ -164,6 +139,8 @@ def what_tries_nothing():
 
 
 def heads_of_sources():
+    """Each file of code says at its head what it has, but for lists of modules and answers to single functions. What
+    the head of a library shows stands in its examples, and the calls that it shows in bac_uses."""
     for file in files(*SOURCES[:2], "crates/*/proofs/*.antt"):
         mark = "//!" if file.endswith(".rt") else "--"
         if not text_of(file).startswith(mark + " ") and not file.endswith(("/Lib.antt", "/Inner.antt")):
@@ -192,6 +169,7 @@ def names_of_sources():
 
 
 def names_of_proofs(document, text, known, clauses):
+    """A name in backquotes is one of the sources or of std, a law a function; in "`run`, `notes`" one is a clause."""
     laws = {name for laws in re.findall(r"laws? ((?:`\w+`(?:, | and )?)+)", text) for name in names(laws)}
     yield from (f"{document}: no law {name} stands in the code" for name in sorted(laws - {*clauses}))
     for name in sorted(set(re.findall(r"`((?:\w+::)*[A-Za-z_]\w+)`", text))):
@@ -203,6 +181,8 @@ def names_of_proofs(document, text, known, clauses):
 
 
 def what_stands_twice(readme, proofs):
+    """README.md shows the rule as specs/ has it, and in its box what the guide does, whose commands are run. It names
+    each crate of the program, and the functions that PROOFS says are trusted. It is short."""
     boxes = re.findall(r"^```(\w*)\n(.*?)^```$", readme, re.M | re.S)
     cases = r"(?m)^  (?:due|end|sends_within|sends) [^:\n]*=.*\n(?: {6}.*\n)*"
     rule = "".join(re.findall(cases, text_of("crates/bac_tsm/specs/Lookahead.antt")))
@@ -223,7 +203,7 @@ def what_stands_twice(readme, proofs):
 
 
 def functions_without_a_contract(section):
-    """A function of a trait's impl has the trait's contract; any other one has what stands at it."""
+    """PROOFS names and counts them. A function of a trait's impl has the trait's contract."""
     every, bare, alone = 0, 0, set()
     for file in files(SOURCES[0]):
         crate, owner = file.split("/")[1], ""
@@ -245,7 +225,7 @@ def functions_without_a_contract(section):
 
 
 def texts_of_faults(section):
-    """The texts are those of the definitions, with N for a number."""
+    """The rules have those of the definitions, with N for a number."""
     equation = re.compile(r"(?m)^(?:\w+_fault_text|usage_told|fault_told)\b.* = (.*codes .*)$")
     said = [it for file in files("crates/*/specs/*.antt") for it in equation.findall(text_of(file))]
     texts = {"".join(it or "N" for it in re.findall(r'codes "(.*?)"|decimal \w+', text)) for text in said}
@@ -253,17 +233,12 @@ def texts_of_faults(section):
     yield from (f"docs/PROTOCOL.md: the fault {text} is told in one place alone" for text in sorted(told ^ texts))
 
 
-def drops_by_hand():
-    for file in files(SOURCES[0]):
-        for found in re.findall(r"(?m)^ *impl\b[^{;]*?\bDrop\s+for\s+\w+", text_of(file)):
-            yield f"{file}: a `Drop` by hand: {on_one_line(found)}"
-
-
-def uncounted_work():
-    """What no clause `walked_once` would see: a loop in bac_pdu, or a count that is begun from there to bac_device."""
-    for file in files("crates/bac_pdu/src/**/*.rt"):
-        for loop in re.findall(r"(?m)^ *((?:while|for|loop)\b.*)$", text_of(file)):
-            yield f"{file}: a loop, whose work is not counted: {loop}"
+def what_no_clause_sees():
+    """A `Drop` by hand, which could do anything when a value is let go; and work that no clause `walked_once` would
+    see: a loop in bac_pdu, or a count that is begun from there to bac_device."""
+    for what, (place, pattern) in UNSEEN.items():
+        for file in files(place):
+            yield from (f"{file}: {what}: {on_one_line(it)}" for it in re.findall(pattern, text_of(file)))
     for crate in ("bac_pdu", "bac_tsm", "bac_device"):
         if "bac_work" in crates_below()[crate]:
             yield f"crates.txt: {crate} can begin a count of work"
@@ -272,6 +247,7 @@ def uncounted_work():
 
 
 def public_names_without_a_law():
+    """Each public constant, and the clone and the `==` of each public type, is said by a law."""
     for crate in sorted({*all_crates()} - TRIALS):
         text = "\n".join(map(text_of, files(f"crates/{crate}/src/**/*.rt")))
         laws = "\n".join(re.findall(r"(?ms)^pub fn [^{]*?\bensures.*?^\{\}$", text))
@@ -303,6 +279,9 @@ def rows_of_rules(parts):
 
 
 def rows_are_read_back(parts):
+    """Each row of the rules is named in pins.txt, once, with a text of the worked row or example that would fail were
+    it wrong in a definition and in the code at once. A number of three digits or more, or one beside it, stands there
+    too, in decimal or as octets."""
     rows, named = rows_of_rules(parts), set()
     for heading, key, places in pins():
         mine = rows.count((heading, key))
@@ -326,6 +305,7 @@ def rows_are_read_back(parts):
 
 
 def wide_lines():
+    """Code has at most 120 columns, but for attributes, which `rt fmt` lays out, and words that are longer."""
     places = [*SOURCES, "Makefile", "*.mk", "*.py", "site/bacsite/**/*.py"]
     for folder in ("bench", "completions", "examples", "man", "packaging", "tests"):
         places += [f"{folder}/**/*.{ending}" for ending in "py sh c awk bash zsh fish service".split()]
@@ -337,6 +317,7 @@ def wide_lines():
 
 
 def links_and_lines():
+    """Links lead to what a package has. Documents have at most 120 columns, but for tables and what is printed."""
     documents = files("*.md", "docs/**/*.md")
     there, anchors = {"LICENSE", *documents, *glob.glob("examples/*")}, {}
     for file in documents:
@@ -370,8 +351,7 @@ def main():
         *what_stands_twice(readme, sections(proofs)),
         *functions_without_a_contract(sections(proofs)["Functions without a clause"]),
         *texts_of_faults(rules["Statuses and faults"]),
-        *drops_by_hand(),
-        *uncounted_work(),
+        *what_no_clause_sees(),
         *public_names_without_a_law(),
         *rows_are_read_back(rules),
         *links_and_lines(),

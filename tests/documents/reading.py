@@ -3,11 +3,10 @@
 its first page, in whose table a row has a page's file, its title, and the calls whose lists it has; `*` stands for each
 public call of the crate that no page before has.
 
-Usage: tests/documents/reading.py [--write | CALL]: compares docs/reading/, and the sizes that README.md tells, with the
-tree; says which public calls stand on no page, which definitions lie in the wrong room, which of those that laws and
-public clauses name no example holds, and which names a file brings in that aren't there, or that it doesn't say; ends
-with 1 where there are any. With --write it writes docs/reading/ anew (make reading). Of a CALL, as bac_tsm::run, it
-prints the list, with what each definition says of itself.
+Usage: tests/documents/reading.py [--write]: compares docs/reading/, and the sizes that README.md tells, with the tree;
+says which public calls stand on no page, which definitions lie in the wrong room, which of those that laws and public
+clauses name no example holds, and which names a file brings in that aren't there, or that it doesn't say; ends with 1
+where there are any. With --write it writes docs/reading/ anew (make reading).
 """
 import collections
 import glob
@@ -18,7 +17,7 @@ import sys
 import textwrap
 
 sys.path.insert(0, os.path.dirname(__file__) + "/..")
-from sources import CLAUSE, CRATES, SOURCES, SPECS, TOKEN, USE, Declared, Definition, Item
+from sources import CLAUSE, CRATES, ROOMS, SOURCES, SPECS, TOKEN, USE, Declared, Definition, Item
 from sources import closed, code_of, defined, parts_of, public_calls, read_tree, uses_in
 from tree import TOP, text_of, write
 
@@ -38,20 +37,17 @@ def size(items):
     return sum(item.lines for item in items)
 
 
-def columns(text, margin=""):
+def columns(text):
     """Lines of at most 120 columns, the later ones set in."""
-    margins = {"initial_indent": margin, "subsequent_indent": f"{margin}  "}
-    return textwrap.fill(text, 120, **margins, break_long_words=False, break_on_hyphens=False)
+    return textwrap.fill(text, 120, subsequent_indent="  ", break_long_words=False, break_on_hyphens=False)
 
 
-def listed(items, comments=False):
+def listed(items):
     """The lines of a list: each file, in the order in which they are first met, and what is read of it from its top."""
     for file in dict.fromkeys(item.file for item in items):
         there = sorted((item for item in items if item.file is file), key=lambda item: item.place)
-        head = f"- **{file.path[len('crates/'):]}** ({size(there)}): "
-        yield columns(head + (file.head if comments else ", ".join(f"`{item.name}`" for item in there)))
-        for item in there if comments else ():
-            yield columns(f"- `{item.name}` ({item.lines}){': ' if item.comment else ''}{item.comment}", "  ")
+        names = ", ".join(f"`{item.name}`" for item in there)
+        yield columns(f"- **{file.path[len('crates/'):]}** ({size(there)}): {names}")
 
 
 def page_of(title, calls):
@@ -148,8 +144,7 @@ def said_by(calls):
 
 def unheld():
     """The definitions that laws and public clauses name and that no example holds: of a relation one clause says that
-    it holds, and one that it does not, or what follows from it; of a number one says it; anything else stands in what
-    one computes. What is seen of a value of the code, a law on its `==` holds."""
+    it holds, and one that it does not; of a number one says it; anything else stands in what one computes."""
     of_files = lambda name: [it for path, file in SOURCES.items() if name in path for it in file.items.values()]
     named = [call for crate in CRATES if crate not in TRIALS for call in public_calls(crate)[0].values()]
     named += [it for name in ("/laws.rt", "/theorems.rt", "/comparing.rt") for it in of_files(name)]
@@ -179,7 +174,7 @@ def unused_or_gone():
             for module, name, here, public in uses_in(uses):
                 if not public and not {*parts_of(here)} <= said:
                     yield f"{path} brings in what it doesn't say: {here}"
-                if name and module in SPECS and not defined(module, name):
+                if name and module in {*SPECS, *ROOMS} and not defined(module, name):
                     yield f"{path} brings in {name}, which {module} hasn't"
 
 
@@ -206,15 +201,9 @@ def main(arguments):
     texts, sizes = pages()
     if arguments == ["--write"]:
         make(texts, sizes)
-    elif arguments:
-        every = {name: call for crate in CRATES for name, call in called(crate).items()}
-        PROBLEMS.extend(f"{one} is no public call with a clause" for one in arguments if one not in every)
-        print("\n".join(listed(closed([every[one] for one in arguments if one in every]), comments=True)))
     else:
         PROBLEMS.extend([*compare(texts, sizes), *rooms(), *unheld(), *unused_or_gone()])
-    if PROBLEMS or not arguments:
-        well = f"tests/documents/reading.py: {len(texts)} pages of {FOLDER} agree with the tree"
-        print("\n".join(PROBLEMS) or well)
+    print("\n".join(PROBLEMS) or f"tests/documents/reading.py: {len(texts)} pages of {FOLDER} agree with the tree")
     return 1 if PROBLEMS else 0
 
 

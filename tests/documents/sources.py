@@ -2,12 +2,9 @@
 
 A definition of specs/ says its signature, its cases, and the parameters of the module round it. A call says its clauses
 and its signature; a trait the same of its methods, and its ghost members; a type of src/ its fields and what its
-`impl Model` shows, and apart from that what its invariant keeps. A name is what the file defines or brings in. The
-prover refuses a file that says any other, so a name that is neither is a variable; so is a small one that is bound:
-before a colon, behind a λ or a `let`, in the pattern of a case.
-
-The layout is rt fmt's: what belongs to a line is set in further. Lines are counted without comments, blank lines and
-attributes.
+`impl Model` shows, and apart from that what its invariant keeps. A name is what the file defines or brings in; any
+other is a variable, and so is a small one that is bound: before a colon, behind a λ or a `let`, in the pattern of a
+case. The layout is rt fmt's. Lines are counted without comments, blank lines and attributes.
 """
 import collections
 import functools
@@ -20,16 +17,18 @@ from tree import all_crates, text_of
 CRATES = all_crates()
 OUTSIDE = {"std", "core", *itertools.chain(*CRATES.values())} - {*CRATES}
 SPECS = {}  # the file of each module of specs/
+ROOMS = {}  # of specs/ and specs/Inner the modules that it passes on, and the names of src/ beside them
 SOURCES = {}  # the files of src/, by their paths
 RUST = {}  # what src/ defines, by crate and name
 MEMBERS = {}  # the ghost members of impl blocks, by type, trait and name
-STD = set("""Option Some None Result Ok Err Vec String Box Drop Copy Clone Debug Default Iterator IntoIterator FnOnce
+STD = set("""Option Result Vec String Box Drop Copy Clone Debug Default Iterator IntoIterator FnOnce
     FnMut Fn From Into Sized PartialEq Eq PartialOrd Ord Send Sync AsRef ToOwned TryFrom TryInto HostRuntime""".split())
 CONSTRUCTORS = {"true", "false", "zero", "suc", "pos", "negsuc", "tt"}  # of std, in small letters
 
 NO_CODE = {
     "rt": re.compile(r"""//.*|[bc]?"(?s:\\.|[^"\\])*"|b?'(?:\\[^'\n]*|[^'\\\n])'|#!?\[[^\]]*\]"""),
     "antt": re.compile(r"(?m)(?:^| )--(?: .*)?$"),
+    "edits": re.compile(r"(?m)^#.*"),
 }
 TOKEN = re.compile(r'"(?:\\.|[^"\\])*"|\[\]|λ|[(){}\[\],;]|[^\s(){}\[\],;λ"]+')
 LABEL = re.compile(r"(?<=[{;])\s*[^\s={;]+ =(?=\s)")  # a field, or an argument by its name
@@ -70,11 +69,10 @@ def leaves(path):
 
 
 def uses_in(code):
-    """What each use line brings in: a module, a name of it, the name here, and whether it is passed on. Where it is the
-    module itself, None stands for the name."""
+    """What use lines bring in: a module, a name of it or None, the name here, and whether it is passed on."""
     for public, path, group, alias in USE.findall(code):
         for leaf in leaves(f"{path}.{group}") if group else ():
-            there, _, here = leaf.partition(" as ")
+            there, _, here = leaf.removeprefix("Rattle.").partition(" as ")
             module, _, name = there.rpartition(".")
             yield module, name, here or name, bool(public)
         if not group:
@@ -105,13 +103,6 @@ class Item:
         """The other items that it says, and the names outside, behind their modules."""
         return [it for it in dict.fromkeys(self.says()) if it is not self]
 
-    @property
-    def comment(self):
-        above = self.file.text[: self.place].split("\n")[-2::-1]
-        above = itertools.takewhile(re.compile(r" *(//|--|#\[|infix)").match, above)
-        said = [line.strip(" /-") for line in above if re.match(r" *(//|--)", line)]
-        return re.sub(r"\[(`[^`\]]*`)\]", r"\1", " ".join(filter(None, said[::-1]))).replace("# Errors", "Errors:")
-
 
 class Definition(Item):
     """A definition of specs/: the parameters round it, its head, and its cases, fields or constructors."""
@@ -132,8 +123,7 @@ class Definition(Item):
 
 
 class Declared(Item):
-    """What src/ declares: its text, and its clauses, each as the names that are brought in there, and its text. What a
-    type shows and what it keeps are such clauses too."""
+    """What src/ declares. A clause, also what a type shows or keeps, is the names brought in there, and its text."""
 
     def __init__(self, file, name, kind, start, end, names, around=""):
         super().__init__(file, name, kind, start, end)
@@ -155,9 +145,7 @@ class File:
     """A file of specs/ or src/, with what it defines, and the names that it brings in."""
 
     def __init__(self, crate, path):
-        self.crate, self.path, self.text, self.code = crate, path, text_of(path), code_of(path)
-        lines = itertools.takewhile(re.compile("(//!|--) ").match, self.text.split("\n"))
-        self.head = " ".join(line.split(" ", 1)[1].strip() for line in lines)
+        self.crate, self.path, self.code = crate, path, code_of(path)
         self.items, self.known, self.names = {}, {}, {}
 
     def lines_in(self, start, end):
@@ -315,7 +303,19 @@ def defined(module, name):
     if ".declared" in module:  # a type of src/, also by its variants and views, or a constant
         *_, last = (part for part in module.split(".") if part not in ("TheVariants", "TheViews"))
         return in_crate(crate, [name if last == "TheConstants" else last])
+    if module in ROOMS:
+        modules, names = ROOMS[module]
+        found = (SPECS[it].find(name) for it in modules)
+        return defined(*names[name]) if name in names else next(filter(None, found), None)
     return SPECS[module].find(name) if module in SPECS else None
+
+
+def passed_on(path):
+    """The modules that specs/Lib or specs/Inner passes on whole, and the names that it passes on."""
+    room = path[len("crates/") :].removesuffix(".antt").removesuffix("/Lib").replace("/", ".")
+    uses = [it for it in uses_in(code_of(path)) if it[3]]
+    modules = [f"{room}.{module[:-2]}" for module, name, *_ in uses if not name]
+    return room, (modules, {here: (module, name) for module, name, here, _ in uses if name})
 
 
 def in_crate(crate, parts):
@@ -330,7 +330,10 @@ def in_crate(crate, parts):
 def read_tree():
     for crate in CRATES:
         for path in sorted(glob.glob(f"crates/{crate}/specs/**/*.antt", recursive=True)):
-            if not path.endswith(("specs/Lib.antt", "specs/Inner.antt")):
+            if path.endswith(("specs/Lib.antt", "specs/Inner.antt")):
+                room, passed = passed_on(path)
+                ROOMS[room] = passed
+            else:
                 file = Specs(crate, path)
                 SPECS[file.module] = file
         for path in sorted(glob.glob(f"crates/{crate}/src/**/*.rt", recursive=True)):

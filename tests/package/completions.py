@@ -4,12 +4,11 @@ and compares. It says which of them is not installed. Usage: tests/package/compl
 """
 import os
 import re
-import subprocess
 import sys
 import tempfile
 
 sys.path.insert(0, os.path.dirname(__file__) + "/..")
-from tree import TOOLS, TOP, left_out, same, shown, text_of, verdict
+from tree import TOOLS, TOP, left_out, ran, same, shown, text_of, verdict
 
 PROGRAM = os.path.realpath(sys.argv[1])
 BASH = """compopt() { offered=($([ $2 = default ] && compgen -f -- "$current" || compgen -d -- "$current")); }
@@ -49,9 +48,7 @@ def rows():
 
 def completed(shell, folder, lines):
     """What the shell completes each of these lines to."""
-    how = {"stdout": subprocess.PIPE, "stderr": subprocess.STDOUT, "text": True, "cwd": folder}
-    said = subprocess.run([*SHELLS[shell], folder, *lines], check=False, **how).stdout
-    parts = re.split(r"(?m)^of (.*)\n", said)
+    parts = re.split(r"(?m)^of (.*)\n", ran(*SHELLS[shell], folder, *lines, cwd=folder).stdout)
     return {line: sorted({it.split("\t")[0].rstrip("/") for it in told.split("\n") if it})
             for line, told in zip(parts[1::2], parts[2::2])}
 
@@ -59,7 +56,7 @@ def completed(shell, folder, lines):
 def main():
     wanted = dict(rows())
     with tempfile.TemporaryDirectory() as folder:
-        subprocess.run([TOP + "/completions/make.py", folder], check=True)
+        ran(TOP + "/completions/make.py", folder)
         os.mkdir(f"{folder}/empty")
         for shell in SHELLS:
             if not left_out(shell):

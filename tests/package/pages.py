@@ -1,9 +1,8 @@
 #!/usr/bin/env python3
 """Compares what manual pages and documents say with the programs: words, options, ranges and defaults with each tool's
-help, faults with the code's texts, and with help and documents what has to be said twice: statuses, version, the
-warnings, how a fault is reported. What they say in numbers is measured, and read back there by the sentences of
-facts.txt: statuses, times, ranges, the points of the small device. Then mandoc reads the pages, and Wireshark, which
-has the standard's numbers from another hand, is asked what it calls those of site/bacsite/numbers.txt.
+help, faults with the code's texts, and with help and documents what has to be said twice. What they say in numbers is
+measured, and read back there by the sentences of facts.txt. Then mandoc reads the pages, and Wireshark, which has the
+standard's numbers from another hand, is asked what it calls those of site/bacsite/numbers.txt.
 Usage: tests/package/pages.py PROGRAM
 """
 import datetime
@@ -15,7 +14,7 @@ import sys
 import tempfile
 
 sys.path.insert(0, os.path.dirname(__file__) + "/..")
-from tree import TOOLS, TOP, device, left_out, plain, put_tools, same, says, sections_of, shown, text_of
+from tree import TOOLS, TOP, device, left_out, plain, put_tools, ran, same, says, sections_of, shown, text_of
 from tree import verdict, write
 
 sys.path.append(TOP + "/man")
@@ -40,21 +39,16 @@ SPELLED += [("per-min$", "per-minute"), (r"\bkilograms-dry", "kilogram-dry")]
 
 
 def alike(what, one, other):
-    """Two lists have to be the same, and not empty."""
-    same(what, one or ["nothing"], other)
+    same(what, one or ["nothing"], other)  # and not empty
 
 
 def help_of(*words):
     return shown(*words, "--help")
 
 
-def page(name):
-    return text_of(f"man/{name}.1")
-
-
 def section(name, title):
     """The lines of a section of a page."""
-    return re.search(rf"(?ms)^\.Sh {title}\n(.*?)(?=^\.Sh |\Z)", page(name))[1]
+    return re.search(rf"(?ms)^\.Sh {title}\n(.*?)(?=^\.Sh |\Z)", text_of(f"man/{name}.1"))[1]
 
 
 def told_in_help(tool):
@@ -75,8 +69,7 @@ def told_on_page(text):
 
 
 def numbers(entries):
-    """The names, each with its ranges and its default: `1 (most urgent) to 16` is `1 to 16`, as is `1, the most urgent,
-    to 16`."""
+    """The names, each with its ranges and its default: `1 (most urgent) to 16` is `1 to 16`."""
     default = r"\[default(?: port)?: [0-9]+|[0-9]+ by default|without a port it is [0-9]+"
     found = []
     for name, text in sorted(entries):
@@ -99,7 +92,7 @@ def words_and_options():
             found = sorted((it.replace("-", " ") for it in found), key=lambda it: int(it.split()[0]))
             alike(word, found, [row for row in known if row in found])
     in_help = re.findall(r"(?m)^ *([0-9]+)  ([A-Z][A-Za-z ]*[a-z])  ", help_of(PROGRAM, "bacwp"))
-    alike("tags", in_help, re.findall(r"(?m)^\.It ([0-9]+)  ([A-Z].*)", page("bacwp")))
+    alike("tags", in_help, re.findall(r"(?m)^\.It ([0-9]+)  ([A-Z].*)", section("bacwp", "DESCRIPTION")))
     alike("tags of the numbers", in_help, [(row[0], row[1]) for row in SECTIONS["Types of a value"]])
     first_words = re.search(r"(?ms)^Lines of a script.*?^A line", help_of(PROGRAM, "bactrace"))[0]
     on_page = re.findall(r"(?m)^\.It Li ([a-z]*) Ar", section("bactrace", "DESCRIPTION"))
@@ -114,7 +107,7 @@ def bacsite():
         options += [f"{command} {it}" for it in re.findall(r"(?m)^  (--?[A-Za-z-]+)(?: .*)?$", text)]
         rows = re.findall(r"(?m)^  (--[a-z-]+) [A-Z]+ +(.*[0-9].*)$", text)
         told.update(row for row in rows if (command, row[0]) != ("survey", "--at-once"))
-    on_page = told_on_page(re.search(r"(?ms)^The options:.*?^\.El", page("bacsite"))[0] + "\n")
+    on_page = told_on_page(section("bacsite", "DESCRIPTION").partition("\nThe options:\n")[2])
     has = []
     for command, text in re.findall(r"(?ms)^\.Cm (\S+)(.*?)(?=^\.Cm |\Z)", section("bacsite", "SYNOPSIS")):
         own = ["-" * marks.count("Fl") + name for marks, name in re.findall(r"(?m)^\.Op ((?:Fl )+)(\S+)", text)]
@@ -125,8 +118,7 @@ def bacsite():
 
 
 def statuses():
-    """The statuses of bactool.1 are those of its help, and each tool's page refers to them. What help says of a tool's
-    statuses, its page says too; and docs/PROTOCOL.md what each means."""
+    """Statuses are those of the help, also of each tool, whose page refers to bactool(1), and of docs/PROTOCOL.md."""
     found = r"(?m)(?:^|: |; |Status )([0-9])[ :]"
     in_help = lambda *tool: sorted({*re.findall(found, "".join(help_of(PROGRAM, *tool).partition("Status")[1:]))})
     texts = re.findall(r"(?m)^\.It ([0-9])\n((?:[^.].*\n)+)", section("bactool", "EXIT STATUS"))
@@ -171,8 +163,6 @@ def versions():
     version = re.match(r"bactool ([\d.]+\d)", help_of(PROGRAM))[1]
     same("version of the program and of CHANGELOG.md", version, changes)
     same("version of bacsite", shown("python3", "site/bacsite", "--version"), f"bacsite {version}\n")
-    named = re.findall(r"/bactool_([0-9.]+)_", text_of("README.md"))
-    same("versions of the packages of README.md", {*named}, {version})
 
 
 def mandoc():
@@ -180,20 +170,18 @@ def mandoc():
         same(f"{path} is as man/tables.py makes it", text_of(path) == text, True)
     if not left_out("mandoc"):
         lint = ["mandoc", "-Tlint", "-Wwarning", *sorted(glob.glob(f"{TOP}/man/*.[17]"))]
-        same("status of mandoc", subprocess.run(lint, check=False).returncode, 0)
+        same("what mandoc says", ran(*lint).stdout, "")
 
 
 def wireshark():
-    """The names of numbers. Units have no field of their own: a read of property 117 that is answered by each number is
-    shown to Wireshark."""
+    """The names of numbers. Units have no field: Wireshark is shown a property 117 that has each number."""
     if left_out("tshark", "text2pcap"):
         return
     fields = shown("sh", "-c", "tshark -G values 2>/dev/null")
     theirs = {title: re.findall(rf"(?m)^V\tbacapp\.{name}\t(\d+)\t(.*)$", fields) for title, name in FIELDS.items()}
     octets = (f"0000 81 0a 00 14 01 00 30 01 0c 0c 00 00 00 05 19 75 3e 91 {it:02x} 3f\n" for it in range(255))
     command = "text2pcap -q -u 47808,47808 - - | tshark -r - -V"
-    how = {"shell": True, "input": "".join(octets), "text": True, "capture_output": True}
-    units = subprocess.run(command, check=True, **how).stdout
+    units = ran("sh", "-c", command, input="".join(octets), stdin=None).stdout
     theirs["Units"] = [(number, name) for name, number in re.findall(r"(?m)^    units: *(.*) \((\d+)\)$", units)]
     for title, found in theirs.items():
         spelled = {number: name.lower() for number, name in found}
@@ -205,8 +193,7 @@ def wireshark():
 
 def run(line):
     """The status of a line of the shell, and what it prints."""
-    how = {"env": SETTINGS, "cwd": TOP, "text": True, "capture_output": True, "timeout": 60}
-    done = subprocess.run(["sh", "-c", line], check=False, stdin=subprocess.DEVNULL, **how)
+    done = ran("sh", "-c", line, env=SETTINGS, timeout=60, stderr=subprocess.DEVNULL)
     return done.returncode, done.stdout
 
 
@@ -220,10 +207,11 @@ def known(rows):
     sends = [found["timeout"] // 1000 * time for time in range(found["retries"] + 2)]
     found.update({"seconds": sends[1], "early": ", ".join(map(str, sends[:-2])), "last": sends[-2], "whole": sends[-1]})
     found.update({"hours": found["turns"] // 3600, "last port": found["first port"] + found["ports"] - 1})
-    found.update((f"{title.split()[0]} {row[1]}", row[0]) for title in FIELDS for row in SECTIONS[title])
+    titles = [*FIELDS, "Types of a value"]
+    found.update((f"{title.split()[0]} {row[1]}", row[0]) for title in titles for row in SECTIONS[title])
     found["others"] = 256 - found["most"]
     times = ["once", "twice", "three times", "four times"][found["site retries"]]
-    return {**found, "site tries": times, "ports of Linux": round(60999 - 32768, -3)}
+    return {**found, "site tries": times, "tries": times.split()[0], "ports of Linux": round(60999 - 32768, -3)}
 
 
 def seen(rows):
@@ -238,21 +226,16 @@ def seen(rows):
     return found
 
 
-def tables_of_the_guide(on):
-    """The status beside each line and each message."""
-    lines, messages = text_of("docs/GUIDE.md").split("\n### What a message can mean\n")
-    row = r"(?m)^\| (.+?) \| (\d(?:, \d)*) \|"
-    for line, status in re.findall(row, lines.split("\n## What a line means")[1]):
+def table_of_the_guide(on):
+    """The status beside each line."""
+    lines = text_of("docs/GUIDE.md").partition("\n## What a line means")[2].partition("\n#")[0]
+    for line, status in re.findall(r"(?m)^\| (.+?) \| (\d(?:, \d)*) \|", lines):
         told = f"{on['words']}, {on['bind']}, 4" if line.startswith("`bactool: `") else str(on["failed"])
         same(f"the status beside {line}", status, str(on["value"]) if line == "a value, `ok`" else told)
-    for message, status in re.findall(row, messages.split("\n## ")[0]):
-        is_late = re.search(r" failed|turns spent", message)
-        same(f"the status beside {message}", status, str(on["bind"] if is_late else on["words"]))
 
 
 def points():
-    """The points on the page of bacdev are those that a survey finds: value, states, whether it has priorities. Answers
-    how many there are, in a word."""
+    """The points on the page of bacdev are those that a survey finds. Answers how many there are, in a word."""
     table = re.search(r"(?ms)^The points;.*?^\.El", text_of("man/bacdev.1"))[0]
     on_page = re.findall(r"(?m)^\.It (\d+:\d+) Ta (.*?) Ta (.*)$", re.sub(r" \([^)]*\)", "", table))
     there = []
@@ -289,8 +272,7 @@ def properties():
 
 
 def examples():
-    """What the pages show is run against the small device, and prints what they show, where they show it; and the pages
-    that they refer to are there."""
+    """What the pages show is run, and prints what they show; and the pages that they refer to are there."""
     for path in sorted(glob.glob(f"{TOP}/man/*.[17]")):
         text = text_of(path).replace("\\", "").replace("/var/lib/prometheus/node-exporter", ROOM.name)
         for name in {*re.findall(r"\bXr (\S+ [0-9])", text)}:
@@ -316,7 +298,7 @@ def facts():
         measured.update(seen(rows.pop("Statuses")))
     for document, sentences in rows.items():
         says(document, *(sentence.format_map(measured) for sentence in sentences))
-    tables_of_the_guide(measured)
+    table_of_the_guide(measured)
 
 
 def main():

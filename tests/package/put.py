@@ -4,21 +4,18 @@ PREFIX was copied or moved. Then packs the program, and looks at the package: it
 itself what the tree says, and lintian finds no error. Usage: tests/package/put.py PROGRAM; the package needs dpkg-deb,
 strip, objdump and gzip, and it says so.
 """
-import email.utils
 import filecmp
 import gzip
-import hashlib
 import os
 import pathlib
 import re
 import shutil
 import stat
-import subprocess
 import sys
 import tempfile
 
 sys.path.insert(0, os.path.dirname(__file__) + "/..")
-from tree import TOOLS, TOP, WRONG, left_out, same, shown, text_of, verdict
+from tree import TOOLS, TOP, WRONG, left_out, ran, same, shown, text_of, verdict
 
 PROGRAM = os.path.realpath(sys.argv[1])
 VERSION = re.match(r"bactool ([\d.]+\d)", shown(PROGRAM, "--help"))[1]
@@ -35,8 +32,7 @@ PUT = """bin/TOOL bactool, share/man/man1/TOOL.1 644, share/bash-completion/comp
 
 def told(*words, status=0, **settings):
     """What a command prints, with these settings; that it ends so is a part of the test."""
-    how = {"stdout": subprocess.PIPE, "stderr": subprocess.STDOUT, "text": True, "cwd": TOP}
-    done = subprocess.run(words, check=False, env={**ENVIRONMENT, **settings}, **how)
+    done = ran(*words, env={**ENVIRONMENT, **settings})
     same(f"status of {' '.join(words)[:90]} ({done.stdout.strip()[-200:]})", done.returncode, status)
     return done.stdout
 
@@ -95,14 +91,10 @@ def what_is_put(room):
                        ("share/man/man1/bacdev.1", "/opt/tools/share/doc/bactool/examples"),
                        (f"{DOC}/examples/bacdev.service", "\nExecStart=/opt/tools/bin/bacdev ")]:
         same(f"{path} has {text}", text in (room.put / path).read_text(encoding="utf-8"), True)
-    for document in (room.put / DOC).glob("**/*.md"):
-        for link in re.findall(r"\]\(([^)#:\s]+)[)#]", document.read_text(encoding="utf-8")):
-            same(f"{document.name}: {link} leads somewhere", (document.parent / link).exists(), True)
 
 
 def what_is_replaced(room, count):
-    """Its own files are replaced without a word; another's are not, and nothing else is put then. What an earlier
-    version put and this one does not have is taken away, where it is still as it was put."""
+    """Another's files are not replaced, and nothing is put then. What an earlier version put is taken away."""
     tool, other = room.put / "bin/bacrp", room.put / "bin/bacwi"
     room.tries("files and links")
     tool.unlink()
@@ -148,19 +140,18 @@ def outside(room, _):
     other = room.top / "opt/other"
     other.write_text("other\n")
     paths = ["/opt/other", "../other"]
-    left = "".join(f"left there, since it is not below /opt/tools: {path}\n" for path in paths)
-    for word in (PROGRAM, "--remove"):
+    for word, said in ((PROGRAM, "files and links"), ("--remove", "taken away")):
         for path in paths:
             room.lists(other, path)
-        room.tries(left, word)
+        room.tries(said, word)
     room.has(1)
 
 
 def places(room):
     """Where nothing else is said, it is all below /usr/local, as README.md has it."""
     room.tries("below /usr/local", PREFIX="")
-    same("README.md there", (room.top / "usr/local" / DOC / "README.md").exists(), True)
-    same("the place of bacrp", (room.top / "usr/local/bin/bacrp").exists(), True)
+    there = [(room.top / "usr/local" / path).exists() for path in (f"{DOC}/README.md", "bin/bacrp")]
+    same("README.md and bacrp are there", there, [True, True])
     place = "into /usr/local/bin, documents into /usr/local/share/doc/bactool"
     same(f"README.md says: {place}", place in text_of("README.md"), True)
     room.tries("taken away from /usr/local", "--remove", PREFIX="")
@@ -196,25 +187,14 @@ def what_a_package_says(room, package):
     same("the C library of README.md", re.search(r"GNU C library (\d[\d.]*)", readme)[1], libc)
     for text in (f"# {os.path.dirname(os.path.relpath(PROGRAM, TOP))}/{name}\n", f"./{name}`"):
         same(f"README.md has {text}", text in readme, True)
-    there = [it for it in (room.top / "there").glob("**/*") if it.is_file() and not it.is_symlink()]
-    sums = {f"{hashlib.md5(it.read_bytes()).hexdigest()}  {it.relative_to(room.top / 'there')}" for it in there}
-    same("sums of the files", {*read("control/md5sums").splitlines()}, sums)
+    files = [it for it in (room.top / "there").glob("**/*") if it.is_file() and not it.is_symlink()]
+    sums = told("md5sum", *sorted(map(str, files))).replace(f"{room.top}/there/", "")
+    same("sums of the files", read("control/md5sums"), sums)
     changes = gzip.decompress((room.top / f"there/usr/{DOC}/changelog.gz").read_bytes()).decode()
-    same("the head of the changelog", changes.splitlines()[0], f"bactool ({VERSION}) unstable; urgency=medium")
-    entries = text_of("CHANGELOG.md").partition(f"## {VERSION} ")[2].partition("\n## ")[0]
-    same("entries of the changelog", len(re.findall(r"(?m)^  \* ", changes)), len(re.findall(r"(?m)^- ", entries)))
-    same("its first entry", re.search(r"(?m)^- (.{30})", entries)[1] in " ".join(changes.split()), True)
-    day = email.utils.parsedate_to_datetime(changes.splitlines()[-1].split("  ")[-1])
-    same("the day of the changelog", day.isoformat(), f"{DAY}T00:00:00+00:00")
-    copyright_of = read(f"there/usr/{DOC}/copyright").split("License: Expat\n")[-1]
-    licence = re.search(r"(?ms)^Permission .*^SOFTWARE\.$", text_of("LICENSE"))[0]
-    same("the licence", re.sub(r"(?m)^ \.?", "", copyright_of).strip(), licence)
-
-
-def lintian(package):
-    if not left_out("lintian"):
-        found = told("lintian", "--fail-on", "none", "--allow-root", package).splitlines()
-        same("errors that lintian finds", [line for line in found if line.startswith("E: ")], [])
+    wanted = f"bactool ({VERSION}) unstable; urgency=medium", told("date", "-uRd", DAY).strip()
+    same("version and day of the changelog", (changes.splitlines()[0], changes.rpartition("  ")[2].strip()), wanted)
+    licence = read(f"there/usr/{DOC}/copyright").partition("License: Expat\n")[2]
+    same("the licence", re.sub(r"(?m)^ \.?", "", licence), text_of("LICENSE"))
 
 
 def the_package(room):
@@ -228,7 +208,9 @@ def the_package(room):
         same("two packages of one program", filecmp.cmp(package, again, shallow=False), True)
         files_of_the_package(room, package)
         what_a_package_says(room, package)
-        lintian(package)
+        if not left_out("lintian"):
+            found = told("lintian", "--fail-on", "none", "--allow-root", package)
+            same("errors that lintian finds", re.findall("(?m)^E: .*", found), [])
 
 
 def main():

@@ -1,9 +1,8 @@
-/* Loaded in front of the C library, it says on the descriptor 3, where that is open, each call of a program that has to
-   do with sockets, copies a descriptor, reads, writes or reads the clock, and of a wait that is set its microseconds.
-   The call with the number FAILED, from 1, fails by the error with the number ERRNO. Where SHORT is set, a send that
-   fails sends all, and says that it sent an octet less. Where ONE_OCTET is set, a read gives at most one octet. The
-   request for memory that has the number REFUSED among those fails, and is said. By the clock only waits take time:
-   each receive that does not fail takes as long as was set. */
+/* Loaded in front of the C library, it says on the descriptor 3 each call of a program that has to do with sockets,
+   copies a descriptor, reads, writes or reads the clock, and of a wait that is set its microseconds. The call with the
+   number FAILED, from 1, fails by the error ERRNO. Where SHORT is set, a send that fails sends all, and says that it
+   sent an octet less. Where ONE_OCTET is set, a read gives at most one octet. The request for memory with the number
+   REFUSED fails, and is said. By the clock only waits take time: each receive that does not fail takes what was set. */
 #define _GNU_SOURCE
 #include <dlfcn.h>
 #include <errno.h>

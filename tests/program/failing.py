@@ -1,15 +1,13 @@
 #!/usr/bin/env python3
 """Refuses each request for memory that the program makes, one in each run: it has to end with `out of memory` and
-status 4. And has each call of the program to the system fail so, by each of the errors below: opening a socket,
-sending, receiving, reading, writing. Every such run has to end with status 3 and the line of its fault, after a front
-of what it prints otherwise. But where a receive fails by what is silence, it goes on as if nothing had come, and where
-the clock fails later, as if no time had passed; a device goes on where it can't send a reply, too. Each run, also one
-that goes on, makes the calls that are wanted (RUNS, SERVED), each as often, and no others.
+status 4. And has each call of the program to the system fail so, by each of the errors below: the run has to end with
+status 3 and the line of its fault, after a front of what it prints otherwise. But where a receive fails by what is
+silence, it goes on as if nothing had come, and where the clock fails later, as if no time had passed; a device goes on
+where it can't send a reply, too. Each run makes the calls that are wanted (RUNS, SERVED), and no others.
 
-Usage: tests/program/failing.py PROGRAM [tried]; it needs cc, and says so where there is none. Of a program that
-`rt try` has made (`tried`) no request for memory is refused, since it has its memory from elsewhere. But there it shows
-whether what was searched of a line is searched again at each read, which takes some six times as long as it should: a
-program that LLVM makes searches so fast that its reads hide it.
+Usage: tests/program/failing.py PROGRAM [tried]; it needs cc. Of a program that `rt try` has made (`tried`) no request
+for memory is refused, since it has its memory from elsewhere. But there it shows whether what was searched of a line is
+searched again at each read: a program that LLVM makes searches so fast that its reads hide it.
 """
 import errno
 import glob
@@ -24,9 +22,8 @@ from collections import namedtuple
 sys.path.insert(0, os.path.dirname(__file__) + "/..")
 from tree import TOP, failing_library, free_port, text_of
 
-# The errors, by what a receive that fails so is: a fault; a fault to the tool that sent, since its peer refuses what
-# was sent, or no way leads there, while a device has its peers from strangers; and silence to both, an interruption or
-# a time that is over.
+# The errors, by what a receive that fails so is: a fault; a fault to the tool that sent, since its peer refuses, or no
+# way leads there, while a device has its peers from strangers; and silence to both.
 FAULTS = ["EIO", "EPERM", "ENOBUFS"]
 REFUSALS = ["ECONNREFUSED", "ECONNRESET", "ENETUNREACH", "EHOSTUNREACH"]
 SILENCE = ["EINTR", "EAGAIN", "ETIMEDOUT"]
@@ -90,8 +87,8 @@ def expect(is_so, what, ended):
 
 
 def is_fault(ended, call, whole="", status=3):
-    """The last calls are this one and the telling; between them the clock is read where no socket could be copied, and
-    many requests write what was still to be printed. The fault is its, and what was printed is a front of the whole."""
+    """The last calls are this one and the telling, but for the clock behind `fcntl` and what bacrun still writes. The
+    fault is its, and what was printed is a front of the whole."""
     is_told = ended.error == f"bactool: {LINES[call]}\n"
     more = ["clock_gettime"] * (call == "fcntl"), ["write"] * (ended.words[:1] == ["bacrun"])
     is_last = any(ended.said[-2 - len(it):] == [call, *it, "tell"] for it in more)
@@ -174,8 +171,7 @@ def calls_of_the_system():
 
 
 def searching():
-    """Of a script that comes one octet a read, lines of the greatest length may take three times the time that short
-    lines of as many octets take."""
+    """One octet a read, lines of the greatest length may take three times what short lines of as many octets take."""
     took = []
     for length in (32, 4096):
         begun = os.times().children_user

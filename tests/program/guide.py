@@ -2,11 +2,10 @@
 """Runs every command of docs/GUIDE.md in one shell, against the demonstration device, and compares what comes out with
 what the guide shows. Usage: tests/program/guide.py PROGRAM
 
-A block that begins with ```console has commands behind `$ `, whose further lines begin with `> `; all other lines are
-what they print. A block that begins with ```console and a program's name is left out where that program is not
-installed. A command that ends in `&` runs on, until all others have ended; the next waits until its port is taken.
-Where port 47808 or 48000 is taken, another one is put in its place all over the guide. Behind all others come the lines
-of crontab, with each of its points in the file, and the command for Nagios, as Nagios would run it.
+A block that begins with ```console has commands behind `$ `, whose further lines begin with `> `; a program's name
+behind that says which one it needs. A command that ends in `&` runs on, until all others have ended; the next waits
+until its port is taken. Where port 47808 or 48000 is taken, another one is put in its place. Behind all others come the
+lines of crontab, with each of its points in the file, and the command for Nagios, as Nagios would run it.
 """
 import difflib
 import os
@@ -19,6 +18,7 @@ import tempfile
 sys.path.insert(0, os.path.dirname(__file__) + "/..")
 from tree import TOP, Job, end_by_signals, free_port, left_out, put_tools, text_of
 
+TIMES = ["[1-5]?[0-9]", "1?[0-9]|2[0-3]", "[12]?[1-9]|[123]0|31", "[1-9]|1[0-2]", "[0-7]"]  # of a line of crontab
 # Waits, for ten seconds at most, until a socket has the port.
 UNTIL_TAKEN = "for _ in {1..1000}; do grep -q ' [0-9A-F]*:%04X ' /proc/net/udp && break; sleep 0.01; done\n"
 
@@ -34,16 +34,13 @@ def with_ports(text, first, second):
 
 
 def scheduled(line, address):
-    """A command that prints whether a line of crontab, or the command of a check, does what it is to do: the first
-    makes a file that has each point of its list, the second prints a line for Nagios."""
+    """A command that prints whether a line of crontab makes a file of each point, or a check a line for Nagios."""
     words = {"HOSTADDRESS": address, "ARG1": "60:80", "ARG2": "50:90", "ARG3": "0 5 85"}
     told, run = re.fullmatch(r"(.*?)/usr/local/bin/(.*)", line).groups()
     if told.split() == ["command_line"]:
         command = re.sub(r"\$(\w+)\$", lambda it: words[it[1]], run)
         return f'[ "$({command})" = "BACNET OK - 72.3 | value=72.3;60:80;50:90" ] && echo well'
-    times = re.fullmatch(r"(\*|\d+)(?:/[1-9]\d*)? " * 5, told)
-    most = (59, 23, 31, 12, 7)  # minute, hour, day, month, day of the week
-    if not times or "%" in run or any(it != "*" and int(it) > last for it, last in zip(times.groups(), most)):
+    if not re.fullmatch("".join(rf"(?:\*|{it})(?:/[1-9]\d*)? " for it in TIMES), told) or "%" in run:
         return f"echo no line of crontab: {line!r}"
     file = run.split()[-1]
     place = "put/" + os.path.basename(file)
@@ -66,8 +63,7 @@ def commands(first, second):
 
 
 def script(rows, first, second):
-    """A script of the commands, each of which finds the status of the one before; and what it is to print: each
-    command, and behind it what it prints."""
+    """A script of the commands, each of which finds the status of the one before; and all that it is to print."""
     text, shown = "status=0\n", ""
     for command, printed in rows:
         text += f"echo {shlex.quote('$ ' + command)}\n(exit $status)\n{command}\nstatus=$?\n"

@@ -1,9 +1,7 @@
 #!/usr/bin/env python3
-"""Runs the scripts of examples/ and the scripts and command lines of rows/ by the built program, and compares output,
-errors and status.
-
-Usage: tests/program/rows.py PROGRAM [FILE..]: all that there is, or the rows of these files alone. Each script is run
-twice: whole, and with one octet at each read, which needs cc.
+"""Runs the scripts of examples/ and the scripts and command lines of rows/ by the built program, each script also with
+one octet at each read, and compares output, errors and status. Usage: tests/program/rows.py PROGRAM [FILE..]: all that
+there is, or the rows of these files alone.
 
 Rows are parted by blank lines. The mark at the front of a line says what the rest of it is:
 
@@ -26,8 +24,7 @@ In a line, P, Q, M, V and A as whole words stand for the texts below, Z for an a
 options by which a tool asks there, {93*x} for 93 times x, [0100..] for the datagram whose link header has these octets
 behind it, and \\n, \\r, \\t and \\xff for octets. {1..300*x} is x for each of these numbers, which stands for each # of
 it, and for each ## as one octet, the last of the number; and {cut 810a0017*x} is x for each front of these octets,
-which stands for each #.
-A backslash at the end of a line says that no line feed follows.
+which stands for each #. A backslash at the end of a line says that no line feed follows.
 """
 import glob
 import os
@@ -115,8 +112,7 @@ def filled(row):
 
 
 def with_numbers(line, row):
-    """The line with its number at both ends, where the row holds, and one past them, with the fault. clap sees a number
-    below 0 marked."""
+    """The line with its number at both ends, and one past them, with the fault. clap sees one below 0 marked."""
     if "N" not in row:
         return [(line, None)]
     least, most = map(int, row["N"][0].split())

@@ -1,10 +1,7 @@
 #!/usr/bin/env python3
 """Runs bacrun against two peers of this machine, A and B, which answer by the plans of runs.txt: datagrams that are
 lost, doubled, late or of somebody else, stations behind routers, one who is dead beside one who is busy, a run that is
-held up, values of many lines; and as many requests at once as there may be. Of each run the journal is a script by
-which bactrace prints its remarks, octet for octet; the peers heard what the remarks say was sent, and nothing else;
-each line of the input stands there as it was, until the one that ends the run; no more requests were open than the
-window says; and none took longer than timeout and retries say.
+held up, values of many lines; and as many requests at once as there may be. `check` says what holds of each run.
 
 Usage: tests/program/runs.py PROGRAM
 """
@@ -32,8 +29,7 @@ Run = namedtuple("Run", "status fault journal heard seconds")
 
 
 def answer_to(octets, has_route):
-    """What a device answers to this request: of a read the object's instance, of an analog value so many bits, and of a
-    binary input that there is none; of a write that it was made."""
+    """The answer: of a read the object's instance, or so many bits of an analog value; a binary input is not there."""
     route = octets[6 : 9 + octets[8]] if octets[5] & 32 else b""
     apdu = octets[6 + len(route) + bool(route) :]
     kind, instance = divmod(int.from_bytes(apdu[5:9], "big"), 1 << 22)
@@ -132,50 +128,22 @@ def in_short(remark):
 
 def tried(program, place, row):
     """A row is as it is to be."""
-    [options], [plan], lines = row["$"], row["@"], row["<"]
+    options, plan, wanted = (braced(row[mark][0]) for mark in "$@>")
     groups = [[] if group == "-" else group.split(",") for group in plan.split()]
-    text, it = run(program, options, braced("\n".join(lines)), groups)
+    text, it = run(program, options, braced("\n".join(row["<"])).replace("\\n", "\n"), groups)
     remarks = map(in_short, check(place, program, options, text, it))
-    same(place, [one for one in remarks if "flood" not in plan or one != "drop"], row[">"][0].split(", "))
+    same(place, [one for one in remarks if "flood" not in plan or one != "drop"], wanted.split(", "))
     status, _, fault = row.get("!", ["0"])[0].partition(" ")
     same(f"{place}: the end", (it.status, it.fault), (int(status), f"bactool: {fault}\n" if fault else ""))
     timeout, retries = map(int, re.findall(r"--apdu-\w+ (\d+)", options))
-    most = len(lines) * (timeout / 1000 + 1) * (retries + 1) + 1
+    most = len(text.splitlines()) * (timeout / 1000 + 1) * (retries + 1) + 1
     same(f"{place}: {it.seconds:.1f} seconds", it.seconds < most, True)
-
-
-def many():
-    """A row of 130 requests, of which 64 are open: the peers answer once they have all of these, the last one first."""
-    backwards = lambda first, last: list(range(last, first - 1, -1))
-    lines = [f"read A 0 {it} 85" for it in range(130)]
-    plan = ["-"] * 130
-    for first, last in (0, 63), (64, 127), (128, 129):
-        plan[last] = ",".join(map(str, backwards(first, last)))
-    ends, later = [f"send {it}" for it in range(64)], iter(range(64, 130))
-    for it in backwards(0, 63) + backwards(64, 127) + backwards(128, 129):
-        ends += [f"done {it} value {it}", *(f"send {one}" for one in [next(later, None)] if one)]
-    return "many", {"$": [f"{SLOW} --window 64"], "<": lines, "@": [" ".join(plan)], ">": [", ".join(ends)]}
-
-
-def at_a_terminal(program):
-    """The answer to a line is there before the next one is typed."""
-    words = [program, "bacrun", *SLOW.split()]
-    with local_socket() as field, subprocess.Popen(words, stdin=subprocess.PIPE, stdout=subprocess.PIPE) as process:
-        for number in (7, 8):
-            process.stdin.write(b"read 127.0.0.1:%d 0 %d 85\n" % (field.getsockname()[1], number))
-            process.stdin.flush()
-            octets, desk = field.recvfrom(2048)
-            field.sendto(answer_to(octets, True), desk)
-            while not (line := process.stdout.readline()).startswith(b"# done"):
-                same("more is printed", line != b"", True)
-            same("what is printed before the next line", line, b"# done %d value %d\n" % (number - 7, number))
 
 
 def main(program):
     signal.alarm(300)
     with ThreadPoolExecutor(4) as pool:
-        list(pool.map(lambda row: tried(program, *row), [*blocks(f"{TOP}/tests/program/runs.txt"), many()]))
-    at_a_terminal(program)
+        list(pool.map(lambda row: tried(program, *row), blocks(f"{TOP}/tests/program/runs.txt")))
     return verdict("ends, replays and lines of runs are as they are to be")
 
 

@@ -1,8 +1,7 @@
 #!/usr/bin/env python3
-"""Runs the built program over sockets of this machine, at ports that nobody else gets: a device beside streams that are
-closed, at each address, to the end of its count, and at a port that is taken; and datagrams of each length from 1,000
-octets to the longest, 2,047, which are heard whole, as a longer one is not at all. Usage: tests/program/sockets.py
-PROGRAM
+"""Runs the built program over sockets of this machine: a device beside streams that are closed, at each address, to
+the end of its count, and at a port that is taken; and datagrams of each length from 1,000 octets to 2,047, which are
+heard whole, as a longer one is not at all. Usage: tests/program/sockets.py PROGRAM
 """
 import contextlib
 import os
@@ -12,7 +11,7 @@ import subprocess
 import sys
 
 sys.path.insert(0, os.path.dirname(__file__) + "/..")
-from tree import TOP, device, is_taken, local_socket, same, verdict
+from tree import TOP, device, is_taken, local_socket, ran, same, verdict
 
 PROGRAM = os.path.realpath(sys.argv[1])
 LONGEST = 2047
@@ -24,7 +23,7 @@ SOME = [1000, 1023, 1024, 1025, 1472, 1473, 1476, 1477, 1496, 1497, 1498, 1500, 
 
 def told(*words):
     """The status and the text of a run."""
-    ended = subprocess.run([PROGRAM, *words], stdout=subprocess.PIPE, stderr=subprocess.STDOUT, text=True, timeout=60)
+    ended = ran(PROGRAM, *words, timeout=60)
     return ended.returncode, ended.stdout
 
 
@@ -65,18 +64,14 @@ def datagram(length, head):
 
 
 def heard_by_a_device():
-    """It is asked to write a string to a point that takes none: the answer is an error (2, 9: another type). What lost
-    an octet is not as long as it says, and would be ignored."""
+    """Written a string, a point refuses it (2, 9). What lost an octet is not as long as it says, and is ignored."""
     with device(program=[PROGRAM]) as (_, port), local_socket() as desk:
         desk.settimeout(10)
         desk.connect(("127.0.0.1", port))
         for length in range(1000, LONGEST + 1):
-            try:
-                for it in (LONGEST + 1, length):
-                    desk.send(datagram(it, bytes([0, 5, it % 256, 15]) + POINT)[0])
-                answer = desk.recv(LONGEST).hex()
-            except OSError as why:
-                return same(f"an answer to {length} octets", why, None)
+            for it in (LONGEST + 1, length):
+                desk.send(datagram(it, bytes([0, 5, it % 256, 15]) + POINT)[0])
+            answer = desk.recv(LONGEST).hex()
             same(f"an answer to {length} octets", answer, f"810a000d010050{length % 256:02x}0f91029109")
 
 
@@ -99,13 +94,9 @@ def heard_by_tools():
 def ports():
     """No command is given the port of one that runs, though no socket has it yet; a port of IPv6 alone is taken."""
     tree = f"python3 {TOP}/tests/tree.py"
-    given = subprocess.check_output(f"{tree} sh -c '{tree} echo; echo $0'", shell=True).split()
-    same("different ports", len(set(given)), 2)
-    if not os.path.exists("/proc/net/udp6"):
-        print("tests/program/sockets.py: a port of IPv6 is left out, since the system has none")
-        return
-    with socket.socket(socket.AF_INET6, socket.SOCK_DGRAM) as other:
-        other.setsockopt(socket.IPPROTO_IPV6, socket.IPV6_V6ONLY, 1)
+    given = ran("sh", "-c", f"{tree} sh -c '{tree} echo; echo $0'").stdout.split()
+    same("different ports", len({*given}), 2)
+    with contextlib.suppress(OSError), socket.socket(socket.AF_INET6, socket.SOCK_DGRAM) as other:
         other.bind(("::1", int(given[0])))
         same("a port of IPv6 is taken", is_taken(given[0]), True)
 

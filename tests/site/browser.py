@@ -1,5 +1,5 @@
 #!/usr/bin/env python3
-"""Tries the page of a survey in headless Chromium, by hand. Usage: browser.py [FOLDER for screenshots]
+"""Tries the page of a survey in headless Chromium, where that is installed. Usage: browser.py [FOLDER for pictures]
 
 Filter, sort, without a script, no error, nothing asked for from outside; of a page of 10 devices
 with 600 objects, some of them hostile, and 3 silent ones.
@@ -9,20 +9,20 @@ import base64
 import json
 import os
 import random
+import shutil
 import subprocess
 import sys
 import tempfile
 
 import harness  # noqa: F401  it makes bacsite known
+from bacsite.device import Device, SiteObject
 from bacsite.page import page_of
-from bacsite.survey import Device, SiteObject
 from bacsite.values import NOTHING, Kind, Value
 
-TYPES = (0, 1, 2, 4, 13, 20, 300)
+KINDS = (0, 1, 2, 4, 13, 20, 300)
 PLACES = "Supply Return Outdoor Zone Mixed Chilled Hot Exhaust".split()
-THINGS = "air temperature,valve command,fan status,pressure,humidity,flow,damper position,setpoint".split(
-    ","
-)
+THINGS = "air temperature,valve command,fan status,pressure,humidity,flow,damper position,setpoint"
+FLAGS = [(), ("in-alarm",), ("fault",), ("overridden",), ("out-of-service",), ("in-alarm", "fault"), None]
 ODD = [
     "<script>alert(1)</script>",
     "\u202eesrever",
@@ -37,20 +37,11 @@ ODD = [
 
 def objects_of(dice, count):
     for at in range(count):
-        kind = dice.choice(TYPES)
+        kind = dice.choice(KINDS)
         number = round(dice.uniform(-40, 120), 1)
         if kind >= 3:
             number = dice.randrange(2) if kind == 4 else dice.randrange(1, 5)
-        flags = [
-            "normal",
-            "in-alarm",
-            "fault",
-            "overridden",
-            "out-of-service",
-            "in-alarm, fault",
-            "",
-        ]
-        name = "AHU-%d %s %s" % (at // 12 + 1, dice.choice(PLACES), dice.choice(THINGS))
+        name = "AHU-%d %s %s" % (at // 12 + 1, dice.choice(PLACES), dice.choice(THINGS.split(",")))
         yield SiteObject(
             kind,
             at + 1,
@@ -58,8 +49,10 @@ def objects_of(dice, count):
             NOTHING if kind in (20, 300) else Value(Kind.NUMBER, "%g" % number),
             {4: ("inactive", "active")[number == 1], 13: "Occupied"}.get(kind, ""),
             dice.choice(["degrees-celsius", "percent", "pascals"]) if kind < 3 else "",
-            dice.choices(flags, [60, 4, 3, 3, 3, 1, 2])[0],
-            ["present-value: error 2 31"] if dice.random() < 0.03 else [],
+            dice.choices(FLAGS, [60, 4, 3, 3, 3, 1, 2])[0],
+            held="8 (manual-operator)" if kind == 1 and dice.random() < 0.1 else "",
+            description=dice.choice(ODD) if dice.random() < 0.05 else "",
+            reasons=["present-value: error 2 31"] if dice.random() < 0.03 else [],
         )
 
 
@@ -68,7 +61,7 @@ def devices_of(dice):
         address, asked = "192.0.2.%d:47808" % (at * 3 + 7), "2026-11-27T08:%02d:03Z" % at
         name = "AHU controller %d, floor %d" % (at + 1, at // 2)
         found = list(objects_of(dice, 60))
-        yield Device(address, 1000 + at, name, "Property tools", "bacdev", found, asked=asked)
+        yield Device(address, 1000 + at, name, "Property tools", "bacdev", objects=found, asked=asked)
         if at in (2, 5, 8):
             silent = "192.0.2.%d:47808" % (at * 3 + 8)
             yield Device(silent, reasons=["timeout"], asked=asked)
@@ -77,7 +70,7 @@ def devices_of(dice):
 class Browser:
     """Chromium at the other end of two pipes, one page of it."""
 
-    def __init__(self, folder):
+    def __init__(self, program, folder):
         down, self.out = os.pipe()
         self.into, up = os.pipe()
 
@@ -85,28 +78,16 @@ class Browser:
             os.dup2(down, 30), os.dup2(up, 31)
             os.dup2(30, 3), os.dup2(31, 4)
 
-        command = [
-            "chromium",
-            "--headless=new",
-            "--no-sandbox",
-            "--disable-gpu",
-            "--hide-scrollbars",
-            "--remote-debugging-pipe",
-            "--user-data-dir=" + folder,
-            "--no-first-run",
-            "about:blank",
-        ]
+        options = "headless=new no-sandbox disable-gpu hide-scrollbars remote-debugging-pipe no-first-run"
+        words = ["--" + it for it in [*options.split(), "user-data-dir=" + folder]]
         self.process = subprocess.Popen(
-            command, preexec_fn=pipes, close_fds=False, stderr=subprocess.DEVNULL
+            [program, *words, "about:blank"], preexec_fn=pipes, close_fds=False, stderr=subprocess.DEVNULL
         )
         os.close(down), os.close(up)
         self.count, self.rest, self.events, self.session = 0, b"", [], None
-        target = next(
-            it for it in self.call("Target.getTargets")["targetInfos"] if it["type"] == "page"
-        )
-        self.session = self.call(
-            "Target.attachToTarget", targetId=target["targetId"], flatten=True
-        )["sessionId"]
+        pages = [it for it in self.call("Target.getTargets")["targetInfos"] if it["type"] == "page"]
+        target = {"targetId": pages[0]["targetId"], "flatten": True}
+        self.session = self.call("Target.attachToTarget", **target)["sessionId"]
         for domain in "Page", "Runtime", "Log", "Network":
             self.call(domain + ".enable")
 
@@ -145,29 +126,31 @@ class Browser:
             raise RuntimeError(got["exceptionDetails"])
         return got["result"].get("value")
 
-    def shot(self, path, width, height, scheme, full=False):
-        self.call(
-            "Emulation.setDeviceMetricsOverride",
-            width=width,
-            height=height,
-            deviceScaleFactor=1,
-            mobile=False,
-        )
-        self.call(
-            "Emulation.setEmulatedMedia",
-            features=[{"name": "prefers-color-scheme", "value": scheme}],
-        )
-        more = {"captureBeyondViewport": True} if full else {}
+    def size(self, width, height=844):
+        more = {"deviceScaleFactor": 1, "mobile": False}
+        self.call("Emulation.setDeviceMetricsOverride", width=width, height=height, **more)
+
+    def keep(self, method, path, **params):
+        """What a method makes, in a file."""
         with open(path, "wb") as file:
-            file.write(base64.b64decode(self.call("Page.captureScreenshot", **more)["data"]))
+            file.write(base64.b64decode(self.call(method, **params)["data"]))
+
+    def close(self):
+        self.process.terminate()
+        self.process.wait()
 
 
-SHOWN = """[...document.querySelectorAll('section.device tbody tr')].filter(it => it.getClientRects().length).length"""
+VISIBLE = "filter(it => it.getClientRects().length)"
+SHOWN = "[...document.querySelectorAll('section.device tbody tr')].%s.length" % VISIBLE
+SILENT = "[...document.querySelectorAll('section.device')].%s.every(it => it.textContent.includes('timeout'))"
+COLUMN = "[...document.querySelectorAll('#d0 tbody tr')].map(it => it.cells[%d].textContent)"
 TYPE = """(() => { const box = document.getElementById('filter'); box.value = %s;
   box.dispatchEvent(new Event('input')); })()"""
-COLUMN = """[...document.querySelectorAll('#d0 tbody tr')].map(it => it.cells[%d].textContent)"""
+TOLD = "document.getElementById('told').textContent"
+ONLY_ODD = "document.getElementById('only').click()"
 CLICK = "document.querySelectorAll('#d0 th button')[%d].click()"
 WIDER = "document.documentElement.scrollWidth > document.documentElement.clientWidth"
+FAULTS = ("Runtime.exceptionThrown", "Log.entryAdded", "Runtime.consoleAPICalled")
 
 
 def number(text):
@@ -177,123 +160,109 @@ def number(text):
         return None
 
 
-def main():
-    folder = (sys.argv[1:] or [None])[0]
-    checks, wrong = 0, []
+def filtered(browser, total):
+    """What holds, and whether it does, of the filter."""
+    shown = lambda words: browser.value(TYPE % json.dumps(words)) or browser.value(SHOWN)
+    yield "all rows shown", browser.value(SHOWN) == total
+    yield "bar shown", browser.value("!document.querySelector('.bar').hidden")
+    some = shown("fault")
+    yield "filter", 0 < some < total
+    yield "told", browser.value(TOLD).startswith("%d of %d " % (some, total))
+    yield "a silent device alone", shown("timeout") == 0 and browser.value(SILENT % VISIBLE)
+    yield "words of device and row", 0 < shown("controller 1, AHU-1") <= 60
+    shown("")
+    browser.value(ONLY_ODD)
+    yield "only odd", 0 < browser.value(SHOWN) < total
+    browser.value(ONLY_ODD)
+    yield "all rows again", browser.value(SHOWN) == total
 
-    def check(name, good):
-        nonlocal checks
-        checks += 1
-        if not good:
-            wrong.append(name)
 
-    with tempfile.TemporaryDirectory() as profile:
-        path = profile + "/page.html"
-        with open(path, "wb") as file:
-            for part in page_of(list(devices_of(random.Random(5))), "2026-11-27T08:11:00Z"):
-                file.write(part.encode())
-        browser = Browser(profile)
+def numbers(browser):
+    return [it for it in map(number, browser.value(COLUMN % 3)) if it is not None]
+
+
+def sorted_by_a_click(browser):
+    """The same of the order of the rows."""
+    browser.value(CLICK % 3)
+    values = numbers(browser)
+    yield "sorted by value", values == sorted(values) and len(set(values)) > 5
+    browser.value(CLICK % 3)
+    yield "sorted down", numbers(browser) == sorted(values, reverse=True)
+    browser.value(CLICK % 0)
+    objects = [tuple(map(int, it.split(":"))) for it in browser.value(COLUMN % 0)]
+    yield "sorted by object", objects == sorted(objects)
+    sorts = "document.querySelectorAll('#d0 th[aria-sort]').length"
+    yield "one sorted column", browser.value(sorts) == 1
+    browser.value("document.querySelectorAll('.devices th button')[0].click()")
+
+
+def looks(browser):
+    """The same of what a page is made of, and of how wide it is."""
+    scripts = browser.value("document.querySelectorAll('script').length")
+    yield "no script ran from a name", scripts == 1
+    for width in 1280, 390, 320:
+        browser.size(width)
+        yield "nothing past the edge at %d" % width, not browser.value(WIDER)
+
+
+def alone(browser, url, total):
+    """The same without the script; and what was asked for, and went wrong, all the while."""
+    browser.call("Emulation.setScriptExecutionDisabled", value=True)
+    browser.open(url)
+    yield "readable without the script", browser.value(SHOWN) == total
+    yield "no bar without the script", browser.value("document.querySelector('.bar').hidden")
+    sent = [it["params"] for it in browser.events if it.get("method") == "Network.requestWillBeSent"]
+    asked = {it["request"]["url"] for it in sent}
+    yield "only itself is asked for: %s" % asked, asked == {url}
+    faults = [it for it in browser.events if it.get("method") in FAULTS]
+    yield "no errors: %s" % faults, not faults
+
+
+def pictures(browser, folder):
+    """How it looks, for people."""
+    for name, width, height in ("desktop", 1280, 900), ("phone", 390, 844):
+        browser.size(width, height)
+        for scheme in "light", "dark":
+            features = [{"name": "prefers-color-scheme", "value": scheme}]
+            browser.call("Emulation.setEmulatedMedia", features=features)
+            browser.value("window.scrollTo(0, 0)")
+            browser.keep("Page.captureScreenshot", "%s/%s-%s-top.png" % (folder, name, scheme))
+            browser.value("document.getElementById('d2').scrollIntoView()")
+            browser.keep("Page.captureScreenshot", "%s/%s-%s-device.png" % (folder, name, scheme))
+    browser.call("Emulation.setEmulatedMedia", media="", features=[])
+    browser.keep("Page.printToPDF", folder + "/print.pdf", preferCSSPageSize=True)
+
+
+def tried(browser, url, folder):
+    """What holds, and whether it does."""
+    browser.open(url)
+    total = browser.value("Number(document.getElementById('told').dataset.all)")
+    yield from filtered(browser, total)
+    yield from sorted_by_a_click(browser)
+    yield from looks(browser)
+    if folder:
+        pictures(browser, folder)
+    yield from alone(browser, url, total)
+
+
+def main(folder=None):
+    program = shutil.which("chromium") or shutil.which("chromium-browser")
+    if not program:
+        print("tests/site/browser.py: Chromium is not installed, left out")
+        return 0
+    with tempfile.TemporaryDirectory() as room:
+        with open(room + "/page.html", "w", encoding="utf-8") as file:
+            file.writelines(page_of(list(devices_of(random.Random(5))), "2026-11-27T08:11:00Z"))
+        browser = Browser(program, room + "/profile")
         try:
-            browser.open("file://" + path)
-            total = browser.value("Number(document.getElementById('told').dataset.all)")
-            check("all rows shown", browser.value(SHOWN) == total)
-            check("bar shown", browser.value("!document.querySelector('.bar').hidden"))
-            browser.value(TYPE % json.dumps("fault"))
-            some = browser.value(SHOWN)
-            check("filter", 0 < some < total)
-            check(
-                "told",
-                browser.value("document.getElementById('told').textContent").startswith(
-                    "%d of" % some
-                ),
-            )
-            browser.value(TYPE % json.dumps("timeout"))
-            check(
-                "a silent device alone",
-                browser.value(SHOWN) == 0
-                and browser.value(
-                    "[...document.querySelectorAll('section.device')].filter(it => it.getClientRects().length)"
-                    ".every(it => it.textContent.includes('timeout'))"
-                ),
-            )
-            browser.value(TYPE % json.dumps("controller 1, AHU-1"))
-            check("words of device and row", 0 < browser.value(SHOWN) <= 60)
-            browser.value(TYPE % '""')
-            browser.value("document.getElementById('only').click()")
-            check("only odd", 0 < browser.value(SHOWN) < total)
-            browser.value("document.getElementById('only').click()")
-            check("all rows again", browser.value(SHOWN) == total)
-            browser.value(CLICK % 3)
-            values = [it for it in map(number, browser.value(COLUMN % 3)) if it is not None]
-            check("sorted by value", values == sorted(values) and len(set(values)) > 5)
-            browser.value(CLICK % 3)
-            values = [it for it in map(number, browser.value(COLUMN % 3)) if it is not None]
-            check("sorted down", values == sorted(values, reverse=True))
-            browser.value(CLICK % 0)
-            objects = [tuple(map(int, it.split(":"))) for it in browser.value(COLUMN % 0)]
-            check("sorted by object", objects == sorted(objects))
-            check(
-                "one sorted column",
-                browser.value("document.querySelectorAll('#d0 th[aria-sort]').length") == 1,
-            )
-            browser.value("document.querySelectorAll('.devices th button')[0].click()")
-            check(
-                "no script ran from a name",
-                browser.value("document.querySelectorAll('script').length") == 1,
-            )
-            for width in 1280, 390, 320:
-                browser.call(
-                    "Emulation.setDeviceMetricsOverride",
-                    width=width,
-                    height=844,
-                    deviceScaleFactor=1,
-                    mobile=False,
-                )
-                check("nothing past the edge at %d" % width, not browser.value(WIDER))
-            for name, width, height in ("desktop", 1280, 900), ("phone", 390, 844):
-                for scheme in "light", "dark":
-                    if folder:
-                        browser.value("window.scrollTo(0, 0)")
-                        browser.shot(
-                            "%s/%s-%s-top.png" % (folder, name, scheme), width, height, scheme
-                        )
-                        browser.value("document.getElementById('d2').scrollIntoView()")
-                        browser.shot(
-                            "%s/%s-%s-device.png" % (folder, name, scheme), width, height, scheme
-                        )
-            if folder:
-                browser.call("Emulation.setEmulatedMedia", media="", features=[])
-                pdf = browser.call("Page.printToPDF", preferCSSPageSize=True)
-                with open(folder + "/print.pdf", "wb") as file:
-                    file.write(base64.b64decode(pdf["data"]))
-            browser.call("Emulation.setScriptExecutionDisabled", value=True)
-            browser.open("file://" + path)
-            check("readable without the script", browser.value(SHOWN) == total)
-            check(
-                "no bar without the script", browser.value("document.querySelector('.bar').hidden")
-            )
-            requests = [
-                it["params"]["request"]["url"]
-                for it in browser.events
-                if it.get("method") == "Network.requestWillBeSent"
-            ]
-            check(
-                "only itself is asked for: %s" % set(requests), set(requests) == {"file://" + path}
-            )
-            faults = [
-                it
-                for it in browser.events
-                if it.get("method") in ("Runtime.exceptionThrown", "Log.entryAdded")
-                or it.get("method") == "Runtime.consoleAPICalled"
-            ]
-            check("no errors: %s" % faults, not faults)
+            found = list(tried(browser, "file://%s/page.html" % room, folder))
         finally:
-            browser.process.terminate()
-            browser.process.wait()
-    print("%d of %d hold" % (checks - len(wrong), checks))
+            browser.close()
+    wrong = [name for name, holds in found if not holds]
+    print("tests/site/browser.py: %d of %d hold in Chromium" % (len(found) - len(wrong), len(found)))
     for name in wrong:
         print("wrong:", name)
     return bool(wrong)
 
 
-sys.exit(main())
+sys.exit(main(*sys.argv[1:]))

@@ -11,6 +11,7 @@ import atexit
 import os
 import re
 import shutil
+import signal
 import subprocess
 import sys
 import tempfile
@@ -24,6 +25,7 @@ TOP = os.path.realpath(os.path.dirname(os.path.abspath(__file__)) + "/../..")
 TOOL = os.path.realpath(os.environ.get("BACTOOL", TOP + "/crates/bactool/out/bactool"))
 sys.path.insert(0, TOP + "/site")
 PATIENCE = ["--apdu-timeout", "300"]
+SIGNALS = (signal.SIGINT, signal.SIGHUP, signal.SIGTERM)
 
 
 class World:
@@ -103,6 +105,16 @@ class SiteTest(unittest.TestCase):
 
     def run_site(self, *words, **more):
         return self.world.run(*map(self.spelled, words), **more)
+
+    def begun(self, *words, **more):
+        """The program, as it runs: its streams are pipes, and signals end it."""
+        return subprocess.Popen(
+            [*self.world.command, *map(self.spelled, words)],
+            stdout=subprocess.PIPE,
+            stderr=subprocess.PIPE,
+            preexec_fn=lambda: [signal.signal(it, signal.SIG_DFL) for it in SIGNALS],
+            **more,
+        )
 
     def stand_in(self, values, kind=StandIn, **more):
         """A stand-in, whose address is HERE."""

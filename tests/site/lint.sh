@@ -1,5 +1,5 @@
 #!/usr/bin/env bash
-# The types of bacsite by mypy, and its style by pylint. It says which of them is not installed.
+# The types of bacsite by mypy, its style by pylint, and its page in Chromium. Each says where it is not installed.
 set -euo pipefail
 cd "$(dirname "$0")/../../site"
 
@@ -15,3 +15,4 @@ looks() {
 
 looks mypy --config-file pyproject.toml --cache-dir ../out/mypy --no-error-summary
 looks pylint --rcfile pyproject.toml --persistent n --score n
+python3 ../tests/site/browser.py

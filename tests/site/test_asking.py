@@ -9,9 +9,11 @@ import harness
 from bacsite import addresses, calls, reasons, survey
 from bacsite.controller import Controller
 from bacsite.device import Bounds, Device, SiteObject
-from bacsite.earlier import Earlier
+from bacsite.earlier import Earlier, Known
 from bacsite.reasons import Why
 from bacsite.report import Columns, Counts, PollList
+from bacsite.search import Search
+from bacsite.standard import What
 from bacsite.values import Kind, Value
 from quick import QuickCalls
 from stand_ins import LateStandIn, StandIn, an_object, bits, enumerated, real, string, unsigned
@@ -118,11 +120,32 @@ class Order(unittest.TestCase):
         self.assertEqual([words[0] for words in many.begun], ["bacrun", "bacwi"])
         self.assertIn("1", begun[0])
 
+    def test_who_else_is_there_is_asked_beside_the_rest(self):
+        many = QuickCalls({A: device(11)})
+        begun = []
+
+        def start(words, until=0.0):
+            begun.append((words[0], len(many.asked)))
+            return QuickCalls.start(many, words, until)
+
+        many.start = start
+        self.surveyed(many, [A])
+        self.assertEqual(begun, [("bacrun", 0), ("bacwi", 1)], "once it is known which device it is")
+
+    def test_a_search_waits_for_whom_it_was_sent_to(self):
+        lines = ["12 %s/5/01 480 3 9" % A, "11 %s 1476 3 9" % A, "", "12 %s/5/01 480 3 9" % A]
+        many = QuickCalls({A: device(11)}, heard=lines)
+        search = Search(many, A + "/5/02", 1000, time.monotonic() + 9)
+        search.wait_for(A, 5)
+        self.assertEqual(many.search.lines, lines[2:], "what is behind its answer is not waited for")
+        self.assertEqual(search.heard(), [(12, A + "/5/01"), (11, A)])
+        self.assertEqual(many.begun, [["bacwi", "--mac", A, "--apdu-timeout", "1000"]])
+
     def asked(self, values, numbers, **more):
         """Which analog inputs are asked for in turn, and the reasons that come."""
         many = QuickCalls({A: {(0, at, 85): value for at, value in values.items()}}, **more)
         with Controller(many, A) as controller:
-            found = controller.ask_all([(0, at, 85) for at in numbers])
+            found = controller.ask_all([What(0, at, 85) for at in numbers])
         return [it[2] for it in many.asked], [it.reason for it in found]
 
     def test_in_turn(self):
@@ -141,7 +164,7 @@ class Order(unittest.TestCase):
         values = {(0, at, 85): real("42290000") for at in range(99)}
         many = QuickCalls({A: values}, 8, lost={(0, 20, 85), (0, 50, 85)})
         with Controller(many, A) as controller:
-            controller.ask_all(list(values))
+            controller.ask_all([What(*it) for it in values])
         windows = [words[words.index("--window") + 1] for words in many.begun]
         self.assertEqual(windows, ["8", "4", "2"])
 
@@ -174,7 +197,7 @@ class Order(unittest.TestCase):
             values = {**device(11), **elements, (8, 11, 76, 0): unsigned(40), (8, 11, 76): ("abort", 4)}
             many = QuickCalls({A: values}, window)
             with Controller(many, A) as controller:
-                found = controller.elements(99, 8, 11, 76)
+                found = controller.elements(99, What(8, 11, 76))
             lost = ["element %d of 40: timeout" % at for at in (5, 6)]
             left = 40 - len(found.found) - found.lost
             self.assertEqual(found.reasons[:2], lost)
@@ -187,8 +210,8 @@ class Order(unittest.TestCase):
             for window in 1, 2, 4:
                 many = QuickCalls({A: values}, window)
                 with Controller(many, A) as controller:
-                    controller.ask(0, 1, 77)
-                    whats = [(0, 1, 77), (0, 1, 28), (0, 1, 77), (0, 1, 77), (0, 1, 28)]
+                    controller.ask(What(0, 1, 77))
+                    whats = [What(0, 1, it) for it in (77, 28, 77, 77, 28)]
                     found = controller.values(whats)
                 self.assertEqual([len(it.text) for it in found], [4, shown, 4, 4, shown])
 
@@ -201,6 +224,15 @@ class Lists(unittest.TestCase):
             text = found.of(Device(address, 9, objects=[point]), Columns())
             names_ += [line.split()[0] for line in text.splitlines()[1:]]
         self.assertEqual(names_, ["9.Room_1", "9.Room_1.0.5", "9.Room_1.0.5'"])
+
+
+class Changes(unittest.TestCase):
+    def test_what_was_not_read_is_no_change(self):
+        known = Known(9, {"name": "D", "vendor": "V", "model": "M"}, "1", {})
+        device = Device(A, 9, vendor="V", model="M", reasons=["object-name: timeout"])
+        self.assertEqual(Earlier({A: known}).changes_of(device), [])
+        device.reasons = []
+        self.assertEqual(Earlier({A: known}).changes_of(device), ["name was D"])
 
 
 class PortNumbers(unittest.TestCase):
@@ -272,7 +304,7 @@ class Window(harness.SiteTest):
     def test_a_debugger_is_told_where_it_failed(self):
         env = {**harness.os.environ, "BACSITE_DEBUG": "1", "PYTHONPATH": ""}
         broken = self.path("broken.py", "import sys\nsys.path.insert(0, sys.argv[1])\n"
-                           "from bacsite import main, words\nwords.COMMANDS['read'] = 'read.NONE'\n"
+                           "from bacsite import commands, main\ncommands.COMMANDS['read'] = 'read.NONE'\n"
                            "sys.argv[1:] = ['read']\nmain.run()\n")
         for told in ({}, env):
             done = harness.subprocess.run([self.world.command[0], broken, harness.TOP + "/site"],

@@ -4,7 +4,7 @@ import unittest
 from building import CLIENT, DEVICE, datagrams, wrapped
 from bacsite.bodies import error_body, read_ack, read_body, region_text, write_body
 from bacsite.messages import message_of
-from bacsite.names import form_of
+from bacsite.standard import What, form_of
 from bacsite.answers import outcome_of
 
 VALUES = """
@@ -78,6 +78,8 @@ class Values(unittest.TestCase):
             (read_ack, "0c0000000519553e3f", ((0, 5, 85), "", None)),
             (read_ack, "0c0000000519553e444290999a", None),
             (read_ack, "0c0000000519553e0e1f3f", None),
+            (read_ack, "0c0000000519553ef9ff053f", None),
+            (read_ack, "0c0000000519553ef9fe053f", ((0, 5, 85), "f9fe05", None)),
             (read_ack, "0c0000000519553e72003f3f", ((0, 5, 85), "72003f", None)),
             (read_ack, "0c0000000519553e0e3f0f3f", None),
             (read_ack, "0c0000000519553e0e21050fff03", ((0, 5, 85), "0e21050f", None)),
@@ -96,7 +98,7 @@ class Values(unittest.TestCase):
             with self.subTest(octets=octets):
                 body = reads(bytes.fromhex(octets))
                 found = body and (
-                    body.what,
+                    tuple(body.what.numbers()),
                     None if body.value is None else body.value.hex(),
                     body.priority,
                 )
@@ -146,7 +148,7 @@ class Forms(unittest.TestCase):
             ((1, 1, 87, 8), (4, 0), False),
         ):
             with self.subTest(what=what):
-                form = form_of(what)
+                form = form_of(What(*what))
                 self.assertEqual((form.tags, form.is_list), (tags, is_list))
 
 

@@ -1,6 +1,7 @@
 """Calls: late answers, those about other points, busy and slow controllers, tools that fail."""
 
 import os
+import resource
 import struct
 import subprocess
 import sys
@@ -9,7 +10,8 @@ import unittest
 
 import alone
 import harness
-from bacsite import calls, session
+from bacsite import calls, journals, session
+from bacsite.standard import What
 from building import wrapped
 from stand_ins import LateStandIn, StandIn, real, string, unsigned
 
@@ -58,7 +60,7 @@ class WhoseAnswer(harness.SiteTest):
             for head in "0100", "01080005010a", "0120ffff00ff":
                 with self.subTest(asked=asked, told=told, head=head):
                     ended = session.Ended("value 42290000", ack(told, head=head))
-                    self.assertEqual(session.answer_of(ended, asked), wanted)
+                    self.assertEqual(session.answer_of(ended, What(*asked)), wanted)
         for outcome, apdu, wanted in (
             ("ok", "20010c", "bad-ack"),
             ("bad-ack", "30010c0c", "bad-ack"),
@@ -69,8 +71,8 @@ class WhoseAnswer(harness.SiteTest):
             ("abort 4", "710104", "abort 4"),
         ):
             ended = session.Ended(outcome, bytes.fromhex(wrapped(apdu)))
-            self.assertEqual(session.answer_of(ended, (0, 1, 85)), (b"", wanted))
-        self.assertEqual(session.answer_of(session.Ended("timeout"), (0, 1, 85)), (b"", "timeout"))
+            self.assertEqual(session.answer_of(ended, What(0, 1, 85)), (b"", wanted))
+        self.assertEqual(session.answer_of(session.Ended("timeout"), What(0, 1, 85)), (b"", "timeout"))
 
     def test_the_reader_is_compared_with_the_proved_printer(self):
         octets = ack((0, 1, 85))
@@ -82,7 +84,7 @@ class WhoseAnswer(harness.SiteTest):
             ("value 3", b"", "it reads no answer and bactool value 3 in nothing"),
             ("value 3", b"\x81\x0a\0\4", "it reads no answer and bactool value 3 in 810a0004"),
         ):
-            found = session.answer_of(session.Ended(outcome, datagram), (0, 1, 85))
+            found = session.answer_of(session.Ended(outcome, datagram), What(0, 1, 85))
             self.assertEqual((found.region, found.reason[:20]), (b"", "a fault of bacsite: "))
             end = datagram.hex() if told.endswith("in ") else ""
             self.assertEqual(found.reason[20:], told + end)
@@ -210,6 +212,39 @@ class Calls(harness.SiteTest):
             sends += told.count("# send")
         self.assertEqual(sends, device.heard)
         self.rows("read HERE 0 1 85 --journal IN/none => 3 !no folder: IN/none")
+
+    def test_a_journal_on_a_full_disk(self):
+        """What was read is shown all the same; a status that alerts stays."""
+        folder = self.world.folder + "/full"
+        os.mkdir(folder)
+        full = {"before": lambda: resource.setrlimit(resource.RLIMIT_FSIZE, (150, 150))}
+        path = self.names["DEV"].replace(":", "_")
+        for number, (words, status, shown) in enumerate(
+            (
+                ("read DEV 0 5 85", 3, "72.3\n"),
+                ("check DEV 0 5 85", 3, "BACNET OK - 72.3 | value=72.3;~:;~:\n"),
+                ("check -c 80: DEV 0 5 85", 2, "BACNET CRITICAL - 72.3 | value=72.3;~:;80:\n"),
+                ("read DEV 0 5 9999", 3, "error 2 32\n"),
+                ("survey 1000@DEV --list", 3, ""),
+            ),
+            1,
+        ):
+            with self.subTest(words=words):
+                found = self.run_site(*words.split(), "--journal", folder, **full)
+                name = "%s/%s-%d.trace" % (folder, path, number)
+                told = "bacsite: cannot write %s: File too large\n" % name
+                out = shown or found[1]
+                self.assertEqual((found, os.path.getsize(name)), ((status, out, told), 150))
+        self.assertEqual(found[1].count("1000@"), 11)
+
+    def test_a_journal_that_can_not_be_begun(self):
+        folder = self.world.folder + "/gone"
+        os.mkdir(folder)
+        kept = journals.Journals(folder)
+        os.rmdir(folder)
+        kept.begun("192.0.2.7:47808/5/01").add("client 1 0 0")
+        told = "cannot write %s/192.0.2.7_47808_5_01: No such file or directory" % folder
+        self.assertEqual(kept.fault, told)
 
     def test_tools_that_fail(self):
         os.mkdir(self.world.folder + "/odd")

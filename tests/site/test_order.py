@@ -132,12 +132,7 @@ class Group(harness.SiteTest):
             for device in slow:
                 device.asked.clear()
             words = ["poll", path, "--apdu-timeout", "30000"]
-            with subprocess.Popen(
-                [*self.world.command, *words],
-                stdout=subprocess.PIPE,
-                stderr=subprocess.PIPE,
-                start_new_session=True,
-            ) as process:
+            with self.begun(*words, start_new_session=True) as process:
                 while not all(it.asked for it in slow):
                     self.assertIsNone(process.poll())
                 begun = time.monotonic()

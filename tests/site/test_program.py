@@ -17,9 +17,9 @@ from contextlib import suppress
 
 import harness
 import bacsite
-from stand_ins import local_socket, real, string
+from bacsite.processes import Processes
+from stand_ins import enumerated, local_socket, real, string
 
-SIGNALS = (signal.SIGINT, signal.SIGHUP, signal.SIGTERM)
 # The names that stand in front of each line of the package's text.
 LINES = re.findall(r"(?m)^    ([a-z_/]+(?:, [a-z_/]+)*)", bacsite.__doc__)
 MODULES = [name for line in LINES for name in line.split(", ")]
@@ -37,6 +37,14 @@ def imported(name, node):
     folder = f"{harness.TOP}/site/bacsite/{inner}"
     there = [it.name for it in node.names if os.path.isfile(f"{folder}{it.name}.py")]
     return {inner + it for it in there}
+
+
+def left_running(word):
+    """The processes that have this word, but for those that go within two seconds."""
+    for _ in range(40):
+        found = still_running(word)
+        time.sleep(0.05 * bool(found))
+    return found
 
 
 def still_running(word):
@@ -108,6 +116,16 @@ class Surroundings(harness.SiteTest):
             )
 
 
+class Running(unittest.TestCase):
+    def test_lines_that_came_together(self):
+        words = ["sh", "-c", "printf 'a\nb\nc'; exec sleep 9"]
+        process = Processes().start(words, time.monotonic() + 20)
+        self.assertEqual((process.line(), process.is_ready(0), process.line()), ("a", True, "b"))
+        self.assertFalse(process.is_ready(0.05))
+        process.kill()
+        self.assertEqual(process.outcome().lines, ["c"])
+
+
 class Streams(harness.SiteTest):
     def test_full_and_closed_streams(self):
         words = ("read", "DEV", "0", "5", "85")
@@ -159,12 +177,7 @@ class Signals(harness.SiteTest):
             here = "127.0.0.1:%d" % dead.getsockname()[1]
             path = self.path("some-%s" % here, "p %s 0 1 85" % here)
             command, *rest = words.replace("LIST", path).replace("HERE", here).split()
-            process = subprocess.Popen(
-                [*self.world.command, command, "--apdu-timeout", LONG, *rest],
-                stdout=subprocess.PIPE,
-                stderr=subprocess.PIPE,
-                preexec_fn=lambda: [signal.signal(it, signal.SIG_DFL) for it in SIGNALS],
-            )
+            process = self.begun(command, "--apdu-timeout", LONG, *rest)
             dead.recv(99)
             process.send_signal(number)
             begun = time.monotonic()
@@ -181,16 +194,24 @@ class Signals(harness.SiteTest):
             "write HERE 0 1 5",
             "prometheus LIST %s/s.prom" % folder,
         )
-        ends = [(number, words) for number in SIGNALS for words in commands]
+        ends = [(number, words) for number in harness.SIGNALS for words in commands]
         with ThreadPoolExecutor(6) as pool:
             for (number, words), found in zip(ends, pool.map(lambda it: self.ended(*it), ends)):
                 self.assertEqual(found, (-number, b"", b"", True), words)
-        for _ in range(40):  # what is killed takes a moment to go
-            left = still_running(LONG)
-            time.sleep(0.05 * bool(left))
-        self.assertEqual(
-            (left, [name for name in os.listdir(folder) if "s.prom" in name]), ([], [])
-        )
+        self.assertEqual(left_running(LONG), [])
+        self.assertEqual([name for name in os.listdir(folder) if "s.prom" in name], [])
+
+    def test_they_end_a_write(self):
+        """bacwp, which prints nothing meanwhile, would not see that nobody hears it any more."""
+        values = {(0, 1, 77): string("A"), (0, 1, 79): enumerated(0), (0, 1, 85): real("42290000")}
+        device = self.stand_in(values, writes="silent")
+        for number in harness.SIGNALS:
+            device.written.clear()
+            with self.begun("write", "HERE", "0", "1", "5", "--apdu-timeout", LONG) as process:
+                while not device.written:
+                    self.assertIsNone(process.poll())
+                process.send_signal(number)
+            self.assertEqual((process.returncode, left_running(LONG)), (-number, []))
 
     def test_those_of_a_terminal_reach_no_tool(self):
         slow = self.stand_in({(0, 1, 85): real("42290000")}, delay=1)

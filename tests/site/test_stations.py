@@ -5,7 +5,7 @@ import io
 import json
 import os
 import signal
-import subprocess
+import time
 import unittest
 
 import harness
@@ -103,6 +103,15 @@ class Stations(harness.SiteTest):
         with open(page, encoding="utf-8") as file:
             self.assertIn(self.spelled("HERE/5/01</a>"), file.read())
 
+    def test_a_search_keeps_the_deadline(self):
+        begun = time.monotonic()
+        words = ["survey", "--devices", "HERE", "--apdu-timeout", "20000", "--deadline", "1"]
+        status, out, _ = self.run_site(*words)
+        self.assertLess(time.monotonic() - begun, 8)
+        lines = ["HERE  device 77  Router  V  M", "HERE/5/01  device 11"]
+        lines += ["HERE/65534/0a0b0c  device 12", ""]
+        self.assertEqual((status, out), (0, self.spelled("\n".join(lines))), "who was heard by then")
+
     def test_a_survey_of_a_router_that_is_no_device(self):
         self.router.values[8, 4194303, 75] = "silent"
         self.router.values[8, 77, 75] = "silent"
@@ -160,14 +169,8 @@ class Stations(harness.SiteTest):
 
     def test_a_write_that_a_signal_ends(self):
         self.first.writes = "silent"
-        words = ["write", self.spelled("HERE/5/01"), "1", "1", "20", "--priority", "8"]
-        words += ["--apdu-timeout", "60000"]
-        with subprocess.Popen(
-            [*self.world.command, *words],
-            stdout=subprocess.PIPE,
-            stderr=subprocess.PIPE,
-            preexec_fn=lambda: signal.signal(signal.SIGTERM, signal.SIG_DFL),
-        ) as process:
+        words = "write HERE/5/01 1 1 20 --priority 8 --apdu-timeout 60000".split()
+        with self.begun(*words) as process:
             while not self.first.written:
                 pass
             process.send_signal(signal.SIGTERM)

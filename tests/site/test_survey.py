@@ -3,14 +3,13 @@
 import json
 import re
 import signal
-import subprocess
 import time
 import unittest
 
 import harness
 from bacsite.report import csv_lines
 from devices import ODD_VALUES
-from stand_ins import StandIn, an_object, bits, enumerated, real, string, unsigned
+from stand_ins import LateStandIn, StandIn, an_object, bits, enumerated, real, string, unsigned
 
 HEAD = "address,device,device_name,vendor,model,type,instance,type_name,name,value,meaning,unit,flags,reason"
 NAMED = {(8, 77, 77): string("D"), (8, 77, 121): string("V"), (8, 77, 70): string("M")}
@@ -334,6 +333,26 @@ DEAD;device -;timeout
         told = "HERE  device -  timeout; device 77 answers a Who-Is, and no read\n"
         self.assertEqual((status, out), (1, self.spelled(told)))
 
+    def test_one_who_answers_very_late_is_not_hidden(self):
+        """Later than all that he is sent at first is waited for."""
+        for values, told in (
+            ({}, "device 77 answers a read very late"),
+            ({(8, 4194303, 75): ("error", 1, 31)}, "a read is answered very late: error 1 31"),
+            ({(8, 4194303, 75): an_object(0, 1)}, "a read is answered very late: by no device"),
+        ):
+            self.stand_in({**NAMED, **values}, kind=LateStandIn, delay=1.8)
+            word = "127.0.0.1-2:" + self.names["HERE"].split(":")[1]
+            line = self.spelled("HERE  device -  timeout; %s\n" % told)
+            counts = "2 asked, 0 devices, 1 silent, 1 for another reason without a device\n"
+            self.assertEqual(self.run_site("survey", word), (1, line, counts))
+        found = self.run_site("survey", word, "--apdu-timeout", "250", "--deadline", "2")
+        self.assertEqual(found, (1, "", "2 asked, 0 devices, 2 silent\n"))
+        words = ["survey", "--devices", "--sorted", "--silent", word, "1000@DEV"]
+        lines = self.run_site(*words)[1].splitlines()
+        other = line.replace("127.0.0.1", "127.0.0.2").partition(";")[0]
+        self.assertEqual(lines[:2], [line[:-1], other])
+        self.assertIn("  device 1000  ", lines[2])
+
     def test_a_lost_race_does_not_cost_the_device(self):
         for word in "HERE", "127.0.0.1-1:":
             own = an_object(8, 77)
@@ -451,13 +470,7 @@ DEAD;device -;timeout
 
     def test_who_is_ready_is_printed(self):
         self.stand_in({**NAMED, (8, 77, 76): b""})
-        words = ["survey", self.names["DEAD"], self.names["HERE"], "--apdu-timeout", "20000"]
-        with subprocess.Popen(
-            [*self.world.command, *words],
-            stdout=subprocess.PIPE,
-            stderr=subprocess.PIPE,
-            preexec_fn=lambda: signal.signal(signal.SIGINT, signal.SIG_DFL),
-        ) as process:
+        with self.begun("survey", "DEAD", "HERE", "--apdu-timeout", "20000") as process:
             first = process.stdout.readline().decode()
             self.assertEqual(first, self.spelled("HERE  device 77  D  V  M\n"))
             process.send_signal(signal.SIGINT)

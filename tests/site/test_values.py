@@ -6,8 +6,8 @@ import struct
 import unittest
 
 import harness
-from bacsite import names
-from bacsite.names import form_of
+from bacsite import standard
+from bacsite.standard import What, form_of
 from bacsite.points import FORMS
 from bacsite.values import Kind, fault, flags_of, value_of, values_of
 from devices import ODD, SHOWN_WEEK, WEEK
@@ -126,7 +126,7 @@ class Values(unittest.TestCase):
     def test_rows(self):
         for what, octets, kind, shown in ROWS:
             with self.subTest(what=what, octets=octets):
-                value = value_of(octets, form_of(what))
+                value = value_of(octets, form_of(What(*what)))
                 self.assertEqual((value.kind, value.shown()), (kind, shown))
                 self.assertEqual(value.number is not None, kind is NUMBER)
                 self.assertEqual(value.fault, shown if kind is FAULT else "")
@@ -148,7 +148,7 @@ class Values(unittest.TestCase):
         for _ in range(4000):
             octets = bytes(dice.choice(some) for _ in range(1 + dice.randrange(9)))
             for what in ANALOG, VENDOR, (1, 1, 87), (44, 1, 85):
-                value = value_of(octets, form_of(what))
+                value = value_of(octets, form_of(What(*what)))
                 self.assertTrue(value.shown().isprintable() and value.told(), octets)
 
     def test_flags(self):
@@ -158,12 +158,12 @@ class Values(unittest.TestCase):
             ("00000", None),
             ("", None),
         ):
-            value = flags_of(value_of(bits(text) if text else b"\x81\0", form_of((0, 1, 111))))
+            value = flags_of(value_of(bits(text) if text else b"\x81\0", form_of(What(0, 1, 111))))
             self.assertEqual((value.text if not value.fault else None), wanted)
         self.assertEqual(flags_of(fault("timeout")).fault, "timeout")
 
     def test_each_of_a_list(self):
-        form = form_of((1, 1, 87, 1))
+        form = form_of(What(1, 1, 87, 1))
         found = values_of(b"\0" + real("7fc00000") + unsigned(1), form)
         wanted = ["null", "no number: NaN", "no real: unsigned 1"]
         self.assertEqual([it.text for it in found], wanted)
@@ -174,22 +174,22 @@ class Values(unittest.TestCase):
         with open(harness.TOP + "/site/bacsite/numbers.txt", encoding="utf-8") as file:
             text = file.read()
         for title, table in (
-            ("Object types", names.TYPES),
-            ("Properties", names.PROPERTIES),
-            ("Units", names.UNIT_NAMES),
+            ("Object types", standard.OBJECT_TYPES),
+            ("Properties", standard.PROPERTIES),
+            ("Units", standard.UNIT_NAMES),
         ):
             section = text.split("\n= " + title)[1].split("\n= ")[0]
             rows = re.findall(r"(?m)^(\d+) \| ([\w-]+)(?: \||$)", section)
             self.assertEqual({int(number): name for number, name in rows}, table)
-        self.assertEqual(names.MEANINGS["status-flags"][3], "out-of-service")
-        self.assertEqual(names.MEANINGS["reliability"][12], "communication-failure")
+        self.assertEqual(standard.MEANINGS["status-flags"][3], "out-of-service")
+        self.assertEqual(standard.MEANINGS["reliability"][12], "communication-failure")
 
 
 class Devices(harness.SiteTest):
     def test_what_objects_have(self):
         for (kind, instance), has in ODD.items():
             told = [
-                (number, names.PROPERTIES.get(number, "-"), shown)
+                (number, standard.PROPERTIES.get(number, "-"), shown)
                 for number, _, shown in sorted(has)
             ]
             bad = any(re.match("no [a-z]+: ", shown) for *_, shown in told)

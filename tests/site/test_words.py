@@ -8,10 +8,11 @@ from unittest import mock
 
 import harness
 import bacsite
-from bacsite import addresses, points, words
+from bacsite import addresses, commands, points
 from bacsite.failures import Failure
 from bacsite.output import put
-from bacsite.texts import clean, table, width
+from bacsite.standard import What
+from bacsite.display import clean, table, width
 
 
 class Addresses(unittest.TestCase):
@@ -140,7 +141,7 @@ class Points(unittest.TestCase):
             found = points.points_of("-")
         self.assertEqual(
             [(it.name, it.address, it.what) for it in found],
-            [("a", "192.0.2.7:47808", (0, 5, 85)), ("c", "", ())],
+            [("a", "192.0.2.7:47808", What(0, 5, 85)), ("c", "", points.NOWHERE)],
         )
         self.assertTrue(found[1].fault.startswith("wanted: "))
         with mock.patch("sys.stdin", None), self.assertRaises(Failure):
@@ -152,7 +153,7 @@ class Texts(unittest.TestCase):
         self.assertEqual(clean("Öl\x1b[2J\n\u202e"), "Öl\\x1b[2J\\n\\u202e")
 
     def test_times_are_those_of_utc(self):
-        code = "from bacsite.texts import stamp; print(stamp(0), stamp(86399))"
+        code = "from bacsite.display import stamp; print(stamp(0), stamp(86399))"
         told = subprocess.run(
             [sys.executable, "-c", code],
             cwd=harness.TOP + "/site",
@@ -183,15 +184,22 @@ class Texts(unittest.TestCase):
 
 class Words(unittest.TestCase):
     def test_every_command_is_in_the_table(self):
-        found = {name: words.command_of(name) for name in words.COMMANDS}
+        found = {name: commands.command_of(name) for name in commands.COMMANDS}
         self.assertEqual(len({command.work for command in found.values()}), len(found))
         for name, command in found.items():
-            parser = words.parser_of([name])
+            parser = commands.parser_of([name])
             self.assertIn(command.summary[:20], parser.format_help())
         self.assertEqual(
             sorted(it for it, command in found.items() if not command.asks),
             ["capture", "octets", "real"],
         )
+
+    def test_words_that_begin_as_negative_numbers_are_whole(self):
+        words = commands.parsed(["prometheus", "-5.list", "-1.prom"])
+        self.assertEqual((words.list, words.file), ("-5.list", "-1.prom"))
+        with self.assertRaises(Failure) as caught:
+            commands.parsed(["read", "--journal", "-5", "192.0.2.7", "0", "5", "85"])
+        self.assertEqual((str(caught.exception), caught.exception.status), ("no folder: -5", 3))
 
     def test_the_version_is_that_of_the_program(self):
         told = subprocess.run(

@@ -8,11 +8,12 @@ import unittest
 from unittest import mock
 
 import harness
-from bacsite import names, write
+from bacsite import standard, write
 from bacsite.calls import Calls, Outcome
 from bacsite.controller import Controller
 from bacsite.encode import encode
 from bacsite.failures import Failure
+from bacsite.standard import What
 from bacsite.target import Place
 from bacsite.write import ending_of
 from stand_ins import NULL, an_object, enumerated, real, string, tagged, unsigned
@@ -410,12 +411,7 @@ class Write(harness.SiteTest):
         told = b"bacsite: ended by a signal: the write may have been made; read it back\n"
         for number, whom in ((signal.SIGTERM, os.kill), (signal.SIGINT, os.killpg)):
             device.written.clear()
-            process = subprocess.Popen(
-                [*self.world.command, *words],
-                stdout=subprocess.PIPE,
-                stderr=subprocess.PIPE,
-                start_new_session=True,
-            )
+            process = self.begun(*words, start_new_session=True)
             while not device.written:
                 self.assertIsNone(process.poll())
             whom(process.pid, number)
@@ -447,7 +443,7 @@ class Write(harness.SiteTest):
 class Faults(harness.SiteTest):
     def test_whatever_fails_behind_a_sent_write_is_told(self):
         device, asking = self.stand_in(VALVE), Calls(harness.TOOL, 300, 2, 1)
-        place = Place(device.address, (1, 1, 85), is_present_value=True)
+        place = Place(device.address, What(1, 1, 85), is_present_value=True)
         order = write.Order(None, place, "20", None, 8, dry=False)
         for part, told in (("_sent", write.NOT_KNOWN), ("_read_back", "ok")):
             with mock.patch("bacsite.write." + part, side_effect=OSError("no space")):
@@ -582,31 +578,31 @@ class Endings(unittest.TestCase):
 class Encode(unittest.TestCase):
     def test_values(self):
         for word, tag, wanted, text in (
-            ("20.5", names.REAL, "41a40000", "20.5"),
-            ("20.5", names.DOUBLE, "4034800000000000", "20.5"),
-            ("007", names.UNSIGNED, "7", "7"),
-            ("-7", names.SIGNED, "-7", "-7"),
-            ("true", names.BOOLEAN, "true", "true"),
-            ("0101", names.BITS, "0101", "B'0101'"),
-            ("01ff", names.OCTETS, "01ff", "X'01ff'"),
-            ("2024-10-31", names.DATE, "7c0a1f04", "2024-10-31"),
-            ("1900-01-01", names.DATE, "00010101", "1900-01-01"),
-            ("2154-12-31", names.DATE, "fe0c1f02", "2154-12-31"),
-            ("12:30", names.TIME, "0c1e0000", "12:30:00.00"),
-            ("9:30:05.07", names.TIME, "091e0507", "09:30:05.07"),
-            ("analog-input:5", names.OBJECT, "0:5", "0:5"),
-            ("8:1234", names.OBJECT, "8:1234", "8:1234"),
-            (" x ", names.STRING, " x ", " x "),
-            ("a\x1b[2J", names.STRING, "a\x1b[2J", "a\\x1b[2J"),
-            ("a\\x1b[2J", names.STRING, "a\\x1b[2J", "a\\\\x1b[2J"),
-            ("A1\\Fan", names.STRING, "A1\\Fan", "A1\\Fan"),
+            ("20.5", standard.REAL, "41a40000", "20.5"),
+            ("20.5", standard.DOUBLE, "4034800000000000", "20.5"),
+            ("007", standard.UNSIGNED, "7", "7"),
+            ("-7", standard.SIGNED, "-7", "-7"),
+            ("true", standard.BOOLEAN, "true", "true"),
+            ("0101", standard.BITS, "0101", "B'0101'"),
+            ("01ff", standard.OCTETS, "01ff", "X'01ff'"),
+            ("2024-10-31", standard.DATE, "7c0a1f04", "2024-10-31"),
+            ("1900-01-01", standard.DATE, "00010101", "1900-01-01"),
+            ("2154-12-31", standard.DATE, "fe0c1f02", "2154-12-31"),
+            ("12:30", standard.TIME, "0c1e0000", "12:30:00.00"),
+            ("9:30:05.07", standard.TIME, "091e0507", "09:30:05.07"),
+            ("analog-input:5", standard.OBJECT, "0:5", "0:5"),
+            ("8:1234", standard.OBJECT, "8:1234", "8:1234"),
+            (" x ", standard.STRING, " x ", " x "),
+            ("a\x1b[2J", standard.STRING, "a\x1b[2J", "a\\x1b[2J"),
+            ("a\\x1b[2J", standard.STRING, "a\\x1b[2J", "a\\\\x1b[2J"),
+            ("A1\\Fan", standard.STRING, "A1\\Fan", "A1\\Fan"),
             (
                 "18446744073709551615",
-                names.UNSIGNED,
+                standard.UNSIGNED,
                 "18446744073709551615",
                 "18446744073709551615",
             ),
-            ("null", names.NULL, "null", "null"),
+            ("null", standard.NULL, "null", "null"),
         ):
             with self.subTest(word=word, tag=tag):
                 found = encode(word, tag)
@@ -614,30 +610,31 @@ class Encode(unittest.TestCase):
 
     def test_words_that_are_none(self):
         for word, tag in (
-            ("-1", names.UNSIGNED),
-            ("18446744073709551616", names.UNSIGNED),
-            ("4294967296", names.ENUMERATED),
-            ("9223372036854775808", names.SIGNED),
-            ("1.5", names.SIGNED),
-            ("٣", names.UNSIGNED),
-            ("True", names.BOOLEAN),
-            ("1", names.BOOLEAN),
-            ("", names.BITS),
-            ("2", names.BITS),
-            ("1f f", names.OCTETS),
-            ("f", names.OCTETS),
-            ("2024-02-30", names.DATE),
-            ("1899-01-01", names.DATE),
-            ("2155-12-31", names.DATE),
-            ("2200-01-01", names.DATE),
-            ("24:00", names.TIME),
-            ("12:60", names.TIME),
-            ("12", names.TIME),
-            ("5", names.OBJECT),
-            ("0:4194304", names.OBJECT),
-            ("x", names.NULL),
-            ("", names.REAL),
-            ("maybe", names.ENUMERATED),
+            ("-1", standard.UNSIGNED),
+            ("18446744073709551616", standard.UNSIGNED),
+            ("4294967296", standard.ENUMERATED),
+            ("9223372036854775808", standard.SIGNED),
+            ("1.5", standard.SIGNED),
+            ("٣", standard.UNSIGNED),
+            ("True", standard.BOOLEAN),
+            ("1", standard.BOOLEAN),
+            ("", standard.BITS),
+            ("2", standard.BITS),
+            ("1f f", standard.OCTETS),
+            ("f", standard.OCTETS),
+            ("2024-02-30", standard.DATE),
+            ("1899-01-01", standard.DATE),
+            ("2155-12-31", standard.DATE),
+            ("2200-01-01", standard.DATE),
+            ("24:00", standard.TIME),
+            ("12:60", standard.TIME),
+            ("12:30:60", standard.TIME),
+            ("12", standard.TIME),
+            ("5", standard.OBJECT),
+            ("0:4194304", standard.OBJECT),
+            ("x", standard.NULL),
+            ("", standard.REAL),
+            ("maybe", standard.ENUMERATED),
         ):
             with self.subTest(word=word, tag=tag), self.assertRaises(Failure):
                 encode(word, tag)

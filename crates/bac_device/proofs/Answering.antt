@@ -1,14 +1,12 @@
 -- What a device replies to a datagram, and what it is then, by the writes that it holds.
-use Rattle.std.proofs.Common.{◌≡◌, ℕ, Bool, List, Option, Result, Ok, Err, IfSome, refl, arith, subst, ap}
-use Rattle.std.{proofs.lemmas.Bool.cases_Bool, specs.Prelude.if◌then◌else◌, specs.Option.{ok_or}}
-use Rattle.std.specs.Result.{result_ok}
-use Rattle.bac_pdu.specs.{Peer.Station, Apdu.Message, Property.{Order, IsPriority}, PropertyReading.write_of}
+use Rattle.std.proofs.Common.{◌≡◌, ap, arith, Bool, Err, IfSome, List, Ok, Option, refl, Result, subst, ℕ}
+use Rattle.std.{proofs.lemmas.Bool.cases_Bool, specs.{Option.ok_or, Prelude.if◌then◌else◌, Result.result_ok}}
+use Rattle.bac_pdu.specs.{Apdu.Message, Peer.Station, Property.{IsPriority, Order}, PropertyReading.write_of}
 use Rattle.bac_pdu.{specs.Steps.◌>>=◌, proofs.PropertyLaws.write_is}
-use Rattle.bac_device.specs.{Info.Info, Point.Description, Places.{Write, Standing}, Inner.Places.IsUrgent}
-use Rattle.bac_device.specs.Device.{DeviceState, points_of, device_after, Holds}
-use Rattle.bac_device.specs.Access.{urgency, ordered_write, accepted_write}
-use Rattle.bac_device.specs.Reply.{order_in, write_in_datagram, with_write, reply_of, reply_to, writes_after}
-use Rattle.bac_device.proofs.StateLaws.{each_ordered, write_held, points_after, after_holds}
+use Rattle.bac_device.specs.{accepted_write, Description, device_after, DeviceState, Holds, order_in, ordered_write}
+use Rattle.bac_device.specs.{points_of, reply_of, reply_to, Standing, urgency, with_write, Write, write_in_datagram}
+use Rattle.bac_device.specs.{writes_after, Info.Info, Inner.IsUrgent}
+use Rattle.bac_device.proofs.StateLaws.{after_holds, each_ordered, points_after, write_held}
 
 -- ---- a write that a device accepts is at a priority that there is
 

@@ -1,19 +1,14 @@
 -- What the worked examples compute with. Who unfolds `computed` unfolds all of it.
-use Rattle.bac_wire.specs.{TagReading.{tag_number_at, long_length_at, length_at, shape_at, tag_at}, Datum.plain}
-use Rattle.bac_wire.specs.{Inner.Datum.tagged, Tag.plain_tag, DatumReading.{contents_of, value_at}}
-use Rattle.bac_wire.specs.ParameterReading.{context_at, number_at, object_at, behind_opening, enclosed_at, kind_at}
+use Rattle.bac_pdu.specs.{ApduReading.{apdu_of, parts_at}, Datagram.wrapped, Parameter.plain_parameter}
+use Rattle.bac_pdu.specs.{DatagramReading.{address_at, carried, header_at, link_at}, Inner.Datagram.front_octets}
+use Rattle.bac_pdu.specs.PropertyReading.{read_of, reference_at, write_of}
+use Rattle.bac_wire.specs.{Datum.plain, DatumReading.{contents_of, value_at}, Tag.plain_tag, Inner.Datum.tagged}
 use Rattle.bac_wire.specs.ItemReading.{behind_closing, behind_items, region_at}
-use Rattle.bac_pdu.specs.{Datagram.wrapped, Inner.Datagram.front_octets, Parameter.plain_parameter}
-use Rattle.bac_pdu.specs.{DatagramReading.{address_at, header_at, link_at, carried}, ApduReading.{parts_at, apdu_of}}
-use Rattle.bac_pdu.specs.PropertyReading.{reference_at, read_of, write_of}
-use Rattle.bac_device.specs.{
-  Property.{element, kind_property, point_property},
-  Kind.one_value,
-  Places.{place, standing_after, written_value},
-  Device.{fixed_value, device_property},
-  Access.{property_of, read_property, ordered_write, accepted_write},
-  Reply.{read_reply, write_reply, full_reply, reply_of, write_in_datagram},
-}
+use Rattle.bac_wire.specs.ParameterReading.{behind_opening, context_at, enclosed_at, kind_at, number_at, object_at}
+use Rattle.bac_wire.specs.TagReading.{length_at, long_length_at, shape_at, tag_at, tag_number_at}
+use Rattle.bac_device.specs.{accepted_write, device_property, element, fixed_value, full_reply, kind_property}
+use Rattle.bac_device.specs.{one_value, ordered_write, place, point_property, property_of, read_property, read_reply}
+use Rattle.bac_device.specs.{reply_of, standing_after, write_in_datagram, write_reply, written_value}
 
 unfoldable pub computed : Unit {0}
 unfolding tag_number_at long_length_at length_at shape_at tag_at contents_of value_at context_at number_at object_at

@@ -1,9 +1,8 @@
 -- The places of a point after writes, and after one more.
-use Rattle.std.proofs.Common.{◌≡◌, ℕ, zero, suc, ◌-◌, ◌<◌, ◌≤◌, ◌==◌, if◌then◌else◌, List, [], ◌∷◌, ◌++◌, map, filter}
-use Rattle.std.proofs.{Common.{slice_set, Option, Some, refl, arith}, lemmas.Grind.common_steps}
-use Rattle.std.specs.List.{last_or}
+use Rattle.std.proofs.Common.{[], ◌++◌, ◌-◌, ◌<◌, ◌==◌, ◌∷◌, ◌≡◌, ◌≤◌, arith, filter, if◌then◌else◌, List, map, Option}
+use Rattle.std.{proofs.{Common.{refl, slice_set, Some, suc, zero, ℕ}, lemmas.Grind.common_steps}, specs.List.last_or}
 use Rattle.bac_wire.specs.Identifier.{Identifier}
-use Rattle.bac_device.specs.{Point.Description, Places.{Write, NoneTo, is_to, place, priorities, standing_after, put}}
+use Rattle.bac_device.specs.{Description, is_to, NoneTo, place, priorities, put, standing_after, Write}
 
 pub map_same : {A B : Type 0} (f g : A → B) → ((x : A) → f x ≡ g x) → (xs : List A) → map f xs ≡ map g xs
 map_same f g _ [] = refl

@@ -1,19 +1,16 @@
 -- How long replies are: each to a confirmed request fits the announced size, or is the stated Abort.
-use Rattle.std.proofs.Common.{◌≡◌, ℕ, ◌≤◌, Bool, true, false, List, [], ◌∷◌, length, Option, Some, None, refl, sym}
-use Rattle.std.proofs.{Common.{subst, arith, ◌⊎◌, IfSome, if◌then◌else◌, leb-true}, lemmas.Bool.cond_both}
-use Rattle.std.{proofs.lemmas.Option.{none-some, some_pair_parts}, specs.Option.{option_map, option_and_then, ForSome}}
-use Rattle.bac_wire.specs.{Datum.plain, Tag.plain_tag, Steps.◌>>=◌}
-use Rattle.bac_pdu.specs.{
-  declared.{peer.Peer.Peer, discovery.WhoIs.WhoIs},
-  Discovery.asks,
-  Peer.{Station, IsRoutable, station},
-  Datagram.{Delivery, Carries, Takes, wrapped},
-  Apdu.{Message, IsLaidOut, confirmed, unconfirmed, laid_out, announced_size},
-}
-use Rattle.bac_pdu.proofs.{DatagramLaws.{carried_is, wrapped_takes, wrapped_short}, ApduLaws.{apdu_is, announced_most}}
-use Rattle.bac_device.specs.{Info.Info, Point.Description, Places.Write, Device.{DeviceState, device_after}}
-use Rattle.bac_device.specs.{Size.{FitsRequest, ReplyFits, RepliesFit}, Turns.{Arrival, replies_to}}
-use Rattle.bac_device.specs.Reply.{fitting, i_am, reply_message, reply_of, who_is_reply, writes_after}
+use Rattle.std.proofs.Common.{[], ◌∷◌, ◌≡◌, ◌≤◌, ◌⊎◌, arith, Bool, false, IfSome, if◌then◌else◌, leb-true, length, List}
+use Rattle.std.proofs.{Common.{None, Option, refl, Some, subst, sym, true, ℕ}, lemmas.Bool.cond_both}
+use Rattle.std.{proofs.lemmas.Option.{none-some, some_pair_parts}, specs.Option.{ForSome, option_and_then}}
+use Rattle.std.specs.Prelude.{option_map}
+use Rattle.bac_pdu.specs.{Apdu.{announced_size, confirmed, IsLaidOut, laid_out, Message, unconfirmed}, Discovery.asks}
+use Rattle.bac_pdu.specs.{Datagram.{Carries, Delivery, Takes, wrapped}, declared.discovery.WhoIs.WhoIs}
+use Rattle.bac_pdu.specs.{declared.peer.Peer.Peer, Peer.{IsRoutable, Station, station}}
+use Rattle.bac_pdu.proofs.{ApduLaws.{announced_most, apdu_is}, DatagramLaws.{carried_is, wrapped_short, wrapped_takes}}
+use Rattle.bac_wire.specs.{Datum.plain, Steps.◌>>=◌, Tag.plain_tag}
+use Rattle.bac_device.specs.{Arrival, Description, device_after, DeviceState, FitsRequest, fitting, i_am, replies_to}
+use Rattle.bac_device.specs.{RepliesFit, reply_message, reply_of, ReplyFits, who_is_reply, Write, writes_after}
+use Rattle.bac_device.specs.Info.{Info}
 
 -- a route leads to whom a datagram is from
 pub carried_routable : (from : Station) (datagram : List ℕ) (delivery : Delivery) → Carries from datagram delivery

@@ -1,22 +1,16 @@
 -- A device whose places are those after some writes.
-use Rattle.std.proofs.Common.{◌≡◌, ℕ, Bool, true, false, List, [], ◌∷◌, ◌++◌, map, find, Option, Some, None, refl}
-use Rattle.std.proofs.{Common.{IfSome, sym, ap, subst, ◌∙◌, append-nil, arith, if◌then◌else◌}, lemmas.Bool.cases_Bool}
-use Rattle.std.proofs.lemmas.{Grind.common_steps, Option.none-some, Simd.map-map}
-use Rattle.std.specs.{Option.{option_map, option_and_then, option_to_list}, Result.result_ok}
-use Rattle.bac_pdu.specs.{declared.apdu.Part.Part, Peer.Station, DatagramReading.carried, Apdu.{Message, confirmed}}
-use Rattle.bac_pdu.specs.{ApduReading.apdu_of, Property.Order}
-use Rattle.bac_wire.specs.{Steps.◌>>=◌, Identifier.Identifier}
-use Rattle.bac_device.specs.{
-  Info.Info,
-  Inner.Places.IsUrgent,
-  Access.accepted_write,
-  Reply.{with_write, reply_to, writes_after, order_in, write_in_datagram},
-  Inner.Reply.{write_in_request, write_in_body},
-  Point.{Given, Description, description_of},
-  Places.{Write, Standing, NoneTo, standing_after, present, place_at, put},
-  Device.{DeviceState, points_of, device_after, Holds, with_point, standing_at, point_at, present_after, place_after},
-  Turns.{Arrival, Replies, RepliesInTurn, AreDefined},
-}
+use Rattle.std.proofs.Common.{[], ◌++◌, ◌∙◌, ◌∷◌, ◌≡◌, ap, append-nil, arith, Bool, false, find, IfSome, if◌then◌else◌}
+use Rattle.std.proofs.{Common.{List, map, None, Option, refl, Some, subst, sym, true, ℕ}, lemmas.Bool.cases_Bool}
+use Rattle.std.{proofs.lemmas.{Grind.common_steps, Option.none-some, Simd.map-map}, specs.Prelude.option_map}
+use Rattle.std.specs.{Option.{option_and_then, option_to_list}, Result.result_ok}
+use Rattle.bac_pdu.specs.{Apdu.{confirmed, Message}, ApduReading.apdu_of, DatagramReading.carried, Peer.Station}
+use Rattle.bac_pdu.specs.{declared.apdu.Part.Part, Property.Order}
+use Rattle.bac_wire.specs.{Identifier.Identifier, Steps.◌>>=◌}
+use Rattle.bac_device.specs.{accepted_write, AreDefined, Arrival, Description, description_of, device_after, Info.Info}
+use Rattle.bac_device.specs.{DeviceState, Given, Holds, NoneTo, order_in, place_after, place_at, point_at, points_of}
+use Rattle.bac_device.specs.{present, present_after, put, Replies, RepliesInTurn, reply_to, Standing, standing_after}
+use Rattle.bac_device.specs.{standing_at, with_point, with_write, Write, write_in_datagram, writes_after}
+use Rattle.bac_device.specs.Inner.{IsUrgent, write_in_body, write_in_request}
 use Rattle.bac_device.proofs.PlaceLaws.{map_same, place_none, put_after}
 
 find_map : {A B : Type 0} (f : A → B) (test : B → Bool) (xs : List A)

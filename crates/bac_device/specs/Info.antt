@@ -1,5 +1,5 @@
 -- What a device is known by.
-use Rattle.std.specs.Prelude.{ℕ, ◌<◌, ◌≤◌, List, length}
+use Rattle.std.specs.Prelude.{◌<◌, ◌≤◌, length, List, ℕ}
 use Rattle.bac_device.specs.Limits.{longest_name, no_instance}
 
 -- The instance of the device's object, and its name.

@@ -4,3 +4,8 @@ pub mod Property
 pub mod Reply
 pub mod Demo
 pub mod Examples
+unfoldable pub use Places.*
+unfoldable pub use Property.*
+unfoldable pub use Reply.*
+unfoldable pub use Demo.*
+unfoldable pub use Examples.*

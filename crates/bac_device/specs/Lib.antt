@@ -12,3 +12,16 @@ pub mod Size
 pub mod Demo
 pub mod Turns
 pub mod Inner
+unfoldable pub use Limits.*
+unfoldable pub use Info.*
+unfoldable pub use Kind.*
+unfoldable pub use Point.*
+unfoldable pub use Places.*
+unfoldable pub use Property.*
+unfoldable pub use Failure.*
+unfoldable pub use Device.*
+unfoldable pub use Access.*
+unfoldable pub use Reply.*
+unfoldable pub use Size.*
+unfoldable pub use Demo.*
+unfoldable pub use Turns.*

@@ -1,18 +1,16 @@
 -- What the device replies to a datagram, and which write it makes then (clauses 5.4, 15.5, 15.9 and 16.10).
 use Rattle.std.specs.Prelude.{ℕ, ◌==◌, nat_le, Bool, true, false, if◌then◌else◌, List, ◌++◌, length, map, Option, Some}
 use Rattle.std.specs.{Prelude.{None, Result, Ok, Err}, Option.{option_and_then, option_to_list}, Result.result_ok}
-use Rattle.bac_wire.specs.{Identifier.Identifier, Steps.◌>>=◌}
-use Rattle.bac_pdu.specs.{declared.apdu.Part.Part, declared.reject.RejectReason.RejectReason, Peer.Station}
-use Rattle.bac_pdu.specs.{Datagram.wrapped, DatagramReading.carried, Apdu.{Message, confirmed, unconfirmed, simple_ack}}
-use Rattle.bac_pdu.specs.{Apdu.{complex_ack, error, reject, abort, laid_out, announced_size}, ApduReading.apdu_of}
+use Rattle.bac_pdu.specs.{declared.{apdu.Part.Part, reject.RejectReason.RejectReason}, Peer.Station, Datagram.wrapped}
+use Rattle.bac_pdu.specs.{DatagramReading.carried, Apdu.announced_size, ApduReading.apdu_of, Reject.reason_number}
+use Rattle.bac_pdu.specs.Apdu.{Message, confirmed, unconfirmed, simple_ack, complex_ack, error, reject, abort, laid_out}
 use Rattle.bac_pdu.specs.{Property.{Reference, Order, ReadAck, ack_octets}, PropertyReading.{read_of, write_of}}
-use Rattle.bac_pdu.specs.{Reject.reason_number, Discovery.{asks, i_am_octets}, Failure.error_octets}
-use Rattle.bac_pdu.specs.ValueReading.{who_is_of}
-use Rattle.bac_device.specs.{declared.failure.Failure.Failure, Info.Info}
-use Rattle.bac_device.specs.{Limits.{greatest_apdu, no_segmentation, own_vendor}, Point.Description}
-use Rattle.bac_device.specs.{Places.{Write, put}, Property.{Property, region_octets}, Failure.{error_class, error_code}}
+use Rattle.bac_pdu.specs.{Discovery.{asks, i_am_octets}, Failure.error_octets, ValueReading.who_is_of}
+use Rattle.bac_wire.specs.{Identifier.Identifier, Steps.◌>>=◌}
+use Rattle.bac_device.specs.{declared.failure.Failure.Failure, Info.Info, Point.Description, Places.{Write, put}}
+use Rattle.bac_device.specs.{Limits.{greatest_apdu, no_segmentation, own_vendor}, Property.{Property, region_octets}}
+use Rattle.bac_device.specs.{Failure.{error_class, error_code}, Access.{read_property, accepted_write}}
 use Rattle.bac_device.specs.Device.{DeviceState, device_after, device_object, is_device}
-use Rattle.bac_device.specs.Access.{read_property, accepted_write}
 
 -- ---- the replies to confirmed requests
 

@@ -1,9 +1,9 @@
 //! Which writes the device accepts.
 
 ghost use Rattle.std.specs.Prelude.{◌≡◌, IfOk, IfSome};
+ghost use Rattle.bac_pdu.specs.Property.{IsPriority, order};
 ghost use Rattle.bac_wire.specs.Steps.{result_seen};
-ghost use Rattle.bac_pdu.specs.Property.{order, IsPriority};
-ghost use Rattle.bac_device.specs.Inner.Places.{write_seen};
+ghost use Rattle.bac_device.specs.Inner.{write_seen};
 ghost use Rattle.bac_device.specs.Access as spec;
 
 use crate::device::Device;

@@ -1,8 +1,7 @@
 //! The demonstration device.
 
-ghost use Rattle.std.specs.Prelude.{◌≡◌, ◌<◌, ◌+◌, ◌^◌, length, [], IsSome};
-ghost use Rattle.bac_device.specs.{Limits.device_room, Point.description_of, Device.device_after};
-ghost use Rattle.bac_device.specs.{Demo.{row, demo_points}, Inner.Demo.with_row};
+ghost use Rattle.std.specs.Prelude.{[], ◌+◌, ◌<◌, ◌^◌, ◌≡◌, IsSome, length};
+ghost use Rattle.bac_device.specs.{demo_points, description_of, device_after, device_room, row, Inner.with_row};
 
 use crate::device::Device;
 use crate::info::DeviceInfo;

@@ -1,15 +1,13 @@
 //! The device: its points, its own properties, and what is held after writes.
 
-ghost use Rattle.std.specs.Prelude.{◌≡◌, ◌<◌, [], ◌∷◌, ◌++◌, List, length, map, IfSome, IfOk, IfErr, OnOk, OnErr, Ok};
-ghost use Rattle.std.specs.{Prelude.{Err, Some, None}, List.list_any};
-ghost use Rattle.std.specs.{Option.{option_map, option_and_then, option_copied}, Str.bytes_eq};
-ghost use Rattle.bac_wire.specs.{Datum.{datum, char_string, IsSound}, Identifier.identifier, Steps.result_seen};
-ghost use Rattle.bac_device.specs.{Limits.device_room, Kind.value_of, Point.given};
-ghost use Rattle.bac_device.specs.{Places.{Write, NoneTo, present, place_at, put}, Inner.Places.write_seen};
-ghost use Rattle.bac_device.specs.{Property.single, Inner.Property.{property_seen, IsSoundProperty}, Device.Holds};
-ghost use Rattle.bac_device.specs.Device.{points_of, device_after, standing_at, present_after, place_after, add_point};
-ghost use Rattle.bac_device.specs.{Device.{fixed_value, device_property}, Access.{property_of, commanded_point}};
-ghost use Rattle.bac_device.specs.Reply.{with_write};
+ghost use Rattle.std.specs.{List.list_any, Option.{option_and_then, option_copied}, Str.bytes_eq};
+ghost use Rattle.std.specs.Prelude.{[], ◌++◌, ◌<◌, ◌∷◌, ◌≡◌, Err, IfErr, IfOk, IfSome, length, List, map, None, Ok};
+ghost use Rattle.std.specs.Prelude.{OnErr, OnOk, option_map, Some};
+ghost use Rattle.bac_wire.specs.{Datum.{char_string, datum, IsSound}, Identifier.identifier, Steps.result_seen};
+ghost use Rattle.bac_device.specs.{add_point, commanded_point, device_after, device_property, device_room, fixed_value};
+ghost use Rattle.bac_device.specs.{given, Holds, NoneTo, place_after, place_at, points_of, present, present_after};
+ghost use Rattle.bac_device.specs.{property_of, put, single, standing_at, value_of, with_write, Write};
+ghost use Rattle.bac_device.specs.Inner.{IsSoundProperty, property_seen, write_seen};
 
 use crate::failure::Failure;
 use crate::info::DeviceInfo;

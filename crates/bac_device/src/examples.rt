@@ -1,18 +1,16 @@
 //! Examples of what the device replies, worked out by computation. They show what the definitions mean.
 
-ghost use Rattle.std.specs.Prelude.{◌≡◌, [], ◌∷◌, replicate, codes, Some, None, Ok, Err};
-ghost use Rattle.bac_device.specs.declared.device.AddFault.TheVariants.{Twice, NameTwice, BadPoint};
-ghost use Rattle.bac_device.specs.declared.kind.{Family.TheVariants.Analog, Role.TheVariants.Output};
-ghost use Rattle.bac_device.specs.{Demo.demo_points, Info.IsInfo, Limits.{device_room, longest_name}};
-ghost use Rattle.bac_device.specs.Device.{Holds, add_point, place_after, points_of, present_after};
-ghost use Rattle.bac_device.specs.{Places.{NoneTo, standing_after}, Reply.with_write, Size.{RepliesFit, ReplyFits}};
-ghost use Rattle.bac_device.specs.Turns.{AreDefined, RepliesInTurn};
-ghost use Rattle.bac_device.specs.Inner.Examples.{desk, datagram, small, asked, fifty, fifty_one, valve_id, other_id};
-ghost use Rattle.bac_device.specs.Inner.Examples.{twenty_at_8, release_at_8, empty, after, given_as};
-ghost use Rattle.bac_device.specs.Inner.Examples.{Exchanges, outdoor, long_named, valve, fan, season, nothing, own};
-ghost use Rattle.bac_device.specs.Inner.Examples.{any_device, of, element_of, read, read_for_50, is, write, write_at};
-ghost use Rattle.bac_device.specs.Inner.Examples.{aborted, has, has_no, makes, refuses, real_72_3, twenty, thirty};
-ghost use Rattle.bac_device.specs.Inner.Examples.{zero_real, null, unsigned, enumerated};
+ghost use Rattle.std.specs.Prelude.{[], ◌∷◌, ◌≡◌, codes, replicate};
+ghost use Rattle.bac_device.specs.{add_point, AreDefined, demo_points, device_room, Holds, IsInfo, longest_name};
+ghost use Rattle.bac_device.specs.{NoneTo, place_after, points_of, present_after, RepliesFit, RepliesInTurn, ReplyFits};
+ghost use Rattle.bac_device.specs.{standing_after, with_write, declared.kind.Family.TheVariants.Analog};
+ghost use Rattle.bac_device.specs.declared.device.AddFault.TheVariants.{BadPoint, NameTwice, Twice};
+ghost use Rattle.bac_device.specs.declared.kind.Role.TheVariants.{Output};
+ghost use Rattle.bac_device.specs.Inner.{aborted, after, any_device, asked, datagram, desk, element_of, empty};
+ghost use Rattle.bac_device.specs.Inner.{enumerated, Exchanges, fan, fifty, fifty_one, given_as, has, has_no, is};
+ghost use Rattle.bac_device.specs.Inner.{long_named, makes, nothing, null, of, other_id, outdoor, own, read};
+ghost use Rattle.bac_device.specs.Inner.{read_for_50, real_72_3, refuses, release_at_8, season, small, thirty, twenty};
+ghost use Rattle.bac_device.specs.Inner.{twenty_at_8, unsigned, valve, valve_id, write, write_at, zero_real};
 
 // A property is read, whole or an element of it.
 #[tactic(none)]

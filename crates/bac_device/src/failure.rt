@@ -1,7 +1,7 @@
 //! Why a property is not read or written, as an Error says it.
 
 ghost use Rattle.std.specs.Prelude.{◌≡◌};
-ghost use Rattle.bac_device.specs.Failure.{error_class, error_code};
+ghost use Rattle.bac_device.specs.{error_class, error_code};
 
 /// Why a property is not read or written (clause 18).
 #[derive(Clone, Copy)]

@@ -1,8 +1,7 @@
 //! The instance and the name of a device.
 
-ghost use Rattle.std.specs.Prelude.{◌≡◌, ◌↔◌, IsSome, IfSome};
-ghost use Rattle.bac_wire.specs.Identifier.{identifier};
-ghost use Rattle.bac_device.specs.{Info.IsInfo, Device.{device_object, is_device}};
+ghost use Rattle.std.specs.Prelude.{◌↔◌, ◌≡◌, IfSome, IsSome};
+ghost use Rattle.{bac_wire.specs.Identifier.identifier, bac_device.specs.{device_object, is_device, IsInfo}};
 
 use crate::numbers::NO_INSTANCE;
 use crate::point::NAME_OCTETS;
@@ -20,7 +19,7 @@ pub struct DeviceInfo {
 
 impl Model for DeviceInfo {
     ghost use Rattle.std.specs.Prelude.{◌<◌};
-    ghost use Rattle.bac_device.specs.{Limits.no_instance, Info.Info};
+    ghost use Rattle.bac_device.specs.{no_instance, Info.Info};
 
     ghost Value = { Info };
 

@@ -1,6 +1,6 @@
 //! The types of points, and the values that each takes.
 
-ghost use Rattle.std.specs.{Prelude.{◌≡◌, ◌^◌, ◌<◌, IsTrue}, Option.option_map};
+ghost use Rattle.std.specs.Prelude.{◌<◌, ◌^◌, ◌≡◌, IsTrue, option_map};
 ghost use Rattle.bac_wire.specs.Datum.{datum, IsSound};
 ghost use Rattle.bac_device.specs.Kind as spec;
 

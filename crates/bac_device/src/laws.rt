@@ -1,13 +1,12 @@
 //! What holds of the definitions that the contracts cite, and of the public types. Each function has an empty body, and
 //! its clause is the law.
 
-ghost use Rattle.std.specs.{Prelude.{◌≡◌, ℕ, List, Option}, Option.ForSome};
-ghost use Rattle.bac_wire.specs.Copies.{MakesCopies, EqualsBy};
+ghost use Rattle.std.specs.{Option.ForSome, Prelude.{◌≡◌, List, Option, ℕ}};
 ghost use Rattle.bac_pdu.specs.Peer.{Station};
-ghost use Rattle.bac_device.specs.{Limits.{device_room, longest_name}, Info.Info, Point.Description, Places.Write};
-ghost use Rattle.bac_device.specs.{Device.{DeviceState, points_of, device_after, Holds}, Reply.reply_of};
-ghost use Rattle.bac_device.specs.Size.{ReplyFits, RepliesFit};
-ghost use Rattle.bac_device.specs.Turns.{Arrival, RepliesInTurn, AreDefined, replies_to};
+ghost use Rattle.bac_wire.specs.Copies.{EqualsBy, MakesCopies};
+ghost use Rattle.bac_device.specs.{AreDefined, Arrival, Description, device_after, device_room, DeviceState, Holds};
+ghost use Rattle.bac_device.specs.{longest_name, points_of, replies_to, RepliesFit, RepliesInTurn, reply_of, ReplyFits};
+ghost use Rattle.bac_device.specs.{Write, Info.Info};
 
 use crate::device::{AddFault, POINTS};
 use crate::point::{NAME_OCTETS, Point};

@@ -1,12 +1,10 @@
 //! A point: as it is added, and with the sixteen places of its priority array.
 
-ghost use Rattle.std.specs.{Prelude.{◌≡◌, [], find, is_some, IfSome}, Option.{option_map, option_copied}, Str.bytes_eq};
+ghost use Rattle.std.specs.{Option.option_copied, Prelude.{[], ◌≡◌, find, IfSome, is_some, option_map}, Str.bytes_eq};
 ghost use Rattle.bac_wire.specs.Identifier.{identifier};
-ghost use Rattle.bac_device.specs.Point.{given, description_of, same_object};
-ghost use Rattle.bac_device.specs.Places.{standing_after, present, place_at, written_value, put};
-ghost use Rattle.bac_device.specs.{Inner.Places.write_seen, Kind.is_commandable};
-ghost use Rattle.bac_device.specs.Property.{point_property, kind_property};
-ghost use Rattle.bac_device.specs.Inner.Property.{property_seen, IsSoundProperty};
+ghost use Rattle.bac_device.specs.{description_of, given, is_commandable, kind_property, place_at, point_property};
+ghost use Rattle.bac_device.specs.{present, put, same_object, standing_after, written_value};
+ghost use Rattle.bac_device.specs.Inner.{IsSoundProperty, property_seen, write_seen};
 
 use crate::failure::Failure;
 use crate::kind::{Family, Kind, Role, one_value};
@@ -54,8 +52,7 @@ pub(crate) struct StandingPoint {
 }
 
 impl Model for StandingPoint {
-    ghost use Rattle.bac_wire.specs.Identifier.{identifier};
-    ghost use Rattle.bac_device.specs.Places.{Standing};
+    ghost use Rattle.{bac_wire.specs.Identifier.identifier, bac_device.specs.Places.Standing};
 
     ghost Value = { Standing };
 

@@ -1,11 +1,11 @@
 //! A property's values, one of them by its index, and their octets.
 
-ghost use Rattle.std.specs.Prelude.{◌≡◌, ◌<◌, ◌+◌, ◌∷◌, ◌++◌, length, slice_get, map, IfSome, IfOk, OnOk, OnErr};
-ghost use Rattle.std.specs.Option.{option_map};
-ghost use Rattle.bac_wire.specs.{Limits.frame_room, Datum.{datum, IsSound, object}, Identifier.identifier};
-ghost use Rattle.bac_wire.specs.Steps.{result_seen};
-ghost use Rattle.bac_device.specs.{Kind.place_value, Property.{point_objects, element, region_octets}};
-ghost use Rattle.bac_device.specs.Inner.Property.{property_seen, IsSoundProperty};
+ghost use Rattle.std.specs.Prelude.{◌++◌, ◌+◌, ◌<◌, ◌∷◌, ◌≡◌, IfOk, IfSome, length, map, OnErr, OnOk, option_map};
+ghost use Rattle.std.specs.Prelude.{slice_get};
+ghost use Rattle.{
+  bac_wire.specs.{Datum.{datum, IsSound, object}, Identifier.identifier, Limits.frame_room, Steps.result_seen},
+  bac_device.specs.{element, place_value, point_objects, region_octets, Inner.{IsSoundProperty, property_seen}},
+};
 
 use crate::failure::Failure;
 use crate::kind::Family;

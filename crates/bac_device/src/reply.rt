@@ -1,14 +1,14 @@
 //! The reply to a datagram.
 
-ghost use Rattle.std.specs.Prelude.{◌≡◌, ◌<◌, ◌≤◌, ◌+◌, ◌*◌, List, [], length, IfOk, IfSome, IfNone, OnOk, OnErr};
-ghost use Rattle.std.specs.Option.{option_map};
-ghost use Rattle.bac_wire.specs.{Limits.frame_room, Identifier.identifier, Steps.result_seen};
-ghost use Rattle.bac_pdu.specs.{Apdu.{laid_out, reject, error}, Peer.station, Property.reference, Failure.error_octets};
+ghost use Rattle.std.specs.Prelude.{[], ◌*◌, ◌+◌, ◌<◌, ◌≡◌, ◌≤◌, IfNone, IfOk, IfSome, length, List, OnErr, OnOk};
+ghost use Rattle.std.specs.Prelude.{option_map};
+ghost use Rattle.bac_pdu.specs.{Apdu.{error, laid_out, reject}, Failure.error_octets, Peer.station, Property.reference};
 ghost use Rattle.bac_pdu.specs.Reject.{reason_number};
-ghost use Rattle.bac_device.specs.{Places.Write, Inner.Property.{property_seen, IsSoundProperty}};
-ghost use Rattle.bac_device.specs.{Failure.{error_class, error_code}, Device.{Holds, points_of, device_after}};
-ghost use Rattle.bac_device.specs.{Size.ReplyFits, Access.read_property};
-ghost use Rattle.bac_device.specs.Inner.Reply.{reply_apdu, write_in_apdu, write_in_request, write_in_body};
+ghost use Rattle.bac_wire.specs.{Identifier.identifier, Limits.frame_room, Steps.result_seen};
+ghost use Rattle.bac_device.specs.{device_after, error_class, error_code, Holds, points_of, read_property, ReplyFits};
+ghost use Rattle.bac_device.specs.{Write};
+ghost use Rattle.bac_device.specs.Inner.{IsSoundProperty, property_seen, reply_apdu, write_in_apdu, write_in_body};
+ghost use Rattle.bac_device.specs.Inner.Reply.{ordered_write, whole_reply};
 ghost use Rattle.bac_device.specs.Reply as spec;
 
 use crate::device::Device;
@@ -25,6 +25,16 @@ use bac_wire::{Frame, Full, ObjectId, Work};
 
 // The abort reason of what would have to be sent or taken in segments (clause 18.10).
 const SEGMENTATION_NOT_SUPPORTED: u8 = 4;
+
+// A confirmed request.
+#[derive(Clone, Copy)]
+struct Request<'a> {
+    part: Option<Part>,
+    code: u8,
+    id: u8,
+    service: u8,
+    body: &'a [u8],
+}
 
 impl Device {
     /// Answers a datagram that came from this peer: makes the frame the reply's datagram, and says whom it is for.
@@ -111,7 +121,14 @@ impl Device {
                 service,
                 body,
             } if !broadcast => {
-                self.fitting_reply(part, code, id, service, body, frame, work);
+                let request = Request {
+                    part,
+                    code,
+                    id,
+                    service,
+                    body,
+                };
+                self.fitting_reply(&request, frame, work);
                 Some(())
             }
             Apdu::Unconfirmed {
@@ -122,53 +139,41 @@ impl Device {
         }
     }
 
-    // Appends the reply to a confirmed request, of at most the octets that this code announces, to an empty frame.
-    fn fitting_reply(
-        &mut self,
-        part: Option<Part>,
-        code: u8,
-        id: u8,
-        service: u8,
-        body: &[u8],
-        frame: &mut Frame,
-        work: &mut Work,
-    )
+    // Appends the reply to a request, of at most the octets that its code announces, to an empty frame.
+    fn fitting_reply(&mut self, request: &Request<'_>, frame: &mut Frame, work: &mut Work)
         requires { frame.old ≡ [] }
         ensures reply { frame.new
-            ≡ laid_out (spec.fitting code id (spec.full_reply self.old part id service body.now)) }
+            ≡ laid_out (spec.fitting request.now.code request.now.id (whole_reply self.old request.now)) }
         ensures few { length frame.new ≤ 1476 }
-        ensures after { self.new ≡ spec.with_write self.old (write_in_request self.old part service body.now) }
-        ensures walked_once { work.new.tags ≤ work.old.tags + 2 * length body.now }
+        ensures after { self.new ≡ spec.with_write self.old (ordered_write self.old request.now) }
+        ensures walked_once { work.new.tags ≤ work.old.tags + 2 * length request.now.body.now }
     {
-        match self.full_reply(part, id, service, body, frame, work) {
-            Ok(()) if frame.len() <= usize::from(announced(code)) => {}
-            _ => make_abort(id, frame),
+        match self.full_reply(request, frame, work) {
+            Ok(()) if frame.len() <= usize::from(announced(request.code)) => {}
+            _ => make_abort(request.id, frame),
         }
     }
 
-    // Appends the whole reply to a confirmed request to an empty frame; an accepted write is made.
+    // Appends the whole reply to a request to an empty frame; an accepted write is made.
     #[tactic(auto, unfolding(crate::specs::Reply::full_reply, crate::specs::Inner::Reply::write_in_request))]
     fn full_reply(
         &mut self,
-        part: Option<Part>,
-        id: u8,
-        service: u8,
-        body: &[u8],
+        request: &Request<'_>,
         frame: &mut Frame,
         work: &mut Work,
     ) -> Result<(), Full>
         requires { frame.old ≡ [] }
-        ensures ok { OnOk result (frame.new ≡ laid_out (spec.full_reply self.old part id service body.now)) }
-        ensures full { OnErr result
-            (frame_room < length (laid_out (spec.full_reply self.old part id service body.now))) }
-        ensures after { self.new ≡ spec.with_write self.old (write_in_request self.old part service body.now) }
-        ensures walked_once { work.new.tags ≤ work.old.tags + 2 * length body.now }
+        ensures ok { OnOk result (frame.new ≡ laid_out (whole_reply self.old request.now)) }
+        ensures full { OnErr result (frame_room < length (laid_out (whole_reply self.old request.now))) }
+        ensures after { self.new ≡ spec.with_write self.old (ordered_write self.old request.now) }
+        ensures walked_once { work.new.tags ≤ work.old.tags + 2 * length request.now.body.now }
     {
-        if part.is_some() {
+        let Request { id, body, .. } = *request;
+        if request.part.is_some() {
             make_abort(id, frame);
             return Ok(());
         }
-        match service {
+        match request.service {
             READ_PROPERTY => self.read_reply(id, body, frame),
             WRITE_PROPERTY => self.write_reply(id, body, frame, work),
             _ => append_reject(id, RejectReason::UnknownService, frame),

@@ -15,4 +15,3 @@ mod Asking
 pub mod Alike
 pub mod SearchesAlike
 pub mod ServingsAlike
-pub mod Lines

@@ -2,13 +2,13 @@
 use Rattle.std.proofs.lemmas.{List.{append-nil, Concat.flat_map-append}, Bool.{le-leb, lt-leb, Decides.nat_tests}}
 use Rattle.std.proofs.{lemmas.Grind.common_steps, Common.{◌≡◌, ◌≢◌, ℕ, suc, ◌-◌, ◌<◌, ◌≤◌, max, List, [], ◌∷◌, ◌++◌}}
 use Rattle.std.proofs.Common.{Option, Some, Ok, Err, Bool, false, ◌||◌, if◌then◌else◌, refl, sym, ap, ◌∙◌, arith, subst}
-use Rattle.bac_pdu.specs.Peer.{station}
+use Rattle.bac_pdu.specs.{Found.Found, Peer.station}
 use Rattle.bac_text.specs.declared.jobs.Search.{Search}
 use Rattle.bac_print.{specs.{declared.checked.Checked.Checked, Checked.Took}, proofs.Known.{Took-none, Took-more}}
 use Rattle.bac_links.{
   specs.{Limits.most_turns, History.{Heard, Failure, Entry, Waited, Timed, Posted, Unposted, Account, GainsAll, Gains}},
   specs.Asking.{Asks, Over, ForTime, Follows, next_move, waits_in, times_in, turn_after},
-  specs.Search.{Found, found_by, found_line, greatest_of, passed_in, who_is_to},
+  specs.Search.{found_by, found_line, greatest_of, passed_in, who_is_to},
   specs.{Search.{found_in, behind_time, search_move, Searched}, declared.exit.Exit.{Exit, TheVariants.{Good, Bad}}},
   specs.declared.fault.ToolFault.{ToolFault, TheVariants.{SendFailed, ReceiveFailed, TurnsSpent, WriteFailed}},
   specs.Inner.SearchSteps.{search_wait, found_lines, has_found, Listens},

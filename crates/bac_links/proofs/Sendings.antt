@@ -81,7 +81,7 @@ module _ (count : ℕ) (device : DeviceState) where
     fails = grind (arith, nat_tests);
   }
 
-  module _ {gained : List Entry} {result : Result ℕ ToolFault}
+  module _ {gained : List Entry} {result : Result Exit ToolFault}
       (plays : PlaysAll (serve_move count device) gained result) where
     pub server_sent : AllSent (replies_due gained) (sent_in gained) result
     server_sent = all_sent alone (serve_move count device) replies_due server_dues plays

@@ -8,10 +8,10 @@ use Rattle.bac_links.{
   proofs.{Asking.{last_push, follows_push, waits_push, turn_begins, turns_over}, Histories.{gains_both, gains_none}},
   specs.Asking.{Over, ToSend, question_of, Follows, next_move, waits_in, turn_after},
   specs.History.{Heard, Silence, Arrived, Failure, Entry, Waited, Posted, Account, GainsAll},
-  specs.Inner.ServeSteps.{brought_by, came_in, replied_in, sends_of, LeavesDevice, ServesOne},
+  specs.Inner.ServeSteps.{brought_by, sends_of, LeavesDevice, ServesTurn},
   specs.{Limits.{most_turns, serve_wait}, Serve.{came_by, arrivals_in, device_next, device_behind}},
-  specs.{Serve.{replies_of, reply_count, or_reply, serve_next, serve_move, Serves}, declared.fault.ToolFault.ToolFault},
-  specs.declared.{fault.ToolFault.TheVariants.{SendFailed, ReceiveFailed, TurnsSpent}, serving.Brought.Brought},
+  specs.{Serve.{replies_of, or_reply, serve_next, serve_move, Serves}, declared.exit.Exit.{Exit, TheVariants.Good}},
+  specs.declared.fault.ToolFault.{ToolFault, TheVariants.{SendFailed, ReceiveFailed, TurnsSpent}},
 }
 
 abbrev Reply : Type 0
@@ -58,43 +58,42 @@ module _ (count : ℕ) (before : DeviceState) where
   behind_wait : (gained : List Entry) (device : DeviceState) → device ≡ device_behind before (arrivals_in gained)
       → (heard : Heard) → heard ≢ Failure → (rs : List Reply) → replies_of device (brought_by heard) ≡ rs →
       next_move (serve_move count before) (gained ++ Waited serve_wait heard ∷ [])
-      ≡ or_reply (last_or None rs) (serve_next count before (gained ++ Waited serve_wait heard ∷ []))
+      ≡ or_reply (last_or None rs) (serve_next count (gained ++ Waited serve_wait heard ∷ []))
   behind_wait _ _ is Failure received rs e = absurd (received refl)
   behind_wait gained _ is Silence _ rs e = grind (arith, behind)
   behind_wait gained _ is (Arrived from octets) _ rs e =
       let x = Waited serve_wait (Arrived from octets) in
-      let next = serve_next count _ (gained ++ x ∷ []) in
+      let next = serve_next count (gained ++ x ∷ []) in
       behind gained x ∙ ap (λ (rs : List Reply). or_reply (last_or None rs) next) (replies-push gained _ is x)
       ∙ ap (λ (o : Option Reply). or_reply o next) (last_push None (replies_of _ (arrivals_in gained)) _)
       ∙ ap (λ (rs : List Reply). or_reply (last_or None rs) next) e
 
 -- A server after n waits.
 pub record ServeGoes {Origin : Type 0} (before device : DeviceState) (seen link : Account Origin)
-    (count came replied n : ℕ) : Type 0 where
+    (count came n : ℕ) : Type 0 where
   pub gained : List Entry
   pub gains : GainsAll gained seen link
   pub follows : Follows (serve_move count before) [] gained
-  pub next : next_move (serve_move count before) gained ≡ serve_next count before gained
+  pub next : next_move (serve_move count before) gained ≡ serve_next count gained
   pub turns : waits_in gained ≡ n
   pub device_is : device ≡ device_behind before (arrivals_in gained)
   pub came_is : came ≡ length (arrivals_in gained)
-  pub replied_is : replied ≡ reply_count (replies_of before (arrivals_in gained))
 
 pub serves_none : {Origin : Type 0} {device : DeviceState} {seen : Account Origin} {count : ℕ}
-    → ServeGoes device device seen seen count 0 0 0
+    → ServeGoes device device seen seen count 0 0
 serves_none = grind (arith, gains_none)
 
-module _ {Origin : Type 0} {before device : DeviceState} {seen mid : Account Origin} {count came replied n : ℕ}
-    (goes : ServeGoes before device seen mid count came replied n) where
+module _ {Origin : Type 0} {before device : DeviceState} {seen mid : Account Origin} {count came n : ℕ}
+    (goes : ServeGoes before device seen mid count came n) where
   -- How it ends.
-  served : (result : Result ℕ ToolFault) → next_move (serve_move count before) goes.gained ≡ Over result
+  served : (result : Result Exit ToolFault) → next_move (serve_move count before) goes.gained ≡ Over result
       → Serves count before device seen mid result
   served _ over = record {
     plays = grind arith;
     device = goes.device_is;
   }
 
-  pub serve_done : came ≡ count → Serves count before device seen mid (Ok replied)
+  pub serve_done : came ≡ count → Serves count before device seen mid (Ok Good)
   serve_done all = served _ (grind arith)
 
   turn_so : came < count → next_move (serve_move count before) goes.gained ≡ turn_after serve_wait n
@@ -117,7 +116,7 @@ module _ {Origin : Type 0} {before device : DeviceState} {seen mid : Account Ori
 
     -- What holds of these entries behind the wait, where they are no further waits.
     record IsBehind (gained : List Entry) : Type 0 where
-      brought : arrivals_in gained ≡ arrivals_in goes.gained ++ brought_by heard
+      arrived : arrivals_in gained ≡ arrivals_in goes.gained ++ brought_by heard
       waits : waits_in gained ≡ suc n
 
     behind_waited : IsBehind waited
@@ -135,14 +134,14 @@ module _ {Origin : Type 0} {before device : DeviceState} {seen mid : Account Ori
       device_is : after ≡ device_behind before (arrivals_in gained)
       device_is = grind (arith, behind-append)
 
-      on_with : {left : Account Origin} (brings : Brought) → came_in brings ≡ length (brought_by heard)
-          → replied_in brings ≡ reply_count (replies_of device (brought_by heard)) → GainsAll gained seen left
+      on_with : {left : Account Origin} (brought : ℕ) → brought ≡ length (brought_by heard)
+          → GainsAll gained seen left
           → Follows (serve_move count before) [] gained
-          → next_move (serve_move count before) gained ≡ serve_next count before gained
-          → ServeGoes before after seen left count (came + came_in brings) (replied + replied_in brings) (suc n)
+          → next_move (serve_move count before) gained ≡ serve_next count gained
+          → ServeGoes before after seen left count (came + brought) (suc n)
       on_with = grind (arith, device_is, length-append, replies_are, flat_map-append)
 
-      fails_with : {left : Account Origin} (result : Result ℕ ToolFault) → GainsAll gained seen left
+      fails_with : {left : Account Origin} (result : Result Exit ToolFault) → GainsAll gained seen left
           → Follows (serve_move count before) [] gained → next_move (serve_move count before) gained ≡ Over result
           → Serves count before after seen left result
       fails_with _ gains follows over = record {
@@ -160,37 +159,37 @@ module _ {Origin : Type 0} {before device : DeviceState} {seen mid : Account Ori
       follows_sent = grind (arith, follows_push, follows_waited, behind_wait)
 
     next_silent : heard ≢ Failure → (rs : List Reply) → replies_of device (brought_by heard) ≡ rs → AtMostOne rs
-        → sends_of rs ≡ [] → next_move (serve_move count before) waited ≡ serve_next count before waited
+        → sends_of rs ≡ [] → next_move (serve_move count before) waited ≡ serve_next count waited
     next_silent = grind (arith, behind_wait)
 
   module _ {after : DeviceState} {left : Account Origin} (within : n < most_turns) (fewer : came < count) where
-    pub serve_on : (brings : Brought) → ServesOne device after mid left (Ok brings) →
-        ServeGoes before after seen left count (came + came_in brings) (replied + replied_in brings) (suc n)
-    serve_on brings turn =
+    pub serve_on : (brought : ℕ) → ServesTurn device after mid left (Ok brought) →
+        ServeGoes before after seen left count (came + brought) (suc n)
+    serve_on brought turn =
         go (replies_of device (brought_by turn.heard)) refl (one_at_most device turn.heard) turn.gains
       where
         silent : (rs : List Reply) → replies_of device (brought_by turn.heard) ≡ rs → AtMostOne rs → sends_of rs ≡ []
             → GainsAll (Waited serve_wait turn.heard ∷ []) mid left →
-            ServeGoes before after seen left count (came + came_in brings) (replied + replied_in brings) (suc n)
+            ServeGoes before after seen left count (came + brought) (suc n)
         silent rs e few none more =
-            on_with turn.heard turn.leaves _ (behind_waited turn.heard) _ turn.came turn.replied
+            on_with turn.heard turn.leaves _ (behind_waited turn.heard) _ turn.came
             (gains_one _ more) (follows_waited turn.heard within fewer)
             (next_silent _ turn.received rs e few none)
 
         go : (rs : List Reply) → replies_of device (brought_by turn.heard) ≡ rs → AtMostOne rs
             → GainsAll (Waited serve_wait turn.heard ∷ sends_of rs) mid left →
-            ServeGoes before after seen left count (came + came_in brings) (replied + replied_in brings) (suc n)
+            ServeGoes before after seen left count (came + brought) (suc n)
         go [] e few more = silent [] e few refl more
         go (None ∷ []) e few more = silent (None ∷ []) e few refl more
         go (Some (to, octets) ∷ []) e few more =
             let x = Posted to octets in
             on_with turn.heard turn.leaves (waited turn.heard ++ x ∷ []) (behind_sent turn.heard x refl refl) _
-            turn.came turn.replied (gains_waited _ _ more)
+            turn.came (gains_waited _ _ more)
             (follows_sent _ within fewer turn.received x to octets e refl)
             (behind count before (waited turn.heard) x)
         go (r ∷ s ∷ rs) e few more = absurd few
 
-    pub serve_fails : (fault : ToolFault) → ServesOne device after mid left (Err fault)
+    pub serve_fails : (fault : ToolFault) → ServesTurn device after mid left (Err fault)
         → Serves count before after seen left (Err fault)
     serve_fails SendFailed lost =
         search (arith, fails_with, behind_sent, gains_waited, follows_sent, behind)

@@ -2,10 +2,10 @@
 use Rattle.std.proofs.Common.{◌≡◌, ℕ, Result, arith}
 use Rattle.bac_device.specs.Device.{DeviceState}
 use Rattle.bac_links.specs.{Answered.AskAlike, Serve.{Serves}}
-use Rattle.bac_links.{specs.declared.fault.ToolFault.ToolFault, proofs.Asking.to_the_end}
+use Rattle.bac_links.{specs.declared.{exit.Exit.Exit, fault.ToolFault.ToolFault}, proofs.Asking.to_the_end}
 
 module _ (count : ℕ) (before after after' : DeviceState) where
-  abbrev EndAlike : Result ℕ ToolFault → Result ℕ ToolFault → Type 0
+  abbrev EndAlike : Result Exit ToolFault → Result Exit ToolFault → Type 0
   EndAlike result result' = (result ≡ result') × (after ≡ after')
 
   pub servings_so_far : {Origin Other : Type 0} → AskAlike Origin Other (Serves count before after)

@@ -1,11 +1,11 @@
 -- What is printed of how a call's request ended, and how the tool ends then.
 use Rattle.std.specs.Prelude.{ℕ, List, ◌∷◌, [], ◌++◌, codes}
-use Rattle.std.specs.{Prelude.{Option, Some, None, Result, Ok, Err, is_some, if◌then◌else◌}, Option.option_map_or}
+use Rattle.std.specs.{Prelude.{Option, Some, None, is_some, if◌then◌else◌}, Option.option_map_or}
 use Rattle.bac_pdu.specs.{Property.ReadAck, PropertyReading.ack_of}
 use Rattle.bac_tsm.specs.Events.{Outcome, Simple, Complex}
 use Rattle.bac_print.specs.{Values.region_text, Outcomes.outcome_text}
 use Rattle.bac_links.specs.declared.ending.Purpose.{Purpose, TheVariants.{Reading, Writing}}
-use Rattle.bac_links.specs.declared.{fault.ToolFault.ToolFault, exit.Exit.{Exit, TheVariants.{Good, Bad}}}
+use Rattle.bac_links.specs.declared.exit.Exit.{Exit, TheVariants.{Good, Bad}}
 
 -- What is printed of how the request ended: of a read the value; `bad-ack` where the acknowledgement can't be read, or
 -- is not one of the service; else the outcome, as `ok` of a write.
@@ -26,9 +26,3 @@ abbrev pub exit_of : Purpose → Option Outcome → Exit
 exit_of Reading (Some (Complex body)) = if is_some (ack_of body) then Good else Bad
 exit_of Writing (Some Simple) = Good
 exit_of purpose ending = Bad
-
--- The status of the program.
-abbrev pub status_of : Result Exit ToolFault → ℕ
-status_of (Ok Good) = 0
-status_of (Ok Bad) = 1
-status_of (Err fault) = 3

@@ -1,12 +1,10 @@
 -- A search for devices: what it asks of its link, which devices it finds, what it prints, and when it ends.
 use Rattle.std.{
-  specs.Prelude.{◌≡◌, ℕ, zero, suc, ◌-◌, nat_le, nat_lt, max, ◌==◌, false, List, [], ◌∷◌, ◌++◌, length},
+  specs.Prelude.{◌≡◌, ℕ, zero, suc, ◌-◌, nat_le, nat_lt, max, false, List, [], ◌∷◌, ◌++◌, length},
   specs.{Prelude.{decimal, if◌then◌else◌, Option, Some, None, Result, Ok, Err}, Option.option_to_list, List.flat_map},
 }
-use Rattle.bac_wire.specs.Steps.{◌>>=◌}
-use Rattle.bac_pdu.specs.{Apdu.{Message, laid_out, unconfirmed}, ApduReading.apdu_of}
-use Rattle.bac_pdu.specs.{Datagram.wrapped, DatagramReading.carried, Discovery.{Introduction, asks, who_is_octets}}
-use Rattle.bac_pdu.specs.{Peer.{Station, station}, ValueReading.introduction_of, declared.discovery.WhoIs.WhoIs}
+use Rattle.bac_pdu.specs.{Apdu.{laid_out, unconfirmed}, Datagram.wrapped, Discovery.who_is_octets}
+use Rattle.bac_pdu.specs.{Found.{Found, found_of}, Peer.station, declared.discovery.WhoIs.WhoIs}
 use Rattle.bac_text.specs.declared.jobs.Search.{Search}
 use Rattle.bac_print.specs.{declared.checked.Checked.Checked, Checked.Took, PeerTexts.peer_text}
 use Rattle.bac_links.{
@@ -15,24 +13,6 @@ use Rattle.bac_links.{
   specs.{Limits.turn_wait, declared.exit.Exit.{Exit, TheVariants.{Good, Bad}}},
   specs.declared.fault.ToolFault.{ToolFault, TheVariants.{SendFailed, ReceiveFailed, WriteFailed}},
 }
-
--- A device that introduced itself, and where it is.
-pub record Found : Type 0 where
-  pub peer : Station
-  pub device : Introduction
-
--- What an I-Am (0) says.
-abbrev pub introduced_in : Message → Option Introduction
-introduced_in (unconfirmed service body) = if service == 0 then introduction_of body else None
-introduced_in _ = None
-
--- The device that introduces itself in a datagram, where it is one that was asked for; else none.
-unfoldable pub found_of : WhoIs → Station → List ℕ → Option Found
-found_of who from octets = do
-  delivery ← carried from octets
-  message ← apdu_of delivery.apdu
-  device ← introduced_in message
-  if asks who device.device.instance then Some (record { peer = delivery.peer; device = device }) else None
 
 -- The device that is found by an entry, if one is.
 abbrev pub found_by : WhoIs → Entry → List Found

@@ -1,10 +1,11 @@
 -- A device that answers what comes over a link.
 use Rattle.std.specs.Prelude.{◌≡◌, ℕ, nat_le, if◌then◌else◌, List, [], ◌∷◌, length, Option, Some, None, Result, Ok, Err}
-use Rattle.std.specs.{Option.option_to_list, List.{flat_map, last_or}}
+use Rattle.std.specs.List.{flat_map, last_or}
 use Rattle.bac_pdu.specs.Peer.{Station}
 use Rattle.bac_device.specs.{Device.DeviceState, Reply.{reply_of, write_in_datagram, with_write}, Turns.Arrival}
 use Rattle.bac_links.specs.{Limits.serve_wait, History.{Arrived, Failure, Entry, Waited, Unposted, Account}}
 use Rattle.bac_links.specs.Asking.{Move, Asks, Over, ToSend, Plays, waits_in, turn_after}
+use Rattle.bac_links.specs.declared.exit.Exit.{Exit, TheVariants.Good}
 use Rattle.bac_links.specs.declared.fault.ToolFault.{ToolFault, TheVariants.{SendFailed, ReceiveFailed}}
 
 -- The datagram that came by an entry, if one did.
@@ -31,34 +32,30 @@ replies_of device [] = []
 replies_of device (came ∷ later) =
     reply_of device came.from came.datagram ∷ replies_of (device_next device came) later
 
--- How many of these replies are no silence.
-abbrev pub reply_count : List (Option (Station × List ℕ)) → ℕ
-reply_count replies = length (flat_map option_to_list replies)
-
 -- Where there is a reply it is sent.
-abbrev pub or_reply : Option (Option (Station × List ℕ)) → Move (Result ℕ ToolFault) → Move (Result ℕ ToolFault)
+abbrev pub or_reply : Option (Option (Station × List ℕ)) → Move (Result Exit ToolFault) → Move (Result Exit ToolFault)
 or_reply (Some (Some (to, octets))) other = Asks (ToSend to octets)
 or_reply _ other = other
 
-module _ (count : ℕ) (device : DeviceState) where
-  -- Once as many datagrams came as were asked for it is over, with the number of replies; else a turn begins.
-  abbrev pub serve_next : List Entry → Move (Result ℕ ToolFault)
+module _ (count : ℕ) where
+  -- Once as many datagrams came as were asked for it is over, which is good; else a turn begins.
+  abbrev pub serve_next : List Entry → Move (Result Exit ToolFault)
   serve_next gained =
       if nat_le count (length (arrivals_in gained))
-      then Over (Ok (reply_count (replies_of device (arrivals_in gained))))
+      then Over (Ok Good)
       else turn_after serve_wait (waits_in gained)
 
   -- The next move of a server, behind what came last: the reply to a datagram is sent before the next wait.
-  abbrev pub serve_move : List Entry → Option Entry → Move (Result ℕ ToolFault)
-  serve_move gained (Some (Waited wait Failure)) = Over (Err ReceiveFailed)
-  serve_move gained (Some (Waited wait (Arrived from octets))) =
+  abbrev pub serve_move : DeviceState → List Entry → Option Entry → Move (Result Exit ToolFault)
+  serve_move device gained (Some (Waited wait Failure)) = Over (Err ReceiveFailed)
+  serve_move device gained (Some (Waited wait (Arrived from octets))) =
       or_reply (last_or None (replies_of device (arrivals_in gained))) (serve_next gained)
-  serve_move gained (Some (Unposted to octets)) = Over (Err SendFailed)
-  serve_move gained _ = serve_next gained
+  serve_move device gained (Some (Unposted to octets)) = Over (Err SendFailed)
+  serve_move device gained _ = serve_next gained
 
 -- What a device that serves over a link answers and sends, and what is left of both, however the server ends and
 -- whatever the link is.
 pub record Serves {Origin : Type 0} (count : ℕ) (before after : DeviceState) (seen left : Account Origin)
-    (result : Result ℕ ToolFault) : Type 0 where
+    (result : Result Exit ToolFault) : Type 0 where
   pub plays : Plays (serve_move count before) seen left result
   pub device : after ≡ device_behind before (arrivals_in plays.gained)

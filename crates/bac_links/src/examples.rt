@@ -4,7 +4,7 @@ ghost use Rattle.std.specs.Prelude.{◌≡◌, ℕ, [], ◌∷◌, Some, None, O
 ghost use Rattle.std.specs.declared.io.ErrorKind.TheVariants.{TimedOut};
 ghost use Rattle.bac_print.specs.Inner.Examples.{having, unasked, unknown};
 ghost use Rattle.bac_links.specs.{Answered.{AskAlike, OneText}, Asking.waits_in, Call.{IsAccepted, Tells}};
-ghost use Rattle.bac_links.specs.{Ending.status_of, Limits.{longest_datagram, most_turns, turn_wait}};
+ghost use Rattle.bac_links.specs.Limits.{longest_datagram, most_turns, turn_wait};
 ghost use Rattle.bac_links.specs.Fault.{is_link_fault, is_write_fault, link_fault_text, tool_fault_text};
 ghost use Rattle.bac_links.specs.History.{Arrived, Failure, Gains, Posted, Silence, Timed, Unposted, Waited};
 ghost use Rattle.bac_links.specs.History.{heard_by, posted};
@@ -82,12 +82,9 @@ fn examples_of_entries()
     ensures unread { Times 5 5 [] → ⊥ }
 {}
 
-// How a tool ends, and what is told of it.
+// Whose fault it is that a tool could not go on, and what is told of it.
 #[tactic(none)]
 fn examples_of_ends()
-    ensures good { status_of good ≡ 0 }
-    ensures bad { status_of bad ≡ 1 }
-    ensures unsent { status_of unsent ≡ 3 }
     ensures of_link { is_link_fault unsent ≡ true }
     ensures not_of_link { is_link_fault unwritten ≡ false }
     ensures of_writer { is_write_fault unwritten ≡ true }

@@ -12,46 +12,46 @@ use std::net::SocketAddr;
 use std::time::Duration;
 
 /// All that a link was asked and answered so far.
-pub(crate) type History = GhostList<Asked>;
+pub(crate) type History = GhostList<EntryMade>;
 
 /// One thing that a link was asked, with its answer, as clauses see it. No code makes one.
 #[derive(Drop)]
-pub(crate) struct Asked {
+pub(crate) struct EntryMade {
     ghost entry: { Entry },
 }
 
-impl Model for Asked {
+impl Model for EntryMade {
     ghost Value = { Entry };
 
-    ghost view = { λ asked. asked.entry };
+    ghost view = { λ made. made.entry };
 
     ghost also_owns = { λ _. ftrue };
 }
 
 /// One call of a link, with its answer: a wait of so many milliseconds, and the datagram then; the time; a send.
 #[derive(Clone, Copy, Drop)]
-pub(crate) enum Asking<'a> {
+pub(crate) enum EntryNote<'a> {
     Waited(u32, &'a Result<Option<Peer>, LinkFault>, &'a Datagram),
     Timed(u64),
     Sent(&'a Result<(), LinkFault>, Peer, &'a [u8]),
 }
 
-impl NoteOf<Asked> for Asking<'_> {
+impl NoteOf<EntryMade> for EntryNote<'_> {
     ghost use Rattle.bac_links.specs.Inner.Note.{entry_of};
 
     ghost tells = { entry_of };
 }
 
 /// All calls of the system that a socket made so far, with the answers.
-pub type Log = GhostList<CallMade>;
+pub type Log = GhostList<SystemCallMade>;
 
 /// One call of the system, with its answer, as clauses see it. No code makes one.
 #[derive(Drop)]
-pub struct CallMade {
+pub struct SystemCallMade {
     ghost call: { SystemCall },
 }
 
-impl Model for CallMade {
+impl Model for SystemCallMade {
     ghost Value = { SystemCall };
 
     ghost view = { λ made. made.call };
@@ -69,7 +69,7 @@ pub enum CallNote<'a> {
     Elapsed(&'a io::Result<Duration>),
 }
 
-impl NoteOf<CallMade> for CallNote<'_> {
+impl NoteOf<SystemCallMade> for CallNote<'_> {
     ghost use Rattle.bac_links.specs.Log.{call_of};
 
     ghost tells = { call_of };

@@ -31,7 +31,7 @@ use std::io::Write;
 
 /// However a server ends, and whatever its link is, the device has its info and its points as before.
 pub fn a_server_keeps_its_points<L: Link>()
-    ensures { (count : ℕ) (before after : DeviceState) (seen left : Account L.Origin) (result : Result ℕ Fault)
+    ensures { (count : ℕ) (before after : DeviceState) (seen left : Account L.Origin) (result : Result ExitValue Fault)
         → Serves count before after seen left result
         → (after.info ≡ before.info) × (points_of after ≡ points_of before) }
 {}
@@ -39,7 +39,7 @@ pub fn a_server_keeps_its_points<L: Link>()
 /// For any writes that leave the points as they stand in the device before, the replies of a server are those of the
 /// definition; and however it ends, the points stand afterwards as the writes that it accepted leave them.
 pub fn a_server_replies_as_defined<L: Link>()
-    ensures { (count : ℕ) (before after : DeviceState) (seen left : Account L.Origin) (result : Result ℕ Fault)
+    ensures { (count : ℕ) (before after : DeviceState) (seen left : Account L.Origin) (result : Result ExitValue Fault)
         (gained : List Entry) (writes : List Change)
         → Serves count before after seen left result → left.history ≡ seen.history ++ gained → Holds before writes
         → AreDefined before writes (arrivals_in gained) (replies_of before (arrivals_in gained)) after }
@@ -48,7 +48,7 @@ pub fn a_server_replies_as_defined<L: Link>()
 /// What a server sent, in its order, are the replies of the definition to the datagrams that it heard, after any writes
 /// that leave the points as they stand in the device before; where a send failed, all but that one.
 pub fn a_server_sends_its_replies<L: Link>()
-    ensures { (count : ℕ) (before after : DeviceState) (seen left : Account L.Origin) (result : Result ℕ Fault)
+    ensures { (count : ℕ) (before after : DeviceState) (seen left : Account L.Origin) (result : Result ExitValue Fault)
         (gained : List Entry) (writes : List Change)
         → Serves count before after seen left result → left.history ≡ seen.history ++ gained → Holds before writes
         → AllSent (flat_map option_to_list (replies_to before.info (points_of before) writes (arrivals_in gained)))
@@ -58,7 +58,7 @@ pub fn a_server_sends_its_replies<L: Link>()
 /// No server hears more datagrams than it is to answer, and one that is over with an answer heard that many. (One that
 /// heard as many ends with a fault where its last reply could not be sent.)
 pub fn a_server_hears_as_many<L: Link>()
-    ensures { (count : ℕ) (before after : DeviceState) (seen left : Account L.Origin) (result : Result ℕ Fault)
+    ensures { (count : ℕ) (before after : DeviceState) (seen left : Account L.Origin) (result : Result ExitValue Fault)
         (gained : List Entry) → Serves count before after seen left result → left.history ≡ seen.history ++ gained
         → (length (arrivals_in gained) ≤ count) × IfOk result (λ answer. length (arrivals_in gained) ≡ count) }
 {}

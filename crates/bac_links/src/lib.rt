@@ -2,19 +2,17 @@
 //!
 //! A [`Link`] sends and receives datagrams and knows the time: [`UdpLink`] over a socket, [`MemoryLink`] in memory.
 //! [`run_read`] and [`run_write`] make one request and print how it ended, [`run_whois`] prints the devices that it
-//! finds, and [`serve`] answers for a device. [`status`] is the program's status after that. `specs/Call.antt`,
-//! `specs/Search.antt` and `specs/Serve.antt` say by their moves (`specs/Asking.antt`) what each asks of its link.
+//! finds, and [`serve`] answers for a device. `specs/Call.antt`, `specs/Search.antt` and `specs/Serve.antt` say by
+//! their moves (`specs/Asking.antt`) what each asks of its link.
 //!
 //! Whole runs over links in memory, with what they send and print, are tests of `tool_trials` (`src/tests/links`).
 //!
-//! A call, of `bac_uses` (`src/links.rt`), where it is proved that the read was made and nothing else, that with a
-//! status below 3 the writer took the line of how it ended, and that this is the status of that end:
+//! A call, of `bac_uses` (`src/links.rt`), where it is proved that the read was made and nothing else, and that where
+//! it met no fault the writer took the line of how it ended, and the exit is that of this end:
 //!
 //! ```rust
-//! match UdpLink::bind_with(rt, alloc, anywhere, OnRefusal::Fails) {
-//!     Ok(mut link) => (status(&run_read(call, &mut link, writer)), Ok(link)),
-//!     Err(none) => (3, Err(none)),
-//! }
+//! let mut link = UdpLink::bind_with(rt, alloc, anywhere, OnRefusal::Fails)?;
+//! Ok((run_read(call, &mut link, writer), link))
 //! ```
 #![tactic(auto)]
 
@@ -37,9 +35,9 @@ mod udp;
 pub use call::{run_read, run_write};
 pub use datagram::{DATAGRAM_OCTETS, Datagram};
 pub use ending::Purpose;
-pub use exit::{Exit, status};
+pub use exit::Exit;
 pub use fault::ToolFault;
-pub use history::{CallMade, CallNote, Log};
+pub use history::{CallNote, Log, SystemCallMade};
 pub use link::{Link, LinkFault};
 pub use memory::{MemoryLink, Step};
 pub use search::run_whois;

@@ -9,7 +9,7 @@ ghost use Rattle.bac_links.{
 };
 
 use crate::datagram::Datagram;
-use crate::history::{Asking, History};
+use crate::history::{EntryNote, History};
 use crate::link::{Link, LinkFault};
 use bac_pdu::Peer;
 use std::alloc::{AllocError, Allocator, Global};
@@ -131,7 +131,7 @@ impl<A: Allocator + Copy> Link for MemoryLink<A> {
             octets,
         );
         self.failed = sent.is_err();
-        self.history.push(&Asking::Sent(&sent, to, octets));
+        self.history.push(&EntryNote::Sent(&sent, to, octets));
         sent
     }
 
@@ -149,7 +149,7 @@ impl<A: Allocator + Copy> Link for MemoryLink<A> {
         let heard = play(step, wait_ms, &mut self.time, datagram);
         self.next = self.next.saturating_add(1);
         self.failed = heard.is_err();
-        let note = Asking::Waited(wait_ms, &heard, datagram);
+        let note = EntryNote::Waited(wait_ms, &heard, datagram);
         self.history.push(&note);
         heard
     }
@@ -160,7 +160,7 @@ impl<A: Allocator + Copy> Link for MemoryLink<A> {
             (account_with self.new.steps.items self.new.history.items) }
         ensures fails_at { self.new.fail_send ≡ self.old.fail_send }
     {
-        self.history.push(&Asking::Timed(self.time));
+        self.history.push(&EntryNote::Timed(self.time));
         self.time
     }
 

@@ -1,10 +1,10 @@
 //! The search for devices.
-ghost use Rattle.std.specs.{Prelude.{◌≡◌, ◌<◌, false, is_err, IfErr}, Option.option_map};
-ghost use Rattle.bac_pdu.specs.Peer.{station};
+ghost use Rattle.std.specs.Prelude.{◌≡◌, ◌<◌, false, is_err, IfErr};
+ghost use Rattle.bac_pdu.specs.{Found.found_seen, Peer.station};
 ghost use Rattle.bac_print.specs.{Checked.{has_failed, TookOrFailed}, Page.Prints};
 ghost use Rattle.bac_links.{
-  specs.{Fault.{is_link_fault, is_write_fault}, History.{Gains, posted}, Inner.Search.{found_seen, who_is_datagram}},
-  specs.{Inner.SearchSteps.Listens, Search.{found_of, found_line, who_is_to, Searched}},
+  specs.{Fault.{is_link_fault, is_write_fault}, History.{Gains, posted}, Inner.Search.who_is_datagram},
+  specs.{Inner.SearchSteps.Listens, Search.{found_line, who_is_to, Searched}},
 };
 
 use crate::datagram::Datagram;
@@ -12,21 +12,11 @@ use crate::exit::Exit;
 use crate::fault::ToolFault;
 use crate::link::Link;
 use crate::turns::{most_turns, turn_wait};
-use bac_pdu::{
-    Apdu, I_AM, IAm, Peer, WHO_IS, WhoIs, open_datagram, read_apdu, read_iam, wrap_within,
-    write_apdu, write_whois,
-};
+use bac_pdu::{Apdu, Found, Peer, WHO_IS, WhoIs, read_found, wrap_within, write_apdu, write_whois};
 use bac_print::{Checked, Page};
 use bac_text::Search;
 use bac_wire::Frame;
 use std::io::Write;
-
-// A device that introduced itself, and where it is.
-#[derive(Clone, Copy)]
-struct Found {
-    peer: Peer,
-    device: IAm,
-}
 
 /// Asks a station which devices there are (Who-Is, clause 16.10), and prints a line of each that introduces itself
 /// until the timeout has gone by: its instance, its peer, the longest APDU that it takes, its segmentation and its
@@ -123,29 +113,6 @@ fn listen<L: Link, W: Write>(
         Ok(None) => Ok(false),
         Err(_) => Err(ToolFault::ReceiveFailed),
     }
-}
-
-// The device that introduces itself in a datagram, where it is one that is asked.
-#[tactic(auto, unfolding(crate::specs::Search::found_of))]
-fn read_found(who: WhoIs, from: Peer, octets: &[u8]) -> Option<Found>
-    ensures { option_map found_seen result ≡ found_of who (station from) octets.now }
-{
-    let carried = open_datagram(from, octets)?;
-    let Apdu::Unconfirmed {
-        service: I_AM,
-        body,
-    } = read_apdu(carried.apdu)?
-    else {
-        return None;
-    };
-    let device = read_iam(body)?;
-    if !who.asks(device.device.instance()) {
-        return None;
-    }
-    Some(Found {
-        peer: carried.peer,
-        device,
-    })
 }
 
 // Prints the line of a device.

@@ -11,7 +11,7 @@ ghost use Rattle.bac_links.{
 };
 
 use crate::datagram::{DATAGRAM_OCTETS, Datagram};
-use crate::history::{Asking, History, Log};
+use crate::history::{EntryNote, History, Log};
 use crate::link::{Link, LinkFault};
 use crate::socket::{NoSocket, Socket, SystemSocket};
 use bac_pdu::Peer;
@@ -149,7 +149,7 @@ impl<S: Socket + Drop> Link for UdpLink<S> {
     {
         let sent = post(&mut self.socket, self.refused, to, octets);
         self.failed = sent.is_err();
-        self.history.push(&Asking::Sent(&sent, to, octets));
+        self.history.push(&EntryNote::Sent(&sent, to, octets));
         sent
     }
 
@@ -175,7 +175,7 @@ impl<S: Socket + Drop> Link for UdpLink<S> {
             datagram,
         );
         self.failed = heard.is_err();
-        let note = Asking::Waited(wait_ms, &heard, datagram);
+        let note = EntryNote::Waited(wait_ms, &heard, datagram);
         self.history.push(&note);
         heard
     }
@@ -189,7 +189,7 @@ impl<S: Socket + Drop> Link for UdpLink<S> {
             (account_over self.new.refused (S.log self.new.made_of.value) self.new.history.items) }
     {
         self.time = time_by(self.socket.elapsed(), self.time);
-        self.history.push(&Asking::Timed(self.time));
+        self.history.push(&EntryNote::Timed(self.time));
         self.time
     }
 

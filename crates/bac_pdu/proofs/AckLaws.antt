@@ -1,6 +1,6 @@
 -- The body of a ReadProperty-ACK in its parts.
-use Rattle.std.proofs.Common.{◌≡◌, ◌+◌, ◌++◌, length, append_assoc, length-append, arith}
-use Rattle.bac_pdu.{proofs.ShortestLaws.ack_written, specs.Property.{ReadAck, ack_octets, ack_front, ack_end}}
+use Rattle.std.proofs.Common.{◌++◌, ◌+◌, ◌≡◌, append_assoc, arith, length, length-append}
+use Rattle.bac_pdu.{specs.{ack_end, ack_front, ack_octets, ReadAck}, proofs.ShortestLaws.ack_written}
 
 -- an answer is what stands before its value, the value, and what stands behind it
 pub ack_parts : (a : ReadAck) → ack_octets a ≡ (ack_front a.reference ++ a.value) ++ ack_end

@@ -1,16 +1,12 @@
 -- What is read of an APDU is what its octets lay out, and what is laid out is read back.
-use Rattle.std.proofs.Common.{◌≡◌, ℕ, ◌+◌, ◌/◌, Bool, true, false, cond, eqb, List, [], ◌∷◌, ◌++◌, Option, Some, refl}
-use Rattle.std.proofs.Common.{arith, ◌≤◌, length, sym, slice_index_or}
-use Rattle.std.proofs.lemmas.{Option.{none-some, same_Some}, List.length-append}
-use Rattle.std.specs.Prelude.{◌↔◌}
-use Rattle.bac_wire.{proofs.{Readers.{Took, found_at, chosen}, TagLaws.bind_some}, specs.Steps.◌>>=◌}
-use Rattle.bac_pdu.specs.{
-  declared.apdu.Part.Part,
-  Bits.bit,
-  Apdu.{Message, confirmed, unconfirmed, simple_ack, complex_ack, segment_ack, error, reject, abort, Flags, IsLaidOut},
-  Apdu.{part_flags, part_octets, laid_out, IsWritable, announced_size},
-  ApduReading.{part_at, service_at, parts_at, confirmed_of, complex_ack_of, numbered_of, apdu_of},
-}
+use Rattle.std.proofs.Common.{[], ◌++◌, ◌+◌, ◌/◌, ◌∷◌, ◌≡◌, ◌≤◌, arith, Bool, cond, eqb, false, length, List, Option}
+use Rattle.std.proofs.{Common.{refl, slice_index_or, Some, sym, true, ℕ}, lemmas.List.length-append}
+use Rattle.std.{proofs.lemmas.Option.{none-some, same_Some}, specs.Prelude.◌↔◌}
+use Rattle.bac_wire.{specs.Steps.◌>>=◌, proofs.{Readers.{chosen, found_at, Took}, TagLaws.bind_some}}
+use Rattle.bac_pdu.specs.{abort, announced_size, apdu_of, bit, complex_ack, complex_ack_of, confirmed, confirmed_of}
+use Rattle.bac_pdu.specs.{error, Flags, IsLaidOut, IsWritable, laid_out, Message, numbered_of, part_at, part_flags}
+use Rattle.bac_pdu.specs.{part_octets, parts_at, reject, segment_ack, service_at, simple_ack, unconfirmed}
+use Rattle.bac_pdu.specs.declared.apdu.Part.{Part}
 
 -- ---- the part
 

@@ -1,25 +1,18 @@
 -- What is read of a header or a datagram is what it carries, and what is written is carried back.
-use Rattle.std.proofs.{
-  Common.{◌≡◌, ℕ, ◌/◌, ◌%◌, ◌<◌, ◌≤◌, Bool, true, false, eqb, List, [], ◌∷◌, ◌++◌, length, drop, Option, Some, None},
-  Common.{refl, sym, ap, ◌∙◌, append_assoc, arith, slice_index_or, ◌+◌, cond, ◌||◌, ◌&&◌, inl, inr},
-  lemmas.Bool.{and_parts, eqb-true, ltb-false, eq-eqb},
-  lemmas.List.{take_at, drop_at, take-append-drop, length-append, length-take-le, nil_from_length},
-  lemmas.Option.{none-some, some_pair_parts, cond_some},
-}
-use Rattle.std.specs.Prelude.{IfSome, ◌↔◌, is_some, OnOk, Result}
+use Rattle.std.proofs.Common.{[], ◌%◌, ◌&&◌, ◌++◌, ◌+◌, ◌/◌, ◌<◌, ◌||◌, ◌∙◌, ◌∷◌, ◌≡◌, ◌≤◌, ap, append_assoc, arith}
+use Rattle.std.proofs.Common.{Bool, cond, drop, eqb, false, inl, inr, length, List, None, Option, refl, slice_index_or}
+use Rattle.std.proofs.{Common.{Some, sym, true, ℕ}, lemmas.Bool.{and_parts, eq-eqb, eqb-true, ltb-false}}
+use Rattle.std.proofs.lemmas.List.{drop_at, length-append, length-take-le, nil_from_length, take-append-drop, take_at}
+use Rattle.std.proofs.lemmas.Option.{cond_some, none-some, some_pair_parts}
+use Rattle.std.specs.Prelude.{◌↔◌, IfSome, is_some, OnOk, Result}
+use Rattle.bac_wire.proofs.Readers.{chosen, found_at, IsReader, only_if, Took, took, took_as, unless}
+use Rattle.bac_wire.proofs.TagLaws.{bind_some}
 use Rattle.byteorder.specs.{Endian.big_number, Numbers.big_number-reads_back}
-use Rattle.bac_wire.{
-  proofs.{Readers.{IsReader, Took, took, took_as, found_at, only_if, unless, chosen}, TagLaws.bind_some},
-}
-use Rattle.bac_pdu.specs.{
-  Bits.bit,
-  Peer.{NetworkAddress, IsRoutable, Station},
-  Header.{NetworkHeader, SpellsAddress, SpellsAnnounced, SpellsHeader, address_octets, plain_header},
-  DatagramReading.{counted_at, address_at, announced_at, behind_hops, behind_control, header_at, forwarded_at},
-  DatagramReading.{origin_at, link_at, is_routable, is_for_all, is_answerable, carried},
-  Datagram.{Delivery, SpellsOrigin, unicast, broadcast, forwarded, Carries, Takes, wrapped, front_count},
-  Inner.Datagram.front_octets,
-}
+use Rattle.bac_pdu.specs.{address_at, address_octets, announced_at, behind_control, behind_hops, bit, broadcast}
+use Rattle.bac_pdu.specs.{carried, Carries, counted_at, Delivery, forwarded, forwarded_at, front_count, header_at}
+use Rattle.bac_pdu.specs.{is_answerable, is_for_all, is_routable, IsRoutable, link_at, NetworkAddress, NetworkHeader}
+use Rattle.bac_pdu.specs.{origin_at, plain_header, SpellsAddress, SpellsAnnounced, SpellsHeader, SpellsOrigin, Station}
+use Rattle.bac_pdu.specs.{Takes, unicast, wrapped, Inner.front_octets}
 
 -- ---- the address of a station
 

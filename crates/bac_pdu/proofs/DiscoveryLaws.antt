@@ -1,11 +1,10 @@
 -- Reading the body of a Who-Is, of an I-Am or of an Error finds what its relation says.
-use Rattle.std.proofs.{Common.{◌≡◌, ℕ, List, [], ◌∷◌, Option, Some, refl, subst}, lemmas.Bool.{eqb-true, eq-eqb}}
+use Rattle.std.proofs.{Common.{[], ◌∷◌, ◌≡◌, List, Option, refl, Some, subst, ℕ}, lemmas.Bool.{eq-eqb, eqb-true}}
 use Rattle.std.specs.Prelude.{◌↔◌}
-use Rattle.bac_wire.{specs.Front.Begins, specs.Steps.◌>>=◌, specs.Datum.{Datum, Spells}, proofs.Readers.only_if}
-use Rattle.bac_wire.proofs.{TagLaws.bind_some, ParameterLaws.{IsStep, unsigned_step, enumerated_step, object_step}}
-use Rattle.bac_pdu.specs.{declared.discovery.WhoIs.WhoIs, Discovery.{IsWhoIsBody, Introduction, IsIAmBody}}
-use Rattle.bac_pdu.specs.{Failure.IsErrorBody, ValueReading.{who_is_of, introduction_of, error_of}}
-use Rattle.bac_pdu.proofs.{SequenceLaws.whole_ended, ParameterLaws.numbered_step}
+use Rattle.bac_wire.{specs.{Datum.{Datum, Spells}, Front.Begins, Steps.◌>>=◌}, proofs.Readers.only_if}
+use Rattle.bac_wire.proofs.{ParameterLaws.{enumerated_step, IsStep, object_step, unsigned_step}, TagLaws.bind_some}
+use Rattle.bac_pdu.specs.{error_of, Introduction, introduction_of, IsErrorBody, IsIAmBody, IsWhoIsBody, who_is_of}
+use Rattle.bac_pdu.{specs.WhoIs, proofs.{ParameterLaws.numbered_step, SequenceLaws.whole_ended}}
 use Rattle.bac_pdu.specs.declared.discovery.WhoIs.TheVariants as limits
 
 -- ---- Who-Is

@@ -1,10 +1,8 @@
 -- How long the body of a ReadProperty is at most.
-use Rattle.std.proofs.Common.{◌≡◌, ℕ, ◌≤◌, List, [], ◌++◌, length, Option, Result, Ok, Err, ap, ◌∙◌, arith}
+use Rattle.std.proofs.Common.{[], ◌++◌, ◌∙◌, ◌≡◌, ◌≤◌, ap, arith, Err, length, List, Ok, Option, Result, ℕ}
 use Rattle.std.{proofs.lemmas.List.length-append, specs.List.flat_map}
-use Rattle.bac_wire.specs.{Tag.plain_tag, Parameter.{context_tag, context_octets, number_octets}, Writing.Appends}
-use Rattle.bac_pdu.{
-  specs.{Parameter.{numbered, plain_parameter}, Inner.Parameter.optional, Property.{Reference, read_octets}},
-}
+use Rattle.bac_wire.specs.{Parameter.{context_octets, context_tag, number_octets}, Tag.plain_tag, Writing.Appends}
+use Rattle.bac_pdu.specs.{numbered, plain_parameter, read_octets, Reference, Inner.optional}
 
 tag_short : (number count : ℕ) → length (plain_tag (context_tag number count)) ≤ 7
 unfolding plain_tag

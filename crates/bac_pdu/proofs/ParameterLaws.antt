@@ -1,9 +1,9 @@
 -- Reading a parameter of ReadProperty or WriteProperty finds what its relation says.
-use Rattle.std.proofs.Common.{arith, ◌≡◌, ℕ, List, Option, Some, None, refl, ap, ◌∙◌}
-use Rattle.bac_wire.specs.{Front.{IsReader, SpellsTo}, ParameterReading.{number_at, object_at, enclosed_at}}
-use Rattle.bac_wire.proofs.ParameterLaws.{number_reader, object_reader, enclosed_reader, IsStep}
-use Rattle.bac_pdu.specs.{Parameter.{Parameter, object, numbered, value, SpellsParameter}, Inner.Parameter.optional}
-use Rattle.bac_pdu.specs.PropertyReading.{or_none, optional_at}
+use Rattle.std.proofs.Common.{◌∙◌, ◌≡◌, ap, arith, List, None, Option, refl, Some, ℕ}
+use Rattle.bac_wire.specs.{Front.{IsReader, SpellsTo}, ParameterReading.{enclosed_at, number_at, object_at}}
+use Rattle.bac_wire.proofs.ParameterLaws.{enclosed_reader, IsStep, number_reader, object_reader}
+use Rattle.bac_pdu.specs.{numbered, object, optional_at, or_none, SpellsParameter, value, Parameter.Parameter}
+use Rattle.bac_pdu.specs.Inner.{optional}
 
 -- a reader of things of one kind, as a step of what reads such things among others
 pub reader_step : {A P : Type 0} {Spells : List ℕ → P → Type 0} {Kind : List ℕ → A → Type 0}

@@ -1,15 +1,11 @@
 -- `==` on peers compares the stations.
-use Rattle.std.proofs.{
-  lemmas.{Grind.common_steps, Bool.{and_parts, eqb-true, eq-eqb}, List.{take-append-drop, length-take-le, length-drop}},
-  lemmas.Option.{none-some, same_Some},
-  Common.{◌≡◌, ℕ, ◌-◌, true, List, ◌++◌, length, take, drop, Option, refl, sym, ap, ◌∙◌, arith},
-}
-use Rattle.std.specs.{Prelude.{◌↔◌, replicate}, Option.{option_map, option_eq}, Cmp.Lexicographic.bytes_decides}
-use Rattle.bac_pdu.specs.{
-  declared.{route.Route.Route, peer.Peer.Peer},
-  contracts.{route.RoutePartialEq.TheImpl.eq-value as route_eq, peer.PeerPartialEq.TheImpl.eq-value as peer_eq},
-  Peer.{NetworkAddress, network_address, station},
-}
+use Rattle.std.proofs.Common.{◌++◌, ◌-◌, ◌∙◌, ◌≡◌, ap, arith, drop, length, List, Option, refl, sym, take, true, ℕ}
+use Rattle.std.proofs.lemmas.{Bool.{and_parts, eq-eqb, eqb-true}, Grind.common_steps, Option.{none-some, same_Some}}
+use Rattle.std.{proofs.lemmas.List.{length-drop, length-take-le, take-append-drop}, specs.Option.option_eq}
+use Rattle.std.specs.{Cmp.Lexicographic.bytes_decides, Prelude.{◌↔◌, option_map, replicate}}
+use Rattle.bac_pdu.specs.{network_address, NetworkAddress, station, declared.{peer.Peer.Peer, route.Route.Route}}
+use Rattle.bac_pdu.specs.contracts.peer.PeerPartialEq.TheImpl.{eq-value as peer_eq}
+use Rattle.bac_pdu.specs.contracts.route.RoutePartialEq.TheImpl.{eq-value as route_eq}
 
 -- a route keeps its address in eight octets
 room : (r : Route) → length r.octets ≡ 8

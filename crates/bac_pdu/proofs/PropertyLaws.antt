@@ -1,31 +1,20 @@
 -- Reading the body of a ReadProperty or a WriteProperty finds what it says, or the first fault that it has; reading the
 -- answer of a ReadProperty finds the value.
-use Rattle.std.proofs.{
-  Common.{arith, ◌≡◌, ℕ, List, [], ◌∷◌, ◌++◌, Some, None, Result, Ok, Err, refl, ap, subst, inl, inr, ◌∙◌, Bool, true},
-  Common.{false, cond, Option, sym, ◌≤◌, length},
-  lemmas.List.length-append,
-  lemmas.Bool.{false_from_ne_true, iff_false},
-}
-use Rattle.std.specs.{Result.result_ok, Prelude.{◌↔◌, ◌⊎◌, IfSome}}
-use Rattle.bac_wire.{
-  specs.{Front.{Begins, SpellsTo, SpellsAll}, ParameterReading.{number_at, object_at, behind_opening, enclosed_at}},
-  proofs.{RegionReading.no_octets, ParameterLaws.{no_number, no_object, enclosed_no_number}},
-}
-use Rattle.bac_pdu.specs.{
-  declared.reject.RejectReason.{RejectReason, TheVariants.{InvalidTag, MissingParameter, OutOfRange, TooMany}},
-  Parameter.{Parameter, value, SpellsParameter, numbered},
-  Property.{Reference, ReadAck, reference_parameters, IsReadBody, IsAckBody, Order, order_parameters, IsWriteBody},
-  Property.IsPriority,
-  Reject.{LacksReference, ReadFault, IsOutcome, WriteFault},
-  PropertyReading.{optional_at, unless_missing, reference_at, read_of, ack_of, is_priority, write_of},
-  Inner.Parameter.optional,
-  Steps.◌>>=◌,
-}
-use Rattle.bac_pdu.proofs.{
-  SequenceLaws.{then_to, split_to, to_front, from_front},
-  ParameterLaws.{object_step, numbered_step, value_step, optional_begins, optional_read},
-  RejectLaws.{and_then_ok, and_then_err, step_ok, needs_takes, needs_fails, ended_ok, ended_err, IsJudge, outcome_is},
-  RejectLaws.{needs_ok, ended},
+use Rattle.std.proofs.Common.{[], ◌++◌, ◌∙◌, ◌∷◌, ◌≡◌, ◌≤◌, ap, arith, Bool, cond, Err, false, inl, inr, length, List}
+use Rattle.std.proofs.{Common.{None, Ok, Option, refl, Result, Some, subst, sym, true, ℕ}, lemmas.List.length-append}
+use Rattle.std.{proofs.lemmas.Bool.{false_from_ne_true, iff_false}, specs.Prelude.{◌↔◌, ◌⊎◌, IfSome}}
+use Rattle.std.specs.Result.{result_ok}
+use Rattle.{
+  bac_wire.{specs.Front.{Begins, SpellsAll, SpellsTo}, proofs.ParameterLaws.{enclosed_no_number, no_number, no_object}},
+  bac_wire.{specs.ParameterReading.{behind_opening, enclosed_at, number_at, object_at}, proofs.RegionReading.no_octets},
+  bac_pdu.specs.{◌>>=◌, ack_of, InvalidTag, is_priority, IsAckBody, IsOutcome, IsPriority, IsReadBody, IsWriteBody},
+  bac_pdu.specs.{LacksReference, MissingParameter, numbered, optional_at, Order, order_parameters, OutOfRange, read_of},
+  bac_pdu.specs.{ReadAck, ReadFault, Reference, reference_at, reference_parameters, RejectReason, SpellsParameter},
+  bac_pdu.specs.{TooMany, unless_missing, value, write_of, WriteFault, Parameter.Parameter, Inner.optional},
+  bac_pdu.proofs.ParameterLaws.{numbered_step, object_step, optional_begins, optional_read, value_step},
+  bac_pdu.proofs.RejectLaws.{and_then_err, and_then_ok, ended, ended_err, ended_ok, IsJudge, needs_fails, needs_ok},
+  bac_pdu.proofs.RejectLaws.{needs_takes, outcome_is, step_ok},
+  bac_pdu.proofs.SequenceLaws.{from_front, split_to, then_to, to_front},
 }
 
 -- ---- the reference

@@ -1,10 +1,9 @@
 -- Reading a body of a confirmed request answers its one outcome.
-use Rattle.std.proofs.Common.{arith, ◌≡◌, ℕ, List, [], ◌∷◌, Option, Some, None, Result, Ok, Err, refl, sym, ap, ◌∙◌}
-use Rattle.std.{specs.Prelude.{◌↔◌, ◌⊎◌}, specs.Option.ok_or, proofs.lemmas.Option.none-some}
+use Rattle.std.proofs.Common.{[], ◌∙◌, ◌∷◌, ◌≡◌, ap, arith, Err, List, None, Ok, Option, refl, Result, Some, sym, ℕ}
+use Rattle.std.{proofs.lemmas.Option.none-some, specs.{Option.ok_or, Prelude.{◌↔◌, ◌⊎◌}}}
 use Rattle.bac_wire.{specs.Front.Begins, proofs.ParameterLaws.IsStep}
-use Rattle.bac_pdu.specs.declared.reject.RejectReason.{RejectReason, TheVariants.{InvalidTag, MissingParameter}}
-use Rattle.bac_pdu.specs.declared.reject.RejectReason.TheVariants.{OutOfRange, TooMany, UnknownService}
-use Rattle.bac_pdu.specs.{Reject.{IsFirst, IsOutcome}, PropertyReading.{unless_missing, whole_of}, Steps.◌>>=◌}
+use Rattle.bac_pdu.specs.{◌>>=◌, InvalidTag, IsFirst, IsOutcome, MissingParameter, OutOfRange, RejectReason, TooMany}
+use Rattle.bac_pdu.specs.{unless_missing, whole_of, declared.reject.RejectReason.TheVariants.UnknownService}
 
 -- ---- results
 
@@ -46,12 +45,6 @@ ended_ok = grind arith
 pub ended_err : {A : Type 0} (x : A) (rest : List ℕ) (reason : RejectReason) → ended x rest ≡ Err reason
     → (reason ≡ TooMany) × (rest ≡ [] → ⊥)
 ended_err = grind arith
-
--- the first that applies is one
-pub one_first : {A : Type 0} (Applies : A → Type 0) (xs : List A) (a b : A) → IsFirst Applies xs a
-    → IsFirst Applies xs b → a ≡ b
-one_first Applies [] a b s t = absurd s
-one_first Applies (x ∷ xs) a b s t = grind (arith, one_first Applies xs a b)
 
 -- ---- the outcome of a body
 

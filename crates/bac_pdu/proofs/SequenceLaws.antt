@@ -1,8 +1,7 @@
 -- Things that are spelled one after the other.
-use Rattle.std.proofs.Common.{arith, ◌≡◌, ℕ, List, [], ◌∷◌, ◌++◌, Some, refl, sym, ap, subst, ◌∙◌, append_assoc}
-use Rattle.std.{specs.List.{AllByRecursion, flat_map}, proofs.lemmas.List.append-nil, proofs.lemmas.Option.none-some}
-use Rattle.bac_wire.specs.Front.{SpellsTo, SpellsAll}
-use Rattle.bac_pdu.specs.PropertyReading.{whole_of}
+use Rattle.std.proofs.Common.{[], ◌++◌, ◌∙◌, ◌∷◌, ◌≡◌, ap, append_assoc, arith, List, refl, Some, subst, sym, ℕ}
+use Rattle.std.{proofs.lemmas.{List.append-nil, Option.none-some}, specs.List.{AllByRecursion, flat_map}}
+use Rattle.{bac_wire.specs.Front.{SpellsAll, SpellsTo}, bac_pdu.specs.whole_of}
 
 -- ---- one after the other
 

@@ -1,7 +1,7 @@
 -- Tags of one octet: of a number below 15, before at most four octets.
+use Rattle.std.proofs.Common.{[], ◌*◌, ◌+◌, ◌<◌, ◌∷◌, ◌≡◌, arith, length, List, slice_index_or, ℕ}
 use Rattle.std.proofs.lemmas.Grind.{common_steps}
-use Rattle.std.proofs.Common.{◌≡◌, ℕ, ◌+◌, ◌*◌, ◌<◌, List, [], ◌∷◌, length, slice_index_or, arith}
-use Rattle.bac_wire.specs.{Tag.plain_tag, Region.{opening_tag, closing_tag}, Parameter.{context_octets, number_octets}}
+use Rattle.bac_wire.specs.{Parameter.{context_octets, number_octets}, Region.{closing_tag, opening_tag}, Tag.plain_tag}
 
 pub short_context : (number : ℕ) (contents : List ℕ) → number < 15 → length contents < 5
     → context_octets number contents ≡ (16 * number + (8 + length contents)) ∷ contents

@@ -1,30 +1,21 @@
 -- What is written of a body spells it, no other spelling has fewer octets, and it is read back.
-use Rattle.std.proofs.Common.{◌≡◌, ℕ, ◌+◌, ◌^◌, ◌<◌, ◌≤◌, List, [], ◌∷◌, ◌++◌, length, Option, Some, Ok, refl}
-use Rattle.std.proofs.{Common.{sym, ap, subst, append_assoc, arith}, lemmas.List.{append-nil, length-append}}
-use Rattle.std.specs.{Prelude.IfSome, List.{AllByRecursion, flat_map}}
-use Rattle.byteorder.specs.{Endian.big_bytes, Numbers.big_from-lt}
-use Rattle.bac_wire.specs.{Identifier.{Identifier, IsIdentifier}, Front.{AreOctets, IsShortest, SpellsTo, SpellsAll}}
-use Rattle.bac_wire.specs.{Tag.{plain_number, plain_tag}, Region.{IsRegion}}
-use Rattle.bac_wire.specs.{Datum.{Datum, Spells, unsigned, enumerated, plain, IsDatum}, Parameter.context_tag}
-use Rattle.bac_wire.specs.Parameter.{SpellsContext, SpellsIn, SpellsEnclosed, context_octets, number_octets}
-use Rattle.bac_wire.{specs.Parameter.{object_octets, enclosed_octets}, proofs.TagLaws.{behind, tag_least}}
-use Rattle.bac_wire.proofs.PlainDatum.{plain_spells, octet_count_least, ahead}
-use Rattle.bac_wire.proofs.ParameterLaws.{number_spells, object_spells, enclosed_spells}
-use Rattle.bac_pdu.specs.{
-  declared.discovery.WhoIs.WhoIs,
-  Parameter.{Parameter, numbered, IsParameter, SpellsParameter, plain_parameter},
-  Inner.{Parameter.{optional, optional_octets}, Discovery.HasLimits},
-  Property.{Reference, ReadAck, Order, reference_parameters, ack_parameters, order_parameters, IsPriority, IsReadBody},
-  Property.{IsAckBody, IsWriteBody, read_octets, ack_octets, write_octets},
-  PropertyReading.{read_of, write_of, ack_of},
-  Discovery.{Introduction, introduction_values, IsWhoIsBody, IsIAmBody, who_is_octets, i_am_octets},
-  Failure.{IsErrorBody, error_octets},
-  ValueReading.{who_is_of, introduction_of, error_of},
-}
-use Rattle.bac_pdu.proofs.{
-  SequenceLaws.{all_spell, whole_spell},
-  PropertyLaws.{read_again, write_again, ack_is},
-  DiscoveryLaws.{who_is_is, introduction_is, error_is},
+use Rattle.std.proofs.Common.{[], ◌++◌, ◌+◌, ◌<◌, ◌^◌, ◌∷◌, ◌≡◌, ◌≤◌, ap, append_assoc, arith, length, List, Ok, Option}
+use Rattle.std.proofs.{Common.{refl, Some, subst, sym, ℕ}, lemmas.List.{append-nil, length-append}}
+use Rattle.std.specs.{List.{AllByRecursion, flat_map}, Prelude.IfSome}
+use Rattle.{
+  bac_wire.specs.{Datum.{Datum, enumerated, IsDatum, plain, Spells, unsigned}, Identifier.Identifier, Region.IsRegion},
+  bac_wire.specs.{Front.{AreOctets, IsShortest, SpellsAll, SpellsTo}, Parameter.{SpellsEnclosed, SpellsIn}},
+  bac_wire.specs.Parameter.{context_octets, context_tag, enclosed_octets, number_octets, object_octets, SpellsContext},
+  bac_wire.{specs.Tag.{plain_number, plain_tag}, proofs.ParameterLaws.{enclosed_spells, number_spells, object_spells}},
+  bac_wire.proofs.{PlainDatum.{ahead, octet_count_least, plain_spells}, TagLaws.{behind, tag_least}},
+  byteorder.specs.{Endian.big_bytes, Numbers.big_from-lt},
+  bac_pdu.specs.{ack_octets, ack_of, ack_parameters, error_octets, error_of, i_am_octets, Introduction},
+  bac_pdu.specs.{introduction_of, introduction_values, IsAckBody, IsErrorBody, IsIAmBody, IsParameter, IsPriority},
+  bac_pdu.specs.{IsReadBody, IsWhoIsBody, IsWriteBody, numbered, Order, order_parameters, plain_parameter, read_octets},
+  bac_pdu.specs.{read_of, ReadAck, Reference, reference_parameters, SpellsParameter, who_is_octets, who_is_of, WhoIs},
+  bac_pdu.specs.{write_octets, write_of, Parameter.Parameter, Inner.{HasLimits, optional, optional_octets}},
+  bac_pdu.proofs.{DiscoveryLaws.{error_is, introduction_is, who_is_is}, PropertyLaws.{ack_is, read_again, write_again}},
+  bac_pdu.proofs.SequenceLaws.{all_spell, whole_spell},
 }
 use Rattle.bac_wire.specs.Datum as values
 use Rattle.bac_pdu.specs.declared.discovery.WhoIs.TheVariants as limits
@@ -41,11 +32,6 @@ pub optional_plain : (made : ℕ → Parameter) (number : ℕ) → ((n : ℕ) �
     → flat_map plain_parameter (optional made i) ≡ optional_octets number i
 optional_plain = grind (arith, append-nil)
 
-pub read_written : (r : Reference)
-    → object_octets 0 r.object ++ (number_octets 1 r.property ++ optional_octets 2 r.index) ≡ read_octets r
-unfolding plain_parameter
-read_written r = grind (arith, optional_plain)
-
 pub ack_written : (a : ReadAck) → read_octets a.reference ++ enclosed_octets 3 a.value ≡ ack_octets a
 unfolding plain_parameter
 ack_written a = sym (cc (plain_append _ _, append-nil _))
@@ -54,10 +40,6 @@ pub write_written : (o : Order)
     → read_octets o.reference ++ (enclosed_octets 3 o.value ++ optional_octets 4 o.priority) ≡ write_octets o
 unfolding plain_parameter
 write_written o = sym (cc (plain_append _ _, optional_plain _ 4 (λ n. refl) _))
-
-pub reference_known : (r : Reference) → IsIdentifier r.object → r.property < 2 ^ 32 → IfSome r.index (λ n. n < 2 ^ 32)
-    → AllByRecursion IsParameter (reference_parameters r)
-reference_known = grind arith
 
 -- ---- a parameter
 
@@ -100,7 +82,7 @@ parameter_shortest =
 
 -- ---- one after the other
 
--- things of which each is written in the fewest octets
+-- things that are each written in the fewest octets
 module _ {A : Type 0} (Spells : List ℕ → A → Type 0) (plain : A → List ℕ) (Is : A → Type 0)
     (each : (x : A) → Is x → IsShortest Spells (plain x) x) where
   all_least : (xs : List A) (octets rest : List ℕ) → AllByRecursion Is xs

@@ -2,9 +2,8 @@
 use Rattle.std.specs.{Prelude.{◌≡◌, ℕ, nat_le, Bool, true, ◌&&◌, List, [], ◌∷◌, ◌++◌}, List.flat_map}
 use Rattle.bac_wire.specs.{Identifier.{Identifier, identifier}, Datum.{Datum, unsigned, enumerated, Spells, plain}}
 use Rattle.bac_wire.specs.{Parameter.number_octets, Front.SpellsAll}
+use Rattle.bac_pdu.specs.{declared.discovery.{IAm.IAm, WhoIs.WhoIs}, Parameter.{numbered, SpellsParameter}}
 use Rattle.bac_wire.specs.Datum as values
-use Rattle.bac_pdu.specs.declared.discovery.{IAm.IAm, WhoIs.WhoIs}
-use Rattle.bac_pdu.specs.Parameter.{numbered, SpellsParameter}
 use Rattle.bac_pdu.specs.declared.discovery.WhoIs.TheVariants as limits
 
 -- The body of a Who-Is: nothing, or the low limit under tag 0 and the high one under tag 1.

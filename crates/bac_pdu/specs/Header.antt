@@ -1,7 +1,6 @@
 -- The network header (clause 6.2).
-use Rattle.std.specs.Prelude.{◌≡◌, ℕ, Bool, true, false, if◌then◌else◌, List, [], ◌∷◌, ◌++◌, length, Option, Some, None}
-use Rattle.byteorder.specs.Endian.{big_number, big_bytes}
-use Rattle.bac_pdu.specs.{Bits.bit, Peer.NetworkAddress}
+use Rattle.std.specs.Prelude.{[], ◌++◌, ◌∷◌, ◌≡◌, Bool, false, if◌then◌else◌, length, List, None, Option, Some, true, ℕ}
+use Rattle.{byteorder.specs.Endian.{big_bytes, big_number}, bac_pdu.specs.{Bits.bit, Peer.NetworkAddress}}
 
 -- What a network header says: the stations of other networks that the datagram is for and from.
 pub record NetworkHeader : Type 0 where

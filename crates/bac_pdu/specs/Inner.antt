@@ -4,3 +4,8 @@ pub mod Datagram
 pub mod Parameter
 pub mod Discovery
 pub mod Examples
+unfoldable pub use Header.*
+unfoldable pub use Datagram.*
+unfoldable pub use Parameter.*
+unfoldable pub use Discovery.*
+unfoldable pub use Examples.*

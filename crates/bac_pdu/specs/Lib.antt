@@ -13,4 +13,24 @@ pub mod PropertyReading
 pub mod Discovery
 pub mod Failure
 pub mod ValueReading
+pub mod Found
 pub mod Inner
+unfoldable pub use Steps.*
+unfoldable pub use Bits.*
+unfoldable pub use Peer.*
+unfoldable pub use Header.*
+unfoldable pub use Datagram.*
+unfoldable pub use DatagramReading.*
+unfoldable pub use Apdu.*
+unfoldable pub use ApduReading.*
+unfoldable pub use Parameter.*
+unfoldable pub use Property.*
+unfoldable pub use Reject.*
+unfoldable pub use PropertyReading.*
+unfoldable pub use Discovery.*
+unfoldable pub use Failure.*
+unfoldable pub use ValueReading.*
+unfoldable pub use Found.*
+pub use Rattle.bac_pdu.specs.declared.discovery.WhoIs.{WhoIs, TheVariants.Range}
+pub use Rattle.bac_pdu.specs.declared.reject.RejectReason.{RejectReason, TheVariants.TooMany}
+pub use Rattle.bac_pdu.specs.declared.reject.RejectReason.TheVariants.{InvalidTag, MissingParameter, OutOfRange}

@@ -1,9 +1,9 @@
 //! APDUs, read and written.
 
-ghost use Rattle.std.specs.{Prelude.{◌≡◌, ◌<◌, [], ◌++◌, ◌∷◌, length, Some, OnOk}, Option.option_map};
+ghost use Rattle.std.specs.Prelude.{[], ◌++◌, ◌<◌, ◌∷◌, ◌≡◌, length, OnOk, option_map};
 ghost use Rattle.bac_wire.specs.Writing.{Appends};
-ghost use Rattle.bac_pdu.specs.Apdu.{message, laid_out, part_flags, part_octets, IsWritable, announced_size};
-ghost use Rattle.bac_pdu.specs.ApduReading.{confirmed_of, complex_ack_of, parts_at, apdu_of};
+ghost use Rattle.bac_pdu.specs.{announced_size, apdu_of, complex_ack_of, confirmed_of, IsWritable, laid_out, message};
+ghost use Rattle.bac_pdu.specs.{part_flags, part_octets, parts_at};
 
 use crate::bits::has_bit;
 use crate::writing::whole_or_nothing;

@@ -1,7 +1,7 @@
 //! The bits of an octet.
 
-ghost use Rattle.std.specs.Prelude.{◌≡◌, ◌<◌};
-ghost use Rattle.bac_pdu.specs.Bits.{bit};
+ghost use Rattle.std.specs.Prelude.{◌<◌, ◌≡◌};
+ghost use Rattle.bac_pdu.specs.{bit};
 
 /// Whether the bit of this number is set; bit 0 is the lowest.
 pub(crate) fn has_bit(octet: u8, number: u8) -> bool

@@ -1,10 +1,9 @@
 //! Datagrams whole: what one carries, and the one that takes an APDU to a peer.
 
-ghost use Rattle.std.specs.Prelude.{◌≡◌, ◌<◌, ◌≤◌, ◌+◌, ◌^◌, length, None, IfOk, IfSome, OnOk, OnErr};
-ghost use Rattle.std.specs.Option.{option_map};
+ghost use Rattle.std.specs.Prelude.{◌+◌, ◌<◌, ◌^◌, ◌≡◌, ◌≤◌, IfOk, IfSome, length, OnErr, OnOk, option_map};
 ghost use Rattle.bac_wire.specs.Limits.{frame_room};
-ghost use Rattle.bac_pdu.specs.{Peer.{station, IsRoutable}, Datagram.{delivery, Takes, wrapped}};
-ghost use Rattle.bac_pdu.specs.{Inner.Datagram.front_octets, DatagramReading.{link_at, origin_at, carried}};
+ghost use Rattle.bac_pdu.specs.{carried, delivery, IsRoutable, link_at, origin_at, station, Takes, wrapped};
+ghost use Rattle.bac_pdu.specs.Inner.{front_octets};
 
 use crate::header::{HEADER_OCTETS, header_and_rest, local_header, network_header};
 use crate::peer::Peer;

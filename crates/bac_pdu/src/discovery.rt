@@ -1,9 +1,9 @@
 //! Who-Is and I-Am, read and written.
 
-ghost use Rattle.std.specs.{Prelude.{◌≡◌, Some, OnOk}, Option.option_map};
-ghost use Rattle.bac_wire.specs.{Front.IsShortest, Writing.Appends, Inner.Writing.AppendsFront, Identifier.identifier};
-ghost use Rattle.bac_pdu.specs.Discovery.{asks, introduction, IsWhoIsBody, IsIAmBody, who_is_octets, i_am_octets};
-ghost use Rattle.bac_pdu.specs.{Inner.Discovery.HasLimits, ValueReading.{who_is_of, introduction_of}};
+ghost use Rattle.std.specs.Prelude.{◌≡◌, OnOk, option_map};
+ghost use Rattle.bac_wire.specs.{Front.IsShortest, Identifier.identifier, Writing.Appends, Inner.Writing.AppendsFront};
+ghost use Rattle.bac_pdu.specs.{asks, i_am_octets, introduction, introduction_of, IsIAmBody, IsWhoIsBody};
+ghost use Rattle.bac_pdu.specs.{who_is_octets, who_is_of, Inner.HasLimits};
 
 use crate::parameter::{append_number, number_and_rest};
 use crate::value::{enumerated_and_rest, identifier_and_rest, unsigned_and_rest};

@@ -1,22 +1,17 @@
 //! Examples of whole datagrams and service bodies, worked out by computation. They show what the definitions mean.
 
-ghost use Rattle.std.specs.Prelude.{◌≡◌, ◌-◌, ◌^◌, [], ◌∷◌, ◌++◌, Some, None, Ok, Err, true, false};
-ghost use Rattle.bac_pdu.specs.declared.discovery.WhoIs.TheVariants.{All, Range};
-ghost use Rattle.bac_pdu.specs.declared.reject.RejectReason.TheVariants.{InvalidTag, MissingParameter, OutOfRange};
-ghost use Rattle.bac_pdu.specs.declared.reject.RejectReason.TheVariants.{TooMany};
-ghost use Rattle.bac_pdu.specs.declared.apdu.Apdu.TheVariants.{SimpleAck};
-ghost use Rattle.bac_pdu.specs.Apdu.{confirmed, unconfirmed, simple_ack, complex_ack, error, reject, abort};
-ghost use Rattle.bac_pdu.specs.Apdu.{segment_ack};
-ghost use Rattle.bac_pdu.specs.Apdu.{IsLaidOut, IsWritable, announced_size, longest_body, message};
-ghost use Rattle.bac_pdu.specs.{Datagram.{Carries, Takes, wrapped, front_count}, DatagramReading.carried};
-ghost use Rattle.bac_pdu.specs.{Discovery.{IsIAmBody, IsWhoIsBody, i_am_octets, who_is_octets}, Peer.IsRoutable};
-ghost use Rattle.bac_pdu.specs.{Failure.{IsErrorBody, error_octets}, Parameter.{IsParameter, numbered, value}};
-ghost use Rattle.bac_pdu.specs.Property.{IsAckBody, IsPriority, IsReadBody, IsWriteBody, read_octets, ack_front};
-ghost use Rattle.bac_pdu.specs.Property.{ack_end};
-ghost use Rattle.bac_pdu.specs.Reject.{IsOutcome, ReadFault, WriteFault};
-ghost use Rattle.bac_pdu.specs.{PropertyReading.{ack_of, read_of, write_of}, ValueReading.{introduction_of, who_is_of}};
-ghost use Rattle.bac_pdu.specs.Inner.Examples.{WritesApdu, desk, far, from_desk, present_value, small_device, to_all};
-ghost use Rattle.bac_pdu.specs.Inner.Examples.{present_octets, ack_octets_of_1, second_part, last_part, release};
+ghost use Rattle.std.specs.Prelude.{[], ◌++◌, ◌-◌, ◌^◌, ◌∷◌, ◌≡◌, false, true};
+ghost use Rattle.bac_pdu.specs.{abort, ack_end, ack_front, ack_of, announced_size, carried, Carries, complex_ack};
+ghost use Rattle.bac_pdu.specs.{confirmed, error, error_octets, front_count, i_am_octets, introduction_of, InvalidTag};
+ghost use Rattle.bac_pdu.specs.{IsAckBody, IsErrorBody, IsIAmBody, IsLaidOut, IsOutcome, IsParameter, IsPriority};
+ghost use Rattle.bac_pdu.specs.{IsReadBody, IsRoutable, IsWhoIsBody, IsWritable, IsWriteBody, longest_body, message};
+ghost use Rattle.bac_pdu.specs.{MissingParameter, numbered, OutOfRange, Range, read_octets, read_of, ReadFault, reject};
+ghost use Rattle.bac_pdu.specs.{segment_ack, simple_ack, Takes, TooMany, unconfirmed, value, who_is_octets, who_is_of};
+ghost use Rattle.bac_pdu.specs.{wrapped, write_of, WriteFault, declared.apdu.Apdu.TheVariants.SimpleAck};
+ghost use Rattle.bac_pdu.specs.Found.{found_of};
+ghost use Rattle.bac_pdu.specs.declared.discovery.WhoIs.TheVariants.{All};
+ghost use Rattle.bac_pdu.specs.Inner.{ack_octets_of_1, desk, far, from_desk, last_part, present_octets, present_value};
+ghost use Rattle.bac_pdu.specs.Inner.{release, second_part, small_device, to_all, WritesApdu};
 
 // A ReadProperty request, from the inside to the outside: the body, the APDU and the datagram (ANSI/ASHRAE 135, 15.5,
 // 20.1.2 and J.2).
@@ -89,6 +84,14 @@ fn examples_of_discovery()
     // The whole datagram, of 21 octets (15). No reply is expected (00).
     ensures datagram { wrapped None false (0x10 ∷ 0x00 ∷ i_am_octets small_device) ≡
         0x81 ∷ 0x0a ∷ 0x00 ∷ 0x15 ∷ 0x01 ∷ 0x00 ∷ 0x10 ∷ 0x00 ∷ i_am_octets small_device }
+
+    // It is found where it is asked; a Who-Is introduces nobody.
+    ensures found { found_of (Range 1000 1234) desk
+        (0x81 ∷ 0x0a ∷ 0x00 ∷ 0x15 ∷ 0x01 ∷ 0x00 ∷ 0x10 ∷ 0x00 ∷ i_am_octets small_device)
+        ≡ Some (record { peer = desk; device = small_device }) }
+    ensures unasked { found_of (Range 1000 1233) desk
+        (0x81 ∷ 0x0a ∷ 0x00 ∷ 0x15 ∷ 0x01 ∷ 0x00 ∷ 0x10 ∷ 0x00 ∷ i_am_octets small_device) ≡ None }
+    ensures who_is { found_of All desk (0x81 ∷ 0x0a ∷ 0x00 ∷ 0x08 ∷ 0x01 ∷ 0x00 ∷ 0x10 ∷ 0x08 ∷ []) ≡ None }
 {}
 
 // What a datagram carries, and what takes an APDU to a station (Annex J.2 and clause 6.2).

@@ -1,8 +1,8 @@
 //! The body of an Error, read and written.
 
-ghost use Rattle.std.specs.Prelude.{◌≡◌, ℕ, List, ◌++◌, Some, OnOk};
+ghost use Rattle.std.specs.Prelude.{◌++◌, ◌≡◌, List, OnOk, ℕ};
 ghost use Rattle.bac_wire.specs.{Front.IsShortest, Writing.Appends};
-ghost use Rattle.bac_pdu.specs.{Failure.{IsErrorBody, error_octets}, ValueReading.error_of};
+ghost use Rattle.bac_pdu.specs.{error_octets, error_of, IsErrorBody};
 
 use crate::value::enumerated_and_rest;
 use crate::writing::whole_or_nothing;

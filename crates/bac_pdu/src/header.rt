@@ -1,9 +1,8 @@
 //! The network header, read and written.
 
-ghost use Rattle.std.specs.{Prelude.{◌≡◌, ◌≤◌, length, IfSome, None}, Option.option_map};
-ghost use Rattle.bac_pdu.specs.{Peer.{IsRoutable, network_address}, Header.plain_header};
-ghost use Rattle.bac_pdu.specs.Inner.Header.{address_seen, header_seen};
-ghost use Rattle.bac_pdu.specs.DatagramReading.{address_at, announced_at, behind_hops, header_at};
+ghost use Rattle.std.specs.Prelude.{◌≡◌, ◌≤◌, IfSome, length, option_map};
+ghost use Rattle.bac_pdu.specs.{address_at, announced_at, behind_hops, header_at, IsRoutable, network_address};
+ghost use Rattle.bac_pdu.specs.{plain_header, Inner.{address_seen, header_seen}};
 
 use crate::bits::has_bit;
 use crate::route::Route;

@@ -1,22 +1,19 @@
 //! What holds of the definitions that the contracts cite. Each function has an empty body, and its clause is the law;
 //! those at the end are `clone` or `==` of types, and say what a clone is, or what is compared.
 
-ghost use Rattle.std.specs.Prelude.{◌≡◌, ◌↔◌, ◌+◌, ◌<◌, ◌^◌, ◌++◌, ℕ, Bool, false, List, [], ◌∷◌, length, Option, Some};
-ghost use Rattle.std.specs.{Prelude.{None, IfSome, Result, Ok}, List.AllByRecursion};
-ghost use Rattle.bac_wire.specs.{Datum.{IsDatum, enumerated}, Copies.{MakesCopies, EqualsBy}};
-ghost use Rattle.bac_pdu.specs.{declared.discovery.WhoIs.WhoIs, declared.discovery.WhoIs.TheVariants.{All, Range}};
-ghost use Rattle.bac_pdu.specs.declared.reject.RejectReason.{RejectReason};
-ghost use Rattle.bac_pdu.specs.Peer.{Station, NetworkAddress, IsRoutable, network_address, station};
-ghost use Rattle.bac_pdu.specs.{Datagram.{Delivery, Carries, Takes, front_count, wrapped}, DatagramReading.carried};
-ghost use Rattle.bac_pdu.specs.Apdu.{Message, message, IsLaidOut, IsWritable, laid_out, longest_body};
-ghost use Rattle.bac_pdu.specs.{ApduReading.apdu_of, Parameter.IsParameter, Property.{Reference, ReadAck, Order}};
-ghost use Rattle.bac_pdu.specs.Property.{reference, ack_seen, order, reference_parameters, order_parameters};
-ghost use Rattle.bac_pdu.specs.Property.{ack_parameters, IsPriority, IsReadBody, IsWriteBody, IsAckBody, read_octets};
-ghost use Rattle.bac_pdu.specs.Property.{write_octets, ack_octets, ack_front, ack_end};
-ghost use Rattle.bac_pdu.specs.{Reject.{IsOutcome, ReadFault, WriteFault}, PropertyReading.{read_of, write_of, ack_of}};
-ghost use Rattle.bac_pdu.specs.Discovery.{Introduction, introduction, introduction_values, IsWhoIsBody, IsIAmBody};
-ghost use Rattle.bac_pdu.specs.{Discovery.{who_is_octets, i_am_octets}, Failure.{IsErrorBody, error_octets}};
-ghost use Rattle.bac_pdu.specs.ValueReading.{who_is_of, introduction_of, error_of};
+ghost use Rattle.std.specs.{List.AllByRecursion, Prelude.{Result, ℕ}};
+ghost use Rattle.std.specs.Prelude.{[], ◌++◌, ◌+◌, ◌<◌, ◌^◌, ◌↔◌, ◌∷◌, ◌≡◌, Bool, false, IfSome, length, List, Option};
+ghost use Rattle.{
+  bac_wire.specs.{Copies.{EqualsBy, MakesCopies}, Datum.{enumerated, IsDatum}},
+  bac_pdu.specs.{ack_end, ack_front, ack_octets, ack_of, ack_parameters, ack_seen, apdu_of, carried, Carries, Delivery},
+  bac_pdu.specs.{error_octets, error_of, front_count, i_am_octets, Introduction, introduction, introduction_of},
+  bac_pdu.specs.{introduction_values, IsAckBody, IsErrorBody, IsIAmBody, IsLaidOut, IsOutcome, IsParameter, IsPriority},
+  bac_pdu.specs.{IsReadBody, IsRoutable, IsWhoIsBody, IsWritable, IsWriteBody, laid_out, longest_body, Message},
+  bac_pdu.specs.{message, network_address, NetworkAddress, Order, order, order_parameters, Range, read_octets, read_of},
+  bac_pdu.specs.{ReadAck, ReadFault, Reference, reference, reference_parameters, RejectReason, Station, station, Takes},
+  bac_pdu.specs.{who_is_octets, who_is_of, WhoIs, wrapped, write_octets, write_of, WriteFault},
+  bac_pdu.specs.declared.discovery.WhoIs.TheVariants.All,
+};
 
 use crate::apdu::{Apdu, LONGEST_BODY, Part};
 use crate::datagram::Carried;

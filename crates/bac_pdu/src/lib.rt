@@ -1,9 +1,10 @@
 //! Headers, APDUs and service bodies of BACnet/IP (ANSI/ASHRAE 135, Annex J and clauses 6, 20.1 and 21).
 //!
 //! On the way in, [`open_datagram`] says from whom a datagram is and which APDU it carries, [`read_apdu`] what that
-//! APDU is, and a reader of each service, as [`read_read`] or [`read_ack`], what its body says. On the way out, a
-//! writer of each service, as [`write_read`], makes the body in a frame; [`write_apdu`] makes the APDU, and [`wrap`]
-//! the datagram round it. `specs/Datagram.antt` and `specs/Apdu.antt` say what the octets mean.
+//! APDU is, and a reader of each service, as [`read_read`] or [`read_ack`], what its body says; [`read_found`] reads
+//! the I-Am that a datagram carries. On the way out, a writer of each service, as [`write_read`], makes the body in a
+//! frame; [`write_apdu`] makes the APDU, and [`wrap`] the datagram round it. `specs/Datagram.antt` and
+//! `specs/Apdu.antt` say what the octets mean.
 //!
 //! Of `examples_of_datagrams` in `src/examples.rt`, which is proved: a whole request, ReadProperty (0C) with invoke id
 //! 1.
@@ -41,6 +42,7 @@ mod datagram;
 mod discovery;
 mod examples;
 mod failure;
+mod found;
 mod header;
 pub mod laws;
 mod parameter;
@@ -56,6 +58,7 @@ pub use apdu::{Apdu, LONGEST_BODY, Part, announced, read_apdu, write_apdu};
 pub use datagram::{Carried, open_datagram, wrap, wrap_within};
 pub use discovery::{DEVICE, IAm, WhoIs, read_iam, read_whois, write_iam, write_whois};
 pub use failure::{read_error, write_error};
+pub use found::{Found, read_found};
 pub use peer::Peer;
 pub use property::{
     Ack, ReadRequest, WriteRequest, begin_ack, end_ack, read_ack, read_read, read_write, write_ack,

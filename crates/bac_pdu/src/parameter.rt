@@ -1,13 +1,12 @@
 //! The parameters of a service body: context tags, and items between brackets.
 
-ghost use Rattle.std.specs.{Prelude.{◌≡◌, ◌<◌, ◌≤◌, ◌+◌, ◌*◌, ◌^◌, length, IfSome}, Option.option_map};
-ghost use Rattle.bac_wire.specs.{Identifier.{IsIdentifier, identifier}, Tag.plain_tag};
-ghost use Rattle.bac_wire.specs.{Region.{opening_tag, closing_tag}, DatumReading.number_within};
-ghost use Rattle.bac_wire.specs.ItemReading.{behind_closing};
-ghost use Rattle.bac_wire.specs.Parameter.{context_octets, number_octets, object_octets, enclosed_octets};
-ghost use Rattle.bac_wire.specs.ParameterReading.{context_at, number_at, object_at, behind_opening, enclosed_at};
-ghost use Rattle.bac_wire.specs.{Writing.Appends, Inner.Writing.AppendsFront};
-ghost use Rattle.bac_pdu.specs.{Inner.Parameter.optional_octets, PropertyReading.optional_at};
+ghost use Rattle.std.specs.Prelude.{◌*◌, ◌+◌, ◌<◌, ◌^◌, ◌≡◌, ◌≤◌, IfSome, length, option_map};
+ghost use Rattle.bac_wire.specs.{DatumReading.number_within, Identifier.{identifier, IsIdentifier}, Tag.plain_tag};
+ghost use Rattle.bac_wire.specs.{ItemReading.behind_closing, Region.{closing_tag, opening_tag}, Writing.Appends};
+ghost use Rattle.bac_wire.specs.Parameter.{context_octets, enclosed_octets, number_octets, object_octets};
+ghost use Rattle.bac_wire.specs.ParameterReading.{behind_opening, context_at, enclosed_at, number_at, object_at};
+ghost use Rattle.bac_wire.specs.Inner.Writing.{AppendsFront};
+ghost use Rattle.bac_pdu.specs.{optional_at, Inner.optional_octets};
 
 use arrayvec::ArrayVec;
 use bac_wire::{Frame, Full, ObjectId, Shape, Work, octet_count, region, tag_and_rest};

@@ -1,13 +1,11 @@
 //! ReadProperty, its answer, and WriteProperty, read and written.
 
-ghost use Rattle.std.specs.{Prelude.{◌≡◌, ◌≤◌, ◌+◌, ◌*◌, length, Some, Ok, OnOk, IfSome}, Option.option_map};
-ghost use Rattle.std.specs.List.{AllByRecursion};
-ghost use Rattle.bac_wire.specs.{Limits.deepest, Front.IsShortest, Writing.Appends, Inner.Writing.AppendsFront};
-ghost use Rattle.bac_wire.specs.{Region.IsRegion, Steps.result_seen};
-ghost use Rattle.bac_pdu.specs.{Parameter.IsParameter, Property.{reference, order, ack_seen, reference_parameters}};
-ghost use Rattle.bac_pdu.specs.Property.{IsPriority, IsReadBody, IsWriteBody, IsAckBody, read_octets, write_octets};
-ghost use Rattle.bac_pdu.specs.Property.{ack_octets, ack_front, ack_end};
-ghost use Rattle.bac_pdu.specs.PropertyReading.{reference_at, read_of, write_of, ack_of};
+ghost use Rattle.std.specs.{List.AllByRecursion, Prelude.{◌*◌, ◌+◌, ◌≡◌, ◌≤◌, IfSome, length, OnOk, option_map}};
+ghost use Rattle.bac_wire.specs.{Front.IsShortest, Limits.deepest, Region.IsRegion, Steps.result_seen, Writing.Appends};
+ghost use Rattle.bac_wire.specs.Inner.Writing.{AppendsFront};
+ghost use Rattle.bac_pdu.specs.{ack_end, ack_front, ack_octets, ack_of, ack_seen, IsAckBody, IsParameter, IsPriority};
+ghost use Rattle.bac_pdu.specs.{IsReadBody, IsWriteBody, order, read_octets, read_of, reference, reference_at};
+ghost use Rattle.bac_pdu.specs.{reference_parameters, write_octets, write_of};
 
 use crate::parameter::{
     INDEX, OBJECT, PRIORITY, PROPERTY, append_closing, append_enclosed, append_number,

@@ -1,7 +1,7 @@
 //! Why a request is rejected.
 
 ghost use Rattle.std.specs.Prelude.{◌≡◌};
-ghost use Rattle.bac_pdu.specs.Reject.{reason_number};
+ghost use Rattle.bac_pdu.specs.{reason_number};
 
 /// What is wrong with a confirmed request that is rejected (clause 18.9): the fault is its sender's, who is told by a
 /// Reject. Which reason a body gets is this project's choice.

@@ -1,6 +1,6 @@
 //! The way to a station of another network.
 
-ghost use Rattle.std.specs.Prelude.{◌≡◌, ◌<◌, ◌≤◌, ◌-◌, ◌↔◌, drop, replicate, IsSome, IfSome};
+ghost use Rattle.std.specs.Prelude.{◌-◌, ◌<◌, ◌↔◌, ◌≡◌, ◌≤◌, drop, IfSome, IsSome, replicate};
 
 /// The octets that the address of a routed station has at most.
 pub const ADDRESS_OCTETS: usize = 7;

@@ -1,8 +1,8 @@
 //! Values of the kind that a service body has there.
 
-ghost use Rattle.std.specs.{Prelude.◌≡◌, Option.option_map};
+ghost use Rattle.std.specs.Prelude.{◌≡◌, option_map};
 ghost use Rattle.bac_wire.specs.Identifier.{identifier};
-ghost use Rattle.bac_wire.specs.ParameterReading.{kind_at, unsigned_in, enumerated_in, object_in};
+ghost use Rattle.bac_wire.specs.ParameterReading.{enumerated_in, kind_at, object_in, unsigned_in};
 
 use bac_wire::{ObjectId, Value, value_and_rest};
 

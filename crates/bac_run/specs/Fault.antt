@@ -1,7 +1,6 @@
--- Why a run stopped, what is told of that, and the status then.
-use Rattle.std.specs.Prelude.{ℕ, Bool, false, List, Result, Ok, Err}
-use Rattle.bac_script.specs.declared.tracing.TraceEnd.{TraceEnd}
-use Rattle.bac_script.specs.declared.tracing.TraceFault.TheVariants.{BadLine, LineTooLong, WriteFailed}
+-- Why a run stopped, and what is told of that.
+use Rattle.std.specs.Prelude.{ℕ, Bool, false, List, Result, Err}
+use Rattle.bac_script.specs.declared.tracing.TraceFault.TheVariants.{WriteFailed}
 use Rattle.bac_script.specs.Tracing.{trace_fault_text}
 use Rattle.bac_links.specs.Fault.{is_link_fault, tool_fault_text}
 use Rattle.bac_run.specs.declared.fault.RunFault.{RunFault}
@@ -20,10 +19,3 @@ is_of_link _ = false
 abbrev pub run_fault_text : RunFault → List ℕ
 run_fault_text (Script fault) = trace_fault_text fault
 run_fault_text (Link fault) = tool_fault_text fault
-
--- The status of the program.
-abbrev pub run_status_of : Result TraceEnd RunFault → ℕ
-run_status_of (Ok end) = 0
-run_status_of (Err (Script (BadLine n))) = 2
-run_status_of (Err (Script (LineTooLong n))) = 2
-run_status_of _ = 3

@@ -1,11 +1,11 @@
 //! Why a run of many requests stopped.
 ghost use Rattle.std.specs.Prelude.{◌≡◌};
 ghost use Rattle.bac_print.specs.Message.{message_text};
-ghost use Rattle.bac_run.specs.Fault.{run_fault_text, run_status_of};
+ghost use Rattle.bac_run.specs.Fault.{run_fault_text};
 
 use bac_links::ToolFault;
 use bac_print::{Message, WriteFailed};
-use bac_script::{TraceEnd, TraceFault};
+use bac_script::TraceFault;
 use thiserror::Error;
 
 /// Why a run stopped.
@@ -37,17 +37,5 @@ impl From<WriteFailed> for RunFault {
 
     fn from(_failed: WriteFailed) -> RunFault {
         RunFault::Script(TraceFault::WriteFailed)
-    }
-}
-
-/// The status with which the program ends: 0 at the end of the input, 2 after a line that is bad or too long, 3 where
-/// the link, reading or writing failed, or the turns of a wait are spent.
-pub fn run_status(answer: &Result<TraceEnd, RunFault>) -> u8
-    ensures { result ≡ run_status_of answer.now }
-{
-    match answer {
-        Ok(_) => 0,
-        Err(RunFault::Script(TraceFault::BadLine(_) | TraceFault::LineTooLong(_))) => 2,
-        Err(_) => 3,
     }
 }

@@ -1,6 +1,6 @@
 -- What a run read, and what it wrote and answered.
 use Rattle.std.{
-  specs.Prelude.{◌≡◌, ◌⊎◌, List, [], ◌++◌, ℕ, ◌+◌, ◌≤◌, length, Option, None, Result, Ok, Err, codes, decimal},
+  specs.Prelude.{◌≡◌, ◌⊎◌, List, [], ◌++◌, ℕ, ◌+◌, ◌≤◌, length, Option, None, Result, codes, decimal},
 }
 use Rattle.bac_print.specs.{declared.checked.Checked.Checked, Checked.{reads_of, last_of, octets_of, Took, Gave}}
 use Rattle.bac_script.{
@@ -41,13 +41,6 @@ pub record Traces {R W : Type 0} (remaining : R → Option (List ℕ)) (contents
   pub told : IsToldFirst reader' writer writer' given
   pub took : Took contents writer writer' written
   pub runs : Runs given reading written answer
-
--- The status of the program: a script to its end, a bad or too long line, a failed reader or writer.
-abbrev pub trace_status_of : Result TraceEnd TraceFault → ℕ
-trace_status_of (Ok end) = 0
-trace_status_of (Err (BadLine n)) = 2
-trace_status_of (Err (LineTooLong n)) = 2
-trace_status_of _ = 3
 
 -- What is told of a fault.
 abbrev pub trace_fault_text : TraceFault → List ℕ

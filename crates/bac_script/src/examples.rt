@@ -9,7 +9,7 @@ ghost use Rattle.bac_script.{
   specs.{Inner.Examples.{IsTraced, ended, read, sent, answer}, Line.Happens, Script.{Runs, requests_in}},
   specs.Inner.Examples.{broken, desk, gave, has_read},
   specs.{Alike.{AreAlike, GaveFront, GaveSame, IsFrontOf, IsWrittenOf}, Input.{ReaderStands, ReadsNoMore, most_reads}},
-  specs.{NextLine.{IsNext, ReadForLine, TakesAndKeeps}, Tracing.{Traces, trace_status_of}},
+  specs.{NextLine.{IsNext, ReadForLine, TakesAndKeeps}, Tracing.Traces},
 };
 
 // What is printed of a client's events.
@@ -70,7 +70,7 @@ fn examples_of_ends()
     ensures cut { Runs (codes "tick x") Failed [] (Err ReadFailed) }
 {}
 
-// What two scripts have in common, the status of each end, and the limit of reads.
+// What two scripts have in common, and the limit of reads.
 #[tactic(none)]
 fn examples_of_limits()
     ensures reads { most_reads ≡ 4294967295 }
@@ -82,9 +82,6 @@ fn examples_of_limits()
     ensures alike { AreAlike (1 ∷ []) (Err WriteFailed) (1 ∷ 2 ∷ []) (ended 2) }
     ensures unlike { AreAlike (1 ∷ []) (ended 2) (1 ∷ 2 ∷ []) (ended 2) → ⊥ }
     ensures ended_otherwise { AreAlike [] (ended 1) [] (ended 2) → ⊥ }
-    ensures whole { trace_status_of (ended 2) ≡ 0 }
-    ensures bad_line { trace_status_of (Err (BadLine 2)) ≡ 2 }
-    ensures failed { trace_status_of (Err WriteFailed) ≡ 3 }
 {}
 
 // What two readers gave, how a reader stands, and what was taken from it.

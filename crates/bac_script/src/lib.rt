@@ -1,9 +1,8 @@
 //! The script of `bactrace`: a client and a device over its lines, and what is printed of them.
 //!
-//! [`trace`] runs a script from a reader to a writer, and answers a [`TraceEnd`] or the [`TraceFault`] that stopped it;
-//! [`trace_status`] is the program's status after that. [`show_outcome`] and [`show_value`] print an outcome and a
-//! value as a script does. `specs/Line.antt` says what a line says, and `specs/Script.antt` what is printed of the
-//! lines together. [`laws`] has that a script is a function of its octets.
+//! [`trace`] runs a script from a reader to a writer, and answers a [`TraceEnd`] or the [`TraceFault`] that stopped it.
+//! `specs/Line.antt` says what a line says, and `specs/Script.antt` what is printed of the lines together. [`laws`] has
+//! that a script is a function of its octets.
 //!
 //! Of `examples_of_a_client` in `src/examples.rt`, which is proved: two lines of a script, the two that are printed,
 //! and its end after two lines.
@@ -28,5 +27,5 @@ mod tracing;
 pub use input::{Chunk, Next, Reading};
 pub use line::{Line, LineFault, LineRoom, Received, read_line};
 pub use long_write::LongWrite;
-pub use notes::{print_end, print_refusal, print_sent, show_outcome, show_value};
-pub use tracing::{TraceEnd, TraceFault, trace, trace_status};
+pub use notes::{print_end, print_refusal, print_sent};
+pub use tracing::{TraceEnd, TraceFault, trace};

@@ -1,50 +1,16 @@
 //! What is printed of a client's notes, and of a device's replies.
 
-ghost use Rattle.std.specs.{Prelude.{◌≡◌, [], ◌∷◌, ◌++◌, false, is_err, option_map, IfErr}, List.flat_map};
+ghost use Rattle.std.specs.{Prelude.{[], ◌∷◌, ◌++◌, option_map}, List.flat_map};
 ghost use Rattle.hex.specs.Hex.{encode_lower};
 ghost use Rattle.bac_pdu.specs.Peer.{station};
 ghost use Rattle.bac_tsm.specs.{Events.{Done, Refused, TimedOut}, Machine.{sent, due_notes}, Client.outcome_seen};
-ghost use Rattle.bac_print.specs.Checked.{has_failed, TookOrFailed};
-ghost use Rattle.bac_print.specs.{Page.Prints, PeerTexts.peer_text, Values.region_text, Outcomes.outcome_text};
+ghost use Rattle.bac_print.specs.{Page.Prints, PeerTexts.peer_text};
 ghost use Rattle.bac_script.specs.Text.{note_text, notes_text, reply_text};
 
-use crate::tracing::TraceFault;
 use bac_pdu::Peer;
-use bac_print::{Checked, Page, print_outcome};
-use bac_tsm::{Client, DueEntry, Ended, Outcome, SubmitFault};
+use bac_print::{Page, print_outcome};
+use bac_tsm::{Client, DueEntry, Ended, SubmitFault};
 use std::io::Write;
-
-/// Writes how a request ended, as `value 4290999a`, `error 2 32` or `abort 4`.
-///
-/// # Errors
-///
-/// `WriteFailed` where the writer failed or took no octet. A front of the text was then written.
-pub fn show_outcome<W: Write>(
-    outcome: &Outcome<'_>,
-    writer: &mut Checked<W>,
-) -> Result<(), TraceFault>
-    requires { has_failed writer.old ≡ false }
-    ensures text { TookOrFailed W.contents writer.old writer.new (outcome_text (outcome_seen outcome.now)) result }
-    ensures failed { has_failed writer.new ≡ is_err result }
-    ensures fault { IfErr result (λ fault. fault ≡ TraceFault.WriteFailed) }
-{
-    Ok(bac_print::show_outcome(outcome, writer)?)
-}
-
-/// Writes the text of a region: of one value its text, of none or several their texts in braces, and of anything else
-/// `hex ` and its octets.
-///
-/// # Errors
-///
-/// `WriteFailed` where the writer failed or took no octet. A front of the text was then written.
-pub fn show_value<W: Write>(region: &[u8], writer: &mut Checked<W>) -> Result<(), TraceFault>
-    requires { has_failed writer.old ≡ false }
-    ensures text { TookOrFailed W.contents writer.old writer.new (region_text region.now) result }
-    ensures failed { has_failed writer.new ≡ is_err result }
-    ensures fault { IfErr result (λ fault. fault ≡ TraceFault.WriteFailed) }
-{
-    Ok(bac_print::show_value(region, writer)?)
-}
 
 /// Prints what the client sends under the ticket, where the request is open.
 #[tactic(auto, using(bac_print::proofs::Printed::printing, std::proofs::lemmas::Grind::common_steps))]

@@ -3,7 +3,7 @@
 ghost use Rattle.std.specs.Prelude.{◌≡◌, ◌↔◌, true, false, Err, []};
 ghost use Rattle.bac_print.specs.{Checked.has_failed, Message.message_text, Page.{held, room_of, writer_of}};
 ghost use Rattle.bac_script.specs.Inner.{Running.new_client, Tracing.RunsOn};
-ghost use Rattle.bac_script.specs.{Script.fault_at, Tracing.{Traces, trace_status_of, trace_fault_text}};
+ghost use Rattle.bac_script.specs.{Script.fault_at, Tracing.{Traces, trace_fault_text}};
 
 use crate::input::{Chunk, Reading};
 use crate::line::{LineFault, LineRoom, read_line};
@@ -73,18 +73,6 @@ pub fn trace<R: Read, W: Write>(
     let answer = run_script(reader, &mut page);
     page.finish()?;
     answer
-}
-
-/// The status with which the program ends after a script: 0 at its end, 2 after a line that is bad or too long, 3 where
-/// reading or writing failed.
-pub fn trace_status(answer: &Result<TraceEnd, TraceFault>) -> u8
-    ensures { result ≡ trace_status_of answer.now }
-{
-    match answer {
-        Ok(_) => 0,
-        Err(TraceFault::BadLine(_) | TraceFault::LineTooLong(_)) => 2,
-        Err(TraceFault::ReadFailed | TraceFault::WriteFailed) => 3,
-    }
 }
 
 // Runs each line of a script. What is printed goes to the writer before more is read; in the end some of it may still

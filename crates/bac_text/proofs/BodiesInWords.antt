@@ -1,17 +1,13 @@
 -- The body of words orders the values that they write, in the standard's words.
-use Rattle.std.proofs.Common.{◌≡◌, ℕ, ◌^◌, ◌<◌, ◌≤◌, List, length, Option, Some, Result, Ok, Err, refl, sym, subst}
-use Rattle.std.{proofs.Common.arith, specs.Prelude.IfSome, specs.List.{AllByRecursion, flat_map}}
-use Rattle.bac_wire.specs.{Datum.{Datum, Spells, InRange, plain}, Front.{IsShortest, SpellsAll}}
-use Rattle.bac_wire.specs.{Identifier.{Identifier, IsIdentifier}, DatumReading.values_of}
-use Rattle.bac_wire.proofs.{PlainDatum.plain_spells, ValueLists.read_all}
+use Rattle.std.proofs.Common.{◌<◌, ◌^◌, ◌≡◌, ◌≤◌, arith, Err, length, List, Ok, Option, refl, Result, Some, subst, sym}
+use Rattle.std.{proofs.Common.ℕ, specs.{List.{AllByRecursion, flat_map}, Prelude.IfSome}}
 use Rattle.bac_pdu.specs.{Parameter.IsParameter, Property.{IsPriority, IsWriteBody, reference_parameters, write_octets}}
 use Rattle.bac_pdu.proofs.{SequenceLaws.whole_spell, ShortestLaws.order_is_written}
-use Rattle.bac_text.{
-  specs.{declared.pairs.PairFault.TheVariants.TooLong, Pairs.{values_in, order_of, body_of}, Inner.Pairs.region_of},
-  specs.PairsInWords.IsWritten,
-  proofs.{ValueRegions.values_are_region, WordRanges.{values_range, values_spelled}, WordValues.at_most_found},
-  proofs.WriteBodies.{body_with, region_within},
-}
+use Rattle.bac_wire.specs.{Datum.{Datum, InRange, plain, Spells}, DatumReading.values_of, Front.{IsShortest, SpellsAll}}
+use Rattle.bac_wire.{specs.Identifier.{Identifier, IsIdentifier}, proofs.{PlainDatum.plain_spells, ValueLists.read_all}}
+use Rattle.bac_text.specs.{body_of, IsWritten, order_of, TooLong, values_in, Inner.region_of}
+use Rattle.bac_text.proofs.{ValueRegions.values_are_region, WordRanges.{values_range, values_spelled}}
+use Rattle.bac_text.proofs.{WordValues.at_most_found, WriteBodies.{body_with, region_within}}
 
 -- A region is the spellings of the values that the words write, one after another, and is read as these values.
 pub record AreWritten (words : List (List ℕ)) (region : List ℕ) : Type 0 where

@@ -1,16 +1,12 @@
 -- Digits as octets, by lanes.
-use Rattle.std.proofs.{
-  Common.{◌≡◌, ℕ, ◌+◌, ◌*◌, ◌%◌, ◌<◌, ◌≤◌, cond, List, [], ◌∷◌, map, ◌++◌, length, take, get_or, true, false, suc},
-  Common.{Some, None, Ok, refl, arith, ap},
-  lemmas.{List.length-take-le, Simd.{length-chunk, splat_is_map, zip2_splat, zip2_of_maps}, Nat.and_mask},
-  lemmas.List.Folds.list_all_at,
-}
-use Rattle.std.specs.{Prelude.{◌-◌, nat_lt, not, bit_and, bit_or}, Result.result_ok}
+use Rattle.std.proofs.Common.{[], ◌%◌, ◌*◌, ◌++◌, ◌+◌, ◌<◌, ◌∷◌, ◌≡◌, ◌≤◌, ap, arith, cond, false, get_or, length, List}
+use Rattle.std.proofs.{Common.{map, None, Ok, refl, Some, suc, take, true, ℕ}, lemmas.List.length-take-le}
+use Rattle.std.{proofs.lemmas.{List.Folds.list_all_at, Nat.and_mask}, specs.Prelude.{◌-◌, bit_and, bit_or, nat_lt, not}}
+use Rattle.std.{proofs.lemmas.Simd.{length-chunk, splat_is_map, zip2_of_maps, zip2_splat}, specs.Result.result_ok}
+use Rattle.bac_wire.proofs.Pieces.{one_more, same_below}
+use Rattle.hex.specs.Hex.{decode_of, decode_pairs, hex_digit_value, is_hex_digit}
+use Rattle.bac_text.{specs.Inner.{number_by_lane, octets_by_lanes}, proofs.{HexText.others_refused, Lanes.lane_is}}
 use lib.{Lanes.{chunk, put_chunk, top, zip2}, ListN.replicate}
-use Rattle.hex.specs.Hex.{is_hex_digit, hex_digit_value, decode_pairs, decode_of}
-use Rattle.bac_text.{specs.Inner.HexLanes.{number_by_lane, octets_by_lanes}, proofs.HexText.others_refused}
-use Rattle.bac_text.proofs.Lanes.{lane_is}
-use Rattle.bac_wire.proofs.Pieces.{same_below, one_more}
 
 number_is : (digit : ℕ)
     → (bit_and digit 15 + cond (top 7 (cond (nat_lt 63 digit) 255 0)) 9 0) % 256 ≡ number_by_lane digit

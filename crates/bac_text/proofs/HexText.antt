@@ -1,12 +1,11 @@
 -- Octets in hexadecimal digits.
-use Rattle.std.{
-  proofs.Common.{◌*◌, ◌≡◌, ℕ, ◌%◌, ◌<◌, ◌≤◌, true, false, List, [], ◌∷◌, length, Some, None, Result, Ok, Err, refl},
-  proofs.{Common.{sym, ◌∙◌, arith}, lemmas.List.Sums.{AllPass-from_list_all, list_all-from_AllPass}},
-  specs.{Prelude.{is_ok, IsTrue}, List.list_all, Result.result_ok, Char.is_ascii_hexdigit},
-}
-use Rattle.hex.specs.{Hex.{decode_of, is_hex_digit}, declared.error.FromHexError.FromHexError}
-use Rattle.hex.proofs.HexLemmas.{decode_of-ok, decode_of-digits}
-use Rattle.bac_text.specs.{Words.octets_of, Inner.Words.octets_in, Address.routable}
+use Rattle.std.proofs.Common.{[], ◌%◌, ◌*◌, ◌<◌, ◌∙◌, ◌∷◌, ◌≡◌, ◌≤◌, arith, Err, false, length, List, None, Ok, refl}
+use Rattle.std.{proofs.Common.{Result, Some, sym, true, ℕ}, specs.{Char.is_ascii_hexdigit, List.list_all}}
+use Rattle.std.{proofs.lemmas.List.Sums.{AllPass-from_list_all, list_all-from_AllPass}, specs.Prelude.{is_ok, IsTrue}}
+use Rattle.std.specs.Result.{result_ok}
+use Rattle.hex.specs.{declared.error.FromHexError.FromHexError, Hex.{decode_of, is_hex_digit}}
+use Rattle.hex.proofs.HexLemmas.{decode_of-digits, decode_of-ok}
+use Rattle.bac_text.specs.{octets_of, routable, Inner.octets_in}
 
 same_digit : (c : ℕ) → is_ascii_hexdigit c ≡ is_hex_digit c
 same_digit = grind arith

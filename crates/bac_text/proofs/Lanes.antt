@@ -1,14 +1,12 @@
 -- From the mask of one load to the octets that pass a test.
-use Rattle.std.proofs.{
-  Common.{◌≡◌, ℕ, ◌+◌, ◌-◌, ◌%◌, ◌^◌, ◌<◌, ◌≤◌, cond, Bool, true, false, not, List, map, length, get_or, Some, None},
-  Common.{refl, ap, ◌∙◌, subst, arith},
-  lemmas.Bool.{not-true},
-  lemmas.Simd.{map-map, mask_l-mod, length-chunk, get_or-chunk, leading_from_mask_l, trailing_mask_l},
-  lemmas.{List.length-map, List.Sums.{prefix_len-le-length, prefix_len_passes, prefix_len_stops, position_or_len_is}},
-}
-use Rattle.std.specs.{Prelude.{◌||◌, position, bit_or}, List.{prefix_len, position_or_len}}
+use Rattle.std.proofs.Common.{◌%◌, ◌+◌, ◌-◌, ◌<◌, ◌^◌, ◌∙◌, ◌≡◌, ◌≤◌, ap, arith, Bool, cond, false, get_or, length}
+use Rattle.std.proofs.{Common.{List, map, None, not, refl, Some, subst, true, ℕ}, lemmas.Bool.not-true}
+use Rattle.std.{proofs.lemmas.{List.length-map, Simd.trailing_mask_l}, specs.List.{position_or_len, prefix_len}}
+use Rattle.std.proofs.lemmas.List.Sums.{position_or_len_is, prefix_len-le-length, prefix_len_passes, prefix_len_stops}
+use Rattle.std.proofs.lemmas.Simd.{get_or-chunk, leading_from_mask_l, length-chunk, map-map, mask_l-mod}
+use Rattle.std.specs.Prelude.{◌||◌, bit_or, position}
+use Rattle.bac_text.specs.Inner.{first_set, IsRunIn}
 use lib.Lanes.{chunk, mask_l, top}
-use Rattle.bac_text.specs.Inner.Search.{first_set, IsRunIn}
 
 run_is : (p : ℕ → Bool) (v : List ℕ) (n : ℕ) → length v ≡ n → n ≤ 64
     → first_set (mask_l (map p v)) n ≡ prefix_len (λ x. not (p x)) v

@@ -1,12 +1,10 @@
 -- Numbers at the front of a text.
-use Rattle.std.proofs.{
-  Common.{◌≡◌, ℕ, zero, suc, ◌+◌, ◌-◌, ◌*◌, ◌<◌, ◌≤◌, true, List, length, take, drop, get_or, Some, None, refl, arith},
-  Common.add-one,
-  lemmas.{Bool.eq-eqb, Bool.Decides.nat_tests, List.{take_all, take_rest, length-take-le}},
-}
-use Rattle.std.specs.{Prelude.{if◌then◌else◌, ◌==◌, nat_le}, Str.all_ascii_digits, Str.Parse.digits_value}
-use Rattle.bac_text.specs.{Address.{short_number, number_before_dot}, Inner.Address.digit, Inner.Leading.IsLeading}
-use Rattle.bac_text.proofs.{NumberLemmas.{others_are, digit_in, digits_next, value_next}, Lanes.position_is}
+use Rattle.std.proofs.Common.{◌*◌, ◌+◌, ◌-◌, ◌<◌, ◌≡◌, ◌≤◌, add-one, arith, drop, get_or, length, List, None, refl}
+use Rattle.std.proofs.{Common.{Some, suc, take, true, zero, ℕ}, lemmas.Bool.{eq-eqb, Decides.nat_tests}}
+use Rattle.std.{proofs.lemmas.List.{length-take-le, take_all, take_rest}, specs.Prelude.{◌==◌, if◌then◌else◌, nat_le}}
+use Rattle.std.specs.Str.{all_ascii_digits, Parse.digits_value}
+use Rattle.bac_text.{specs.{number_before_dot, short_number, Inner.{digit, IsLeading}}, proofs.Lanes.position_is}
+use Rattle.bac_text.proofs.NumberLemmas.{digit_in, digits_next, others_are, value_next}
 
 -- The greatest number of so many digits.
 abbrev pub most_with : ℕ → ℕ

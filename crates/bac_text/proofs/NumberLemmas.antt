@@ -1,12 +1,10 @@
 -- Numbers that are read digit by digit.
-use Rattle.std.proofs.{
-  Common.{◌≡◌, ℕ, ◌+◌, ◌-◌, ◌*◌, ◌^◌, ◌<◌, ◌≤◌, true, false, List, [], ◌∷◌, length, take, get_or, Some, None, refl},
-  Common.{◌∙◌, ap, arith},
-  lemmas.{List.{take_all, length-take-le, get_or-take}, List.Folds.{list_all_at, list_all_more}},
-  lemmas.{Bool.Decides.nat_tests, Int.Digits.digits_value_more, Str.Parse.digits_value-take-le},
-}
-use Rattle.std.specs.{Prelude.◌&&◌, List.list_all, Char.is_ascii_digit, Str.all_ascii_digits, Str.Parse.digits_value}
-use Rattle.bac_text.specs.Words.{number_up_to}
+use Rattle.std.proofs.Common.{[], ◌*◌, ◌+◌, ◌-◌, ◌<◌, ◌^◌, ◌∙◌, ◌∷◌, ◌≡◌, ◌≤◌, ap, arith, false, get_or, length, List}
+use Rattle.std.{proofs.{Common.{None, refl, Some, take, true, ℕ}, lemmas.Bool.Decides.nat_tests}, specs.List.list_all}
+use Rattle.std.proofs.lemmas.{Int.Digits.digits_value_more, List.{get_or-take, length-take-le, take_all}}
+use Rattle.std.proofs.lemmas.{List.Folds.{list_all_at, list_all_more}, Str.Parse.digits_value-take-le}
+use Rattle.std.specs.{Char.is_ascii_digit, Prelude.◌&&◌, Str.{all_ascii_digits, Parse.digits_value}}
+use Rattle.bac_text.specs.{number_up_to}
 
 all_tested : (word : List ℕ) → all_ascii_digits word ≡ list_all is_ascii_digit word
 all_tested [] = refl

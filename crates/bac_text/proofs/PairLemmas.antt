@@ -1,10 +1,9 @@
 -- The words of pairs, from their front, and the region that they write.
-use Rattle.std.proofs.Common.{◌≡◌, ℕ, ◌+◌, ◌*◌, ◌<◌, ◌≤◌, ◌-◌, Bool, true, false, List, [], ◌∷◌, ◌++◌, length, drop}
-use Rattle.std.proofs.Common.{Some, Result, Ok, Err, refl, sym, ◌∙◌, ap, arith, append-nil, append_assoc, length-append}
+use Rattle.std.proofs.Common.{[], ◌*◌, ◌++◌, ◌+◌, ◌-◌, ◌<◌, ◌∙◌, ◌∷◌, ◌≡◌, ◌≤◌, ap, append-nil, append_assoc, arith}
+use Rattle.std.proofs.Common.{Bool, drop, Err, false, length, length-append, List, Ok, refl, Result, Some, sym, true, ℕ}
 use Rattle.std.{proofs.lemmas.List.{drop-drop, drop_all}, specs.List.flat_map}
 use Rattle.bac_wire.specs.{Datum.{Datum, plain}, Tag.plain_tag}
-use Rattle.bac_text.specs.{declared.pairs.PairFault.TheVariants.Bad, ValueWords.value_in, Inner.ValueWords.appended}
-use Rattle.bac_text.specs.{Inner.Pairs.region_of, Pairs.pairs_from}
+use Rattle.bac_text.specs.{Bad, pairs_from, value_in, Inner.{appended, region_of}}
 use Rattle.bac_text.specs.declared.value_words.ValueFault.TheVariants as faults
 
 -- ---- one more value behind others

@@ -1,7 +1,7 @@
 -- Values one after another are a region.
-use Rattle.std.proofs.Common.{ℕ, List, [], ◌∷◌, length, refl, sym, ap, subst, inl}
-use Rattle.bac_wire.specs.Datum.{Datum, Spells, StandsFor, tag_number, tag_before}
-use Rattle.bac_wire.specs.{Region.{Counts, IsSequence, none, more, IsRegion}, Front.SpellsAll}
+use Rattle.std.proofs.Common.{[], ◌∷◌, ap, inl, length, List, refl, subst, sym, ℕ}
+use Rattle.bac_wire.specs.{Datum.{Datum, Spells, StandsFor, tag_before, tag_number}, Front.SpellsAll}
+use Rattle.bac_wire.specs.Region.{Counts, IsRegion, IsSequence, more, none}
 use Rattle.bac_wire.specs.Datum as values
 
 contents_counted : (contents : List ℕ) (value : Datum) → StandsFor contents value

@@ -1,13 +1,11 @@
 -- The words_of of a text, from its front.
-use Rattle.std.proofs.{
-  Common.{◌≡◌, ℕ, suc, ◌+◌, ◌≤◌, Bool, true, false, List, [], ◌∷◌, length, take, drop, get_or, Some, None, refl, sym},
-  Common.{◌∙◌, ap, subst, arith, drop-cons},
-  lemmas.{List.Sums.{prefix_len-le-length, count_by-le-length, length-filter}, List.Quantifiers.position-Some},
-  lemmas.{List.{drop_all, take_rest}, List.Splits.{slice_split-cons_yes, slice_split-cons_no, length-slice_split}},
-  lemmas.Bool.not-true,
-}
-use Rattle.std.specs.{Prelude.{not, filter, position, unwrap_or}, List.{slice_split, onto_first, position_or_len}}
-use Rattle.bac_text.specs.{Words.{words_of, is_blank}, Inner.Words.is_not_empty}
+use Rattle.std.proofs.Common.{[], ◌+◌, ◌∙◌, ◌∷◌, ◌≡◌, ◌≤◌, ap, arith, Bool, drop, drop-cons, false, get_or, length}
+use Rattle.std.proofs.{Common.{List, None, refl, Some, subst, suc, sym, take, true, ℕ}, lemmas.Bool.not-true}
+use Rattle.std.proofs.lemmas.List.{drop_all, take_rest, Quantifiers.position-Some}
+use Rattle.std.proofs.lemmas.List.Splits.{length-slice_split, slice_split-cons_no, slice_split-cons_yes}
+use Rattle.std.proofs.lemmas.List.Sums.{count_by-le-length, length-filter, prefix_len-le-length}
+use Rattle.std.specs.{List.{onto_first, position_or_len, slice_split}, Prelude.{filter, not, position, unwrap_or}}
+use Rattle.bac_text.specs.{is_blank, words_of, Inner.is_not_empty}
 
 -- how many blanks stand first, and how many other octets
 abbrev blanks : List ℕ → ℕ

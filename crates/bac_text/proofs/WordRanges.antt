@@ -1,10 +1,10 @@
 -- The values that words write are within the ranges of their kinds, so they have spellings.
-use Rattle.std.proofs.Common.{◌≡◌, ℕ, ◌+◌, ◌≤◌, Bool, List, [], ◌∷◌, length, Option, Result, arith, length-append}
-use Rattle.std.{proofs.lemmas.Bool.Decides.nat_tests, specs.Prelude.{◌==◌, if◌then◌else◌, option_map, IfSome, IfOk}}
-use Rattle.std.specs.{List.{AllByRecursion, flat_map}, Result.result_ok}
-use Rattle.hex.{proofs.HexLemmas.{decode_of-ok, decode_sized-ok, decode_sized-twice}, specs.Hex.decode_sized}
-use Rattle.bac_wire.{specs.Datum.{Datum, signed, InRange, IsDatum, plain}, proofs.PlainDatum.written_datum}
-use Rattle.bac_text.specs.{ValueWords.{signed_in, value_under}, Pairs.{value_before, pairs_from, values_in}}
+use Rattle.std.proofs.Common.{[], ◌+◌, ◌∷◌, ◌≡◌, ◌≤◌, arith, Bool, length, length-append, List, Option, Result, ℕ}
+use Rattle.std.{proofs.lemmas.Bool.Decides.nat_tests, specs.{List.{AllByRecursion, flat_map}, Result.result_ok}}
+use Rattle.std.specs.Prelude.{◌==◌, IfOk, IfSome, if◌then◌else◌, option_map}
+use Rattle.bac_wire.{specs.Datum.{Datum, InRange, IsDatum, plain, signed}, proofs.PlainDatum.written_datum}
+use Rattle.hex.{specs.Hex.decode_sized, proofs.HexLemmas.{decode_of-ok, decode_sized-ok, decode_sized-twice}}
+use Rattle.bac_text.specs.{pairs_from, signed_in, value_before, value_under, values_in}
 
 either : (b : Bool) (x y : Option Datum) → IfSome x InRange → IfSome y InRange → IfSome (if b then x else y) InRange
 either = grind arith

@@ -1,16 +1,14 @@
 -- What is appended of a value, and the words of each kind.
-use Rattle.std.{
-  proofs.Common.{◌≡◌, ℕ, ◌+◌, ◌-◌, ◌*◌, ◌/◌, ◌%◌, ◌<◌, ◌≤◌, true, List, length, take, drop, get_or, Some, Result, Ok},
-  proofs.Common.{Err, refl, ◌∙◌, arith, length-append},
-  specs.{Prelude.{◌==◌, ◌||◌, option_map, map, MatchResult}, Char.is_ascii_hexdigit, Int.div_ceil},
-  specs.{List.{list_all, range_with_len}, Result.result_ok},
-  proofs.lemmas.{List.{get_or-take, length-take-le}, List.FromFn.{fill_by_all, length-map-range_with_len}},
-}
-use Rattle.hex.specs.{Hex.{decode_of, decode_sized}, declared.error.FromHexError.FromHexError}
+use Rattle.std.proofs.Common.{◌%◌, ◌*◌, ◌+◌, ◌-◌, ◌/◌, ◌<◌, ◌∙◌, ◌≡◌, ◌≤◌, arith, drop, Err, get_or, length}
+use Rattle.std.{proofs.Common.{length-append, List, Ok, refl, Result, Some, take, true, ℕ}, specs.Int.div_ceil}
+use Rattle.std.proofs.lemmas.List.{get_or-take, length-take-le, FromFn.{fill_by_all, length-map-range_with_len}}
+use Rattle.std.specs.{Char.is_ascii_hexdigit, List.{list_all, range_with_len}, Result.result_ok}
+use Rattle.std.specs.Prelude.{◌==◌, ◌||◌, map, MatchResult, option_map}
+use Rattle.bac_wire.specs.Datum.{bit_string, Datum, octet_string, plain, plain_contents}
+use Rattle.hex.specs.{declared.error.FromHexError.FromHexError, Hex.{decode_of, decode_sized}}
 use Rattle.hex.proofs.HexLemmas.{decode_of-ok}
-use Rattle.bac_wire.specs.Datum.{Datum, octet_string, bit_string, plain, plain_contents}
-use Rattle.bac_text.{proofs.HexText.digits_decoded, specs.declared.value_words.ValueFault.TheVariants.TooLong}
-use Rattle.bac_text.specs.{ValueWords.{bits_octet, bits_in, bits_octets}, Inner.ValueWords.{at_most, appended}}
+use Rattle.bac_text.specs.{bits_in, bits_octet, bits_octets, declared.value_words.ValueFault.TheVariants.TooLong}
+use Rattle.bac_text.{specs.Inner.{appended, at_most}, proofs.HexText.digits_decoded}
 
 -- What has no more octets than it may is as it was.
 pub at_most_found : {E : Type 0} (fault : E) (most : ℕ) (octets found : List ℕ) → at_most fault most octets ≡ Ok found →

@@ -1,12 +1,10 @@
 -- The body of a WriteProperty request, by the region in it.
-use Rattle.std.proofs.Common.{◌≡◌, ℕ, ◌≤◌, List, [], ◌∷◌, ◌++◌, length, Option, Result, Ok, Err, arith, length-append}
-use Rattle.std.{specs.List.flat_map}
-use Rattle.bac_wire.specs.{Datum.{Datum, plain}, Identifier.Identifier}
-use Rattle.bac_wire.specs.{Steps.result_seen}
+use Rattle.std.proofs.Common.{[], ◌++◌, ◌∷◌, ◌≡◌, ◌≤◌, arith, Err, length, length-append, List, Ok, Option, Result, ℕ}
+use Rattle.std.specs.List.{flat_map}
 use Rattle.bac_pdu.specs.{Parameter.{Parameter, plain_parameter}, Property.{Order, write_octets}}
-use Rattle.bac_text.specs.declared.pairs.PairFault.{PairFault, TheVariants.TooLong}
-use Rattle.bac_text.specs.Inner.{ValueWords.at_most, Pairs.{region_with, region_of}}
-use Rattle.bac_text.{specs.Pairs.{sendable, order_of, body_of, values_in}}
+use Rattle.bac_wire.specs.{Datum.{Datum, plain}, Identifier.Identifier, Steps.result_seen}
+use Rattle.bac_text.specs.{body_of, order_of, sendable, TooLong, values_in, declared.pairs.PairFault.PairFault}
+use Rattle.bac_text.specs.Inner.{at_most, region_of, region_with}
 use Rattle.bac_pdu.specs.Parameter as parameters
 
 -- The body that orders the values that were found, if it can be sent.

@@ -7,3 +7,11 @@ pub mod Address
 pub mod ValueWords
 pub mod Pairs
 pub mod Examples
+unfoldable pub use Words.*
+unfoldable pub use Search.*
+unfoldable pub use Leading.*
+unfoldable pub use HexLanes.*
+unfoldable pub use Address.*
+unfoldable pub use ValueWords.*
+unfoldable pub use Pairs.*
+unfoldable pub use Examples.*

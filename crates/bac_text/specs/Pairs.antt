@@ -1,10 +1,9 @@
 -- The words of a property's value: tags and values in turn, and the body of the request that writes them.
 use Rattle.std.specs.Prelude.{ℕ, ◌+◌, ◌*◌, nat_le, List, [], ◌∷◌, length, drop, Option, Some, None, Result, Ok, Err}
 use Rattle.std.specs.{Prelude.if◌then◌else◌, List.flat_map}
-use Rattle.bac_wire.specs.{Datum.{Datum, plain}, Identifier.Identifier, Steps.result_seen}
 use Rattle.bac_pdu.specs.{Property.{Order, write_octets}, Apdu.longest_body}
-use Rattle.bac_text.specs.declared.pairs.PairFault.{PairFault, TheVariants.{Bad, TooLong}}
-use Rattle.bac_text.specs.ValueWords.{value_in}
+use Rattle.bac_wire.specs.{Datum.{Datum, plain}, Identifier.Identifier, Steps.result_seen}
+use Rattle.bac_text.specs.{declared.pairs.PairFault.{PairFault, TheVariants.{Bad, TooLong}}, ValueWords.value_in}
 
 -- The value of a pair and those of the pairs behind it, or the number of the first pair that has none.
 abbrev pub value_before : ℕ → Option Datum → Result (List Datum) ℕ → Result (List Datum) ℕ

@@ -1,7 +1,6 @@
 -- What ends a piece of text.
 use Rattle.std.specs.Prelude.{ℕ, ◌==◌, nat_lt, Bool}
-use Rattle.bac_text.specs.declared.search.Delimiter.{Delimiter, TheVariants.{Blank, At, PastAscii}}
-use Rattle.bac_text.specs.Words.{is_blank}
+use Rattle.bac_text.specs.{declared.search.Delimiter.{Delimiter, TheVariants.{Blank, At, PastAscii}}, Words.is_blank}
 
 -- The octet ends such a piece.
 abbrev pub ends_at : Delimiter → ℕ → Bool

@@ -1,9 +1,8 @@
 -- The words of a line, and what they write: numbers and octets.
-use Rattle.std.specs.Prelude.{ℕ, Bool, ◌&&◌, ◌||◌, ◌==◌, nat_lt, nat_le, List, [], ◌∷◌, length, filter, Option, Some}
-use Rattle.std.specs.{Prelude.{None, option_map, if◌then◌else◌}, Int.is_in_range, Str.all_ascii_digits}
-use Rattle.std.specs.{Str.Parse.digits_value, List.slice_split, Result.result_ok}
-use Rattle.hex.specs.Hex.{decode_of}
-use Rattle.bac_text.specs.Limits.{longest_line}
+use Rattle.std.specs.{Int.is_in_range, List.slice_split, Prelude.{None, Option, option_map, Some, ℕ}, Result.result_ok}
+use Rattle.std.specs.Prelude.{[], ◌&&◌, ◌==◌, ◌||◌, ◌∷◌, Bool, filter, if◌then◌else◌, length, List, nat_le, nat_lt}
+use Rattle.std.specs.Str.{all_ascii_digits, Parse.digits_value}
+use Rattle.{hex.specs.Hex.decode_of, bac_text.specs.Limits.longest_line}
 
 -- A space or a tab.
 abbrev pub is_blank : ℕ → Bool

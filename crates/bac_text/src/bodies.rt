@@ -1,8 +1,8 @@
 //! The service bodies of requests.
-ghost use Rattle.std.specs.Prelude.{◌≡◌, ◌≤◌, length, IfSome, IfOk};
+ghost use Rattle.std.specs.Prelude.{◌≡◌, ◌≤◌, IfOk, IfSome, length};
+ghost use Rattle.bac_pdu.specs.{Apdu.longest_body, Property.{IsPriority, read_octets, reference}};
 ghost use Rattle.bac_wire.specs.{Identifier.identifier, Steps.result_seen};
-ghost use Rattle.bac_pdu.specs.{Property.{IsPriority, reference, read_octets}, Apdu.longest_body};
-ghost use Rattle.bac_text.specs.Pairs.{body_of, words_behind};
+ghost use Rattle.bac_text.specs.{body_of, words_behind};
 
 use crate::pairs::{PairFault, read_pairs};
 use crate::words::WordSource;

@@ -1,9 +1,10 @@
 //! Examples of words, worked out by computation. They show what the definitions mean.
 
-ghost use Rattle.std.specs.Prelude.{◌≡◌, ℕ, [], ◌∷◌, codes, replicate, Some, None, Ok, Err};
-ghost use Rattle.bac_text.specs.{declared.pairs.PairFault.TheVariants.{Bad, TooLong}, Address.peer_of};
-ghost use Rattle.bac_text.specs.{Limits.longest_line, Pairs.words_behind, PairsInWords.IsWritten, Words.words_of};
-ghost use Rattle.bac_text.specs.Inner.Examples.{WritesPair, device, far_device, body_with_words, minus_five, value};
+ghost use Rattle.std.specs.Prelude.{◌≡◌, ℕ, [], ◌∷◌, codes, replicate};
+ghost use Rattle.bac_text.specs.{Bad, TooLong, peer_of, longest_line, words_behind, words_of};
+ghost use Rattle.bac_text.specs.PairsInWords.{IsWritten};
+ghost use Rattle.bac_text.specs.Inner.{WritesPair, device, far_device, body_with_words};
+ghost use Rattle.bac_text.specs.Inner.Examples.{minus_five, value};
 
 // A value of each kind: the number of its tag and a word, and the octets that they write (ANSI/ASHRAE 135, 20.2).
 #[tactic(none)]

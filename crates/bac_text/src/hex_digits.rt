@@ -1,8 +1,7 @@
 //! Octets in hexadecimal digits.
-ghost use Rattle.std.specs.{Prelude.{◌≡◌, ◌≤◌, length, option_map, is_ok, IsTrue}, List.list_all};
-ghost use Rattle.std.specs.Char.{is_ascii_hexdigit};
-ghost use Rattle.hex.specs.Hex.{decode_of};
-ghost use Rattle.bac_text.specs.{Words.octets_of, Inner.Words.octets_in};
+ghost use Rattle.std.specs.{Char.is_ascii_hexdigit, List.list_all};
+ghost use Rattle.std.specs.Prelude.{◌≡◌, ◌≤◌, is_ok, IsTrue, length, option_map};
+ghost use Rattle.{hex.specs.Hex.decode_of, bac_text.specs.{Words.octets_of, Inner.Words.octets_in}};
 
 use crate::hex_lanes::octets_from;
 

@@ -1,8 +1,6 @@
 //! Hexadecimal digits as octets, several at a time.
-ghost use Rattle.std.specs.{Prelude.{◌≡◌, ◌+◌, ◌*◌, ◌≤◌, not, length, MatchOption, Some, None}, Simd.Lanes.chunk};
-ghost use Rattle.std.specs.Result.{result_ok};
-ghost use Rattle.hex.specs.Hex.{decode_of, is_hex_digit};
-ghost use Rattle.bac_text.specs.{Inner.Search.IsRunIn, Inner.HexLanes.octets_by_lanes};
+ghost use Rattle.std.specs.{Prelude.{◌*◌, ◌+◌, ◌≡◌, ◌≤◌, length, MatchOption, not}, Result.result_ok, Simd.Lanes.chunk};
+ghost use Rattle.{hex.specs.Hex.{decode_of, is_hex_digit}, bac_text.specs.Inner.{IsRunIn, octets_by_lanes}};
 
 use crate::search::first_set;
 use std::simd::prelude::*;

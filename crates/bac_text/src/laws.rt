@@ -1,9 +1,9 @@
 //! What holds of the definitions that the contracts cite. Each function has an empty body, and its clauses are
 //! the laws.
-ghost use Rattle.std.specs.Prelude.{◌≡◌, ◌<◌, ◌*◌, ◌^◌, ℕ, List, Option, Ok, IfSome};
-ghost use Rattle.bac_wire.specs.{Copies.{MakesCopies, EqualsBy}, Identifier.{Identifier, IsIdentifier}};
+ghost use Rattle.std.specs.Prelude.{◌*◌, ◌<◌, ◌^◌, ◌≡◌, IfSome, List, Option, ℕ};
 ghost use Rattle.bac_pdu.specs.Property.{IsPriority};
-ghost use Rattle.bac_text.specs.{Limits.longest_line, Pairs.body_of, PairsInWords.IsWritten};
+ghost use Rattle.bac_wire.specs.{Copies.{EqualsBy, MakesCopies}, Identifier.{Identifier, IsIdentifier}};
+ghost use Rattle.bac_text.specs.{body_of, IsWritten, longest_line};
 
 use crate::hex_digits::{LONGEST_DATAGRAM, LONGEST_LINE};
 use crate::pairs::PairFault;

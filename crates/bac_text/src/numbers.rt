@@ -1,6 +1,6 @@
 //! Numbers in decimal digits.
-ghost use Rattle.std.specs.Prelude.{◌≡◌, ◌-◌, ◌^◌, ◌≤◌, IfSome};
-ghost use Rattle.bac_text.specs.{Words.number_up_to, Inner.Leading.IsLeading};
+ghost use Rattle.std.specs.Prelude.{◌-◌, ◌^◌, ◌≡◌, ◌≤◌, IfSome};
+ghost use Rattle.bac_text.specs.{number_up_to, Inner.IsLeading};
 
 /// The number that a word of one or more decimal digits writes, if it is at most `most`.
 pub fn read_number(word: &[u8], most: u64) -> Option<u64>

@@ -1,6 +1,6 @@
 //! The words of a property's value: tags and values in turn.
-ghost use Rattle.std.specs.Prelude.{◌≡◌, ◌∷◌, [], length, MatchResult, MatchOption, Ok, Err};
-ghost use Rattle.bac_text.specs.{declared.pairs.PairFault.TheVariants.Bad, Inner.Pairs.region_of, Pairs.words_behind};
+ghost use Rattle.std.specs.Prelude.{[], ◌∷◌, ◌≡◌, length, MatchOption, MatchResult};
+ghost use Rattle.bac_text.specs.{Bad, words_behind, Inner.region_of};
 
 use crate::value_words::{ValueFault, append_pair};
 use crate::words::WordSource;

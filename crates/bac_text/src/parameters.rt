@@ -1,6 +1,6 @@
 //! The parameters of a request, as words give them.
 ghost use Rattle.std.specs.Prelude.{◌≡◌};
-ghost use Rattle.bac_text.specs.Parameters.{priority_from, write_index_of};
+ghost use Rattle.bac_text.specs.{priority_from, write_index_of};
 
 use crate::numbers::read_number;
 

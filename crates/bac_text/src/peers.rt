@@ -1,8 +1,8 @@
 //! A peer as it is written.
 ghost use Rattle.std.specs.Prelude.{◌≡◌, ◌≤◌, IfSome, option_map};
-ghost use Rattle.bac_pdu.specs.Peer.{station, network_address};
-ghost use Rattle.bac_text.specs.{Inner.Words.octets_in, Address.{cut_at, short_number, number_before_dot, address_of}};
-ghost use Rattle.bac_text.specs.{Address.{routable, plain_peer_of, route_of, peer_of}, Inner.Address.digit};
+ghost use Rattle.bac_pdu.specs.Peer.{network_address, station};
+ghost use Rattle.bac_text.specs.{address_of, cut_at, number_before_dot, peer_of, plain_peer_of, routable, route_of};
+ghost use Rattle.bac_text.specs.{short_number, Inner.{digit, octets_in}};
 
 use crate::hex_digits::{HexDigits, read_hex};
 use crate::numbers::{leading_number, read_number};

@@ -1,6 +1,6 @@
 //! The first octet that ends a piece of text, searched for several octets at a time.
-ghost use Rattle.std.specs.Prelude.{◌≡◌, ◌+◌, ◌<◌, ◌≤◌, length, position};
-ghost use Rattle.bac_text.specs.{Search.ends_at, Inner.Search.{first_set, IsRunIn}};
+ghost use Rattle.std.specs.Prelude.{◌+◌, ◌<◌, ◌≡◌, ◌≤◌, length, position};
+ghost use Rattle.bac_text.specs.{ends_at, Inner.{first_set, IsRunIn}};
 
 use crate::words::is_blank;
 use std::simd::prelude::*;

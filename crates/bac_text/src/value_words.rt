@@ -1,10 +1,10 @@
 //! A value as two words: the number of its application tag, and the value by that number.
-ghost use Rattle.std.specs.Prelude.{◌≡◌, ◌≢◌, ◌≤◌, ◌==◌, ◌||◌, if◌then◌else◌, slice_index, option_map, IfSome};
-ghost use Rattle.std.specs.{Prelude.{MatchResult, OnErr, Ok, Err}, List.list_all, Result.result_ok};
+ghost use Rattle.std.specs.{List.list_all, Prelude.slice_index, Result.result_ok};
+ghost use Rattle.std.specs.Prelude.{◌==◌, ◌||◌, ◌≡◌, ◌≢◌, ◌≤◌, IfSome, if◌then◌else◌, MatchResult, OnErr, option_map};
+ghost use Rattle.bac_wire.specs.{Datum.{datum, IsSound, octet_string}, Identifier.identifier};
 ghost use Rattle.hex.specs.Hex.{decode_of, decode_sized};
-ghost use Rattle.bac_wire.specs.{Datum.{datum, octet_string, IsSound}, Identifier.identifier};
-ghost use Rattle.bac_text.specs.ValueWords.{boolean_in, signed_in, bits_octet, bits_in, object_in, value_under};
-ghost use Rattle.bac_text.specs.{ValueWords.value_in, Inner.ValueWords.appended};
+ghost use Rattle.bac_text.specs.{bits_in, bits_octet, boolean_in, object_in, signed_in, value_in, value_under};
+ghost use Rattle.bac_text.specs.Inner.{appended};
 
 use crate::hex_digits::is_hex;
 use crate::numbers::read_number;

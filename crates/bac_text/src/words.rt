@@ -1,7 +1,7 @@
 //! Words that are taken one after another.
-ghost use Rattle.std.specs.Prelude.{◌≡◌, ◌<◌, ◌≤◌, ◌^◌, ℕ, List, [], ◌∷◌, length, drop, not, position, option_map};
-ghost use Rattle.std.specs.Prelude.{IfSome, MatchOption};
-ghost use Rattle.bac_text.specs.{Words.{is_blank, words_of, number_up_to, next_as}, Inner.Words.IsFirstNumber};
+ghost use Rattle.std.specs.Prelude.{[], ◌<◌, ◌^◌, ◌∷◌, ◌≡◌, ◌≤◌, drop, IfSome, length, List, MatchOption, not};
+ghost use Rattle.std.specs.Prelude.{option_map, position, ℕ};
+ghost use Rattle.bac_text.specs.{Words.{is_blank, next_as, number_up_to, words_of}, Inner.Words.IsFirstNumber};
 
 use crate::numbers::{leading_number, read_number};
 use crate::search::{Delimiter, position_of_end};
@@ -29,8 +29,8 @@ pub struct Words<'a> {
 }
 
 impl<'a> Model for Words<'a> {
-    ghost use Rattle.std.specs.Prelude.{ℕ, List};
-    ghost use Rattle.bac_text.specs.Words.{words_of};
+    ghost use Rattle.std.specs.Prelude.{List, ℕ};
+    ghost use Rattle.bac_text.specs.{words_of};
 
     ghost Value = { List (List ℕ) };
 

@@ -33,7 +33,8 @@ use Rattle.bac_run.specs.declared.fault.RunFault.{RunFault}
 use Rattle.bac_run.specs.declared.fault.RunFault.TheVariants.{Link, Script}
 use Rattle.bac_run.specs.Fault.{write_failed}
 use Rattle.bac_run.specs.Run.{Runs as Requested, journal_of}
-use Rattle.bac_run.proofs.GoOn.{IsCutShort as IsBatchCut, IsTaken, Meets, one_text as one_journal, runs_on, taken}
+use Rattle.bac_run.proofs.GoOn.{IsCutShort as IsBatchCut, IsTaken, one_text as one_journal, runs_on, taken}
+use Rattle.bac_run.proofs.Standing.{Meets}
 use Rattle.bac_tools.proofs.Sessions.{one_session}
 use Rattle.bac_run.specs.declared.session.Session.{Session}
 use Rattle.bac_tools.specs.declared.report.Fault.TheVariants as faults
@@ -126,8 +127,8 @@ module _ {Origin Other V W : Type 0} (contents : V → Option (List ℕ)) (conte
             (grind arith) one_text rest rest' on,
       )
   tools (Device serve) (a, unprinted) (b, unprinted') =
-      let (asked, on) = servings_so_far serve.count _ a.device b.device seen left seen' left' a.served b.served first
-      rest first' rest' a.serves b.serves gains gains' same in
+      let (asked, on) = servings_so_far serve.count _ a.device b.device seen left seen' left' answer answer' first rest
+      first' rest' a.serves b.serves gains gains' same in
       (asked, grind arith)
 
 -- ---- one run

@@ -1,4 +1,4 @@
-pub mod Statuses
+pub mod StatusLaws
 mod Alike
 pub mod Calls
 pub mod Sessions

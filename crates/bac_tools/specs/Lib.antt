@@ -1,4 +1,5 @@
 pub mod Binding
+pub mod Statuses
 pub mod Report
 pub mod Telling
 pub mod Outside

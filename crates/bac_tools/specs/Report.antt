@@ -1,21 +1,13 @@
 -- The status with which the program ends, and the fault that it tells of.
-use Rattle.std.specs.Prelude.{◌≡◌, ◌≤◌, ℕ, Option, Some, None, option_map, Result, Err}
+use Rattle.std.specs.Prelude.{◌≡◌, ◌≤◌, ℕ, Option, Some, None, option_map, Result}
 use Rattle.std.specs.{Result.result_err, declared.io.ErrorKind.{ErrorKind, TheVariants.OutOfMemory}}
-use Rattle.bac_script.specs.{Tracing.trace_status_of, declared.tracing.{TraceEnd.TraceEnd, TraceFault.TraceFault}}
-use Rattle.bac_run.specs.{Fault.run_status_of, declared.fault.RunFault.RunFault}
-use Rattle.bac_links.specs.{Ending.status_of, declared.{exit.Exit.Exit, fault.ToolFault.ToolFault}}
-use Rattle.bac_words.specs.{Fault.usage_status_of, declared.faults.UsageFault.TheVariants.Memory}
+use Rattle.bac_script.specs.declared.tracing.{TraceEnd.TraceEnd, TraceFault.TraceFault}
+use Rattle.bac_run.specs.declared.fault.RunFault.{RunFault}
+use Rattle.bac_links.specs.declared.{exit.Exit.Exit, fault.ToolFault.ToolFault}
+use Rattle.bac_words.specs.declared.faults.UsageFault.TheVariants.{Memory}
+use Rattle.bac_tools.specs.Statuses.{fault_status, run_status_of, status_of, trace_status_of}
 use Rattle.bac_tools.specs.declared.report.{Fault.Fault, Report.Report}
 use Rattle.bac_tools.specs.declared.report.Fault.TheVariants as faults
-
--- The status of each fault: 0 where help was asked for; 2 where words, or a line of a script or of requests, are wrong;
--- 3 where a socket, a reader, a writer or the turns gave out; 4 without memory.
-abbrev pub fault_status : Fault → ℕ
-fault_status faults.NoText = 2
-fault_status (faults.Usage fault) = usage_status_of fault
-fault_status (faults.Trace fault) = trace_status_of (Err fault)
-fault_status (faults.Run fault) = run_status_of (Err fault)
-fault_status _ = 3
 
 -- The status is that of the fault that is told; without one it is 0, or 1 where the tool ended otherwise than it was
 -- meant to.

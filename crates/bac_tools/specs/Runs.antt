@@ -1,12 +1,12 @@
 -- What a job prints, sends and leaves, and how the program ends: for each job by the definition of its tool.
-use Rattle.std.specs.{Prelude.{◌≡◌, ◌≢◌, ◌↔◌, ℕ, true, [], List, Option, Some, Result, Ok, Err}, Result.result_map_both}
+use Rattle.std.specs.Prelude.{◌≡◌, ◌≢◌, ◌↔◌, ℕ, true, [], List, Option, Some, Result, Ok, Err}
 use Rattle.bac_device.specs.{Demo.demo_points, Device.{DeviceState, device_after}}
 use Rattle.bac_print.specs.{Checked.has_failed, declared.checked.Checked.Checked}
 use Rattle.bac_script.specs.{Tracing.Traces, declared.tracing.{TraceEnd.TraceEnd, TraceFault.TraceFault}}
 use Rattle.bac_script.specs.declared.tracing.TraceFault.TheVariants as stops
 use Rattle.bac_links.specs.{Call.Tells, Fault.{is_link_fault, is_write_fault}, History.Account, Search.Searched}
 use Rattle.bac_links.specs.{Serve.Serves, declared.{ending.Purpose.TheVariants.{Reading, Writing}, exit.Exit.Exit}}
-use Rattle.bac_links.specs.declared.{exit.Exit.TheVariants.Good, fault.ToolFault.ToolFault, socket.NoSocket.NoSocket}
+use Rattle.bac_links.specs.declared.{fault.ToolFault.ToolFault, socket.NoSocket.NoSocket}
 use Rattle.bac_run.specs.{Fault.{is_of_link, write_failed}, Run.{Runs as Requested}}
 use Rattle.bac_run.specs.declared.{fault.RunFault.RunFault, session.Session.Session}
 use Rattle.bac_words.specs.declared.{
@@ -18,13 +18,11 @@ use Rattle.bac_tools.{
 }
 use Rattle.bac_tools.specs.declared.report.Fault.TheVariants as faults
 
--- A demonstration device: its replies to the datagrams that come. However many they are, its exit is good.
+-- A demonstration device: its replies to the datagrams that come.
 pub record DevicePlays {Origin : Type 0} (serve : Serve) (seen left : Account Origin) (answer : Result Exit ToolFault)
     : Type 0 where
   pub device : DeviceState
-  pub served : Result ℕ ToolFault
-  pub serves : Serves serve.count (device_after serve.info demo_points []) device seen left served
-  pub answers : answer ≡ result_map_both (λ replied. Good) (λ fault. fault) served
+  pub serves : Serves serve.count (device_after serve.info demo_points []) device seen left answer
 
 -- ---- the tools over a link: what each does to its writer and its link, and its answer
 

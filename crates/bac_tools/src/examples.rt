@@ -7,14 +7,19 @@ ghost use Rattle.std.specs.declared.vec.IntoIter.{IntoIter};
 ghost use Rattle.std.specs.{IoError.error_kind, String.string_bytes, Vec.Iter.into_iter_items};
 ghost use Rattle.std.specs.declared.io.ErrorKind.TheVariants.{NotFound, OutOfMemory};
 ghost use Rattle.bac_links.specs.SystemCall.{Bind, Limit};
+ghost use Rattle.bac_links.specs.declared.exit.Exit.TheVariants.{Good, Bad};
+ghost use Rattle.bac_script.specs.declared.tracing.TraceFault.TheVariants.{BadLine, ReadFailed};
+ghost use Rattle.bac_run.specs.declared.fault.RunFault.TheVariants.{Link, Script};
 ghost use Rattle.bac_links.specs.declared.fault.ToolFault.TheVariants.{ReceiveFailed, SendFailed};
 ghost use Rattle.bac_words.specs.Telling.{Line};
-ghost use Rattle.bac_words.specs.declared.faults.UsageFault.TheVariants.{Memory};
+ghost use Rattle.bac_words.specs.declared.faults.UsageFault.TheVariants.{BadMac, Memory};
 ghost use Rattle.bac_tools.specs.Alike.{AreAlike, AreGivenAlike, CalledRun, ProgramRun};
 ghost use Rattle.bac_tools.specs.Calls.{AsksAtMostOnce, GivesSockets, RunsAsCalls, RunsUnasked, RunsWithout};
 ghost use Rattle.bac_tools.specs.Program.{IsRun, Only, Program, texts_of};
 ghost use Rattle.bac_tools.specs.Report.{IsStatusOf, report_of};
 ghost use Rattle.bac_tools.specs.Runs.{BatchRuns, ToolRuns};
+ghost use Rattle.bac_tools.specs.Statuses.{fault_status, run_status_of, status_of, trace_status_of, usage_status_of};
+ghost use Rattle.bac_tools.specs.declared.report.Fault.TheVariants as faults;
 ghost use Rattle.bac_tools.specs.Telling.{IsTold, on_error, on_output, once_given};
 ghost use Rattle.bac_tools.specs.declared.report.Fault.TheVariants.{NoText, Usage};
 ghost use Rattle.bac_tools.specs.Inner.Examples.{any_at, asked_so, batch_of, deaf, deaf_calls, device, device_words};
@@ -34,9 +39,21 @@ fn examples_of_runs()
     ensures not_alike { AreAlike forgotten forgotten one_time [] [] [] → ⊥ }
 {}
 
-// The status of a fault, and where there is none.
+// The status of each end, of a fault, and where there is none.
 #[tactic(none)]
 fn examples_of_statuses()
+    ensures good_end { status_of (Ok Good) ≡ 0 }
+    ensures bad_end { status_of (Ok Bad) ≡ 1 }
+    ensures unsent { status_of (Err SendFailed) ≡ 3 }
+    ensures whole { trace_status_of (Ok (record { lines = 2 })) ≡ 0 }
+    ensures bad_line { trace_status_of (Err (BadLine 2)) ≡ 2 }
+    ensures unread { trace_status_of (Err ReadFailed) ≡ 3 }
+    ensures made { run_status_of (Ok (record { lines = 2 })) ≡ 0 }
+    ensures bad_request { run_status_of (Err (Script (BadLine 2))) ≡ 2 }
+    ensures broken { run_status_of (Err (Link SendFailed)) ≡ 3 }
+    ensures no_memory { usage_status_of Memory ≡ 4 }
+    ensures bad_words { usage_status_of BadMac ≡ 2 }
+    ensures no_socket { fault_status (faults.Link (record {})) ≡ 3 }
     ensures good { IsStatusOf None 0 }
     ensures bad { IsStatusOf None 1 }
     ensures no_fault { IsStatusOf None 2 → ⊥ }

@@ -17,19 +17,19 @@ pub mod laws;
 mod program;
 mod report;
 mod running;
+mod statuses;
 mod telling;
 
 pub use bac_links::{
     DATAGRAM_OCTETS, Datagram, Exit, Link, LinkFault, MemoryLink, NoSocket, OnRefusal, Socket,
-    Step, SystemSocket, ToolFault, UdpLink, run_read, run_whois, run_write, serve, status,
+    Step, SystemSocket, ToolFault, UdpLink, run_read, run_whois, run_write, serve,
 };
-pub use bac_print::{Checked, Message};
-pub use bac_run::{RunFault, Session, run_requests, run_status};
-pub use bac_script::{TraceEnd, TraceFault, show_outcome, show_value, trace, trace_status};
+pub use bac_print::{Checked, Message, WriteFailed, show_outcome, show_value};
+pub use bac_run::{RunFault, Session, run_requests};
+pub use bac_script::{TraceEnd, TraceFault, trace};
 pub use bac_text::{Call, Search, read_peer};
-pub use bac_words::{
-    Batch, Job, Serve, Telling, Tool, UsageFault, parse_words, usage_status, words_of,
-};
+pub use bac_words::{Batch, Job, Serve, Telling, Tool, UsageFault, parse_words, words_of};
 pub use program::{Finished, Network, Ran, run_program, run_words};
 pub use report::{Fault, Report, tell};
 pub use running::{Binding, binding_for, run_batch, run_tool};
+pub use statuses::{run_status, status, trace_status, usage_status};

@@ -8,7 +8,7 @@ ghost use Rattle.bac_words.specs.{Job.CanOpen, declared.job.Job.TheVariants.{Run
 ghost use Rattle.bac_tools.specs.{Inner.Program.RunsJob, Program.{IsCalled, IsRun, Program, texts_of}};
 ghost use Rattle.bac_tools.specs.declared.running.Binding.{Binding};
 
-use crate::report::{Report, tell};
+use crate::report::{Fault, Report, tell};
 use crate::running::{Binding, binding_for, client_at, run_batch, run_tool};
 use bac_links::{Link, LinkFault, NoSocket};
 use bac_print::Checked;
@@ -112,7 +112,7 @@ pub fn run_words<N: Network + Drop, R: Read, W: Write>(
         Ok(Job::Over(tool)) => tool,
         Ok(Job::Run(batch)) => return run_many(&batch, network, reader, writer),
         Ok(Job::Trace) => return Ran::only(Report::from(trace(reader, writer)), network),
-        Err(fault) => return Ran::only(Report::from(fault), network),
+        Err(fault) => return Ran::only(Report::from(Fault::Usage(fault)), network),
     };
     match network.bind(binding_for(&tool)) {
         Ok(mut link) => Ran {
@@ -121,7 +121,7 @@ pub fn run_words<N: Network + Drop, R: Read, W: Write>(
             unasked: None,
         },
         Err(none) => Ran {
-            report: Report::from(LinkFault),
+            report: Report::from(Fault::Link(LinkFault)),
             socket: Some(Err(none)),
             unasked: None,
         },
@@ -149,7 +149,7 @@ fn run_many<N: Network + Drop, R: Read, W: Write>(
             unasked: None,
         },
         Err(none) => Ran {
-            report: Report::from(LinkFault),
+            report: Report::from(Fault::Link(LinkFault)),
             socket: Some(Err(none)),
             unasked: None,
         },
@@ -170,9 +170,13 @@ fn run_called<N: Network + Drop, R: Read, W: Write>(
         record { seen = N.Socket.seen; failed = N.Socket.has_failed; remaining = R.remaining; contents = W.contents }
         network reader.old reader.new writer.old writer.new result (texts_of typed) }
 {
-    match words_typed(alloc, typed) {
-        Ok(typed) => run_typed(alloc, &typed, network, reader, writer),
-        Err(error) => Ran::only(Report::from(error), network),
+    let typed = match words_typed(alloc, typed) {
+        Ok(typed) => typed,
+        Err(error) => return Ran::only(Report::from(error), network),
+    };
+    match words_of(alloc, &typed) {
+        Ok(words) => run_words(alloc, &words, network, reader, writer),
+        Err(error) => Ran::only(Report::from(Fault::Usage(UsageFault::from(error))), network),
     }
 }
 
@@ -186,26 +190,6 @@ fn words_typed(alloc: Global, typed: io::Result<env::Args>) -> io::Result<Vec<St
         words.push(word)?;
     }
     Ok(words)
-}
-
-// Runs what these words ask for, as they were typed.
-fn run_typed<N: Network + Drop, R: Read, W: Write>(
-    alloc: Global,
-    typed: &[String],
-    network: N,
-    reader: &mut Checked<R>,
-    writer: &mut Checked<W>,
-) -> Ran<N, N::Socket>
-    requires reader { has_failed reader.old ≡ false }
-    requires writer { has_failed writer.old ≡ false }
-    ensures { IsCalled N.gives
-        record { seen = N.Socket.seen; failed = N.Socket.has_failed; remaining = R.remaining; contents = W.contents }
-        network reader.old reader.new writer.old writer.new result (Ok (map string_bytes typed.now)) }
-{
-    match words_of(alloc, typed) {
-        Ok(words) => run_words(alloc, &words, network, reader, writer),
-        Err(error) => Ran::only(Report::from(UsageFault::from(error)), network),
-    }
 }
 
 impl<N: Drop, L: Drop> Ran<N, L> {

@@ -4,15 +4,15 @@ ghost use Rattle.bac_words.specs.Telling.{told_by};
 ghost use Rattle.bac_tools.{
   specs.Report.{report_of, run_report, tool_report, trace_report, unread_report},
   specs.Telling.{fault_told, on_error, on_output, once_given, IsTold},
-  specs.declared.report.Fault.TheVariants.{Link, Usage},
 };
 
+use crate::statuses::{run_status, status, trace_status};
 use crate::telling::print_telling;
-use bac_links::{Exit, LinkFault, ToolFault, status};
+use bac_links::{Exit, LinkFault, ToolFault};
 use bac_print::{Checked, Message, Page};
-use bac_run::{RunFault, run_status};
-use bac_script::{TraceEnd, TraceFault, trace_status};
-use bac_words::{Telling, UsageFault, usage_status};
+use bac_run::RunFault;
+use bac_script::{TraceEnd, TraceFault};
+use bac_words::{Telling, UsageFault};
 use std::io::{self, ErrorKind, Write};
 use thiserror::Error;
 
@@ -138,24 +138,13 @@ impl From<Result<TraceEnd, RunFault>> for Report {
     }
 }
 
-impl From<LinkFault> for Report {
-    ghost from_gives = { λ fault report. report ≡ report_of (Link fault) };
+impl From<Fault> for Report {
+    ghost from_gives = { λ fault report. report ≡ report_of fault };
 
-    fn from(fault: LinkFault) -> Report {
+    fn from(fault: Fault) -> Report {
         Report {
-            status: 3,
-            fault: Some(Fault::Link(fault)),
-        }
-    }
-}
-
-impl From<UsageFault> for Report {
-    ghost from_gives = { λ fault report. report ≡ report_of (Usage fault) };
-
-    fn from(fault: UsageFault) -> Report {
-        Report {
-            status: usage_status(&fault),
-            fault: Some(Fault::Usage(fault)),
+            status: fault.status(),
+            fault: Some(fault),
         }
     }
 }
@@ -167,12 +156,9 @@ impl From<io::Error> for Report {
 
     // The words of the program could not be read.
     fn from(error: io::Error) -> Report {
-        match error.kind() {
-            ErrorKind::OutOfMemory => Report::from(UsageFault::Memory),
-            _ => Report {
-                status: 2,
-                fault: Some(Fault::NoText),
-            },
-        }
+        Report::from(match error.kind() {
+            ErrorKind::OutOfMemory => Fault::Usage(UsageFault::Memory),
+            _ => Fault::NoText,
+        })
     }
 }

@@ -117,8 +117,5 @@ fn play<L: Link>(device: Serve, link: &mut L) -> Result<Exit, ToolFault>
     ensures write_fault { is_write_fault result ≡ false }
 {
     let mut played = demo(device.info);
-    match serve(link, &mut played, device.count) {
-        Ok(_) => Ok(Exit::Good),
-        Err(fault) => Err(fault),
-    }
+    serve(link, &mut played, device.count)
 }

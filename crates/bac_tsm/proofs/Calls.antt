@@ -1,26 +1,15 @@
 -- Calls of a client one after another, for a caller that reads the machine: a request that is opened, and what a tick
 -- tells once a datagram was heard.
-use Rattle.std.proofs.{
-  Common.{◌≡◌, ℕ, ◌+◌, ◌-◌, ◌%◌, ◌^◌, ◌<◌, ◌≤◌, max, false, List, [], ◌∷◌, length, map, nat_eq, Option, Result, Ok},
-  Common.{refl, ◌∙◌, arith, IsSome, Bool, ap, Some, None, not, if◌then◌else◌, sym},
-  lemmas.{Bool.Decides.nat_tests, List.{nil_from_length, Elements.All-filter}},
-}
-use Rattle.std.specs.{
-  List.{flat_map, list_any, filter, slice_get},
-  Option.{option_map_or, option_map, option_to_list},
-  Prelude.⊤,
-}
-use Rattle.bac_pdu.specs.{Peer.Station, Apdu.longest_body}
-use Rattle.bac_tsm.specs.{
-  Lookahead.{next_invoke_id, refusal_of},
-  Answers.{outcome_of, Answer, answer_in_datagram, is_answer_to},
-  Client.{Client, rules_of, keeping, TakesStep, client_rules},
-  Inner.{Waiting.{number_in, ticket_in}, Client.IsTimely},
-  Events.{Outcome, Request, Rules, request_of},
-  Machine.{Waiting, State, opened, submit, deliver, datagram, due_answer, tick, kept},
-  declared.{due.DueEntry.DueEntry, client.SubmitFault.SubmitFault},
-  Limits.table_size,
-}
+use Rattle.std.proofs.Common.{[], ◌%◌, ◌+◌, ◌-◌, ◌<◌, ◌^◌, ◌∙◌, ◌∷◌, ◌≡◌, ◌≤◌, ap, arith, Bool, false, if◌then◌else◌}
+use Rattle.std.proofs.Common.{IsSome, length, List, map, max, nat_eq, None, not, Ok, Option, refl, Result, Some, sym, ℕ}
+use Rattle.std.proofs.lemmas.{Bool.Decides.nat_tests, List.{nil_from_length, Elements.All-filter}}
+use Rattle.std.specs.{List.{filter, flat_map, list_any, slice_get}, Option.{option_map_or, option_to_list}}
+use Rattle.std.specs.Prelude.{option_map, ⊤}
+use Rattle.bac_pdu.specs.{Apdu.longest_body, Peer.Station}
+use Rattle.bac_tsm.specs.{Answer, answer_in_datagram, client_rules, datagram, deliver, due_answer, DueEntry}
+use Rattle.bac_tsm.specs.{is_answer_to, keeping, kept, next_invoke_id, opened, Outcome, outcome_of, refusal_of, Request}
+use Rattle.bac_tsm.specs.{request_of, Rules, rules_of, State, submit, SubmitFault, table_size, TakesStep, tick}
+use Rattle.bac_tsm.specs.{Client.Client, Machine.Waiting, Inner.{IsTimely, number_in, ticket_in}}
 use Rattle.bac_tsm.proofs.{AnswersInWords.by_number, CallNotes.kept_of_all}
 
 -- ---- a tick, and what a client keeps through each call

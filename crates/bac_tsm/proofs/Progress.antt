@@ -1,16 +1,9 @@
 -- A request that waits is due, and ends, as timeouts pass; and how far the clock comes meanwhile.
-use Rattle.std.proofs.{
-  Common.{◌≡◌, ℕ, zero, suc, ◌+◌, ◌-◌, ◌*◌, ◌<◌, ◌≤◌, Bool, true, false, List, [], ◌∷◌, length, Option, Some, None},
-  Common.{IsSomeAnd, arith, ◌∙◌, sym, inl, inr},
-  Math.Nat.mul-le-mul_right,
-  lemmas.{Bool.{cases_Bool, cases_lt}, Option.{none-some, slice_get_past}},
-}
-use Rattle.bac_tsm.specs.{
-  Events.{Event, Rules},
-  Progress.{last_of, TimeoutsPass},
-  Lookahead.{first_within, clock, has_waited, due, Accepted, end},
-}
-use Rattle.bac_tsm.proofs.RequestLife.{step_back, due_next, first_after_from, first_least, none_within, clock_quiet}
+use Rattle.std.proofs.Common.{[], ◌*◌, ◌+◌, ◌-◌, ◌<◌, ◌∙◌, ◌∷◌, ◌≡◌, ◌≤◌, arith, Bool, false, inl, inr, IsSomeAnd}
+use Rattle.std.proofs.{Common.{length, List, None, Option, Some, suc, sym, true, zero, ℕ}, Math.Nat.mul-le-mul_right}
+use Rattle.std.proofs.lemmas.{Bool.{cases_Bool, cases_lt}, Option.{none-some, slice_get_past}}
+use Rattle.bac_tsm.specs.{Accepted, clock, due, end, Event, first_within, has_waited, last_of, Rules, TimeoutsPass}
+use Rattle.bac_tsm.proofs.RequestLife.{clock_quiet, due_next, first_after_from, first_least, none_within, step_back}
 
 pub clock_rises : (events : List Event) (i j : ℕ) → i ≤ j → clock events i ≤ clock events j
 clock_rises [] zero j le = omega arith

@@ -1,26 +1,18 @@
 -- The table of open requests, and their slots in the order of their last sends, through each edit.
-use Rattle.std.proofs.{
-  Common.{◌≡◌, ℕ, suc, ◌+◌, ◌<◌, ◌≤◌, List, [], ◌∷◌, ◌++◌, length, map, take, set, get_or, replicate, Option, Some},
-  Common.{None, All, refl, ap, sym, subst, ◌∙◌, arith, remove, length-append, length-set, length-take, take_at},
-  Common.{take-append-drop, append_assoc, get_or-set_same, get_or-set_other},
-  lemmas.Simd.map-map,
-  lemmas.List.{get_or-replicate, length-map, map-append, get_or-map, Edits.{length-remove, remove-append_left}},
-  lemmas.{List.Quantifiers.{all_pairs_push, all_pairs_remove}, Grind.take_at_read},
+use Rattle.std.{
+  proofs.Common.{[], ◌++◌, ◌+◌, ◌<◌, ◌∙◌, ◌∷◌, ◌≡◌, ◌≤◌, All, ap, append_assoc, arith, get_or, get_or-set_other},
+  proofs.Common.{get_or-set_same, length, length-append, length-set, length-take, List, map, None, Option, refl},
+  proofs.Common.{remove, replicate, set, Some, subst, suc, sym, take, take-append-drop, take_at, ℕ},
+  proofs.lemmas.{Grind.take_at_read, List.{get_or-map, get_or-replicate, length-map, map-append}, Simd.map-map},
+  proofs.lemmas.List.{Edits.{length-remove, remove-append_left}, Quantifiers.{all_pairs_push, all_pairs_remove}},
+  specs.List.AllPairs,
 }
-use Rattle.std.specs.List.{AllPairs}
-use Rattle.bac_tsm.specs.{
-  Limits.table_size,
-  declared.request.Asked.Asked,
-  Machine.Waiting,
-  Inner.{Table.{number_at, waiting_in, IsTakenOut, Leaves}, Waiting.{number_in, begun}},
-  Waiting.nothing,
-  Table.{times, held_at, times_of_slot, open_slots, Names, AreNamed, IsTable, AreBySend},
-}
-use Rattle.bac_tsm.proofs.{
-  TableReads.{itself, held-set, held-push, map-remove, held_got, same_turn, times-append, times_one, times_other},
-  TableReads.{times-remove, times_got, times_split, few, read_listed, count, rank_within, turn_opened, here},
-  TableReads.{ticket_got, found_at},
-}
+use Rattle.bac_tsm.specs.{AreBySend, AreNamed, held_at, IsTable, Names, nothing, open_slots, table_size, times}
+use Rattle.bac_tsm.specs.{times_of_slot, declared.request.Asked.Asked, Machine.Waiting}
+use Rattle.bac_tsm.specs.Inner.{begun, IsTakenOut, Leaves, number_at, number_in, waiting_in}
+use Rattle.bac_tsm.proofs.TableReads.{count, few, found_at, held-push, held-set, held_got, here, itself, map-remove}
+use Rattle.bac_tsm.proofs.TableReads.{rank_within, read_listed, same_turn, ticket_got, times-append, times-remove}
+use Rattle.bac_tsm.proofs.TableReads.{times_got, times_one, times_other, times_split, turn_opened}
 
 -- ---- the slots of the open requests in the order of their last sends
 

@@ -1,34 +1,20 @@
 -- What is read of the table of open requests.
-use Rattle.std.proofs.{
-  Common.{◌≡◌, ℕ, zero, suc, nat_lt, ◌+◌, ◌<◌, ◌≤◌, List, [], ◌∷◌, length, map, take, drop, get_or, Option, Some},
-  Common.{None, Result, Ok, Err, Bool, true, false, not, nat_eq, if◌then◌else◌, refl, ap, sym, subst, ◌∙◌, arith, ◌%◌},
-  Common.{unwrap_or, below_more, remove, MatchResult, eqb-true, eq-eqb, ne_eqb, lt-ltb, ltb-false, length-take},
-  Common.{take-append-drop, get_or-take, ◌++◌, set, get_or-set_same, get_or-set_other, length-append},
-  lemmas.Option.{slice_get_within, get_or_from_slice_get},
-  lemmas.List.{length-map, get_or-map, map-append, take-map, drop-map, get_or_default},
-  lemmas.{List.{Sums.{length-filter, sum_by-remove}, Sorted.searched, Elements.filter-append}, Grind.common_steps},
-  lemmas.Bool.Decides.nat_tests,
+use Rattle.std.{
+  proofs.Common.{[], ◌%◌, ◌++◌, ◌+◌, ◌<◌, ◌∙◌, ◌∷◌, ◌≡◌, ◌≤◌, ap, arith, below_more, Bool, drop, eq-eqb, eqb-true, Err},
+  proofs.Common.{false, get_or, get_or-set_other, get_or-set_same, get_or-take, if◌then◌else◌, length, length-append},
+  proofs.Common.{length-take, List, lt-ltb, ltb-false, map, MatchResult, nat_eq, nat_lt, ne_eqb, None, not, Ok, Option},
+  proofs.Common.{refl, remove, Result, set, Some, subst, suc, sym, take, take-append-drop, true, unwrap_or, zero, ℕ},
+  proofs.lemmas.{Bool.Decides.nat_tests, Grind.common_steps, List.{Elements.filter-append, Sorted.searched}},
+  proofs.lemmas.List.{drop-map, get_or-map, get_or_default, length-map, map-append, take-map},
+  proofs.lemmas.{List.Sums.{length-filter, sum_by-remove}, Option.{get_or_from_slice_get, slice_get_within}},
+  specs.{List.{filter, find, list_any, position_or_len, slice_get, Sorted.IsBinarySearchResult}, Option.is_some},
+  specs.{Ordering.nat_cmp, Result.result_ok},
 }
-use Rattle.std.specs.{
-  List.{filter, find, list_any, slice_get, position_or_len, Sorted.IsBinarySearchResult},
-  Option.is_some,
-  Result.result_ok,
-  Ordering.nat_cmp,
-}
-use Rattle.bac_tsm.specs.{
-  Answers.{Answer, is_answer_to},
-  Inner.{Table.{waiting_in, IsRankOf}, Waiting.{ticket_in, number_in}},
-  Lookahead.{first_within, next_invoke_id},
-  Table.{times, held_at, times_of_slot, open_slots, Names, IsTable},
-  Limits.table_size,
-  Machine.Waiting,
-  Waiting.nothing,
-}
-use Rattle.bac_tsm.proofs.{
-  CallNotes.{TicketsRise, by_ticket, pairs_tail},
-  RequestLife.{NotBefore, first_from, first_at},
-  OpenRequests.{is_free, a_step},
-}
+use Rattle.bac_tsm.specs.{Answer, first_within, held_at, is_answer_to, IsTable, Names, next_invoke_id, nothing}
+use Rattle.bac_tsm.specs.{open_slots, table_size, times, times_of_slot, Machine.Waiting}
+use Rattle.bac_tsm.{specs.Inner.{IsRankOf, number_in, ticket_in, waiting_in}, proofs.OpenRequests.{a_step, is_free}}
+use Rattle.bac_tsm.proofs.CallNotes.{by_ticket, pairs_tail, TicketsRise}
+use Rattle.bac_tsm.proofs.RequestLife.{first_at, first_from, NotBefore}
 
 -- ---- the requests at the slots of a list, where a slot or the list changes
 
@@ -53,7 +39,7 @@ module _ {A : Type 0} (key : A → ℕ) where
       let e = times-remove (key (get_or xs i d)) xs i d lt in
       let f = times_one _ (get_or xs i d) refl in omega arith
 
--- A test that only elements with one key pass, of which there is at most one.
+-- A test that only elements with one key pass; at most one has that key.
 module _ {A : Type 0} (key : A → ℕ) (p : A → Bool) (n : ℕ) (says : (x : A) → p x ≡ true → key x ≡ n) where
   pub none_passes : (xs : List A) → times key n xs ≡ 0 → (filter p xs ≡ []) × (filter (λ x. not (p x)) xs ≡ xs)
   none_passes [] _ = (refl, refl)

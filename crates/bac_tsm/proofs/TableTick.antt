@@ -1,33 +1,23 @@
 -- The loop over the open requests that are due at a tick.
-use Rattle.std.proofs.{
-  Common.{◌≡◌, ℕ, suc, ◌<◌, ◌≤◌, List, [], ◌∷◌, ◌++◌, length, map, take, drop, get_or, true, false, All, refl, ap},
-  Common.{sym, ◌∙◌, add-one, arith, zero, ◌+◌, Bool, nat_lt, nat_le, if◌then◌else◌, length-append, append-nil},
-  Common.{append_assoc, take_all, take-append-drop, ◌-◌, set, Option, Some, None, remove},
-  lemmas.Grind.{flat_map-append, common_steps},
-  lemmas.List.{length-map, drop_all, drop_more, get_or_default, same_lists, set_split},
-  lemmas.List.Sums.{length-filter, count_by-le-length, sum_by-cons},
-  lemmas.List.Elements.{All-append, All-take, All-drop, Contains-get_or},
-  lemmas.List.Sorted.{length_permutation, IsPermutation-trans, IsPermutation-append_right, IsPermutation-middle},
-  lemmas.List.{Sorted.{Contains-permutation, sum_by-IsPermutation}, Folds.{list_any_at, list_any_none}},
-  lemmas.{List.Kept.AllPairs-filter, Option.{slice_get_within, get_or_from_slice_get}, Bool.false≢true},
-}
-use Rattle.std.specs.{
-  List.{filter, flat_map, list_any, refill, AllPairs, count_by, slice_get, Sorted.{IsPermutation, IsNonDecreasingBy}},
-}
-use Rattle.bac_tsm.specs.{
-  Inner.{Table.{IsPassed, waiting_in, IsRankOf, Leaves}, Machine.ticket_of, Waiting.sent_at},
-  Machine.{Waiting, is_due, due_entry, due_answer, kept},
-  declared.due.DueEntry.{DueEntry, TheVariants.{Resend, TimedOut as Expired}},
-  Table.{held_at, times_of_slot, open_slots, IsTable, AreBySend, IsWhole},
-  Events.Rules,
-  Waiting.nothing,
-  Limits.table_size,
-}
-use Rattle.bac_tsm.proofs.{
-  CallNotes.{TicketsRise, kept_of_one, pairs_map},
-  TableReads.{itself, held_got, times_got, times_split, rank_of_slot, turn_lt, stands, open_below, open_read},
-  TableReads.one_turn,
-  TableEdits.{changed_by, all_opened, queue-again},
+use Rattle.std.proofs.Common.{[], ◌++◌, ◌+◌, ◌-◌, ◌<◌, ◌∙◌, ◌∷◌, ◌≡◌, ◌≤◌, add-one, All, ap, append-nil, append_assoc}
+use Rattle.std.proofs.Common.{arith, Bool, drop, false, get_or, if◌then◌else◌, length, length-append, List, map, nat_le}
+use Rattle.std.proofs.Common.{nat_lt, None, Option, refl, remove, set, Some, suc, sym, take, take-append-drop, take_all}
+use Rattle.std.proofs.{Common.{true, zero, ℕ}, lemmas.{Bool.false≢true, Grind.{common_steps, flat_map-append}}}
+use Rattle.std.proofs.lemmas.List.{drop_all, drop_more, get_or_default, length-map, same_lists, set_split}
+use Rattle.std.proofs.lemmas.List.{Elements.{All-append, All-drop, All-take, Contains-get_or}, Kept.AllPairs-filter}
+use Rattle.std.proofs.lemmas.{List.Folds.{list_any_at, list_any_none}, Option.{get_or_from_slice_get, slice_get_within}}
+use Rattle.std.proofs.lemmas.List.Sorted.{Contains-permutation, IsPermutation-append_right, IsPermutation-middle}
+use Rattle.std.proofs.lemmas.List.Sorted.{IsPermutation-trans, length_permutation, sum_by-IsPermutation}
+use Rattle.std.proofs.lemmas.List.Sums.{count_by-le-length, length-filter, sum_by-cons}
+use Rattle.std.specs.List.{AllPairs, count_by, filter, flat_map, list_any, refill, slice_get}
+use Rattle.std.specs.List.Sorted.{IsNonDecreasingBy, IsPermutation}
+use Rattle.bac_tsm.{
+  specs.{AreBySend, due_answer, due_entry, DueEntry, held_at, is_due, IsTable, IsWhole, kept, nothing, open_slots},
+  specs.{Resend, Rules, table_size, times_of_slot, declared.due.DueEntry.TheVariants.TimedOut as Expired},
+  specs.{Machine.Waiting, Inner.{IsPassed, IsRankOf, Leaves, sent_at, ticket_of, waiting_in}},
+  proofs.{CallNotes.{kept_of_one, pairs_map, TicketsRise}, TableEdits.{all_opened, changed_by, queue-again}},
+  proofs.TableReads.{held_got, itself, one_turn, open_below, open_read, rank_of_slot, stands, times_got, times_split},
+  proofs.TableReads.turn_lt,
 }
 
 -- ---- a list whose keys rise is what any sort by the key makes of its elements

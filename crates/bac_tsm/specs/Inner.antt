@@ -7,3 +7,11 @@ pub mod Waiting
 pub mod Watching
 pub mod Table
 pub mod Examples
+unfoldable pub use Answers.*
+unfoldable pub use Client.*
+unfoldable pub use Machine.*
+unfoldable pub use Seen.*
+unfoldable pub use Waiting.*
+unfoldable pub use Watching.*
+unfoldable pub use Table.*
+unfoldable pub use Examples.*

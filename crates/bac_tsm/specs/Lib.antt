@@ -16,3 +16,22 @@ pub mod Waiting
 pub mod Table
 pub mod Progress
 pub mod Inner
+unfoldable pub use Limits.*
+unfoldable pub use Events.*
+unfoldable pub use Positions.*
+unfoldable pub use Accepting.*
+unfoldable pub use Requests.*
+unfoldable pub use Lookahead.*
+unfoldable pub use Machine.*
+unfoldable pub use Laws.*
+unfoldable pub use Answers.*
+unfoldable pub use AnswersInWords.*
+unfoldable pub use Client.*
+unfoldable pub use Seen.*
+unfoldable pub use Watching.*
+unfoldable pub use Rule.*
+unfoldable pub use Waiting.*
+unfoldable pub use Table.*
+unfoldable pub use Progress.*
+pub use Rattle.bac_tsm.specs.declared.client.SubmitFault.{SubmitFault}
+pub use Rattle.bac_tsm.specs.declared.due.DueEntry.{DueEntry, TheVariants.Resend}

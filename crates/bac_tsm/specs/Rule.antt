@@ -1,8 +1,7 @@
 -- What the look-ahead keeps to, whatever the events are.
 use Rattle.std.specs.{Prelude.{◌≡◌, ◌≢◌, ℕ, ◌+◌, ◌≤◌, List, length, filter}, List.{All, AllPairs}}
-use Rattle.bac_tsm.specs.Events.{Event, Rules}
+use Rattle.bac_tsm.specs.{Events.{Event, Rules}, Laws.NumbersComeBackLate, Watching.{is_send_of, is_end_of}}
 use Rattle.bac_tsm.specs.Lookahead.{Accepted, accepted, open_at, sends, send_notes, end, end_notes, output}
-use Rattle.bac_tsm.specs.{Laws.NumbersComeBackLate, Watching.{is_send_of, is_end_of}}
 
 -- What holds of the look-ahead, for every list of events.
 pub record FollowsTheRule (rules : Rules) (first_ticket : ℕ) (events : List Event) : Type 0 where

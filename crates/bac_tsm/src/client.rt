@@ -1,10 +1,9 @@
 //! The client.
 
-ghost use Rattle.std.specs.{Prelude.{◌≡◌, ◌≤◌, length}, Option.option_map};
-ghost use Rattle.bac_tsm.specs.{Limits.table_size, Lookahead.refusal_of};
-ghost use Rattle.bac_tsm.specs.Machine.{submit, datagram, tick, to_send, open_under, initial};
-ghost use Rattle.bac_tsm.specs.Client.{client_of, rules_of, TakesStep, end_seen};
+ghost use Rattle.std.specs.Prelude.{◌≡◌, ◌≤◌, length, option_map};
 ghost use Rattle.bac_pdu.specs.Peer.{station};
+ghost use Rattle.bac_tsm.specs.{client_of, datagram, end_seen, initial, open_under, refusal_of, rules_of, submit};
+ghost use Rattle.bac_tsm.specs.{table_size, TakesStep, tick, to_send};
 
 use crate::answer::read_answer;
 use crate::config::Config;
@@ -41,7 +40,7 @@ pub struct Client {
 }
 
 impl Model for Client {
-    ghost use Rattle.std.specs.{Prelude.{◌<◌, ◌≤◌}, List.All};
+    ghost use Rattle.std.specs.{List.All, Prelude.{◌<◌, ◌≤◌}};
     ghost use Rattle.bac_tsm.specs.Client.{Client, client_of};
 
     ghost Value = { Client };

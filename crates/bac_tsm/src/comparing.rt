@@ -2,8 +2,7 @@
 //! function has an empty body, and its clauses are the laws.
 
 ghost use Rattle.std.specs.Prelude.{◌≡◌};
-ghost use Rattle.bac_wire.specs.Copies.{MakesCopies, EqualsBy};
-ghost use Rattle.bac_tsm.specs.{Client.{outcome_seen, end_seen}, Limits.table_size};
+ghost use Rattle.{bac_wire.specs.Copies.{EqualsBy, MakesCopies}, bac_tsm.specs.{end_seen, outcome_seen, table_size}};
 
 use crate::client::SubmitFault;
 use crate::config::Config;

@@ -1,9 +1,8 @@
 //! An open request, with the datagram that it is sent as.
 
-ghost use Rattle.std.specs.Prelude.{◌≡◌, ◌<◌, ◌≤◌, suc, length};
+ghost use Rattle.std.specs.Prelude.{◌<◌, ◌≡◌, ◌≤◌, length, suc};
 ghost use Rattle.bac_pdu.specs.{Apdu.longest_body, Peer.station};
-ghost use Rattle.bac_tsm.specs.{Machine.{is_due, due_entry}, Answers.octets_of, Client.client_rules};
-ghost use Rattle.bac_tsm.specs.Inner.Waiting.{begun};
+ghost use Rattle.bac_tsm.specs.{client_rules, due_entry, is_due, octets_of, Inner.begun};
 
 use crate::config::Config;
 use crate::due::DueEntry;
@@ -43,8 +42,7 @@ pub(crate) struct OpenRequest {
 }
 
 impl Model for OpenRequest {
-    ghost use Rattle.bac_pdu.specs.Peer.{station};
-    ghost use Rattle.bac_tsm.specs.Machine.{Waiting};
+    ghost use Rattle.{bac_pdu.specs.Peer.station, bac_tsm.specs.Machine.Waiting};
 
     ghost Value = { Waiting };
 

@@ -1,15 +1,13 @@
 //! The open requests.
 
-ghost use Rattle.std.specs.Prelude.{◌≡◌, Some, None, replicate, ◌<◌, ◌≤◌, ◌++◌, [], ◌∷◌, ℕ, true, not, length, map};
-ghost use Rattle.std.specs.Prelude.{nat_eq, position, get_or, slice_get, remove, set};
 ghost use Rattle.std.specs.List.{All, AllPairs, filter, find, flat_map, list_any};
-ghost use Rattle.std.specs.{Option.{option_copied, option_to_list}, List.Sorted.{IsPermutation, IsNonDecreasingBy}};
+ghost use Rattle.std.specs.{List.Sorted.{IsNonDecreasingBy, IsPermutation}, Option.{option_copied, option_to_list}};
+ghost use Rattle.std.specs.Prelude.{[], ◌++◌, ◌<◌, ◌∷◌, ◌≡◌, ◌≤◌, get_or, length, map, nat_eq, None, not, position};
+ghost use Rattle.std.specs.Prelude.{remove, replicate, set, slice_get, Some, true, ℕ};
 ghost use Rattle.bac_pdu.specs.Apdu.{longest_body};
-ghost use Rattle.bac_tsm.specs.{Limits.table_size, Lookahead.next_invoke_id, Machine.{is_due, due_answer, kept}};
-ghost use Rattle.bac_tsm.specs.{Inner.Machine.ticket_of, Answers.is_answer_to, Inner.Seen.answer_seen};
-ghost use Rattle.bac_tsm.specs.{Client.client_rules, Table.{times, times_of_slot}};
-ghost use Rattle.bac_tsm.specs.{Inner.Table.{IsRankOf, IsPassed, IsTakenOut}, Waiting.nothing};
-ghost use Rattle.bac_tsm.specs.Inner.Waiting.{begun, sent_at, ticket_in, number_in};
+ghost use Rattle.bac_tsm.specs.{client_rules, due_answer, is_answer_to, is_due, kept, next_invoke_id, nothing};
+ghost use Rattle.bac_tsm.specs.{table_size, times, times_of_slot, Inner.{ticket_in, ticket_of}};
+ghost use Rattle.bac_tsm.specs.Inner.{answer_seen, begun, IsPassed, IsRankOf, IsTakenOut, number_in, sent_at};
 
 use crate::answer::Answer;
 use crate::config::Config;
@@ -39,7 +37,7 @@ pub(crate) struct Table {
 
 impl Model for Table {
     ghost use Rattle.std.specs.Prelude.{List};
-    ghost use Rattle.bac_tsm.specs.{Machine.Waiting, Table.{held_at, open_slots, IsWhole}};
+    ghost use Rattle.bac_tsm.specs.{held_at, IsWhole, open_slots, Machine.Waiting};
 
     ghost Value = { List Waiting };
 
@@ -235,7 +233,7 @@ fn no_requests() -> [OpenRequest; PLACES]
     Default::default()
 }
 
-// A table of invoke ids of which none is taken.
+// A table in which no invoke id is taken.
 fn no_numbers() -> [Option<u8>; 256]
     ensures { result ≡ replicate 256 None }
 {

@@ -1,13 +1,11 @@
 //! The laws of the client: what its machine does is what the look-ahead says.
 
-ghost use Rattle.std.specs.Prelude.{◌≡◌, ◌≢◌, ◌↔◌, ℕ, suc, ◌+◌, ◌<◌, ◌≤◌, List, ◌∷◌, ◌++◌, length, Some, IsSomeAnd};
-ghost use Rattle.std.specs.{Prelude.{take, true}, List.AllPairs};
+ghost use Rattle.std.specs.{List.AllPairs, Prelude.ℕ};
+ghost use Rattle.std.specs.Prelude.{◌++◌, ◌+◌, ◌<◌, ◌↔◌, ◌∷◌, ◌≡◌, ◌≢◌, ◌≤◌, IsSomeAnd, length, List, suc, take, true};
 ghost use Rattle.bac_pdu.specs.Peer.{Station};
-ghost use Rattle.bac_tsm.specs.{Answers.{same_station, outcome_of}, AnswersInWords.IsAnsweredBy, Client.client_rules};
-ghost use Rattle.bac_tsm.specs.Events.{Event, Outcome, Request, Rules};
-ghost use Rattle.bac_tsm.specs.Lookahead.{Accepted, accepted, due, end, open_among, open_at, output, sends};
-ghost use Rattle.bac_tsm.specs.Progress.{TimeoutsPass, last_of};
-ghost use Rattle.bac_tsm.specs.Laws.{AnswersByNumber, MachineIsLookahead, NumbersComeBackLate, PassedAreHeld};
+ghost use Rattle.bac_tsm.specs.{Accepted, accepted, AnswersByNumber, client_rules, due, end, Event, IsAnsweredBy};
+ghost use Rattle.bac_tsm.specs.{last_of, MachineIsLookahead, NumbersComeBackLate, open_among, open_at, Outcome};
+ghost use Rattle.bac_tsm.specs.{outcome_of, output, PassedAreHeld, Request, Rules, same_station, sends, TimeoutsPass};
 
 /// The machine tells, at each position, the notes that the look-ahead gives there, and keeps what it says is open: for
 /// any rules by which at most 255 requests may be open, and those that one datagram answers have the same invoke id.

@@ -1,6 +1,6 @@
 //! Many requests over a link, and the journal of them.
 
-ghost use Rattle.std.specs.Prelude.{◌≡◌, ◌<◌, false};
+ghost use Rattle.std.specs.Prelude.{◌≡◌, false, IfOk};
 ghost use Rattle.bac_print.specs.Checked.{has_failed};
 ghost use Rattle.bac_uses.specs.Requested.{AllRequested};
 
@@ -9,25 +9,26 @@ use bac_print::Checked;
 use bac_run::laws::{
     a_journal_is_a_script, a_run_sends_what_it_remarks, a_run_tells_what_the_look_ahead_gives,
 };
-use bac_run::{Session, run_requests, run_status};
+use bac_run::{RunFault, Session, run_requests};
+use bac_script::TraceEnd;
 use bac_tsm::Config;
 use std::io::{Read, Write};
 
 /// Asks over a link for what the lines of a reader say, with at most eight requests open at once, and prints the
-/// journal of that: the status.
+/// journal of that.
 pub fn requested<L: Link, R: Read, W: Write>(
     link: &mut L,
     reader: &mut Checked<R>,
     writer: &mut Checked<W>,
-) -> u8
+) -> Result<TraceEnd, RunFault>
     requires link { L.has_failed link.old ≡ false }
     requires reader { has_failed reader.old ≡ false }
     requires writer { has_failed writer.old ≡ false }
-    // With status 0 all was asked for, and sent and printed as the definition says.
-    ensures all { result ≡ 0 → AllRequested R.remaining W.contents reader.old reader.new writer.old writer.new
-        (L.seen link.old) (L.seen link.new) }
-    // With a status below 3 the link may be used again.
-    ensures sound { result < 3 → L.has_failed link.new ≡ false }
+    // Without a fault all was asked for, and sent and printed as the definition says.
+    ensures all { IfOk result (λ _. AllRequested R.remaining W.contents reader.old reader.new writer.old writer.new
+        (L.seen link.old) (L.seen link.new)) }
+    // Then the link may be used again.
+    ensures link { IfOk result (λ _. L.has_failed link.new ≡ false) }
 {
     a_journal_is_a_script::<L, R, W>();
     a_run_sends_what_it_remarks::<L, R, W>();
@@ -37,5 +38,5 @@ pub fn requested<L: Link, R: Read, W: Write>(
         retries: 3,
     };
     let session = Session::new(config, 8).unwrap();
-    run_status(&run_requests(session, link, reader, writer))
+    run_requests(session, link, reader, writer)
 }

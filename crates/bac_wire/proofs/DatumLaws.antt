@@ -1,24 +1,15 @@
 -- What the reader of values takes is spelled so, and what is spelled so is taken, whatever follows.
-use Rattle.std.proofs.{
-  Common.{◌≡◌, ℕ, zero, suc, ◌^◌, ◌<◌, ◌≤◌, Bool, cond, eqb, List, [], ◌++◌, length, take, Option, Some, refl, sym},
-  Common.{subst, ◌∙◌, append_assoc, arith, inl, inr},
-  lemmas.{Option.{same_Some, some_pair_parts, none-some}, Grind.common_steps},
-  lemmas.Bool.{ltb-false, eqb-true, lt-ltb, le-ltb, eq-eqb, eqb-false},
-  lemmas.List.{length-append, take_at, drop_at, take-append-drop, nil_from_length, length-take-le},
-}
-use Rattle.std.specs.Option.{option_map}
+use Rattle.std.proofs.Common.{[], ◌++◌, ◌<◌, ◌^◌, ◌∙◌, ◌≡◌, ◌≤◌, append_assoc, arith, Bool, cond, eqb, inl, inr, length}
+use Rattle.std.proofs.{Common.{List, Option, refl, Some, subst, suc, sym, take, zero, ℕ}, lemmas.Grind.common_steps}
+use Rattle.std.{proofs.lemmas.Bool.{eq-eqb, eqb-false, eqb-true, le-ltb, lt-ltb, ltb-false}, specs.Prelude.option_map}
+use Rattle.std.proofs.lemmas.List.{drop_at, length-append, length-take-le, nil_from_length, take-append-drop, take_at}
+use Rattle.std.proofs.lemmas.Option.{none-some, same_Some, some_pair_parts}
 use Rattle.byteorder.specs.Endian.{big_number}
-use Rattle.bac_wire.specs.{
-  declared.tag.{Shape.Shape, Shape.TheVariants.App},
-  Identifier.{Identifier, number_of, identifier_of},
-  Tag.SpellsTag,
-  Datum.{Datum, boolean, bit_string, object, tag_number, StandsFor, shape_number, tag_before, Spells, IsSound},
-  DatumReading.{exactly, number_within, chars_of, bits_of, contents_of, boolean_of, behind_at, with_shape, value_at},
-}
-use Rattle.bac_wire.proofs.{
-  Readers.{IsReader, Took, reader_of, found_at, chosen, unless, one_front},
-  TagLaws.{bind_some, tag_reader},
-}
+use Rattle.bac_wire.specs.{App, behind_at, bit_string, bits_of, boolean, boolean_of, chars_of, contents_of, exactly}
+use Rattle.bac_wire.specs.{identifier_of, IsSound, number_of, number_within, object, Shape, shape_number, Spells}
+use Rattle.bac_wire.specs.{SpellsTag, StandsFor, tag_before, tag_number, value_at, with_shape, Datum.Datum}
+use Rattle.bac_wire.{specs.Identifier.Identifier, proofs.TagLaws.{bind_some, tag_reader}}
+use Rattle.bac_wire.proofs.Readers.{chosen, found_at, IsReader, one_front, reader_of, Took, unless}
 
 -- ---- the contents of a value are read again
 

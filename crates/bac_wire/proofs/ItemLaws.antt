@@ -1,24 +1,17 @@
 -- Whole items leave one rest, no item begins another, a region is no deeper than allowed, and what reads items finds
 -- what the relations say.
-use Rattle.std.proofs.Common.{◌≡◌, ℕ, suc, ◌+◌, ◌-◌, ◌<◌, ◌≤◌, List, [], ◌∷◌, ◌++◌, length, take, drop, Option, Some}
-use Rattle.std.proofs.Common.{None, refl, sym, ap, subst, ◌∙◌, append_assoc, arith, inl, ◌↔◌}
-use Rattle.std.proofs.lemmas.List.{append_cancel_left, append_cancel_right, append-nil, drop_at, length-take-le}
-use Rattle.std.{proofs.lemmas.Option.{none-some, some_pair_parts, same_Some}, specs.Option.option_map}
-use Rattle.bac_wire.specs.{
-  declared.tag.{Shape.Shape, Shape.TheVariants.{Opening, Closing}, Tag.Tag},
-  Inner.{Front.Finds, Region.{CountsBehind, LeavesBehind}},
-  Tag.SpellsTag,
-  Steps.◌>>=◌,
-  TagReading.tag_at,
-  Region.{opening_tag, closing_tag, IsSequence, none, more, IsItem, IsRegion, HasEnded, LeavesRest, IsClosedRegion},
-  Region.{FindsRegion, SpellsClosed, Opens, here, past, into},
-  ItemReading.{behind_count, behind_closing, behind_item, behind_items, region_at},
-}
-use Rattle.bac_wire.proofs.{
-  Readers.{Begins, IsReader, found_at, take_front},
-  TagLaws.{tag_reader, bind_some},
-  RegionReading.{closing_read, after_shorter, item_shorter, item_at, one_step, closed_takes, closed_again},
-  RegionReading.{item_at_takes, items_take, item_again, items_again, IsClosedBy},
+use Rattle.std.proofs.Common.{[], ◌++◌, ◌+◌, ◌-◌, ◌<◌, ◌↔◌, ◌∙◌, ◌∷◌, ◌≡◌, ◌≤◌, ap, append_assoc, arith, drop, inl}
+use Rattle.std.proofs.Common.{length, List, None, Option, refl, Some, subst, suc, sym, take, ℕ}
+use Rattle.std.proofs.lemmas.List.{append-nil, append_cancel_left, append_cancel_right, drop_at, length-take-le}
+use Rattle.std.{proofs.lemmas.Option.{none-some, same_Some, some_pair_parts}, specs.Prelude.option_map}
+use Rattle.bac_wire.{
+  specs.{◌>>=◌, behind_closing, behind_count, behind_item, behind_items, closing_tag, FindsRegion, HasEnded, here},
+  specs.{into, IsClosedRegion, IsItem, IsRegion, IsSequence, LeavesRest, more, none, Opening, opening_tag, Opens, past},
+  specs.{region_at, Shape, SpellsClosed, SpellsTag, tag_at, declared.tag.{Shape.TheVariants.Closing, Tag.Tag}},
+  specs.Inner.{CountsBehind, Finds, LeavesBehind},
+  proofs.{Readers.{Begins, found_at, IsReader, take_front}, TagLaws.{bind_some, tag_reader}},
+  proofs.RegionReading.{after_shorter, closed_again, closed_takes, closing_read, IsClosedBy, item_again, item_at},
+  proofs.RegionReading.{item_at_takes, item_shorter, items_again, items_take, one_step},
 }
 
 -- ---- one rest, and one item

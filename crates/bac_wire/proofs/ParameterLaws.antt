@@ -1,33 +1,18 @@
 -- Reading a parameter, or a value of one kind, finds what its relation says, and what is written of one is a spelling
 -- of it.
-use Rattle.std.proofs.{
-  Common.{◌≡◌, ℕ, ◌^◌, ◌<◌, List, [], ◌++◌, length, Option, Some, None, refl, ap, subst, ◌∙◌, append_assoc, arith},
-  lemmas.Bool.{eqb-true, eq-eqb, ltb-false, le-ltb},
-  lemmas.List.{take_at, drop_at, take-append-drop, length-append, length-take-le},
-  lemmas.Option.{none-some, some_pair_parts, cond_some},
-}
-use Rattle.bac_wire.specs.{
-  declared.tag.{Shape.Shape, Shape.TheVariants.{Context, Opening}, Tag.Tag},
-  Front.{IsReader, Begins},
-  Identifier.{Identifier, IsIdentifier},
-  Tag.SpellsTag,
-  Steps.◌>>=◌,
-  TagReading.tag_at,
-  Region.IsRegion,
-  Datum.{Datum, Spells, StandsFor, unsigned, enumerated},
-  DatumReading.value_at,
-  Parameter.{context_tag, SpellsContext, SpellsIn, SpellsEnclosed, context_octets, number_octets, object_octets},
-  Parameter.enclosed_octets,
-  ParameterReading.{counted_of, context_at, number_at, object_at, opening_of, behind_opening, enclosed_at, unsigned_in},
-  ParameterReading.{enumerated_in, object_in, kind_at},
-}
-use Rattle.bac_wire.proofs.{
-  Readers.{Took, reader_of, found_at, only_if, unless},
-  TagLaws.{tag_reader, bind_some, plain_tag_spells},
-  DatumLaws.{within_again, same_identifier, within_takes, value_reader},
-  PlainDatum.{count_low, count_four, count_fits},
-  RegionReading.{no_octets, tag_parts, tag_again},
-  ItemLaws.region_reader,
+use Rattle.std.proofs.Common.{[], ◌++◌, ◌<◌, ◌^◌, ◌∙◌, ◌≡◌, ap, append_assoc, arith, length, List, None, Option, refl}
+use Rattle.std.proofs.{Common.{Some, subst, ℕ}, lemmas.Bool.{eq-eqb, eqb-true, le-ltb, ltb-false}}
+use Rattle.std.proofs.lemmas.List.{drop_at, length-append, length-take-le, take-append-drop, take_at}
+use Rattle.std.proofs.lemmas.Option.{cond_some, none-some, some_pair_parts}
+use Rattle.bac_wire.{
+  specs.{◌>>=◌, Begins, behind_opening, context_at, context_octets, context_tag, counted_of, enclosed_at, Datum.Datum},
+  specs.{enclosed_octets, enumerated, enumerated_in, IsIdentifier, IsReader, IsRegion, kind_at, number_at},
+  specs.{number_octets, object_at, object_in, object_octets, Opening, opening_of, Shape, Spells, SpellsContext},
+  specs.{SpellsEnclosed, SpellsIn, SpellsTag, StandsFor, tag_at, unsigned, unsigned_in, value_at, declared.tag.Tag.Tag},
+  specs.{declared.tag.Shape.TheVariants.Context, Identifier.Identifier},
+  proofs.{DatumLaws.{same_identifier, value_reader, within_again, within_takes}, ItemLaws.region_reader},
+  proofs.{PlainDatum.{count_fits, count_four, count_low}, Readers.{found_at, only_if, reader_of, Took, unless}},
+  proofs.{RegionReading.{no_octets, tag_again, tag_parts}, TagLaws.{bind_some, plain_tag_spells, tag_reader}},
 }
 use Rattle.bac_wire.specs.Datum as values
 

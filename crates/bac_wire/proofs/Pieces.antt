@@ -1,9 +1,7 @@
 -- Lists that are read and written piece by piece, and functions that agree on the numbers up to a limit.
-use Rattle.std.proofs.{
-  Common.{◌≡◌, ℕ, ◌+◌, ◌<◌, ◌≤◌, List, map, ◌++◌, length, take, drop, get_or, arith, sym, ap, ◌∙◌},
-  Math.Seq.{take-append_seam, take-add},
-  lemmas.{List.{take-take, take-append-drop}, Simd.take_more_put_chunk, List.FromFn.get_or-map-range_with_len},
-}
+use Rattle.std.proofs.Common.{◌++◌, ◌+◌, ◌<◌, ◌∙◌, ◌≡◌, ◌≤◌, ap, arith, drop, get_or, length, List, map, sym, take, ℕ}
+use Rattle.std.proofs.lemmas.List.{take-append-drop, take-take, FromFn.get_or-map-range_with_len}
+use Rattle.std.proofs.{lemmas.Simd.take_more_put_chunk, Math.Seq.{take-add, take-append_seam}}
 use Rattle.std.specs.List.{range_with_len}
 use lib.Lanes.{chunk, put_chunk}
 

@@ -1,24 +1,13 @@
 -- The shortest spelling of a value is a spelling, and no spelling has fewer octets.
-use Rattle.std.proofs.{
-  Common.{◌≡◌, ℕ, ℤ, pos, negsuc, suc, slice_index_or, ◌+◌, ◌-◌, ◌*◌, ◌^◌, ◌%◌, ◌<◌, ◌≤◌, zero, cond, ltb, List, []},
-  Common.{◌∷◌, ◌++◌, length, take, sym, ap, ◌∙◌, arith, subst},
-  lemmas.{Int.ints, Bool.{lt-ltb, le-ltb}, Grind.common_steps, List.{append-nil, take_at, length-append}},
-}
-use Rattle.std.specs.{Prelude.FitsSigned, Int.w64}
-use Rattle.byteorder.{
-  specs.Endian.{big_number, big_bytes, twos_complement, low_bytes},
-  specs.Numbers.{big_number-reads_back, length-bytes_high_first, big_from-lt},
-  proofs.Bytes.pow256,
-}
-use Rattle.bac_wire.specs.{
-  Tag.plain_tag,
-  Datum.{Datum, signed, StandsFor, Spells, octet_count, plain_contents, plain, InRange, IsDatum, boolean, tag_number},
-  Datum.{shape_number, signed_count},
-  Inner.Datum.tagged,
-  declared.tag.Shape.TheVariants.App,
-  Front.{AreOctets, IsShortest},
-}
-use Rattle.bac_wire.proofs.TagLaws.{plain_tag_spells, tag_least, behind}
+use Rattle.std.proofs.Common.{[], ◌%◌, ◌*◌, ◌++◌, ◌+◌, ◌-◌, ◌<◌, ◌^◌, ◌∙◌, ◌∷◌, ◌≡◌, ◌≤◌, ap, arith, cond, length, List}
+use Rattle.std.proofs.{Common.{ltb, negsuc, pos, slice_index_or, subst, suc, sym, take, zero, ℕ, ℤ}, lemmas.Int.ints}
+use Rattle.std.proofs.lemmas.{Bool.{le-ltb, lt-ltb}, Grind.common_steps, List.{append-nil, length-append, take_at}}
+use Rattle.std.specs.{Int.w64, Prelude.FitsSigned}
+use Rattle.byteorder.{specs.Endian.{big_bytes, big_number, low_bytes, twos_complement}, proofs.Bytes.pow256}
+use Rattle.byteorder.specs.Numbers.{big_from-lt, big_number-reads_back, length-bytes_high_first}
+use Rattle.bac_wire.specs.{App, AreOctets, boolean, InRange, IsDatum, IsShortest, octet_count, plain, plain_contents}
+use Rattle.bac_wire.specs.{plain_tag, shape_number, signed, signed_count, Spells, StandsFor, tag_number, Datum.Datum}
+use Rattle.bac_wire.{specs.Inner.tagged, proofs.TagLaws.{behind, plain_tag_spells, tag_least}}
 
 -- the same count, case by case
 abbrev pub count_by_cases : ℕ → ℕ

@@ -1,9 +1,8 @@
 -- What `read_value` finds of what `write_value` appended, as an equation: for a crate above, which knows it by
 -- `IsReadBack` and `FindsFront`.
-use Rattle.std.proofs.Common.{arith}
-use Rattle.std.proofs.Common.{◌≡◌, ℕ, List, [], ◌++◌, length, Option, Some, None, sym, subst, ◌∙◌, append-nil}
-use Rattle.std.{proofs.lemmas.Option.{none-some}, specs.Option.option_map}
-use Rattle.bac_wire.specs.{declared.value.Value.Value, Front.{FindsFront, IsReadBack}, Datum.{Datum, Spells, datum}}
+use Rattle.std.proofs.Common.{[], ◌++◌, ◌∙◌, ◌≡◌, append-nil, arith, length, List, Option, Some, subst, sym, ℕ}
+use Rattle.std.specs.Prelude.{option_map}
+use Rattle.bac_wire.specs.{datum, FindsFront, IsReadBack, Spells, Datum.Datum, declared.value.Value.Value}
 
 -- what was found, without where its octets lie
 abbrev pub found_seen : Option (Value × ℕ) → Option (Datum × ℕ)
@@ -12,11 +11,6 @@ found_seen found = option_map (λ (value, count). (datum value, count)) found
 -- this value was found, in so many octets
 abbrev pub IsFound : Option (Value × ℕ) → Datum → ℕ → Type 0
 IsFound found x count = (value : Value) × (found ≡ Some (value, count)) × (datum value ≡ x)
-
-found_as : (found : Option (Value × ℕ)) (x : Datum) (count : ℕ) → found_seen found ≡ Some (x, count)
-    → IsFound found x count
-found_as None x count e = let y : Datum × ℕ = (x, count) in absurd (none-some y e)
-found_as (Some y) x count e = grind arith
 
 -- the octets begin with what was written
 pub value_back : (plain rest octets : List ℕ) (x : Datum) (found : Option (Value × ℕ)) → IsReadBack Spells plain x

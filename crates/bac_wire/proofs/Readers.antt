@@ -1,9 +1,8 @@
 -- A reader on lists that takes what is spelled, and finds again what is spelled.
-use Rattle.std.proofs.Common.{Bool, true, false, cond, inl, inr, ◌≡◌, ℕ, ◌-◌, ◌≤◌, List, ◌++◌, length, take, Option}
-use Rattle.std.proofs.Common.{Some, None, refl, sym, ap, ◌∙◌, arith, length-append}
-use Rattle.std.proofs.lemmas.{List.{take_at, append_cancel_right}, Option.some_pair_parts}
-use Rattle.std.specs.Prelude.{◌⊎◌}
-use Rattle.bac_wire.specs.Front.{FindsFront, IsReadBack}
+use Rattle.std.proofs.Common.{◌++◌, ◌-◌, ◌∙◌, ◌≡◌, ◌≤◌, ap, arith, Bool, cond, false, inl, inr, length, length-append}
+use Rattle.std.proofs.{Common.{List, None, Option, refl, Some, sym, take, true, ℕ}, lemmas.Option.some_pair_parts}
+use Rattle.std.{proofs.lemmas.List.{append_cancel_right, take_at}, specs.Prelude.◌⊎◌}
+use Rattle.bac_wire.specs.{FindsFront, IsReadBack}
 pub use Rattle.bac_wire.specs.Front.{IsReader, Begins}
 
 -- what stands at the front, as the steps of a reader find it

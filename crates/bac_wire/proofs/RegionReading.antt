@@ -1,23 +1,14 @@
 -- Reading items from left to right takes whole items, and finds again those that there are, whatever greater depth is
 -- allowed.
-use Rattle.std.proofs.{
-  lemmas.{Grind.common_steps, Bool.{ltb-false, eq-eqb}},
-  lemmas.List.{drop_at, length-append, nil_from_length, take-append-drop, length-take-le},
-  lemmas.Option.{none-some, same_Some},
-  Common.{◌≡◌, ℕ, zero, suc, ◌<◌, ◌≤◌, eqb, List, [], ◌++◌, length, take, Option, Some, None, refl, ap, subst, ◌∙◌},
-  Common.{append_assoc, arith, inl, inr, Bool, true, false, cond},
-}
-use Rattle.bac_wire.specs.{
-  declared.tag.{Shape.Shape, Shape.TheVariants.{App, Context, Opening, Closing}, Tag.Tag},
-  Tag.SpellsTag,
-  Steps.◌>>=◌,
-  TagReading.tag_at,
-  ItemReading.{behind_count, closing_of, behind_closing, behind_item, behind_tag, behind_tag_found, behind_items},
-  Front.Begins,
-  Region.{closing_tag, Counts, IsPrimitive, none, more, IsBracketed, IsItem, IsRegion, HasEnded, LeavesRest},
-  Inner.Region.LeavesBehind,
-}
-use Rattle.bac_wire.proofs.{Readers.{begins_read, found_at, chosen, unless}, TagLaws.{tag_reader, bind_some}}
+use Rattle.std.proofs.Common.{[], ◌++◌, ◌<◌, ◌∙◌, ◌≡◌, ◌≤◌, ap, append_assoc, arith, Bool, cond, eqb, false, inl, inr}
+use Rattle.std.proofs.Common.{length, List, None, Option, refl, Some, subst, suc, take, true, zero, ℕ}
+use Rattle.std.proofs.lemmas.{Bool.{eq-eqb, ltb-false}, Grind.common_steps, Option.{none-some, same_Some}}
+use Rattle.std.proofs.lemmas.List.{drop_at, length-append, length-take-le, nil_from_length, take-append-drop}
+use Rattle.bac_wire.specs.{◌>>=◌, App, Begins, behind_closing, behind_count, behind_item, behind_items, behind_tag}
+use Rattle.bac_wire.specs.{behind_tag_found, closing_of, closing_tag, Counts, HasEnded, IsBracketed, IsItem}
+use Rattle.bac_wire.specs.{IsPrimitive, IsRegion, LeavesRest, more, none, Opening, Shape, SpellsTag, tag_at}
+use Rattle.bac_wire.specs.{declared.tag.{Shape.TheVariants.{Closing, Context}, Tag.Tag}, Inner.LeavesBehind}
+use Rattle.bac_wire.proofs.{Readers.{begins_read, chosen, found_at, unless}, TagLaws.{bind_some, tag_reader}}
 
 pub no_octets : tag_at [] ≡ None
 unfolding tag_at

@@ -1,6 +1,6 @@
 -- What a reader finds in octets that stand alone is what they spell, and nothing else; for examples.
-use Rattle.std.proofs.Common.{◌≡◌, ℕ, List, [], Option, Some, sym, subst, ◌∙◌, append-nil}
-use Rattle.bac_wire.specs.Front.{IsReader}
+use Rattle.std.proofs.Common.{[], ◌∙◌, ◌≡◌, append-nil, List, Option, Some, subst, sym, ℕ}
+use Rattle.bac_wire.specs.{IsReader}
 
 -- what is read of all the octets is spelled by them
 pub is_spelled : {A : Type 0} {Spells : List ℕ → A → Type 0} {at : List ℕ → Option (A × List ℕ)} → IsReader Spells at

@@ -1,16 +1,12 @@
 -- What the reader of tags takes is spelled so, what is spelled so is taken, and the plain spelling is the shortest.
-use Rattle.std.proofs.Common.{◌≡◌, ℕ, ◌<◌, ltb, eqb, List, [], ◌∷◌, ◌++◌, Option, Some, None, refl, ap, append_assoc}
-use Rattle.std.proofs.Common.{arith, inl, inr, suc, ◌≤◌, cond, length, subst}
-use Rattle.std.proofs.lemmas.{Bool.{ltb-true, ltb-false, eqb-true}, List.length-append}
-use Rattle.bac_wire.specs.{
-  declared.tag.{Shape.Shape, Shape.TheVariants.App, Tag.Tag},
-  Tag.{SpellsNumber, SpellsLength, SpellsShape, SpellsTag, IsTag, plain_number, plain_length, low_half, count_of},
-  Tag.plain_tag,
-  Steps.◌>>=◌,
-  TagReading.{extended_number, tag_number_at, two_at, four_at, long_length_at, length_at, shape_at, tag_at},
-  Front.{AreOctets, IsShortest},
-}
-use Rattle.bac_wire.proofs.Readers.{IsReader, Took, took, took_as, reader_of, found_at, chosen, only_if, one_front}
+use Rattle.std.proofs.Common.{[], ◌++◌, ◌<◌, ◌∷◌, ◌≡◌, ◌≤◌, ap, append_assoc, arith, cond, eqb, inl, inr, length, List}
+use Rattle.std.proofs.{Common.{ltb, None, Option, refl, Some, subst, suc, ℕ}, lemmas.List.length-append}
+use Rattle.std.proofs.lemmas.Bool.{eqb-true, ltb-false, ltb-true}
+use Rattle.bac_wire.specs.{◌>>=◌, App, AreOctets, count_of, extended_number, four_at, IsShortest, IsTag, length_at}
+use Rattle.bac_wire.specs.{long_length_at, low_half, plain_length, plain_number, plain_tag, Shape, shape_at}
+use Rattle.bac_wire.specs.{SpellsLength, SpellsNumber, SpellsShape, SpellsTag, tag_at, tag_number_at, two_at}
+use Rattle.bac_wire.specs.declared.tag.Tag.{Tag}
+use Rattle.bac_wire.proofs.Readers.{chosen, found_at, IsReader, one_front, only_if, reader_of, Took, took, took_as}
 
 -- ---- what is spelled is read again
 

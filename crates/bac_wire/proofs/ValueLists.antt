@@ -1,11 +1,9 @@
 -- The values that a region is, from its front.
-use Rattle.std.proofs.Common.{◌≡◌, ℕ, zero, suc, ◌+◌, ◌<◌, ◌≤◌, List, [], ◌∷◌, length, Option, Some, None, refl, sym}
-use Rattle.std.proofs.{Common.{◌∙◌, ap, arith}, lemmas.{Bool.Decides.nat_tests, Grind.common_steps}}
+use Rattle.std.proofs.Common.{[], ◌+◌, ◌<◌, ◌∙◌, ◌∷◌, ◌≡◌, ◌≤◌, ap, arith, length, List, None, Option, refl, Some, suc}
+use Rattle.std.proofs.{Common.{sym, zero, ℕ}, lemmas.{Bool.Decides.nat_tests, Grind.common_steps}}
 use Rattle.std.specs.Prelude.{◌↔◌, option_map}
-use Rattle.bac_wire.{
-  specs.{Datum.{Datum, Spells}, Front.SpellsAll, Steps.◌>>=◌, DatumReading.{value_at, values_within, values_of}},
-  proofs.{TagLaws.bind_some, DatumLaws.value_reader, Readers.begins_read},
-}
+use Rattle.bac_wire.specs.{◌>>=◌, Spells, SpellsAll, value_at, values_of, values_within, Datum.Datum}
+use Rattle.bac_wire.proofs.{DatumLaws.value_reader, Readers.begins_read, TagLaws.bind_some}
 
 -- A value has an octet at least.
 pub value-shorter : (octets : List ℕ) (value : Datum) (rest : List ℕ) → value_at octets ≡ Some (value, rest)

@@ -1,7 +1,7 @@
 -- One writer after another.
-use Rattle.std.proofs.Common.{◌≡◌, ℕ, List, ◌++◌, Result, Ok, Err, subst, append_assoc, length-append, arith}
-use Rattle.std.{proofs.lemmas.List.{append-nil, take_at, take_all, take-take}, specs.Result.IsErr}
-use Rattle.bac_wire.specs.{Writing.Appends, Inner.Writing.AppendsFront}
+use Rattle.std.proofs.Common.{◌++◌, ◌≡◌, append_assoc, arith, Err, length-append, List, Ok, Result, subst, ℕ}
+use Rattle.std.{proofs.lemmas.List.{append-nil, take-take, take_all, take_at}, specs.Result.IsErr}
+use Rattle.bac_wire.specs.{Appends, Inner.AppendsFront}
 
 -- who appends all or nothing appends a front
 pub front : {A E : Type 0} {old octets new : List ℕ} {r : Result A E} → Appends old octets new r

@@ -2,9 +2,8 @@
 use Rattle.std.specs.Prelude.{FitsSigned, ◌≡◌, ℕ, ℤ, pos, negsuc, ◌*◌, ◌^◌, ◌<◌, ◌≤◌, Bool, nat_lt, if◌then◌else◌, List}
 use Rattle.std.specs.{Prelude.{[], ◌∷◌, ◌++◌, length, find, unwrap_or}, Int.w64}
 use Rattle.byteorder.specs.Endian.{big_number, big_bytes, twos_complement, low_bytes}
-use Rattle.bac_wire.specs.declared.{tag.Shape.TheVariants.App, tag.Tag.Tag, value.Value.Value}
-use Rattle.bac_wire.specs.{Front.Begins, Identifier.{Identifier, IsIdentifier, identifier, number_of}}
-use Rattle.bac_wire.specs.Tag.{SpellsTag, plain_tag}
+use Rattle.bac_wire.specs.{declared.{tag.{Shape.TheVariants.App, Tag.Tag}, value.Value.Value}, Front.Begins}
+use Rattle.bac_wire.specs.{Identifier.{Identifier, IsIdentifier, identifier, number_of}, Tag.{SpellsTag, plain_tag}}
 use Rattle.bac_wire.specs.declared.value.Value.TheVariants as values
 
 -- What a value is, without where its octets lie in memory.

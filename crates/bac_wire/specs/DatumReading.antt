@@ -1,11 +1,10 @@
 -- Reading a value from left to right: by its tag, and then by the table of the kinds. `Spells` says what that means.
 use Rattle.std.specs.Prelude.{ℕ, zero, suc, nat_lt, ◌==◌, true, false, if◌then◌else◌, List, [], ◌∷◌, length, take, drop}
-use Rattle.std.specs.{Prelude.{Option, Some, None}, Option.option_map}
+use Rattle.std.specs.Prelude.{Option, Some, None, option_map}
 use Rattle.byteorder.specs.Endian.{big_number, twos_complement}
-use Rattle.bac_wire.specs.declared.tag.{Shape.Shape, Shape.TheVariants.App, Tag.Tag}
-use Rattle.bac_wire.specs.{Identifier.identifier_of, Datum.{Datum, null, boolean, unsigned, signed, real, double}}
-use Rattle.bac_wire.specs.{Datum.{octet_string, char_string, bit_string, enumerated, date, time, object}, Steps.◌>>=◌}
-use Rattle.bac_wire.specs.TagReading.{tag_at}
+use Rattle.bac_wire.specs.{declared.tag.{Shape.{Shape, TheVariants.App}, Tag.Tag}, Identifier.identifier_of}
+use Rattle.bac_wire.specs.Datum.{Datum, null, boolean, unsigned, signed, real, double, octet_string, char_string}
+use Rattle.bac_wire.specs.{Datum.{bit_string, enumerated, date, time, object}, Steps.◌>>=◌, TagReading.tag_at}
 
 -- The contents, where they have this length.
 abbrev pub exactly : ℕ → List ℕ → Option (List ℕ)

@@ -1,5 +1,5 @@
 -- An object's identifier: its type and its instance (ANSI/ASHRAE 135, 20.2.14).
-use Rattle.std.specs.Prelude.{ℕ, ◌+◌, ◌*◌, ◌^◌, ◌<◌, ◌/◌, ◌%◌}
+use Rattle.std.specs.Prelude.{◌%◌, ◌*◌, ◌+◌, ◌/◌, ◌<◌, ◌^◌, ℕ}
 use Rattle.bac_wire.specs.declared.object_id.ObjectId.{ObjectId}
 
 -- An identifier as two numbers.

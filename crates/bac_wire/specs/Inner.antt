@@ -5,3 +5,9 @@ pub mod Datum
 pub mod Region
 pub mod Examples
 pub mod Work
+unfoldable pub use Writing.*
+unfoldable pub use Front.*
+unfoldable pub use Datum.*
+unfoldable pub use Region.*
+unfoldable pub use Examples.*
+unfoldable pub use Work.*

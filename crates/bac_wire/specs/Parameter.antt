@@ -1,11 +1,10 @@
 -- The parameters of a service: contents under a context tag, or items between an opening and a closing tag (20.2.1.5,
 -- 20.2.15).
-use Rattle.std.specs.Prelude.{ℕ, List, ◌++◌, length}
+use Rattle.std.specs.Prelude.{◌++◌, length, List, ℕ}
 use Rattle.byteorder.specs.Endian.{big_bytes}
-use Rattle.bac_wire.specs.declared.tag.{Shape.TheVariants.Context, Tag.Tag}
-use Rattle.bac_wire.specs.{Identifier.{Identifier, number_of}, Tag.{SpellsTag, plain_tag}, Limits.deepest, Front.Begins}
-use Rattle.bac_wire.specs.Region.{opening_tag, closing_tag, IsBracketed, IsItem}
-use Rattle.bac_wire.specs.Datum.{Datum, StandsFor, octet_count}
+use Rattle.bac_wire.specs.{Datum.{Datum, octet_count, StandsFor}, declared.tag.{Shape.TheVariants.Context, Tag.Tag}}
+use Rattle.bac_wire.specs.{Front.Begins, Identifier.{Identifier, number_of}, Limits.deepest, Tag.{plain_tag, SpellsTag}}
+use Rattle.bac_wire.specs.Region.{closing_tag, IsBracketed, IsItem, opening_tag}
 
 -- The context tag of this number that counts so many octets.
 abbrev pub context_tag : ℕ → ℕ → Tag

@@ -1,10 +1,9 @@
 -- Reading a parameter, or a value of one kind, from left to right.
 use Rattle.std.specs.Prelude.{ℕ, nat_lt, ◌==◌, if◌then◌else◌, List, length, take, drop, Option, Some, None}
 use Rattle.byteorder.specs.Endian.{big_number}
-use Rattle.bac_wire.specs.declared.tag.{Shape.Shape, Shape.TheVariants.{Context, Opening}, Tag.Tag}
-use Rattle.bac_wire.specs.{Identifier.{Identifier, identifier_of}, Steps.◌>>=◌, TagReading.tag_at}
-use Rattle.bac_wire.specs.{ItemReading.region_at, Datum.{Datum, unsigned, enumerated, object}}
-use Rattle.bac_wire.specs.DatumReading.{number_within, value_at}
+use Rattle.bac_wire.specs.{declared.tag.{Shape.{Shape, TheVariants.{Context, Opening}}, Tag.Tag}, Steps.◌>>=◌}
+use Rattle.bac_wire.specs.{Identifier.{Identifier, identifier_of}, TagReading.tag_at, ItemReading.region_at}
+use Rattle.bac_wire.specs.{Datum.{Datum, unsigned, enumerated, object}, DatumReading.{number_within, value_at}}
 
 -- The contents that this tag counts, and the octets behind them, if it is a context tag of this number.
 abbrev pub counted_of : ℕ → Tag → Shape → List ℕ → Option (List ℕ × List ℕ)

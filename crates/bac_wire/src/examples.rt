@@ -1,21 +1,15 @@
 //! Examples of the octets of values and of parameters, worked out by computation. They show what the definitions mean.
 
-ghost use Rattle.std.specs.Prelude.{◌≡◌, ◌-◌, ◌^◌, [], ◌∷◌, Some, None, negsuc, true, nat_eq};
-ghost use Rattle.bac_wire.specs.declared.{tag.Shape.TheVariants.App, value.Value.TheVariants.Unsigned};
-ghost use Rattle.bac_wire.specs.Datum.{null, boolean, unsigned, signed, real, char_string, bit_string, enumerated};
-ghost use Rattle.bac_wire.specs.Datum.{object, datum, IsDatum, IsSound, Spells};
-ghost use Rattle.bac_wire.specs.{DatumReading.value_at, ItemReading.region_at, Identifier.IsIdentifier};
-ghost use Rattle.bac_wire.specs.Limits.{deepest, frame_room};
-ghost use Rattle.bac_wire.specs.Parameter.{enclosed_octets, number_octets, object_octets};
-ghost use Rattle.bac_wire.specs.Parameter.{SpellsContext, SpellsIn, SpellsEnclosed};
-ghost use Rattle.bac_wire.specs.ParameterReading.{enclosed_at, number_at, object_at};
-ghost use Rattle.bac_wire.specs.{Tag.{SpellsTag, IsTag}, Writing.Appends, Copies.{MakesCopies, EqualsBy}};
-ghost use Rattle.bac_wire.specs.Front.{IsPrefixFree, IsReader, FindsFront, SpellsAll, IsShortest, IsReadBack};
-ghost use Rattle.bac_wire.specs.Front.{AreOctets};
-ghost use Rattle.bac_wire.specs.Region.{IsItem, IsRegion, IsClosedRegion, FindsRegion, LeavesRest, SpellsClosed, Opens};
-ghost use Rattle.bac_wire.specs.Inner.Examples.{WritesValue, input, device, unsigned_tag, SpellsOne, SpellsAny};
-ghost use Rattle.bac_wire.specs.Inner.Examples.{first_at, nothing_at, zero_at, always, never, Same, Any, Free, Costly};
-ghost use Rattle.bac_wire.specs.Inner.Examples.{written, refused};
+ghost use Rattle.std.specs.Prelude.{[], ◌-◌, ◌^◌, ◌∷◌, ◌≡◌, nat_eq, negsuc, true};
+ghost use Rattle.bac_wire.specs.{App, Appends, AreOctets, bit_string, boolean, char_string, datum, deepest};
+ghost use Rattle.bac_wire.specs.{enclosed_at, enclosed_octets, enumerated, EqualsBy, FindsFront, FindsRegion};
+ghost use Rattle.bac_wire.specs.{frame_room, IsClosedRegion, IsDatum, IsIdentifier, IsItem, IsPrefixFree, IsReadBack};
+ghost use Rattle.bac_wire.specs.{IsReader, IsRegion, IsShortest, IsSound, IsTag, LeavesRest, MakesCopies, null};
+ghost use Rattle.bac_wire.specs.{number_at, number_octets, object, object_at, object_octets, Opens, real, region_at};
+ghost use Rattle.bac_wire.specs.{signed, Spells, SpellsAll, SpellsClosed, SpellsContext, SpellsEnclosed, SpellsIn};
+ghost use Rattle.bac_wire.specs.{SpellsTag, unsigned, value_at, declared.value.Value.TheVariants.Unsigned};
+ghost use Rattle.bac_wire.specs.Inner.{always, Any, Costly, device, first_at, Free, input, never, nothing_at, refused};
+ghost use Rattle.bac_wire.specs.Inner.{Same, SpellsAny, SpellsOne, unsigned_tag, WritesValue, written, zero_at};
 
 // What is written of a value, and read back (ANSI/ASHRAE 135, 20.2.2 to 20.2.14).
 #[tactic(none)]

@@ -1,7 +1,7 @@
 //! The octets of a datagram as it is written, in fixed room.
 
-ghost use Rattle.std.specs.Prelude.{◌≡◌, ◌+◌, ◌<◌, ◌≤◌, ◌↔◌, [], ◌++◌, length, take, IsTrue, OnOk, OnErr};
-ghost use Rattle.bac_wire.specs.{Limits.frame_room, Writing.Appends};
+ghost use Rattle.std.specs.Prelude.{[], ◌++◌, ◌+◌, ◌<◌, ◌↔◌, ◌≡◌, ◌≤◌, IsTrue, length, OnErr, OnOk, take};
+ghost use Rattle.bac_wire.specs.{Appends, frame_room};
 
 use arrayvec::ArrayVec;
 use std::marker::Model;

@@ -1,10 +1,8 @@
 //! Where the items of a service body end, passed over by their lengths.
 
-ghost use Rattle.std.specs.Prelude.{◌≡◌, ◌↔◌, ◌+◌, ◌*◌, ◌<◌, ◌≤◌, List, ℕ, Some, IfSome, IsTrue, length};
-ghost use Rattle.std.specs.Option.{option_map};
-ghost use Rattle.bac_wire.specs.{Limits.deepest, Inner.Front.Finds, TagReading.tag_at, ItemReading.behind_closing};
-ghost use Rattle.bac_wire.specs.{Region.{IsRegion, FindsRegion, LeavesRest}, Inner.Region.{CountsBehind, LeavesBehind}};
-ghost use Rattle.bac_wire.specs.Inner.Work.{ReadsTwice};
+ghost use Rattle.std.specs.Prelude.{◌*◌, ◌+◌, ◌<◌, ◌↔◌, ◌≡◌, ◌≤◌, IfSome, IsTrue, length, List, option_map, ℕ};
+ghost use Rattle.bac_wire.specs.{behind_closing, deepest, FindsRegion, IsRegion, LeavesRest, tag_at};
+ghost use Rattle.bac_wire.specs.Inner.{CountsBehind, Finds, LeavesBehind, ReadsTwice};
 
 use crate::tag::{Shape, Tag, tag_and_rest};
 use crate::work::Work;

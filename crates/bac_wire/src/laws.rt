@@ -1,18 +1,14 @@
 //! What holds of the definitions that the contracts cite, and of the clones and the `==` of the public types. Each
 //! function has an empty body, and its clauses are the laws.
 
-ghost use Rattle.bac_wire.specs.{declared.tag.Tag.Tag, Limits.{frame_room, deepest}};
-ghost use Rattle.bac_wire.specs.Front.{IsPrefixFree, IsReadBack, IsReader, IsShortest, SpellsAll};
-ghost use Rattle.bac_wire.specs.{Tag.{SpellsTag, IsTag, plain_tag}, TagReading.tag_at};
-ghost use Rattle.bac_wire.specs.Identifier.{Identifier, IsIdentifier, identifier};
-ghost use Rattle.bac_wire.specs.Datum.{Datum, IsDatum, IsSound, Spells, datum, plain, enumerated, object};
-ghost use Rattle.bac_wire.specs.DatumReading.{value_at, values_of};
-ghost use Rattle.bac_wire.specs.Region.{IsItem, IsRegion, IsClosedRegion, LeavesRest, Opens, SpellsClosed, closing_tag};
-ghost use Rattle.bac_wire.specs.{ItemReading.{behind_items, region_at}, Parameter.{SpellsContext, SpellsIn}};
-ghost use Rattle.bac_wire.specs.Parameter.{SpellsEnclosed, number_octets, object_octets, enclosed_octets};
-ghost use Rattle.bac_wire.specs.Copies.{MakesCopies, EqualsBy};
-ghost use Rattle.bac_wire.specs.ParameterReading.{context_at, number_at, object_at, enclosed_at};
-ghost use Rattle.std.specs.Prelude.{◌≡◌, ℕ, ◌+◌, ◌^◌, ◌<◌, ◌≤◌, ◌↔◌, List, [], ◌++◌, length, Some};
+ghost use Rattle.std.specs.Prelude.{[], ◌++◌, ◌+◌, ◌<◌, ◌^◌, ◌↔◌, ◌≡◌, ◌≤◌, length, List, ℕ};
+ghost use Rattle.bac_wire.specs.{behind_items, closing_tag, context_at, datum, deepest, enclosed_at, enclosed_octets};
+ghost use Rattle.bac_wire.specs.{enumerated, EqualsBy, frame_room, identifier, IsClosedRegion, IsDatum, IsIdentifier};
+ghost use Rattle.bac_wire.specs.{IsItem, IsPrefixFree, IsReadBack, IsReader, IsRegion, IsShortest, IsSound, IsTag};
+ghost use Rattle.bac_wire.specs.{LeavesRest, MakesCopies, number_at, number_octets, object, object_at, object_octets};
+ghost use Rattle.bac_wire.specs.{Opens, plain, plain_tag, region_at, Spells, SpellsAll, SpellsClosed, SpellsContext};
+ghost use Rattle.bac_wire.specs.{SpellsEnclosed, SpellsIn, SpellsTag, tag_at, value_at, values_of, Datum.Datum};
+ghost use Rattle.bac_wire.specs.{declared.tag.Tag.Tag, Identifier.Identifier};
 
 use crate::frame::{FRAME_OCTETS, Full};
 use crate::items::NESTING;

@@ -1,6 +1,6 @@
 //! Object identifiers.
 
-ghost use Rattle.std.specs.Prelude.{◌≡◌, ◌<◌, ◌^◌, ◌↔◌, IsSome, IfSome};
+ghost use Rattle.std.specs.Prelude.{◌<◌, ◌^◌, ◌↔◌, ◌≡◌, IfSome, IsSome};
 
 // How many types of object there are: ten bits number them.
 const TYPES: u16 = 1 << 10;
@@ -18,7 +18,7 @@ pub struct ObjectId {
 }
 
 impl ObjectId {
-    ghost use Rattle.bac_wire.specs.Identifier.{IsIdentifier, identifier, number_of, identifier_of};
+    ghost use Rattle.bac_wire.specs.Identifier.{identifier, identifier_of, IsIdentifier, number_of};
 
     /// The identifier of this type and instance; `None` past type 1023 or instance 4,194,303.
     pub fn new(kind: u16, instance: u32) -> Option<Self>

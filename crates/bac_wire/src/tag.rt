@@ -1,10 +1,8 @@
 //! Tags, read and written.
 
-ghost use Rattle.std.specs.{Prelude.{◌≡◌, ◌<◌, ◌≤◌, ◌+◌, ◌++◌, length, OnOk}, Option.option_map};
-ghost use Rattle.bac_wire.specs.Front.{FindsFront, IsShortest, IsReadBack};
-ghost use Rattle.bac_wire.specs.Tag.{SpellsTag, IsTag, plain_tag, plain_length};
-ghost use Rattle.bac_wire.specs.TagReading.{tag_number_at, long_length_at, length_at, shape_at, tag_at};
-ghost use Rattle.bac_wire.specs.Writing.{Appends};
+ghost use Rattle.std.specs.Prelude.{◌++◌, ◌+◌, ◌<◌, ◌≡◌, ◌≤◌, length, OnOk, option_map};
+ghost use Rattle.bac_wire.specs.{Appends, FindsFront, IsReadBack, IsShortest, IsTag, length_at, long_length_at};
+ghost use Rattle.bac_wire.specs.{plain_length, plain_tag, shape_at, SpellsTag, tag_at, tag_number_at};
 
 use crate::frame::{Frame, Full};
 use arrayvec::ArrayVec;

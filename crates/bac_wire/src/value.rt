@@ -1,13 +1,10 @@
 //! Values under an application tag, read and written.
 
-ghost use Rattle.std.specs.{Prelude.{◌≡◌, ◌<◌, ◌≤◌, ◌^◌, ◌++◌, ◌↔◌, IsTrue, IfSome, length, OnOk}, Option.option_map};
-ghost use Rattle.std.specs.Int.{w64};
+ghost use Rattle.std.specs.{Int.w64, Prelude.{◌++◌, ◌<◌, ◌^◌, ◌↔◌, ◌≡◌, ◌≤◌, IfSome, IsTrue, length, OnOk, option_map}};
 ghost use Rattle.byteorder.specs.Endian.{big_bytes, low_bytes, twos_complement};
-ghost use Rattle.bac_wire.specs.{Front.{FindsFront, IsShortest, IsReadBack}, Datum.{Spells, datum, IsSound, InRange}};
-ghost use Rattle.bac_wire.specs.{Datum.{plain, boolean, null, octet_count, signed_count}, Inner.Datum.tagged};
-ghost use Rattle.bac_wire.specs.Identifier.{identifier, number_of};
-ghost use Rattle.bac_wire.specs.DatumReading.{exactly, number_within, bits_of, contents_of, value_at};
-ghost use Rattle.bac_wire.specs.Writing.{Appends};
+ghost use Rattle.bac_wire.specs.{Appends, bits_of, boolean, contents_of, datum, exactly, FindsFront, identifier};
+ghost use Rattle.bac_wire.specs.{InRange, IsReadBack, IsShortest, IsSound, null, number_of, number_within, octet_count};
+ghost use Rattle.bac_wire.specs.{plain, signed_count, Spells, value_at, Inner.tagged};
 
 use crate::frame::{FRAME_OCTETS, Frame, Full};
 use crate::object_id::ObjectId;

@@ -1,5 +1,5 @@
 //! How many tags are read: a count that exists only in proofs.
-ghost use Rattle.std.specs.{Prelude.{◌≡◌, ◌+◌, ℕ}, Borrow.ftrue};
+ghost use Rattle.std.specs.{Borrow.ftrue, Prelude.{◌+◌, ◌≡◌, ℕ}};
 
 use std::marker::Model;
 

@@ -1,5 +1,5 @@
 -- What an error of `clap` is to the user of the words.
-use Rattle.std.specs.Prelude.{ℕ, ◌++◌, codes, decimal}
+use Rattle.std.specs.Prelude.{◌++◌, codes, decimal}
 use Rattle.bac_text.specs.declared.pairs.PairFault.{PairFault}
 use Rattle.bac_text.specs.declared.pairs.PairFault.TheVariants as pair
 use Rattle.bac_words.specs.declared.faults.UsageFault.{UsageFault, TheVariants.{Help, Words, Memory, BadMac, BadIndex}}
@@ -9,12 +9,6 @@ use Rattle.bac_words.specs.{declared.faults.UsageFault.TheVariants.{BadValue, Bo
 abbrev pub usage_of : PairFault → UsageFault
 usage_of (pair.Bad n) = BadValue n
 usage_of pair.TooLong = BodyTooLong
-
--- The status of the program: help that was asked for, no memory, or words that are wrong.
-abbrev pub usage_status_of : UsageFault → ℕ
-usage_status_of (Help e) = 0
-usage_status_of Memory = 4
-usage_status_of _ = 2
 
 -- What is told of it.
 abbrev pub usage_told : UsageFault → Told

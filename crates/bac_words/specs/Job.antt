@@ -20,6 +20,10 @@ use Rattle.bac_words.specs.declared.job.Tool.TheVariants as tool
 abbrev pub needed_number : Text → List Row → ℕ
 needed_number id rows = unwrap_or (number_of id rows) 0
 
+-- The word of an argument as it was typed.
+abbrev pub typed_word : Text → List Row → Option Text
+typed_word id rows = option_map unmarked (first_of id rows)
+
 -- ---- what the words say
 
 -- The peer that a word says, which has no route.
@@ -45,7 +49,7 @@ object_given rows =
 
 -- The index of `bacwp`, as it was typed.
 abbrev pub index_given : List Row → Option (Option ℕ)
-index_given rows = option_and_then (λ word. write_index_of (unmarked word)) (first_of (codes "index") rows)
+index_given rows = option_and_then write_index_of (typed_word (codes "index") rows)
 
 -- The tags and values of `bacwp`, as they were typed.
 abbrev pub pairs_given : List Row → List Text

@@ -1,7 +1,7 @@
 //! Why the words give no job.
 
 ghost use Rattle.std.specs.Prelude.{◌≡◌};
-ghost use Rattle.bac_words.specs.{Fault.{usage_of, usage_status_of, usage_told}, Telling.told_by};
+ghost use Rattle.bac_words.specs.{Fault.{usage_of, usage_told}, Telling.told_by};
 ghost use Rattle.bac_words.specs.{Inner.Fault.fault_from, declared.faults.UsageFault.TheVariants.Memory};
 
 use crate::telling::Telling;
@@ -75,16 +75,5 @@ impl From<PairFault> for UsageFault {
             PairFault::Bad(number) => UsageFault::BadValue(number),
             PairFault::TooLong => UsageFault::BodyTooLong,
         }
-    }
-}
-
-/// The status that the program ends with: 0 where help was asked for, 4 where there is no memory, and else 2.
-pub fn usage_status(fault: &UsageFault) -> u8
-    ensures { result ≡ usage_status_of fault.now }
-{
-    match fault {
-        UsageFault::Help(_) => 0,
-        UsageFault::Memory => 4,
-        _ => 2,
     }
 }

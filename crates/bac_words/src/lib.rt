@@ -1,9 +1,8 @@
 //! The command line of `bactool`: what its words ask for.
 //!
 //! [`words_of`] puts the tool's name in front where the program was called by one. [`parse_words`] answers the [`Job`]
-//! that the words ask for, or the [`UsageFault`] that is wrong with them; [`usage_status`] is the program's status
-//! after that. [`bactool`] is the command that `clap` reads the words by. `specs/Command.antt` has its rules, and
-//! `specs/Job.antt` says what the words order.
+//! that the words ask for, or the [`UsageFault`] that is wrong with them. [`bactool`] is the command that `clap` reads
+//! the words by. `specs/Command.antt` has its rules, and `specs/Job.antt` says what the words order.
 //!
 //! Of `examples_of_requests` in `src/examples.rt`, which is proved: the words order this read, of the present value
 //! (85) of analog-input 5.
@@ -22,13 +21,13 @@ mod examples;
 mod faults;
 mod help;
 mod job;
+mod marks;
 mod parse;
 mod telling;
-mod typed;
 mod words;
 
 pub use command::bactool;
-pub use faults::{UsageFault, usage_status};
+pub use faults::UsageFault;
 pub use job::{Batch, Job, Serve, Tool};
 pub use parse::parse_words;
 pub use telling::Telling;

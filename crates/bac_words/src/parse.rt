@@ -19,8 +19,7 @@ ghost use Rattle.bac_words.{
 use crate::command::bactool;
 use crate::faults::UsageFault;
 use crate::job::{Batch, Job, Serve, Tool};
-use crate::typed::TypedWords;
-use crate::words::{marked_words, unmarked};
+use crate::marks::{TypedWords, marked_words, typed_word};
 use arrayvec::ArrayVec;
 use bac_device::DeviceInfo;
 use bac_pdu::{Peer, ReadRequest, WhoIs, write_read};
@@ -213,7 +212,7 @@ fn limits(least: Option<u32>, most: Option<u32>) -> WhoIs
     }
 }
 
-// The peer of `--mac`, which has no route.
+// The peer of `--mac`, which has no route. Nobody types a mark in front of one, so none is taken off.
 #[tactic(auto, using(crate::proofs::Given::first_words))]
 fn peer(matches: &ArgMatches<'_>) -> Option<Peer>
     ensures { result ≡ peer_given (rows_of (found_of matches.now)) }
@@ -230,11 +229,10 @@ fn peer_of(word: &str) -> Option<Peer>
 }
 
 // The index of a write, as it was typed.
-#[tactic(auto, using(crate::proofs::Given::first_words))]
 fn index(matches: &ArgMatches<'_>) -> Option<Option<u32>>
     ensures { result ≡ index_given (rows_of (found_of matches.now)) }
 {
-    read_write_index(unmarked(matches.get_str("index")?).as_bytes())
+    read_write_index(typed_word(matches, "index")?.as_bytes())
 }
 
 // The object of a request.

@@ -1,11 +1,10 @@
 -- A command grows by one argument or one tool, and stays the one that the rules say.
-use Rattle.std.proofs.Common.{◌≡◌, ◌∙◌, ◌||◌, ap, ap₂, subst, refl, map, List, [], ◌∷◌, false, true, Option}
-use Rattle.std.{proofs.lemmas.Bool.or_parts, specs.Borrow.Bor, specs.List.{fold, list_any}}
-use Rattle.clap.specs.declared.builder.command.Command.{TheViews.out-Command, TheOpen.Command-F, Command}
+use Rattle.std.proofs.Common.{[], ◌||◌, ◌∙◌, ◌∷◌, ◌≡◌, ap, ap₂, false, List, map, Option, refl, subst, true}
+use Rattle.std.{proofs.lemmas.Bool.or_parts, specs.{Borrow.Bor, List.{fold, list_any}}}
+use Rattle.clap.specs.declared.builder.{arg.Arg.Arg, command.Command.{Command, TheOpen.Command-F, TheViews.out-Command}}
 use Rattle.clap.specs.{Simple.app_of_fields, Walk.Text}
 use Rattle.clap.specs.Words.{AddsArg, AddsInTurn, AddsSubcommand, App, rule_of, with_rule, with_subcommand}
-use Rattle.clap.specs.declared.builder.arg.Arg.{Arg}
-use Rattle.clap_laws.specs.Commands.{IsCommand, wanting}
+use Rattle.clap_laws.specs.{IsCommand, wanting}
 
 pub with_tool : {app tool : App} (old new sub : Command) → IsCommand old app → IsCommand sub tool
     → AddsSubcommand old sub new

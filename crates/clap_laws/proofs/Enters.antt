@@ -1,10 +1,10 @@
 -- Where `clap` takes the words of a program that wants a tool, the words name one other than `help`, and it takes the
 -- words after it.
-use Rattle.std.proofs.Common.{arith, ◌≡◌, true, false, refl, List, [], Option, is_some, IfSome}
-use Rattle.clap.specs.Walk.{finished, settled, Text, nothing_held, walk, stop_after}
-use Rattle.clap.specs.Simple.{App, argument_words, built, entered, names_of}
+use Rattle.std.proofs.Common.{[], ◌≡◌, arith, false, IfSome, is_some, List, Option, refl, true}
 use Rattle.clap.specs.Faults.{check_fault, defaults_fault, entered_fault, fault_of}
-use Rattle.clap_laws.{specs.Entering.Enters, proofs.Rows.{asks, none_fails, walk_goes}}
+use Rattle.clap.specs.Simple.{App, argument_words, built, entered, names_of}
+use Rattle.clap.specs.Walk.{finished, nothing_held, settled, stop_after, Text, walk}
+use Rattle.clap_laws.{specs.Enters, proofs.Rows.{asks, none_fails, walk_goes}}
 
 enters_by : (a : App) (words : List Text) (stop : Option (Text × List Text))
     → stop_after (built a).top.rules (names_of (built a)) (argument_words a words) ≡ stop

@@ -1,23 +1,16 @@
 -- From the rules that the words passed to what the getters of the matches read.
-use Rattle.std.proofs.Common.{◌≡◌, ◌∙◌, ◌<◌, ◌&&◌, ℕ, pos, true, false, not, refl, sym, ap, subst, arith, List, [], ◌∷◌}
-use Rattle.std.proofs.{Common.{length, Option, Some, None, Result, is_some, IfSome, slice_get}, lemmas.Bool.not-false}
-use Rattle.std.{proofs.lemmas.Slice.Eq.bytes_eq-Decides, specs.List.{find, list_all}}
-use Rattle.std.specs.{Option.{option_and_then, option_map, option_map_or}, Str.bytes_eq}
+use Rattle.std.proofs.Common.{[], ◌&&◌, ◌<◌, ◌∙◌, ◌∷◌, ◌≡◌, ap, arith, false, IfSome, is_some, length, List, None, not}
+use Rattle.std.proofs.{Common.{Option, pos, refl, Result, slice_get, Some, subst, sym, true, ℕ}, lemmas.Bool.not-false}
+use Rattle.std.{proofs.lemmas.Slice.Eq.bytes_eq-Decides, specs.{declared.num.ParseIntError.ParseIntError, Str.bytes_eq}}
+use Rattle.std.specs.{List.{find, list_all}, Option.{option_and_then, option_map_or}, Prelude.option_map}
 use Rattle.std.specs.Str.Parse.{ExplainsUnsignedError, HasUnsignedDigitsIfOk, ParsesUnsigned}
-use Rattle.std.specs.declared.num.ParseIntError.{ParseIntError}
-use Rattle.clap.specs.{
-  Facts.{explicit_source, parser_of_value},
-  Values.{Accepts, read_as, reading_of},
-  ValueTests.accepts,
-  Matches.{ReadsOne, one_text},
-  Walk.{Row, Rule, Text, arg_by_id, one_of, reading_by, row_text, rows_of},
-  Takes.{is_given, value_passes},
-  declared.{parser.matches.Found.Found, builder.value_parser.ValueParser.ValueParser},
-}
+use Rattle.clap.specs.declared.{builder.value_parser.ValueParser.ValueParser, parser.matches.Found.Found}
+use Rattle.clap.specs.{Facts.{explicit_source, parser_of_value}, Matches.{one_text, ReadsOne}, ValueTests.accepts}
+use Rattle.clap.specs.{Takes.{is_given, value_passes}, Values.{Accepts, read_as, reading_of}}
+use Rattle.clap.specs.Walk.{arg_by_id, one_of, reading_by, Row, row_text, rows_of, Rule, Text}
 use Rattle.clap.proofs.{CallerReads.signed_reads, ValueTestLemmas.accepts-Accepts, WalkLemmas.{both, one_text-rows}}
-use Rattle.clap_laws.specs.{Passes.{IsTaken, RowPasses}, Numbers.number_of}
-use Rattle.clap_laws.specs.Inner.Numbers.{FitsWord, IsWithin, bounds_by, bounds_in, decimal, is_needed}
-use Rattle.clap_laws.proofs.Rows.{RowsPass, any_not, when_found}
+use Rattle.clap_laws.{specs.{IsTaken, number_of, RowPasses}, proofs.Rows.{any_not, RowsPass, when_found}}
+use Rattle.clap_laws.specs.Inner.{bounds_by, bounds_in, decimal, FitsWord, is_needed, IsWithin}
 use Rattle.clap.specs.declared.builder.value_parser.ValueParser.TheVariants as vp
 
 -- the entry of an id passed

@@ -1,29 +1,24 @@
 -- What a command of one level leaves in its matches, where `clap` takes the words: each value passed
 -- the parser of its argument, and each argument that has an entry has a value.
-use Rattle.std.proofs.Common.{◌≡◌, ◌∙◌, ◌<◌, ◌&&◌, ◌||◌, ℕ, Bool, cond, true, false, not, zero, suc, refl, sym, ap}
-use Rattle.std.proofs.Common.{subst, arith, List, [], ◌∷◌, ◌++◌, length, drop, Option, Some, None, is_some, IfSome}
-use Rattle.std.proofs.{Common.{encode_utf8, length-append, codes, if◌then◌else◌}, lemmas.Slice.Eq.bytes_eq-Decides}
-use Rattle.std.proofs.lemmas.{Bool.or_parts, List.Folds.list_all-append}
-use Rattle.std.specs.{List.{AllByRecursion, find, fold, list_all, list_any}, Str.bytes_eq, Prelude.nat_lt}
-use Rattle.std.specs.Option.{option_map_or}
-use Rattle.clap.specs.{
-  Values.is_request,
-  Kinds.{Kinds, check_kinds, or_else, range_kinds},
-  Walk.{Held, bundle_step, has_short, Names, Outcome, Row, Rule, Step, Text, Waiting, Walk, after_flag, after_step},
-  Walk.{arg_by_id, at_row, bundle_met, default_rows, done, is_empty, long_met, long_or_other},
-  Walk.{more_values, nothing_held, option_met, plain, plain_word, reacted, reading_by, settled, short_met},
-  Walk.{short_or_plain, subcommand_or_other, takes_values, to_positional, used, used_as, values_or_missing, walk},
-  Walk.{rows_after, walked, walked_from, with_default, with_values, word_met},
-  Simple.Shape,
-  Takes.values_pass,
-  Faults.{action_fault, stray_fault, bundle_fault, bundle_step_fault, flag_word_fault, flags_fault, long_fault},
-  Faults.{option_fault, other_fault, positional_fault, react_fault, settle_fault, short_fault, step_fault, use_fault},
-  Faults.{values_fault, walk_fault, level_fault, word_fault},
-  declared.{builder.action.ArgAction.ArgAction, parser.matches.ValueSource.TheVariants.CommandLine},
+use Rattle.std.proofs.Common.{[], ◌&&◌, ◌++◌, ◌<◌, ◌||◌, ◌∙◌, ◌∷◌, ◌≡◌, ap, arith, Bool, codes, cond, drop, encode_utf8}
+use Rattle.std.proofs.Common.{false, IfSome, if◌then◌else◌, is_some, length, length-append, List, None, not, Option}
+use Rattle.std.{proofs.{Common.{refl, Some, subst, suc, sym, true, zero, ℕ}, lemmas.Bool.or_parts}, specs.Str.bytes_eq}
+use Rattle.std.{proofs.lemmas.{List.Folds.list_all-append, Slice.Eq.bytes_eq-Decides}, specs.Option.option_map_or}
+use Rattle.std.specs.{List.{AllByRecursion, find, fold, list_all, list_any}, Prelude.nat_lt}
+use Rattle.{
+  clap.specs.declared.{builder.action.ArgAction.ArgAction, parser.matches.ValueSource.TheVariants.CommandLine},
+  clap.specs.Faults.{action_fault, bundle_fault, bundle_step_fault, flag_word_fault, flags_fault, level_fault},
+  clap.specs.Faults.{long_fault, option_fault, other_fault, positional_fault, react_fault, settle_fault, short_fault},
+  clap.specs.{Faults.{step_fault, stray_fault, use_fault, values_fault, walk_fault, word_fault}, Simple.Shape},
+  clap.specs.{Kinds.{check_kinds, Kinds, or_else, range_kinds}, Takes.values_pass, Values.is_request},
+  clap.specs.Walk.{after_flag, after_step, arg_by_id, at_row, bundle_met, bundle_step, default_rows, done, has_short},
+  clap.specs.Walk.{Held, is_empty, long_met, long_or_other, more_values, Names, nothing_held, option_met, Outcome},
+  clap.specs.Walk.{plain, plain_word, reacted, reading_by, Row, rows_after, Rule, settled, short_met, short_or_plain},
+  clap.specs.Walk.{Step, subcommand_or_other, takes_values, Text, to_positional, used, used_as, values_or_missing},
+  clap.specs.Walk.{Waiting, Walk, walk, walked, walked_from, with_default, with_values, word_met},
+  clap.proofs.{SimpleLemmas.is_false, WalkLemmas.both},
+  clap_laws.specs.{has_distinct_ids, is_plain_rule, IsPlainLevel, IsTaken, keeps_values, RowPasses},
 }
-use Rattle.clap.proofs.{WalkLemmas.both, SimpleLemmas.is_false}
-use Rattle.clap_laws.specs.Passes.{IsTaken, RowPasses}
-use Rattle.clap_laws.specs.Entering.{keeps_values, is_plain_rule, has_distinct_ids, IsPlainLevel}
 use Rattle.clap.specs.Walk as w
 use Rattle.clap.specs.declared.builder.action.ArgAction.TheVariants as action
 
@@ -323,7 +318,7 @@ last_check : (wants_help wants_subcommand wants_argument : Bool)
     → check_kinds wants_help wants_subcommand wants_argument ≡ [] → wants_argument ≡ false
 last_check = grind arith
 
--- a level of a command with no subcommand, of which nothing is wrong
+-- a level of a command that has no subcommand, where nothing is wrong
 pub level_taken : (s : Shape) (words : List Text) → IsPlainLevel s.rules → s.subcommand_negates_reqs ≡ false
     → level_fault s [] nothing_held words false [] ≡ [] → IsTaken s.rules (rows_after s.rules [] words)
 level_taken = grind (arith, last_check, walk_goes, defaults_pass, settled_pass)

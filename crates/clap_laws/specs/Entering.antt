@@ -1,10 +1,9 @@
 -- What holds of the words that `clap` takes.
-use Rattle.std.specs.Prelude.{◌≡◌, ◌&&◌, ◌||◌, Bool, true, false, not, nat_lt, List, [], ◌∷◌, Some, codes}
 use Rattle.std.specs.{List.{find, list_all, list_any}, Str.bytes_eq}
-use Rattle.clap.specs.{Facts.unwrap_or_range, Values.is_request}
-use Rattle.clap.specs.Walk.{Rule, Text, action_of, answers_to, is_empty, nothing_held}
-use Rattle.clap.specs.{Simple.{App, Shape, built, label_of, rows_at, subcommand_of}, Faults.level_fault}
-use Rattle.clap.specs.declared.builder.action.ArgAction.{ArgAction}
+use Rattle.std.specs.Prelude.{[], ◌&&◌, ◌||◌, ◌∷◌, ◌≡◌, Bool, codes, false, List, nat_lt, not, Some, true}
+use Rattle.clap.specs.{declared.builder.action.ArgAction.ArgAction, Facts.unwrap_or_range, Faults.level_fault}
+use Rattle.clap.specs.{Simple.{App, built, label_of, rows_at, Shape, subcommand_of}, Values.is_request}
+use Rattle.clap.specs.Walk.{action_of, answers_to, is_empty, nothing_held, Rule, Text}
 use Rattle.clap.specs.declared.builder.action.ArgAction.TheVariants as action
 
 -- An argument that keeps one value or more of each use.

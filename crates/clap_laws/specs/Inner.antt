@@ -2,3 +2,5 @@
 pub mod Numbers
 pub mod Commands
 pub mod Examples
+unfoldable pub use Numbers.*
+unfoldable pub use Commands.*

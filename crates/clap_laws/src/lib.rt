@@ -4,10 +4,10 @@
 
 mod examples;
 
-ghost use Rattle.std.specs.Prelude.{◌≡◌, true, false, List, []};
-ghost use Rattle.clap.specs.{Faults.{fault_of, level_fault}, Simple.{App, Shape, built}};
-ghost use Rattle.clap.specs.Walk.{Text, nothing_held, rows_after};
-ghost use Rattle.clap_laws.specs.{Entering.{Enters, IsPlainLevel}, Passes.IsTaken};
+ghost use Rattle.std.specs.Prelude.{[], ◌≡◌, false, List, true};
+ghost use Rattle.clap.specs.{Faults.{fault_of, level_fault}, Simple.{App, built, Shape}};
+ghost use Rattle.clap.specs.Walk.{nothing_held, rows_after, Text};
+ghost use Rattle.clap_laws.specs.{Enters, IsPlainLevel, IsTaken};
 
 /// Words that a program takes, where it wants a subcommand, name one other than `help`, which takes the words after it.
 #[tactic(auto, using(crate::proofs::Enters::enters))]

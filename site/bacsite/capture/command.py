@@ -7,11 +7,11 @@ import json
 from dataclasses import dataclass, field
 from typing import BinaryIO, Dict, Iterator, Optional
 
-from ..command import Command, add_number, within
 from ..failures import BROKEN, MISSING, Failure, wrong
 from ..files import opened
 from ..messages import Message, message_of
 from ..output import put
+from ..parsing import Command, add_number, within
 from .frames import Passing
 from .lines import json_of, line_of
 from .pairing import Pairing

@@ -5,9 +5,9 @@ from __future__ import annotations
 import re
 from typing import Optional, Tuple
 
-from .. import names
+from .. import standard
 from ..answers import READ, WRITE
-from ..bodies import Body, Element, bits_of, element_text, elements_of, read_body, write_body
+from ..bodies import Element, bits_of, element_text, elements_of, read_body, write_body
 from ..encode import WORD
 from ..messages import CONFIRMED, Message
 
@@ -31,21 +31,15 @@ def request_line(message: Message) -> Tuple[str, str]:
     body = read_body(apdu.body) if apdu.service == READ else write_body(apdu.body)
     if not body:
         return "", "its body can't be read"
-    if body.what[2] > MOST_PROPERTY:
+    if body.what.number > MOST_PROPERTY:
         return "", "bactrace takes no such property"
     if not ROUTE.fullmatch(peer):
         return "", "bactrace takes no such route"
     if body.value is None:
-        return f"read {peer} {' '.join(map(str, body.what))}", ""
+        return f"read {peer} {body.what.words()}", ""
     values = _values(body.value) if len(apdu.body) <= MOST_BODY else None
     why = "" if values else "a script can't have this value: null stands for it"
-    return f"write {peer} {_written(body)} {values or '0 null'}", why
-
-
-def _written(body: Body) -> str:
-    """Object, property, priority and index of a write."""
-    index = body.what[3] if body.what[3:] else -1
-    return " ".join(map(str, (*body.what[:3], body.priority or 0, index)))
+    return f"write {peer} {body.what.words_at(body.priority)} {values or '0 null'}", why
 
 
 def _values(region: bytes) -> Optional[str]:
@@ -62,11 +56,11 @@ def _values(region: bytes) -> Optional[str]:
 def _value(element: Element) -> Optional[str]:
     """A value as a word of a script, where it can be one."""
     kind, octets = element
-    if kind == names.STRING:
+    if kind == standard.STRING:
         try:
             return octets[1:].decode() if octets[0] == 0 and WORD.fullmatch(octets[1:]) else None
         except UnicodeDecodeError:
             return None
-    if kind in (names.OCTETS, names.DATE, names.TIME):
+    if kind in (standard.OCTETS, standard.DATE, standard.TIME):
         return octets.hex()
-    return bits_of(octets) if kind == names.BITS else element_text(element)
+    return bits_of(octets) if kind == standard.BITS else element_text(element)

@@ -4,8 +4,8 @@ from __future__ import annotations
 
 from typing import List, NamedTuple, Optional, Tuple
 
-from ..bodies import CLOSING, OPENING, error_body, region_end, tag_at
-from ..names import THIS_DEVICE, What
+from ..bodies import CLOSING, OPENING, error_body, region_end, tag_at, which_of
+from ..standard import What, Which
 
 NOTIFY, SUBSCRIBE, READ_MULTIPLE = 1, 5, 14  # confirmed
 UNCONFIRMED_NOTIFY = 2
@@ -45,14 +45,14 @@ class Subscription(NamedTuple):
     """A request to be notified; without both it ends an earlier one."""
 
     process: int
-    what: What
+    which: Which
     confirmed: Optional[bool]
     seconds: Optional[int]
 
 
 def items_of(octets: bytes) -> Optional[List[Item]]:
     """The context tags of a body, where it has nothing else."""
-    found, at = [], 0
+    items, at = [], 0
     while at < len(octets):
         tag = tag_at(octets, at)
         if not tag or not tag.context or tag.length == CLOSING:
@@ -66,74 +66,86 @@ def items_of(octets: bytes) -> Optional[List[Item]]:
             end, after = inner, closing.end
         if after > len(octets):
             return None
-        found.append(Item(tag.number, octets[tag.end : end], tag.length == OPENING))
+        items.append(Item(tag.number, octets[tag.end : end], tag.length == OPENING))
         at = after
-    return found
+    return items
 
 
-def _object(item: Item) -> Optional[What]:
-    """The type and the instance of an object."""
-    if item.is_open or len(item.contents) != 4:
-        return None
-    return item.value >> 22, item.value & THIS_DEVICE
+def _object(item: Item) -> Optional[Which]:
+    return None if item.is_open or len(item.contents) != 4 else which_of(item.value)
 
 
-def _lists(octets: bytes) -> Optional[List[Tuple[What, List[Item]]]]:
+def _lists(octets: bytes) -> Optional[List[Tuple[Which, List[Item]]]]:
     """Each object, with what stands in the brackets behind it."""
-    items, found = items_of(octets), []
+    items, lists = items_of(octets), []
     if not items or len(items) % 2:
         return None
     for first, second in zip(items[::2], items[1::2]):
-        what, inner = _object(first), items_of(second.contents)
+        which, inner = _object(first), items_of(second.contents)
         if (first.number, second.number) != (OBJECT, LIST) or not second.is_open:
             return None
-        if what is None or inner is None:
+        if which is None or inner is None:
             return None
-        found.append((what, inner))
-    return found
+        lists.append((which, inner))
+    return lists
 
 
 def asked_for(octets: bytes) -> Optional[List[What]]:
     """The properties that a ReadPropertyMultiple asks for."""
-    found: List[What] = []
-    for what, items in _lists(octets) or []:
-        for item in items:
-            if item.is_open or item.number not in (0, 1) or (item.number and not found):
-                return None
-            found += [(*what, item.value)] if item.number == 0 else []
-            if item.number == 1:
-                found[-1] += (item.value,)
-    return found or None
+    every: List[What] = []
+    for which, items in _lists(octets) or []:
+        asked = _asked(which, items)
+        if asked is None:
+            return None
+        every += asked
+    return every or None
+
+
+def _asked(which: Which, items: List[Item]) -> Optional[List[What]]:
+    """Properties, each with an index, if there is one, behind it."""
+    asked: List[What] = []
+    for item in items:
+        if item.is_open or item.number not in (0, 1):
+            return None
+        if item.number == 0:
+            asked.append(which.what(item.value))
+        elif not asked or asked[-1].element is not None:
+            return None
+        else:
+            asked[-1] = asked[-1].at(item.value)
+    return asked
 
 
 def told_by(octets: bytes) -> Optional[List[Told]]:
     """What the acknowledgement of a ReadPropertyMultiple tells."""
-    found: List[Told] = []
-    for what, items in _lists(octets) or []:
-        told = _told(what, items, first=2)
+    every: List[Told] = []
+    for which, items in _lists(octets) or []:
+        told = _told(which, items, first=2)
         if told is None:
             return None
-        found += told
-    return found or None
+        every += told
+    return every or None
 
 
-def _told(what: What, items: List[Item], first: int) -> Optional[List[Told]]:
+def _told(which: Which, items: List[Item], first: int) -> Optional[List[Told]]:
     """Properties, each by the tag `first`, an index by the next, a value and an error by those
     behind; a priority, which a notification may have in place of the error, is passed over."""
-    found: List[Told] = []
+    told: List[Told] = []
     for item in items:
         at = item.number - first
-        if at not in range(4) or (at and not found) or item.is_open != (at == 2 or first + at == 5):
+        if at not in range(4) or (at and not told) or item.is_open != (at == 2 or first + at == 5):
             return None
         if at == 0:
-            found.append(Told((*what, item.value)))
+            told.append(Told(which.what(item.value)))
+        elif at == 1 and told[-1].what.element is not None:
+            return None
         elif at == 1:
-            found[-1] = found[-1]._replace(what=(*found[-1].what, item.value))
+            told[-1] = told[-1]._replace(what=told[-1].what.at(item.value))
         elif at == 2:
-            found[-1] = found[-1]._replace(value=item.contents)
+            told[-1] = told[-1]._replace(value=item.contents)
         elif item.is_open:
-            found[-1] = found[-1]._replace(error=error_body(item.contents))
-    return None if any(it.value is None and it.error is None for it in found) else found
+            told[-1] = told[-1]._replace(error=error_body(item.contents))
+    return None if any(it.value is None and it.error is None for it in told) else told
 
 
 def notice_of(octets: bytes) -> Optional[Notice]:
@@ -141,9 +153,9 @@ def notice_of(octets: bytes) -> Optional[Notice]:
     items = items_of(octets) or []
     if [it.number for it in items] != [0, 1, 2, 3, 4] or not items[4].is_open:
         return None
-    device, what, inner = _object(items[1]), _object(items[2]), items_of(items[4].contents)
-    told = _told(what, inner, first=0) if what and inner else None
-    return Notice(items[0].value, device[1], told) if device and told else None
+    device, which, inner = _object(items[1]), _object(items[2]), items_of(items[4].contents)
+    told = _told(which, inner, first=0) if which and inner else None
+    return Notice(items[0].value, device.instance, told) if device and told else None
 
 
 def subscription_of(octets: bytes) -> Optional[Subscription]:
@@ -152,13 +164,13 @@ def subscription_of(octets: bytes) -> Optional[Subscription]:
     by_number = {it.number: it for it in items}
     if [it.number for it in items] not in ([0, 1], [0, 1, 2], [0, 1, 2, 3]):
         return None
-    what = _object(by_number[1])
-    if what is None or any(it.is_open for it in items):
+    which = _object(by_number[1])
+    if which is None or any(it.is_open for it in items):
         return None
     confirmed, seconds = by_number.get(2), by_number.get(3)
     return Subscription(
         by_number[0].value,
-        what,
+        which,
         bool(confirmed.value) if confirmed else None,
         seconds.value if seconds else None,
     )

@@ -8,7 +8,7 @@ from typing import List, NamedTuple, Optional, Union
 from ..answers import READ, WRITE, is_about, outcome_of
 from ..bodies import read_ack, read_body
 from ..messages import COMPLEX, SIMPLE, Apdu, Message
-from ..names import What
+from ..standard import What
 
 MILLI = 10**6  # in nanoseconds
 MORE_FOLLOWS = 4  # a flag of an answer that comes in parts
@@ -94,15 +94,15 @@ class Talk:
         wanted = {READ: (COMPLEX,), WRITE: (SIMPLE,)}.get(self.apdu.service, (SIMPLE, COMPLEX))
         return self.answers[0].apdu.kind not in wanted or bool(self.other())
 
-    def other(self) -> What:
+    def other(self) -> Optional[What]:
         """What the answer to a read is about, where that is not what was asked for."""
         apdu = self.answers[0].whole if self.answers else None
         if not apdu or (apdu.kind, apdu.service) != (COMPLEX, READ) or apdu.is_cut:
-            return ()
+            return None
         if apdu.body.startswith(self.apdu.body + b"\x3e"):
-            return ()
+            return None
         asked, told = read_body(self.apdu.body), read_ack(apdu.body)
-        return () if not asked or not told or is_about(told.what, asked.what) else told.what
+        return None if not asked or not told or is_about(told.what, asked.what) else told.what
 
     def has_settled(self, now: int) -> bool:
         """Whether nothing more is awaited."""

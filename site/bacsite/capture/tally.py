@@ -6,8 +6,8 @@ from collections import Counter
 from dataclasses import dataclass, field
 from typing import Counter as Counts, Dict, Iterable, Iterator, List, Optional, Set
 
+from ..display import table
 from ..messages import COMPLEX, SIMPLE, UNCONFIRMED, Message
-from ..texts import table
 from .frames import Passing
 from .lines import UNCONFIRMED_SERVICES, millis, times
 from .talks import MILLI, Entry, Talk

@@ -6,9 +6,9 @@ from collections import Counter
 from dataclasses import dataclass, field
 from typing import Dict, Iterator, List, NamedTuple, Optional, Sequence, Set
 
+from ..display import clean
 from ..failures import wrong
 from ..messages import CONFIRMED, Message
-from ..texts import clean
 from .lines import asked, message_words, moment
 from .pairing import NUMBERS, Event, Pairing
 from .requests import is_askable, request_line

@@ -1,8 +1,10 @@
 -- The reply and the write, from the octets of an APDU down to the body of a WriteProperty, as the code finds them.
 use Rattle.std.specs.{Prelude.{ℕ, ◌==◌, ◌&&◌, Bool, if◌then◌else◌, List, Option, Some, None, is_none}, Result.result_ok}
 use Rattle.bac_wire.specs.Steps.{◌>>=◌}
-use Rattle.bac_pdu.specs.{declared.apdu.Part.Part, Apdu.laid_out, ApduReading.apdu_of, PropertyReading.write_of}
-use Rattle.bac_device.specs.{Places.Write, Device.DeviceState, Access.accepted_write, Reply.{reply_message, order_in}}
+use Rattle.bac_pdu.specs.{declared.apdu.Part.Part, Apdu.{Message, laid_out}, ApduReading.apdu_of}
+use Rattle.bac_pdu.specs.PropertyReading.{write_of}
+use Rattle.bac_device.specs.{Places.Write, Device.DeviceState, Access.accepted_write, declared.reply.Request.Request}
+use Rattle.bac_device.specs.Reply.{reply_message, full_reply, order_in}
 
 -- The octets of the reply to the octets of an APDU.
 unfoldable pub reply_apdu : DeviceState → Bool → List ℕ → Option (List ℕ)
@@ -25,3 +27,10 @@ write_in_body device body = result_ok (write_of body) >>= (λ o. result_ok (acce
 -- The write that a request orders and the device accepts.
 unfoldable pub write_in_request : DeviceState → Option Part → ℕ → List ℕ → Option Write
 write_in_request device part service body = if is_none part && service == 15 then write_in_body device body else None
+
+-- The reply to a request, however long, and the write that it orders and the device accepts.
+abbrev pub whole_reply : DeviceState → Request → Message
+whole_reply device request = full_reply device request.part request.id request.service request.body.now
+
+abbrev pub ordered_write : DeviceState → Request → Option Write
+ordered_write device request = write_in_request device request.part request.service request.body.now

@@ -1,9 +1,9 @@
 -- The entry that a note stands for.
 use Rattle.bac_pdu.specs.Peer.{station}
-use Rattle.bac_links.specs.{History.{Entry, Waited, Timed, heard_by, posted}, declared.history.Asking.Asking}
-use Rattle.bac_links.specs.declared.history.Asking.TheVariants as note
+use Rattle.bac_links.specs.{History.{Entry, Waited, Timed, heard_by, posted}, declared.history.EntryNote.EntryNote}
+use Rattle.bac_links.specs.declared.history.EntryNote.TheVariants as note
 
-abbrev pub entry_of : Asking → Entry
+abbrev pub entry_of : EntryNote → Entry
 entry_of (note.Waited wait heard datagram) = Waited wait (heard_by heard.now datagram.now)
 entry_of (note.Timed time) = Timed time
 entry_of (note.Sent sent to octets) = posted sent.now (station to) octets.now

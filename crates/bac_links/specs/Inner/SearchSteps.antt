@@ -1,11 +1,11 @@
 -- One turn of a search.
 use Rattle.std.specs.Prelude.{◌≡◌, ◌≢◌, ℕ, nat_lt, Bool, List, [], ◌∷◌, ◌++◌, length, Option, Result, Ok, Err}
 use Rattle.std.specs.List.{flat_map}
-use Rattle.bac_pdu.specs.declared.discovery.WhoIs.{WhoIs}
+use Rattle.bac_pdu.specs.{Found.Found, declared.discovery.WhoIs.WhoIs}
 use Rattle.bac_text.specs.declared.jobs.Search.{Search}
 use Rattle.bac_print.specs.{declared.checked.Checked.Checked, Checked.Took}
 use Rattle.bac_links.{
-  specs.{Limits.turn_wait, History.{Heard, Failure, Waited, Account, Gains}, Search.{Found, found_by, found_line}},
+  specs.{Limits.turn_wait, History.{Heard, Failure, Waited, Account, Gains}, Search.{found_by, found_line}},
   specs.declared.fault.ToolFault.{ToolFault, TheVariants.{SendFailed, ReceiveFailed, TurnsSpent, WriteFailed}},
 }
 

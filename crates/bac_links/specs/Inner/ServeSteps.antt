@@ -5,21 +5,9 @@ use Rattle.bac_pdu.specs.Peer.{Station}
 use Rattle.bac_device.specs.{Device.DeviceState, Turns.Arrival}
 use Rattle.bac_links.{
   specs.{Limits.serve_wait, History.{Heard, Failure, Entry, Waited, Posted, Unposted, Account, GainsAll, Gains}},
-  specs.Serve.{came_by, device_behind, replies_of, reply_count},
+  specs.Serve.{came_by, device_behind, replies_of},
   specs.declared.fault.ToolFault.{ToolFault, TheVariants.{SendFailed, ReceiveFailed, TurnsSpent, WriteFailed}},
-  specs.declared.serving.Brought.{Brought, TheVariants.{Nothing, Ignored, Answered}},
 }
-
--- How many datagrams a wait brought, and how many replies it made.
-abbrev pub came_in : Brought → ℕ
-came_in Nothing = 0
-came_in Ignored = 1
-came_in Answered = 1
-
-abbrev pub replied_in : Brought → ℕ
-replied_in Nothing = 0
-replied_in Ignored = 0
-replied_in Answered = 1
 
 -- The datagram that a wait brings which heard this, if it brings one.
 abbrev pub brought_by : Heard → List Arrival
@@ -35,12 +23,11 @@ sends_of replies = map (λ ((to, octets) : Station × List ℕ). Posted to octet
 
 module _ {Origin : Type 0} (before after : DeviceState) (seen left : Account Origin) where
   -- A wait heard this, and the reply to it was sent, where there is one.
-  pub record Serves (brings : Brought) : Type 0 where
+  pub record TakesTurn (brought : ℕ) : Type 0 where
     pub heard : Heard
     pub leaves : LeavesDevice before heard after
     pub received : heard ≢ Failure
-    pub came : came_in brings ≡ length (brought_by heard)
-    pub replied : replied_in brings ≡ reply_count (replies_of before (brought_by heard))
+    pub came : brought ≡ length (brought_by heard)
     pub gains : GainsAll (Waited serve_wait heard ∷ sends_of (replies_of before (brought_by heard))) seen left
 
   -- A wait heard this, and the reply to it could not be sent.
@@ -59,9 +46,9 @@ module _ {Origin : Type 0} (before after : DeviceState) (seen left : Account Ori
     pub gains : Gains (Waited serve_wait Failure) seen left
 
   -- One wait, and the answer to what it brought.
-  abbrev pub ServesOne : Result Brought ToolFault → Type 0
-  ServesOne (Ok brings) = Serves brings
-  ServesOne (Err SendFailed) = LosesReply
-  ServesOne (Err ReceiveFailed) = WaitFails
-  ServesOne (Err TurnsSpent) = ⊥
-  ServesOne (Err WriteFailed) = ⊥
+  abbrev pub ServesTurn : Result ℕ ToolFault → Type 0
+  ServesTurn (Ok brought) = TakesTurn brought
+  ServesTurn (Err SendFailed) = LosesReply
+  ServesTurn (Err ReceiveFailed) = WaitFails
+  ServesTurn (Err TurnsSpent) = ⊥
+  ServesTurn (Err WriteFailed) = ⊥

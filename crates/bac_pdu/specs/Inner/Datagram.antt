@@ -1,7 +1,6 @@
 -- The headers that a writer sets in front of an APDU (ANSI/ASHRAE 135, clause 6, and Annex J.2).
-use Rattle.std.specs.Prelude.{ℕ, ◌+◌, Bool, List, ◌∷◌, ◌++◌, length, Option}
-use Rattle.byteorder.specs.Endian.{big_bytes}
-use Rattle.bac_pdu.specs.{Peer.NetworkAddress, Header.plain_header}
+use Rattle.std.specs.Prelude.{◌++◌, ◌+◌, ◌∷◌, Bool, length, List, Option, ℕ}
+use Rattle.{byteorder.specs.Endian.big_bytes, bac_pdu.specs.{Header.plain_header, Peer.NetworkAddress}}
 
 -- What stands before an APDU of so many octets: the link header and the network header.
 unfoldable pub front_octets : Option NetworkAddress → Bool → ℕ → List ℕ

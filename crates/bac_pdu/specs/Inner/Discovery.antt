@@ -1,5 +1,5 @@
 -- Which limits of a Who-Is can be written (ANSI/ASHRAE 135, 16.10).
-use Rattle.std.specs.Prelude.{◌^◌, ◌<◌}
+use Rattle.std.specs.Prelude.{◌<◌, ◌^◌}
 use Rattle.bac_pdu.specs.declared.discovery.WhoIs.{WhoIs}
 use Rattle.bac_pdu.specs.declared.discovery.WhoIs.TheVariants as limits
 

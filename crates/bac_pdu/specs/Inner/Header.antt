@@ -1,7 +1,6 @@
 -- The network header that was read, as values.
-use Rattle.std.specs.Option.{option_map}
-use Rattle.bac_pdu.specs.{declared.header.Address.Address, declared.header.Header.Header, Peer.NetworkAddress}
-use Rattle.bac_pdu.specs.Header.{NetworkHeader}
+use Rattle.std.specs.Prelude.{option_map}
+use Rattle.bac_pdu.specs.{declared.header.{Address.Address, Header.Header}, Peer.NetworkAddress, Header.NetworkHeader}
 
 -- A station as the code has it, without where the octets lie in memory.
 abbrev pub address_seen : Address → NetworkAddress

@@ -1,8 +1,7 @@
 -- The first word of a text that still has to be cut, and hexadecimal words that are known to be right.
-use Rattle.std.specs.Prelude.{◌≡◌, ℕ, Bool, nat_lt, nat_le, List, [], ◌∷◌, length, Option, Some, None, if◌then◌else◌}
+use Rattle.std.specs.Prelude.{[], ◌∷◌, ◌≡◌, Bool, if◌then◌else◌, length, List, nat_le, nat_lt, None, Option, Some, ℕ}
 use Rattle.std.specs.Result.{result_unwrap_or}
-use Rattle.hex.specs.Hex.{decode_of}
-use Rattle.bac_text.specs.Words.{words_of, number_up_to}
+use Rattle.{hex.specs.Hex.decode_of, bac_text.specs.Words.{number_up_to, words_of}}
 
 -- A word of one octet or more.
 abbrev pub is_not_empty : List ℕ → Bool

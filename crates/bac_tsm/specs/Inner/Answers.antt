@@ -1,6 +1,6 @@
 -- How an Error ends a request.
-use Rattle.std.specs.{Prelude.{ℕ, Option}, Option.option_map_or}
-use Rattle.bac_tsm.specs.Events.{Outcome, Failed, BadError}
+use Rattle.std.specs.{Option.option_map_or, Prelude.{Option, ℕ}}
+use Rattle.bac_tsm.specs.Events.{BadError, Failed, Outcome}
 
 -- The outcome of an Error: by the class and the code that its body begins with.
 abbrev pub error_outcome : Option (ℕ × ℕ) → Outcome

@@ -1,5 +1,5 @@
 -- What is true of the open requests of a client.
-use Rattle.std.specs.{Prelude.{ℕ, ◌<◌, ◌≤◌, List}, List.All}
+use Rattle.std.specs.{List.All, Prelude.{◌<◌, ◌≤◌, List, ℕ}}
 use Rattle.bac_tsm.specs.Machine.{Waiting}
 
 -- The tickets are below the next one, and each was last sent before now, or now.

@@ -12,7 +12,7 @@ number_at slots slot = (get_or slots slot nothing).request.invoke_id
 abbrev pub waiting_in : List Waiting → List ℕ → List ℕ → List Waiting
 waiting_in slots order tickets = held_at slots (open_slots order tickets)
 
--- A table that is whole, of which this was told.
+-- A whole table, and what was told of it.
 pub record Leaves (Told : Type 0) (slots : List Waiting) (numbers : List (Option ℕ)) (order tickets sends : List ℕ)
     : Type 0 where
   pub told : Told

@@ -1,5 +1,5 @@
 -- Notes as a watcher is told them.
-use Rattle.std.specs.Prelude.{ℕ, List, map}
+use Rattle.std.specs.Prelude.{List, map, ℕ}
 use Rattle.bac_tsm.specs.Events.{Note}
 
 -- These notes, at this position.

@@ -1,5 +1,5 @@
 -- One step over items: behind counted octets, or behind one item.
-use Rattle.std.specs.Prelude.{◌≡◌, ℕ, ◌≤◌, List, ◌++◌, length, drop}
+use Rattle.std.specs.Prelude.{◌++◌, ◌≡◌, ◌≤◌, drop, length, List, ℕ}
 use Rattle.bac_wire.specs.Region.{IsItem}
 
 -- The rest is what stands behind this many octets.

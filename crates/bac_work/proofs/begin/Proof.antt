@@ -1,7 +1,7 @@
 -- `begin` picks that nothing was read. A proof by hand, as `Walks` of `bac_wire` says.
-use Rattle.bac_wire.proofs.Walks.{[], ◌∷◌, refl, proved, raw, ◌$◌, ◌∵◌, !, qed, done, drop, fjoin, suffices, agg, enter}
-use Rattle.bac_wire.proofs.Walks.{returns, no_more, alloc_all, pass_all, free_all, look_at, sets, nothing, on_entry}
-use Rattle.bac_wire.proofs.Walks.{says, ends_at, none, none_made}
+use Rattle.bac_wire.proofs.Walks.{[], ◌$◌, ◌∵◌, ◌∷◌, !, agg, alloc_all, done, drop, ends_at, enter, fjoin, free_all}
+use Rattle.bac_wire.proofs.Walks.{look_at, no_more, none, none_made, nothing, on_entry, pass_all, proved, qed, raw}
+use Rattle.bac_wire.proofs.Walks.{refl, returns, says, sets, suffices}
 use Rattle.bac_work.proofs.begin.Statement.{statement}
 use Rattle.bac_work.specs.contracts.begin as f
 use Rattle.bac_work.proofs.begin.Code as code

@@ -1,6 +1,6 @@
 -- The rules that the arguments of a tool pass.
-use Rattle.std.specs.Prelude.{List, [], ◌∷◌, ◌++◌}
-use Rattle.clap.specs.{Words.{App, Rule}, Simple.{filled_from, help_rule}}
+use Rattle.std.specs.Prelude.{[], ◌++◌, ◌∷◌, List}
+use Rattle.clap.specs.{Simple.{filled_from, help_rule}, Words.{App, Rule}}
 
 -- The arguments of a tool as `clap` builds them, with the flag for help.
 abbrev pub rules_of : App → List Rule

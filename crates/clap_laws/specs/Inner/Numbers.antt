@@ -1,7 +1,6 @@
 -- The bounds of an argument that is a number.
-use Rattle.std.specs.Prelude.{◌<◌, ◌≤◌, ◌^◌, ◌&&◌, ℕ, Bool, pos, false, List, Option, None, Some, ⊤}
-use Rattle.std.specs.{Option.{option_and_then, option_map_or}, Str.bytes_eq}
-use Rattle.std.specs.Str.Parse.{digits_value, without_leading_plus}
+use Rattle.std.specs.{Prelude.{◌<◌, ◌≤◌, ◌^◌, ◌&&◌, ℕ, Bool, pos, false, List, Option, None, Some, ⊤}, Str.bytes_eq}
+use Rattle.std.specs.{Option.{option_and_then, option_map_or}, Str.Parse.{digits_value, without_leading_plus}}
 use Rattle.clap.specs.{Facts.parser_of_value, Walk.arg_by_id, Words.{Rule, Text}}
 use Rattle.clap.specs.declared.builder.value_parser.ValueParser.{ValueParser, TheVariants.Signed}
 

@@ -1,6 +1,6 @@
 -- Eleven calls add a point each; the last equation comes first.
 use Rattle.std.proofs.Common.{refl}
-use Rattle.bac_device.specs.{Kind.kind_of, Point.description_of, Inner.Demo.with_row}
+use Rattle.bac_device.specs.{description_of, kind_of, Inner.with_row}
 use Rattle.bac_device.proofs.demonstration.demo.Goals as goal
 
 pub returns : goal.returns

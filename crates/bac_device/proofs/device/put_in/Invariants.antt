@@ -1,5 +1,5 @@
-use Rattle.std.proofs.Common.{◌≡◌, ◌++◌, map, take, drop}
-use Rattle.bac_device.specs.{Places.put, Inner.Places.write_seen}
+use Rattle.std.proofs.Common.{◌++◌, ◌≡◌, drop, map, take}
+use Rattle.bac_device.specs.{put, Inner.write_seen}
 use Rattle.bac_device.proofs.device.put_in.Given as goal
 
 abbrev pub invariant-loop-point : goal.invariant-loop-point

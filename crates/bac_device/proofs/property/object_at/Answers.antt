@@ -1,5 +1,5 @@
 -- The device stands first in its list of objects, and the points one further on.
-use Rattle.std.proofs.Common.{◌≡◌, ℕ, zero, suc, ◌-◌, List, ◌∷◌, slice_get, refl, arith}
+use Rattle.std.proofs.Common.{◌-◌, ◌∷◌, ◌≡◌, arith, List, refl, slice_get, suc, zero, ℕ}
 use Rattle.std.proofs.lemmas.Option.{slice_get-map, slice_get_read}
 use Rattle.bac_device.proofs.property.object_at.Goals as goal
 

@@ -4,9 +4,6 @@ use Rattle.bac_links.proofs.examples.examples_of_ends.Goals as goal
 
 pub returns : goal.returns
 returns c = record {
-  good = refl;
-  bad = refl;
-  unsent = refl;
   of_link = refl;
   not_of_link = refl;
   of_writer = refl;

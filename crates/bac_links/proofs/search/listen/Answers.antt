@@ -2,7 +2,8 @@
 use Rattle.std.proofs.{Common.refl, lemmas.{List.append-nil, Result.err_from_is_err_and}}
 use Rattle.bac_print.proofs.Known.{Took-none}
 use Rattle.bac_pdu.specs.Peer.{station}
-use Rattle.bac_links.specs.{History.Arrived, Inner.Search.found_seen}
+use Rattle.bac_pdu.specs.Found.{found_seen}
+use Rattle.bac_links.specs.History.{Arrived}
 use Rattle.bac_links.proofs.search.listen.Goals as goal
 
 pub returns-in_ok-show_found-in-Some-clause-told : goal.returns-in_ok-show_found-in-Some-clause-told

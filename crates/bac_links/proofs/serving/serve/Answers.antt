@@ -10,7 +10,6 @@ pub loop-turn-init : goal.loop-turn-init
 loop-turn-init g c = record {
   sound = c.requires;
   fewer = omega (arith, c.if-count-eq0.false);
-  one_a_turn = omega arith;
   goes = serves_none;
 }
 
@@ -27,17 +26,16 @@ returns-then-came-count-clause-told g c =
     let all = c.loop-turn.invariant in
     let goes = serve_on all.goes (rw c.most_turns-turn-end.ensures at c.loop-turn-test.true) all.fewer _
     c.in_ok-brought.ensures.told in
-    rw c.replied-replied.ensures.value (serve_done goes (rw c.came-came.ensures.value at c.if-came-count.true))
+    serve_done goes c.if-came-count.true
 
 pub loop-turn-preserved : goal.loop-turn-preserved
 loop-turn-preserved g c =
     let all = c.loop-turn.invariant in
     record {
       sound = c.in_ok-brought.ensures.fault;
-      fewer = omega (arith, all.fewer, c.came-came.ensures.few, c.if-came-count.false);
-      one_a_turn = omega (arith, all.one_a_turn, c.replied-replied.ensures.few);
+      fewer = omega (arith, all.fewer, c.in_ok-brought.ensures.few, c.if-came-count.false);
       goes =
-          rw (c.came-came.ensures.value, c.replied-replied.ensures.value, add-one)
+          rw add-one
           (serve_on all.goes (rw c.most_turns-turn-end.ensures at c.loop-turn-test.true) all.fewer _
           c.in_ok-brought.ensures.told);
     }

@@ -1,4 +1,4 @@
-use Rattle.std.proofs.Common.{◌≡◌, ◌<◌, ◌≤◌, false}
+use Rattle.std.proofs.Common.{◌≡◌, ◌<◌, false}
 use Rattle.bac_links.proofs.Servings.{ServeGoes}
 use Rattle.bac_links.proofs.serving.serve.Given as goal
 
@@ -6,7 +6,5 @@ abbrev pub invariant-loop-turn : goal.invariant-loop-turn
 invariant-loop-turn g l = record {
   sound : g.L.Link.has_failed l.link ≡ false;
   fewer : l.came < l.fn.count;
-  one_a_turn : l.replied ≤ l._turn;
-  goes : ServeGoes l.fn.device l.device (g.L.Link.seen l.fn.link) (g.L.Link.seen l.link) l.fn.count l.came l.replied
-      l._turn;
+  goes : ServeGoes l.fn.device l.device (g.L.Link.seen l.fn.link) (g.L.Link.seen l.link) l.fn.count l.came l._turn;
 }

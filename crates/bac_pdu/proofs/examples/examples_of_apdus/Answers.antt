@@ -1,10 +1,9 @@
 -- Each row computes once the definitions that read and write it are opened.
 use Rattle.std.proofs.Common.{arith}
-use Rattle.bac_wire.specs.{Tag.plain_tag, TagReading.{tag_number_at, long_length_at, length_at, shape_at, tag_at}}
-use Rattle.bac_wire.specs.{Datum.plain, ItemReading.{behind_closing, behind_items, region_at}}
-use Rattle.bac_wire.specs.ParameterReading.{context_at, number_at, object_at, behind_opening, enclosed_at}
-use Rattle.bac_pdu.specs.{Parameter.plain_parameter, PropertyReading.{reference_at, read_of, write_of, ack_of}}
-use Rattle.bac_pdu.specs.ApduReading.{parts_at, apdu_of}
+use Rattle.bac_wire.specs.{Datum.plain, ItemReading.{behind_closing, behind_items, region_at}, Tag.plain_tag}
+use Rattle.bac_wire.specs.ParameterReading.{behind_opening, context_at, enclosed_at, number_at, object_at}
+use Rattle.bac_wire.specs.TagReading.{length_at, long_length_at, shape_at, tag_at, tag_number_at}
+use Rattle.bac_pdu.specs.{ack_of, apdu_of, parts_at, plain_parameter, read_of, reference_at, write_of}
 use Rattle.bac_pdu.proofs.examples.examples_of_apdus.Goals as goal
 
 pub returns : goal.returns

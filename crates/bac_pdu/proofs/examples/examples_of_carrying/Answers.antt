@@ -1,8 +1,7 @@
 -- What a datagram carries is what is read of it, which computes once the definitions that read are opened.
-use Rattle.std.proofs.Common.{[], ◌∷◌, None, true, refl, arith}
-use Rattle.bac_pdu.specs.Datagram.{Takes, wrapped}
-use Rattle.bac_pdu.specs.DatagramReading.{address_at, header_at, link_at, carried}
-use Rattle.bac_pdu.proofs.DatagramLaws.{carried_is, wrapped_takes, one_taken}
+use Rattle.std.proofs.Common.{[], ◌∷◌, arith, None, refl, true}
+use Rattle.bac_pdu.specs.{address_at, carried, header_at, link_at, Takes, wrapped}
+use Rattle.bac_pdu.proofs.DatagramLaws.{carried_is, one_taken, wrapped_takes}
 use Rattle.bac_pdu.proofs.examples.examples_of_carrying.Goals as goal
 
 -- what a datagram takes to a station that expects a reply

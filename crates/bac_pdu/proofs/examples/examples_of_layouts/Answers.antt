@@ -1,7 +1,6 @@
 -- What octets are is what is read of them, which computes once the definitions that read are opened.
-use Rattle.std.proofs.Common.{ℕ, true, List, [], ◌∷◌, Some, refl, arith}
-use Rattle.bac_pdu.specs.{Apdu.{simple_ack, complex_ack, abort}, Inner.Examples.{second_part, last_part}}
-use Rattle.bac_pdu.specs.ApduReading.{parts_at, apdu_of}
+use Rattle.std.proofs.Common.{[], ◌∷◌, arith, List, refl, Some, true, ℕ}
+use Rattle.bac_pdu.specs.{abort, apdu_of, complex_ack, parts_at, simple_ack, Inner.{last_part, second_part}}
 use Rattle.bac_pdu.proofs.ApduLaws.{apdu_is}
 use Rattle.bac_pdu.proofs.examples.examples_of_layouts.Goals as goal
 

@@ -1,8 +1,7 @@
 -- Each clause is the lemma of its file.
 use Rattle.std.proofs.Common.{refl}
-use Rattle.bac_pdu.specs.ValueReading.{who_is_of}
-use Rattle.bac_pdu.proofs.{DatagramLaws.taken_carries, ApduLaws.apdu_back}
-use Rattle.bac_pdu.proofs.ShortestLaws.{read_back, write_back, ack_back, who_is_back, introduction_back, error_back}
+use Rattle.bac_pdu.{specs.who_is_of, proofs.{ApduLaws.apdu_back, DatagramLaws.taken_carries}}
+use Rattle.bac_pdu.proofs.ShortestLaws.{ack_back, error_back, introduction_back, read_back, who_is_back, write_back}
 use Rattle.bac_pdu.proofs.laws.come_back.Goals as goal
 
 pub returns : goal.returns

@@ -1,7 +1,6 @@
 -- A derived `==` compares field by field; here all fields together are the value.
-use Rattle.std.{proofs.Common.{arith, ◌≡◌, ℕ, true, eqb, Option}, specs.Prelude.◌↔◌}
-use Rattle.std.specs.{Option.option_eq, Cmp.Lexicographic.bytes_decides}
-use Rattle.std.proofs.lemmas.{Bool.{and_parts, eqb-true, eq-eqb}}
+use Rattle.std.proofs.{Common.{◌≡◌, arith, eqb, Option, true, ℕ}, lemmas.Bool.{and_parts, eq-eqb, eqb-true}}
+use Rattle.std.specs.{Cmp.Lexicographic.bytes_decides, Option.option_eq, Prelude.◌↔◌}
 use Rattle.bac_pdu.proofs.PeerLaws.{peer_decides, route_decides}
 use Rattle.bac_pdu.proofs.laws.equals.Goals as goal
 

@@ -1,6 +1,6 @@
 -- Each clause is the lemma of its file.
-use Rattle.bac_pdu.proofs.{DatagramLaws.carried_is, ApduLaws.apdu_is, PropertyLaws.{read_is, write_is, ack_is}}
-use Rattle.bac_pdu.proofs.DiscoveryLaws.{who_is_is, introduction_is, error_is}
+use Rattle.bac_pdu.proofs.{ApduLaws.apdu_is, DatagramLaws.carried_is, PropertyLaws.{ack_is, read_is, write_is}}
+use Rattle.bac_pdu.proofs.DiscoveryLaws.{error_is, introduction_is, who_is_is}
 use Rattle.bac_pdu.proofs.laws.in_words.Goals as goal
 
 pub returns : goal.returns

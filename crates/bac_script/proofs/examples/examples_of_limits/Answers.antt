@@ -13,7 +13,4 @@ returns c = record {
   alike = record { text = 1 ∷ 2 ∷ []; wrote = (2 ∷ [], refl); other_wrote = refl; same = λ one other. grind arith };
   unlike = λ h. let wrote = h.wrote in let other = h.other_wrote in grind arith;
   ended_otherwise = λ h. let same = h.same (λ e. grind arith) (λ e. grind arith) in grind arith;
-  whole = refl;
-  bad_line = refl;
-  failed = refl;
 }

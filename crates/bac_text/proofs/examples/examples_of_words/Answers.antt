@@ -1,10 +1,9 @@
 -- Each row computes once the definitions that read it are opened.
-use Rattle.std.proofs.Common.{arith}
-use Rattle.std.{specs.Fmt.digits}
-use Rattle.hex.specs.Hex.{decode_pairs, encode_with}
-use Rattle.bac_text.specs.ValueWords.{value_under}
-use Rattle.bac_wire.specs.{Datum.plain, Inner.Datum.tagged, Tag.plain_tag}
+use Rattle.std.{proofs.Common.arith, specs.Fmt.digits}
 use Rattle.bac_pdu.specs.Parameter.{plain_parameter}
+use Rattle.bac_wire.specs.{Datum.plain, Tag.plain_tag, Inner.Datum.tagged}
+use Rattle.hex.specs.Hex.{decode_pairs, encode_with}
+use Rattle.bac_text.specs.{value_under}
 use Rattle.bac_text.proofs.examples.examples_of_words.Goals as goal
 
 pub returns : goal.returns

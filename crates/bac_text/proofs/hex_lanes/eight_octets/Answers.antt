@@ -1,7 +1,7 @@
 -- Each of the eight lanes is the octet of its two digits.
-use Rattle.std.proofs.{Common.{ℕ, [], ◌∷◌, get_or, refl}, lemmas.{List.FromFn.fill_by_all, Simd.length-chunk}}
+use Rattle.std.proofs.{Common.{[], ◌∷◌, get_or, refl, ℕ}, lemmas.{List.FromFn.fill_by_all, Simd.length-chunk}}
+use Rattle.bac_text.{specs.Inner.octets_by_lanes, proofs.HexLanes.octet_is}
 use lib.Lanes.{chunk}
-use Rattle.bac_text.{specs.Inner.HexLanes.octets_by_lanes, proofs.HexLanes.octet_is}
 use Rattle.bac_text.proofs.hex_lanes.eight_octets.Goals as goal
 
 pub returns : goal.returns

@@ -1,4 +1,4 @@
-use Rattle.std.{proofs.Common.{◌≡◌, ◌-◌, ◌≤◌, true, length, take}, specs.{Str.all_ascii_digits, Str.Parse.digits_value}}
+use Rattle.std.{proofs.Common.{◌-◌, ◌≡◌, ◌≤◌, length, take, true}, specs.Str.{all_ascii_digits, Parse.digits_value}}
 use Rattle.bac_text.proofs.LeadingDigits.{most_with}
 use Rattle.bac_text.proofs.numbers.leading_number.Given as goal
 

@@ -1,8 +1,8 @@
 -- No digit, more behind the digits, or a number past the limit: in each case the definition reads none.
-use Rattle.bac_text.proofs.LeadingDigits.{short_long, short_empty, short_big}
-use Rattle.bac_text.proofs.peers.short_number.Goals.{then-count-eq0-via-then-count-eq0}
-use Rattle.bac_text.proofs.peers.short_number.Goals.{then-count-eq0-via-else-count-eq0+then-count-text}
+use Rattle.bac_text.proofs.LeadingDigits.{short_big, short_empty, short_long}
 use Rattle.bac_text.proofs.peers.short_number.Goals.{then-count-eq0-via-else-count-eq0+else-count-text+then-number-limit}
+use Rattle.bac_text.proofs.peers.short_number.Goals.{then-count-eq0-via-else-count-eq0+then-count-text}
+use Rattle.bac_text.proofs.peers.short_number.Goals.{then-count-eq0-via-then-count-eq0}
 use Rattle.bac_text.proofs.peers.short_number.Goals as goal
 
 pub returns-then-count-eq0-clause-value : goal.returns-then-count-eq0-clause-value

@@ -1,5 +1,5 @@
-use Rattle.std.proofs.Common.{◌≡◌, ℕ, ◌-◌, ◌<◌, ◌≤◌, false, length, get_or}
-use Rattle.bac_text.specs.Search.{ends_at}
+use Rattle.std.proofs.Common.{◌-◌, ◌<◌, ◌≡◌, ◌≤◌, false, get_or, length, ℕ}
+use Rattle.bac_text.specs.{ends_at}
 use Rattle.bac_text.proofs.search.position_by.Given as goal
 
 abbrev pub invariant-loop-at : goal.invariant-loop-at

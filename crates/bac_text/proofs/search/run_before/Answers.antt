@@ -1,9 +1,9 @@
 -- What ends a piece, three ways: in each a lane stops just where the octet ends it.
-use Rattle.std.proofs.Common.{ap, sym, ◌∙◌, subst}
-use Rattle.std.proofs.lemmas.Simd.{zip2_splat, zip2_splat_left, zip2_of_maps, length-chunk}
+use Rattle.std.proofs.Common.{◌∙◌, ap, subst, sym}
+use Rattle.std.proofs.lemmas.Simd.{length-chunk, zip2_of_maps, zip2_splat, zip2_splat_left}
+use Rattle.bac_text.specs.{ends_at, declared.search.Delimiter.Delimiter, Inner.{first_set, IsRunIn}}
+use Rattle.bac_text.proofs.{Lanes.{lane_is, lanes_are, run_in}, search.run_before.Goals.{in-At, in-Blank, in-PastAscii}}
 use lib.Lanes.{chunk}
-use Rattle.bac_text.specs.{Search.ends_at, Inner.Search.{first_set, IsRunIn}, declared.search.Delimiter.Delimiter}
-use Rattle.bac_text.proofs.{Lanes.{run_in, lane_is, lanes_are}, search.run_before.Goals.{in-Blank, in-At, in-PastAscii}}
 use Rattle.bac_text.proofs.search.run_before.Goals as goal
 
 pub returns : goal.returns

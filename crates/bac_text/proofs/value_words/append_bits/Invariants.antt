@@ -1,5 +1,5 @@
-use Rattle.std.proofs.Common.{◌≡◌, ℕ, ◌*◌, ◌<◌, length, get_or, drop}
-use Rattle.bac_text.specs.ValueWords.{bits_octet}
+use Rattle.std.proofs.Common.{◌*◌, ◌<◌, ◌≡◌, drop, get_or, length, ℕ}
+use Rattle.bac_text.specs.{bits_octet}
 use Rattle.bac_text.proofs.value_words.append_bits.Given as goal
 
 abbrev pub invariant-loop-i : goal.invariant-loop-i

@@ -1,5 +1,5 @@
 -- An odd number of digits, others than digits, too many: in each case the definition refuses as well.
-use Rattle.std.proofs.Common.{sym, ◌∙◌, arith}
+use Rattle.std.proofs.Common.{◌∙◌, arith, sym}
 use Rattle.bac_text.proofs.{HexText.others_refused, WordValues.{octets-decoded, octets-long}}
 use Rattle.bac_text.proofs.value_words.append_octets.Goals as goal
 

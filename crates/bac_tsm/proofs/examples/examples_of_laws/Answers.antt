@@ -1,12 +1,10 @@
 -- Each row computes once the definitions that read a datagram are opened, or is a law at one list of events.
-use Rattle.std.proofs.Common.{◌≡◌, zero, suc, ◌+◌, ◌≤◌, List, [], ◌∷◌, ◌++◌, length, length-append, ap, refl, arith}
-use Rattle.bac_pdu.specs.{Datagram.wrapped, ApduReading.{parts_at, apdu_of}}
-use Rattle.bac_pdu.specs.DatagramReading.{address_at, header_at, link_at, carried}
-use Rattle.bac_tsm.specs.{Lookahead.{next_invoke_id, refusal_of}, Answers.{answer_in_datagram, same_station}}
-use Rattle.bac_tsm.specs.Answers.{is_answer_to}
-use Rattle.bac_tsm.specs.{Lookahead.Accepted, Laws.PassedAreHeld}
-use Rattle.bac_tsm.specs.Inner.Examples.{under, device}
-use Rattle.bac_tsm.proofs.{AnswersInWords.{answers, answered, by_number, few_open}, WholeRun.is_lookahead}
+use Rattle.std.proofs.Common.{[], ◌++◌, ◌+◌, ◌∷◌, ◌≡◌, ◌≤◌, ap, arith, length, length-append, List, refl, suc, zero}
+use Rattle.bac_pdu.specs.{ApduReading.{apdu_of, parts_at}, Datagram.wrapped}
+use Rattle.bac_pdu.specs.DatagramReading.{address_at, carried, header_at, link_at}
+use Rattle.bac_tsm.specs.{Accepted, answer_in_datagram, is_answer_to, next_invoke_id, PassedAreHeld, refusal_of}
+use Rattle.bac_tsm.{specs.{same_station, Inner.{device, under}}, proofs.WholeRun.is_lookahead}
+use Rattle.bac_tsm.proofs.AnswersInWords.{answered, answers, by_number, few_open}
 use Rattle.bac_tsm.proofs.examples.examples_of_laws.Goals as goal
 
 -- between two of these three requests that have one invoke id stands another

@@ -1,4 +1,4 @@
--- The induction over the accepted requests says more, of which this is a part.
+-- The induction over the accepted requests says more; this is a part of it.
 use Rattle.bac_tsm.proofs.NumberReuse.{passed}
 use Rattle.bac_tsm.proofs.theorems.passed_numbers_are_held.Goals as goal
 

@@ -1,6 +1,6 @@
 -- A run that ended well was printed whole.
-use Rattle.std.proofs.Common.{◌≡◌, ◌∙◌, ℕ, false, true, List, [], ◌++◌, Option, Result, Ok, Err, inl, inr, refl}
-use Rattle.std.proofs.Common.{length, ◌↔◌, map, subst, sym, ap, rules}
+use Rattle.std.proofs.Common.{◌≡◌, ◌∙◌, ℕ, false, List, [], ◌++◌, Option, Result, Ok, Err, inl, inr, refl}
+use Rattle.std.proofs.Common.{IfOk, length, map, subst, sym, ap, arith, rules}
 use Rattle.std.proofs.lemmas.Bool.{cases_Bool}
 use Rattle.std.proofs.lemmas.List.{append-nil}
 use Rattle.std.specs.List.{concat, flat_map}
@@ -9,24 +9,18 @@ use Rattle.bac_print.specs.Checked.{Gave, Took, has_failed}
 use Rattle.bac_print.specs.Page.{Writes}
 use Rattle.bac_print.specs.declared.checked.Checked.{Checked}
 use Rattle.bac_script.specs.declared.tracing.TraceEnd.{TraceEnd}
-use Rattle.bac_script.specs.declared.tracing.TraceFault.TheVariants.{BadLine, LineTooLong, ReadFailed, WriteFailed}
 use Rattle.bac_links.specs.History.{Account, Entry, GainsAll}
-use Rattle.bac_run.specs.Fault.{run_status_of, write_failed}
 use Rattle.bac_run.specs.Input.{AllDone}
 use Rattle.bac_run.specs.Journal.{events_of, new_client, notes_of}
 use Rattle.bac_run.specs.Replay.{AreSent, posted_in, sent_in}
 use Rattle.bac_run.specs.Run.{journal_of}
 use Rattle.bac_run.specs.declared.fault.RunFault.{RunFault}
-use Rattle.bac_run.specs.declared.fault.RunFault.TheVariants.{Link, Script}
 use Rattle.bac_uses.proofs.run.requested.Goals as goal
 
-ended_well : (result : Result TraceEnd RunFault) → run_status_of result ≡ 0 → (end : TraceEnd) × (result ≡ Ok end)
-ended_well (Ok end) is = (end, refl)
-ended_well (Err (Script (BadLine n))) is = absurd (cc)
-ended_well (Err (Script (LineTooLong n))) is = absurd (cc)
-ended_well (Err (Script ReadFailed)) is = absurd (cc)
-ended_well (Err (Script WriteFailed)) is = absurd (cc)
-ended_well (Err (Link fault)) is = absurd (cc)
+-- What holds where there is no fault.
+if_ok : {A E : Type 0} (P : Type 0) (result : Result A E) → ((x : A) → result ≡ Ok x → P) → IfOk result (λ x. P)
+if_ok P (Ok x) is = is x refl
+if_ok P (Err fault) is = tt
 
 -- A writer of which no failure is told took the whole text.
 took_whole : {W : Type 0} (contents : W → Option (List ℕ)) (before after : Checked W) (text : List ℕ)
@@ -35,14 +29,6 @@ took_whole contents before after text sound writes =
     subst (λ (octets : List ℕ). Took contents before after octets)
     (sym (writes.whole ∙ ap (λ (rest : List ℕ). writes.taken ++ rest) (writes.sound sound).1 ∙ append-nil writes.taken))
     writes.took
-
-not_failed : {W : Type 0} (after : Checked W) (end : TraceEnd) (result : Result TraceEnd RunFault) → result ≡ Ok end
-    → (has_failed after ≡ true) ↔ (result ≡ Err write_failed) → has_failed after ≡ false
-not_failed after end result is told =
-    elim (cases_Bool (has_failed after)) [
-      | inl failed ↦ absurd (let unwritten = told.0 failed in cc)
-      | inr sound ↦ sound
-    ]
 
 -- What a link was asked, behind what it had been.
 asked_on : {Origin : Type 0} (before after : Account Origin) (gained : List Entry) → GainsAll gained before after
@@ -56,14 +42,17 @@ ahead : (timeout retries : ℕ) (events : List Event) → timeout ≡ 3000 → r
 ahead timeout retries events timed again = rw (timed, again) refl
 
 pub returns-clause-all : goal.returns-clause-all
-returns-clause-all g c = λ well.
+returns-clause-all g c = if_ok _ c.run_requests.result (λ end is.
     let runs = c.run_requests.ensures.runs in
     let session = c.unwrap-session.result in
-    let (end, is) = ended_well c.run_requests.result (sym c.run_status.ensures ∙ well) in
     let (asked, good, empty, count) = subst (λ (result : Result TraceEnd RunFault).
     AllDone result runs.takes.taken runs.takes.kept runs.acts)
     is runs.takes.all_done in
-    let sound = not_failed c.run_requests.new.writer end c.run_requests.result is c.run_requests.ensures.write_fault in
+    let sound : has_failed c.run_requests.new.writer ≡ false =
+    elim (cases_Bool (has_failed c.run_requests.new.writer)) [
+      | inl failed ↦ absurd (let told = c.run_requests.ensures.write_fault.0 failed in grind (arith, is, told))
+      | inr sound ↦ sound
+    ] in
     let notes = notes_of (new_client session.config.timeout session.config.retries) runs.acts in
     let timed : session.config.timeout ≡ 3000 = search rules in
     let again : session.config.retries ≡ 3 = search rules in
@@ -89,4 +78,4 @@ returns-clause-all g c = λ well.
           is (c.a_run_sends_what_it_remarks.ensures session _ _ _ _ _ _ _ _ runs
           (asked_on (g.L.Link.seen c.args.link.now) (g.L.Link.seen c.run_requests.new.link) runs.asks.gained
           runs.asks.gains));
-    }
+    })

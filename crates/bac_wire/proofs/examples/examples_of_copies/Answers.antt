@@ -1,6 +1,5 @@
 -- A copy or a test that is none is told by one number or two.
-use Rattle.std.proofs.Common.{refl, arith}
-use Rattle.std.proofs.lemmas.Bool.{eqb-true, eq-eqb}
+use Rattle.std.proofs.{Common.{arith, refl}, lemmas.Bool.{eq-eqb, eqb-true}}
 use Rattle.bac_wire.proofs.examples.examples_of_copies.Goals as goal
 
 pub returns : goal.returns

@@ -1,7 +1,7 @@
 -- Each row computes once the definitions that read and write it are opened.
 use Rattle.std.proofs.Common.{arith}
-use Rattle.bac_wire.specs.TagReading.{tag_number_at, long_length_at, length_at, shape_at, tag_at}
-use Rattle.bac_wire.specs.{DatumReading.{contents_of, value_at}, Datum.plain, Tag.plain_tag}
+use Rattle.bac_wire.specs.{contents_of, length_at, long_length_at, plain, plain_tag, shape_at, tag_at, tag_number_at}
+use Rattle.bac_wire.specs.{value_at}
 use Rattle.bac_wire.proofs.examples.examples_of_octets.Goals as goal
 
 pub returns : goal.returns

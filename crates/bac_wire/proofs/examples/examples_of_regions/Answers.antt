@@ -1,13 +1,11 @@
 -- What is spelled is what a reader finds, which computes once the definitions that read are opened.
-use Rattle.std.proofs.Common.{ℕ, ◌≤◌, List, [], ◌∷◌, inl, inr, refl, subst, append-nil, arith}
-use Rattle.bac_wire.specs.{Tag.plain_tag, TagReading.{tag_number_at, long_length_at, length_at, shape_at, tag_at}}
-use Rattle.bac_wire.specs.ItemReading.{behind_closing, behind_items, region_at}
-use Rattle.bac_wire.specs.ParameterReading.{context_at, number_at, object_at, behind_opening, enclosed_at}
-use Rattle.bac_wire.specs.Region.{IsItem, IsRegion, IsPrimitive, IsClosedRegion, none, more, here, past, into}
-use Rattle.bac_wire.specs.Inner.Examples.{unsigned_tag}
-use Rattle.bac_wire.proofs.{Spelled.{is_spelled, is_read}, TagLaws.tag_reader}
-use Rattle.bac_wire.proofs.ItemLaws.{one_region, items_is, whole_is, region_reader, nesting}
-use Rattle.bac_wire.proofs.ParameterLaws.{context_reader, number_reader, enclosed_reader}
+use Rattle.std.proofs.Common.{[], ◌∷◌, ◌≤◌, append-nil, arith, inl, inr, List, refl, subst, ℕ}
+use Rattle.bac_wire.specs.{behind_closing, behind_items, behind_opening, context_at, enclosed_at, here, into}
+use Rattle.bac_wire.specs.{IsClosedRegion, IsItem, IsPrimitive, IsRegion, length_at, long_length_at, more, none}
+use Rattle.bac_wire.specs.{number_at, object_at, past, plain_tag, region_at, shape_at, tag_at, tag_number_at}
+use Rattle.bac_wire.{specs.Inner.unsigned_tag, proofs.ItemLaws.{items_is, nesting, one_region, region_reader, whole_is}}
+use Rattle.bac_wire.proofs.{ParameterLaws.{context_reader, enclosed_reader, number_reader}, TagLaws.tag_reader}
+use Rattle.bac_wire.proofs.Spelled.{is_read, is_spelled}
 use Rattle.bac_wire.proofs.examples.examples_of_regions.Goals as goal
 
 -- the number 5

@@ -1,7 +1,6 @@
 -- Octets are a region where their items leave nothing.
-use Rattle.std.proofs.Common.{arith}
-use Rattle.std.proofs.{lemmas.{Bool.{eqb-true}}}
-use Rattle.bac_wire.proofs.ItemLaws.{whole_region, region_whole, one_left}
+use Rattle.std.proofs.{Common.arith, lemmas.Bool.eqb-true}
+use Rattle.bac_wire.proofs.ItemLaws.{one_left, region_whole, whole_region}
 use Rattle.bac_wire.proofs.items.is_region.Goals as goal
 
 pub returns-in-Some-clause-found : goal.returns-in-Some-clause-found

@@ -1,6 +1,6 @@
 -- The parts of the law are lemmas.
-use Rattle.bac_wire.proofs.ParameterLaws.{context_reader, number_reader, object_reader, enclosed_reader, number_spells}
-use Rattle.bac_wire.proofs.ParameterLaws.{object_spells, enclosed_spells}
+use Rattle.bac_wire.proofs.ParameterLaws.{context_reader, enclosed_reader, enclosed_spells, number_reader}
+use Rattle.bac_wire.proofs.ParameterLaws.{number_spells, object_reader, object_spells}
 use Rattle.bac_wire.proofs.laws.parameters.Goals as goal
 
 pub returns : goal.returns

@@ -1,6 +1,6 @@
 -- The parts of the law are lemmas.
-use Rattle.bac_wire.proofs.{Readers.spelled_back, DatumLaws.{held_sound, one_value, value_reader}}
-use Rattle.bac_wire.proofs.PlainDatum.{plain_spells, plain_shortest}
+use Rattle.bac_wire.proofs.{DatumLaws.{held_sound, one_value, value_reader}, PlainDatum.{plain_shortest, plain_spells}}
+use Rattle.bac_wire.proofs.Readers.{spelled_back}
 use Rattle.bac_wire.proofs.laws.values.Goals as goal
 
 pub returns : goal.returns

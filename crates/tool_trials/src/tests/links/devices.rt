@@ -84,7 +84,7 @@ fn serves(
     steps: &[Step<'_>],
     fail: Option<u32>,
     count: u32,
-    (answer, sent): (Result<u32, ToolFault>, &[(u64, &[u8])]),
+    (answer, sent): (Result<Exit, ToolFault>, &[(u64, &[u8])]),
 ) -> bool {
     let Some(mut device) = small_device() else {
         return false;
@@ -110,8 +110,8 @@ const REPLIES: &[(u64, &[u8])] = &[(0, VALUE), (0, I_AM)];
 
 #[test]
 fn a_device_serves(rt: HostRuntime) {
-    assert!(rt; serves(rt.alloc(), &COMES, None, 3, (Ok(2), REPLIES)));
-    assert!(rt; serves(rt.alloc(), &[Step::Broken], None, 0, (Ok(0), &[])));
+    assert!(rt; serves(rt.alloc(), &COMES, None, 3, (Ok(Exit::Good), REPLIES)));
+    assert!(rt; serves(rt.alloc(), &[Step::Broken], None, 0, (Ok(Exit::Good), &[])));
     let spent = (Err(ToolFault::TurnsSpent), [].as_slice());
     assert!(rt; serves(rt.alloc(), quiet(&rt).as_slice(), None, 1, spent));
 }

@@ -101,10 +101,8 @@ fn read_ends(alloc: Global, at: Asked, kind: ErrorKind) -> Result<Got, LinkFault
     Ok(run_job(job, &mut link, [0; 9].as_mut_slice()))
 }
 
-type Served = Result<u32, ToolFault>;
-
 /// How a device ends that is to answer one datagram over such a socket, which gives a request.
-fn serve_ends(alloc: Global, at: Asked, kind: ErrorKind) -> Result<Served, LinkFault> {
+fn serve_ends(alloc: Global, at: Asked, kind: ErrorKind) -> Result<Got, LinkFault> {
     let mut link = UdpLink::over(Failing::new(at, kind, ASK), alloc, OnRefusal::IsLost)?;
     let mut device = small_device().ok_or(LinkFault)?;
     Ok(serve(&mut link, &mut device, 1))
@@ -112,14 +110,12 @@ fn serve_ends(alloc: Global, at: Asked, kind: ErrorKind) -> Result<Served, LinkF
 
 const UNHEARD: Got = Err(ToolFault::ReceiveFailed);
 
-const BROKEN: Served = Err(ToolFault::ReceiveFailed);
-
 /// All turns go by in silence.
-const SILENT: Served = Err(ToolFault::TurnsSpent);
+const SILENT: Got = Err(ToolFault::TurnsSpent);
 
 /// Each kind of error, and how a read and a device end where each receive fails with it. What tells that a wait is
 /// over, or that a device's reply did not come to its peer, is silence.
-static RECEIVING: [(ErrorKind, Got, Served); 12] = [
+static RECEIVING: [(ErrorKind, Got, Got); 12] = [
     (ErrorKind::WouldBlock, Ok(Exit::Bad), SILENT),
     (ErrorKind::TimedOut, Ok(Exit::Bad), SILENT),
     (ErrorKind::Interrupted, Ok(Exit::Bad), SILENT),
@@ -127,11 +123,11 @@ static RECEIVING: [(ErrorKind, Got, Served); 12] = [
     (ErrorKind::ConnectionReset, UNHEARD, SILENT),
     (ErrorKind::HostUnreachable, UNHEARD, SILENT),
     (ErrorKind::NetworkUnreachable, UNHEARD, SILENT),
-    (ErrorKind::NetworkDown, UNHEARD, BROKEN),
-    (ErrorKind::NotConnected, UNHEARD, BROKEN),
-    (ErrorKind::PermissionDenied, UNHEARD, BROKEN),
-    (ErrorKind::OutOfMemory, UNHEARD, BROKEN),
-    (ErrorKind::Other, UNHEARD, BROKEN),
+    (ErrorKind::NetworkDown, UNHEARD, UNHEARD),
+    (ErrorKind::NotConnected, UNHEARD, UNHEARD),
+    (ErrorKind::PermissionDenied, UNHEARD, UNHEARD),
+    (ErrorKind::OutOfMemory, UNHEARD, UNHEARD),
+    (ErrorKind::Other, UNHEARD, UNHEARD),
 ];
 
 #[test]
@@ -151,10 +147,10 @@ fn receives_fail(rt: HostRuntime) -> Result<(), Fail> {
 
 /// What else fails, and how both end then, whatever the error is. A device loses the reply that it can't send. Without
 /// a clock no time goes by, and what comes is heard all the same.
-static OTHERS: [(Asked, Got, Served); 3] = [
-    (Asked::Limit, UNHEARD, BROKEN),
-    (Asked::Send, Err(ToolFault::SendFailed), Ok(1)),
-    (Asked::Time, Ok(Exit::Good), Ok(1)),
+static OTHERS: [(Asked, Got, Got); 3] = [
+    (Asked::Limit, UNHEARD, UNHEARD),
+    (Asked::Send, Err(ToolFault::SendFailed), Ok(Exit::Good)),
+    (Asked::Time, Ok(Exit::Good), Ok(Exit::Good)),
 ];
 
 #[test]

@@ -233,7 +233,7 @@ fn answers<L: Link>(desk: &mut L, field: &mut L, device: &mut Device, to: Peer, 
 {
     desk.send(to, ASK)?;
     let got = serve(field, device, count);
-    Ok(got == Ok(count) && !field.failed() && hears(desk, to, VALUE)?)
+    Ok(got == Ok(Exit::Good) && !field.failed() && hears(desk, to, VALUE)?)
 }
 
 /// Whether a device that was asked from where no reply can be sent hears the desk afterwards.

@@ -97,7 +97,7 @@ fn serves_waiting(alloc: Global, wait: u32) -> bool {
         return false;
     };
     let got = serve(&mut link, &mut device, 1);
-    got == Ok(1) && link.waits.as_slice() == [wait, wait].as_slice()
+    got == Ok(Exit::Good) && link.waits.as_slice() == [wait, wait].as_slice()
 }
 
 // A call waits for 50 ms at a time, or for its timeout where that is shorter, and a device for a second.

@@ -1,7 +1,6 @@
 //! Texts of outcomes and of values.
 use crate::tests::is_text;
-use bac_print::Checked;
-use bac_script::{TraceFault, show_outcome, show_value};
+use bac_print::{Checked, WriteFailed, show_outcome, show_value};
 use bac_tsm::Outcome;
 
 // What each outcome is printed as stands with the scripts. Here it is written, and what fails is told.
@@ -12,7 +11,7 @@ fn an_outcome_and_a_region_are_shown(rt: HostRuntime) {
     assert!(rt; got == Ok(()) && is_text(&room, "abort 4"));
     let mut room = [0; 3];
     let got = show_outcome(&Outcome::Segmented, &mut Checked::new(room.as_mut_slice()));
-    assert!(rt; got == Err(TraceFault::WriteFailed) && room.as_slice() == b"seg".as_slice());
+    assert!(rt; got == Err(WriteFailed) && room.as_slice() == b"seg".as_slice());
     assert!(rt; is_shown(b"\x21\x05\x21\x06", "{5,6}"));
     assert!(rt; is_shown(b"\x44\x42\x90\x99", "hex 44429099"));
 }

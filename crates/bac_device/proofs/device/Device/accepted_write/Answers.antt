@@ -1,19 +1,10 @@
 -- The code looks for the point first, and the definition for the property.
-use Rattle.std.proofs.Common.{arith}
-use Rattle.std.proofs.Common.{◌≡◌, ℕ, Option, Some, None, Result, Ok, Err, refl, sym, is_some, if◌then◌else◌, ◌&&◌, not}
-use Rattle.bac_wire.specs.Datum.{Datum}
+use Rattle.std.proofs.Common.{◌≡◌, arith, Err, if◌then◌else◌, is_some, Ok, refl, Some, sym}
 use Rattle.bac_pdu.specs.Property.{Order, order}
-use Rattle.bac_device.specs.declared.failure.Failure.{Failure, TheVariants.NotAnArray}
-use Rattle.bac_device.specs.{Property.single, Places.Standing, Device.DeviceState}
-use Rattle.bac_device.specs.Access.{property_of, commanded_point, ordered_write, accepted_write}
+use Rattle.bac_wire.specs.Datum.{Datum}
+use Rattle.bac_device.specs.{accepted_write, commanded_point, DeviceState, ordered_write, property_of, single, Standing}
+use Rattle.bac_device.specs.declared.failure.Failure.TheVariants.{NotAnArray}
 use Rattle.bac_device.proofs.device.Device.accepted_write.Goals as goal
-
--- An index stands at no single value.
-no_index : {A : Type 0} (value : Datum) (index : Option ℕ) (rest : Result A Failure)
-    → (if is_some index && not (single value).is_array then Err NotAnArray else rest)
-    ≡ if is_some index then Err NotAnArray else rest
-no_index _ None _ = refl
-no_index _ (Some _) _ = refl
 
 -- What an order comes to that names the present value of a point.
 accepted_at : (device : DeviceState) (o : Order) (standing : Standing) (value : Datum)

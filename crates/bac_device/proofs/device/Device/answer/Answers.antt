@@ -1,6 +1,5 @@
 -- What holds of the definition's reply holds of the one that was written.
-use Rattle.bac_pdu.specs.Peer.{station}
-use Rattle.bac_device.{specs.Size.ReplyFits, proofs.SizeLaws.{reply_fits, of_reply}}
+use Rattle.{bac_pdu.specs.Peer.station, bac_device.{specs.ReplyFits, proofs.SizeLaws.{of_reply, reply_fits}}}
 use Rattle.bac_device.proofs.device.Device.answer.Goals as goal
 
 pub returns-clause-fits : goal.returns-clause-fits

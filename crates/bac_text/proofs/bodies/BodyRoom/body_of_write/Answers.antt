@@ -1,6 +1,5 @@
 -- The pairs are a region of values, as the writer of the request requires, or their fault is the body's.
-use Rattle.std.proofs.Common.{arith}
-use Rattle.std.proofs.{Common.{sym, subst}}
+use Rattle.std.proofs.Common.{arith, subst, sym}
 use Rattle.bac_wire.specs.Region.{IsRegion}
 use Rattle.bac_text.proofs.{BodiesInWords.region_written, ValueRegions.values_are_region, WriteBodies.body-fault}
 use Rattle.bac_text.proofs.bodies.BodyRoom.body_of_write.Goals as goal

@@ -1,6 +1,6 @@
 -- Where the request that was sent longest ago is not due, none is, since the others were sent later.
 use Rattle.std.proofs.Common.{◌∙◌}
-use Rattle.bac_tsm.{specs.Client.client_rules, proofs.{TableTick.{front_below, some_due}, TableReads.rising}}
+use Rattle.bac_tsm.{specs.client_rules, proofs.{TableReads.rising, TableTick.{front_below, some_due}}}
 use Rattle.bac_tsm.proofs.table.Table.is_due.Goals as goal
 
 pub held-requires : goal.held-requires

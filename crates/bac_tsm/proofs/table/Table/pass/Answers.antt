@@ -1,7 +1,7 @@
 -- The request that was sent longest ago is due where any is; it goes behind the others, or ends.
-use Rattle.std.proofs.Common.{arith, sym, subst, ◌∙◌}
-use Rattle.bac_tsm.specs.{Client.client_rules, Inner.Table.IsRankOf}
-use Rattle.bac_tsm.proofs.TableTick.{some_sent, front_below, sent_again, not_found, ended}
+use Rattle.std.proofs.Common.{◌∙◌, arith, subst, sym}
+use Rattle.bac_tsm.specs.{client_rules, Inner.IsRankOf}
+use Rattle.bac_tsm.proofs.TableTick.{ended, front_below, not_found, sent_again, some_sent}
 use Rattle.bac_tsm.proofs.table.Table.pass.Goals as goal
 
 pub first_sent-slot-requires : goal.first_sent-slot-requires

@@ -1,7 +1,7 @@
 use Rattle.std.{proofs.Common.{◌≡◌, ◌++◌, map, take}, specs.Cow.cow_str_bytes}
 use Rattle.clap.specs.Walk.{texts}
 use Rattle.bac_words.specs.Marks.{marked}
-use Rattle.bac_words.proofs.words.marked_words.Given as goal
+use Rattle.bac_words.proofs.marks.marked_words.Given as goal
 
 abbrev pub invariant-loop-word : goal.invariant-loop-word
 invariant-loop-word l =

@@ -6,13 +6,13 @@ import argparse
 from importlib import import_module
 from typing import Dict, Sequence
 
-from .command import Command, Parser, add_version, asking
+from .parsing import Command, Parser, add_version, asking_options
 
 # Each command by its name, and where its Command is: a new one is a module, and a line here. Only
 # the module of the command that is asked for is loaded, since monitoring begins it again and again.
 COMMANDS: Dict[str, str] = {
     "survey": "report.COMMAND",
-    "read": "read.READ",
+    "read": "read.READ_COMMAND",
     "properties": "read.PROPERTIES_COMMAND",
     "poll": "poll.COMMAND",
     "check": "check.COMMAND",
@@ -58,7 +58,7 @@ def parser_of(given: Sequence[str]) -> Parser:
             name,
             help=command.summary,
             description=f"It {command.summary}.",
-            parents=[asking(command.at_once)] if command.asks else [],
+            parents=[asking_options(command.at_once)] if command.asks else [],
             allow_abbrev=False,
         )
         made.set_defaults(work=command.work)

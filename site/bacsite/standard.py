@@ -40,7 +40,7 @@ VALUE_TYPES = (  # by their tags
 TAGS = [it.name for it in VALUE_TYPES]
 
 BINARY, MULTI_STATE = (3, 4, 5), (13, 14, 19)
-COMMAND, DEVICE = 7, 8
+COMMAND_OBJECT, DEVICE = 7, 8
 THIS_DEVICE = 4194303  # the instance that whichever device is asked takes for its own
 
 ACTION, ACTIVE_TEXT, ALARM_VALUE, ALARM_VALUES, INACTIVE_TEXT = 2, 4, 6, 7, 46
@@ -62,7 +62,55 @@ PRIORITY_NAMES = {
 BY_HAND = 8  # an entry of the priority array at this place, or before, stands above the program
 NOT_COMMANDED = (0, 3, 6, 7, 12, 13, 17, 21, 22, 23, 24, 28)  # types without a priority array
 
-What = Tuple[int, ...]  # an object type, an instance, a property, and perhaps an index
+
+class Which(NamedTuple):
+    """An object."""
+
+    object_type: int
+    instance: int
+
+    def what(self, number: int, element: Optional[int] = None) -> What:
+        """A property of it, or an element of that."""
+        return What(self.object_type, self.instance, number, element)
+
+    def __str__(self) -> str:
+        return f"{self.object_type}:{self.instance}"
+
+
+class What(NamedTuple):
+    """A property of an object, or an element of it."""
+
+    object_type: int
+    instance: int
+    number: int  # of the property
+    element: Optional[int] = None
+
+    @property
+    def which(self) -> Which:
+        """The object."""
+        return Which(self.object_type, self.instance)
+
+    def other(self, number: int) -> What:
+        """Another property of the same object."""
+        return self.which.what(number)
+
+    def at(self, element: int) -> What:
+        """An element of it."""
+        return What(self.object_type, self.instance, self.number, element)
+
+    def numbers(self) -> List[int]:
+        """All its numbers."""
+        found = [self.object_type, self.instance, self.number]
+        return found if self.element is None else [*found, self.element]
+
+    def words(self) -> str:
+        """It as a read has it in a script."""
+        return " ".join(map(str, self.numbers()))
+
+    def words_at(self, priority: Optional[int]) -> str:
+        """It as a write has it in a script, where 0 is no priority, and -1 no index."""
+        element = -1 if self.element is None else self.element
+        return f"{self.object_type} {self.instance} {self.number} {priority or 0} {element}"
 
 
 class Form(NamedTuple):
@@ -103,13 +151,13 @@ def meanings() -> Iterator[Tuple[str, Dict[int, str]]]:
             yield name, found
 
 
-TYPES, TYPE_TELLS = numbered("Object types")
+OBJECT_TYPES, TYPE_TELLS = numbered("Object types")
 PROPERTIES, PROPERTY_TELLS = numbered("Properties")
 UNIT_NAMES = numbered("Units")[0]
 STATES = {0: "inactive", 1: "active"}
 MEANINGS = dict(meanings())
 MEANINGS.update(
-    {"object-type": TYPES, "property-list": PROPERTIES, "units": UNIT_NAMES},
+    {"object-type": OBJECT_TYPES, "property-list": PROPERTIES, "units": UNIT_NAMES},
     **{name: UNIT_NAMES for name in PROPERTIES.values() if name.endswith("-units")},
 )
 
@@ -141,8 +189,9 @@ def present_form(object_type: int) -> Form:
 
 def form_of(what: What) -> Form:
     """Which values a property of an object has, or an element of it."""
-    object_type, _, number, *index = what
-    return Form((UNSIGNED,)) if index == [0] else _form(object_type, number, bool(index))
+    if what.element == 0:
+        return Form((UNSIGNED,))
+    return _form(what.object_type, what.number, what.element is not None)
 
 
 @lru_cache(maxsize=4096)
@@ -155,7 +204,7 @@ def _form(object_type: int, number: int, is_element: bool) -> Form:
         return found._replace(is_row=False)
     if re.search("present value|by the object type", told):
         return present
-    if (object_type, number) == (COMMAND, ACTION):
+    if (object_type, number) == (COMMAND_OBJECT, ACTION):
         return Form()  # a list of what it writes
     if number in (ALARM_VALUE, ALARM_VALUES):
         return present._replace(is_list=is_list)

@@ -9,6 +9,7 @@ from typing import Callable, NoReturn, Optional, Sequence
 
 from . import VERSION
 from .failures import WRONG_WORDS, Failure, wrong
+from .journals import Journals
 from .output import put
 
 CALLS_AT_ONCE = 32
@@ -106,7 +107,11 @@ def add_number(
     )
 
 
-def asking(at_once: int) -> Parser:
+def _journals(word: str) -> Journals:
+    return Journals(_unmarked(word))
+
+
+def asking_options(at_once: int) -> Parser:
     """The options of all commands that ask controllers."""
     parser = Parser(add_help=False)
     parser.add_argument("--tools", metavar="FOLDER", help="where bactool is")
@@ -118,5 +123,7 @@ def asking(at_once: int) -> Parser:
     told = "how many requests one controller has at the same time"
     add_number(parser, "window", 1, 64, 1, told)
     told = "a folder for scripts of all that is sent and comes, for bactrace"
-    parser.add_argument("--journal", metavar="FOLDER", help=told)
+    parser.add_argument(
+        "--journal", metavar="FOLDER", type=_journals, default=Journals(), help=told
+    )
     return parser

@@ -1,0 +1,29 @@
+-- The device that introduces itself in a datagram (I-Am, clause 16.10).
+use Rattle.std.specs.Prelude.{ℕ, ◌==◌, if◌then◌else◌, List, Option, Some, None}
+use Rattle.bac_wire.specs.Steps.{◌>>=◌}
+use Rattle.bac_pdu.specs.{Apdu.{Message, unconfirmed}, ApduReading.apdu_of, DatagramReading.carried}
+use Rattle.bac_pdu.specs.{Discovery.{Introduction, asks, introduction}, Peer.{Station, station}}
+use Rattle.bac_pdu.specs.{ValueReading.introduction_of, declared.discovery.WhoIs.WhoIs}
+use Rattle.bac_pdu.specs.declared.found.Found.{Found as Finding}
+
+-- A device that introduced itself, and where it is.
+pub record Found : Type 0 where
+  pub peer : Station
+  pub device : Introduction
+
+-- What an I-Am (0) says.
+abbrev pub introduced_in : Message → Option Introduction
+introduced_in (unconfirmed service body) = if service == 0 then introduction_of body else None
+introduced_in _ = None
+
+-- The device that introduces itself in a datagram, where it is one that is asked for; else none.
+unfoldable pub found_of : WhoIs → Station → List ℕ → Option Found
+found_of who from octets = do
+  delivery ← carried from octets
+  message ← apdu_of delivery.apdu
+  device ← introduced_in message
+  if asks who device.device.instance then Some (record { peer = delivery.peer; device = device }) else None
+
+-- What a `Found` of the code says.
+abbrev pub found_seen : Finding → Found
+found_seen found = record { peer = station found.peer; device = introduction found.device }

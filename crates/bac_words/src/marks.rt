@@ -1,0 +1,99 @@
+//! The marks of words: put on before `clap` reads them, so that none is taken for an option, and taken off again. Each
+//! text of a word is had from here, but that of `--mac`, so that no mark is left on it.
+
+ghost use Rattle.std.specs.Prelude.{◌≡◌, IfOk, drop, map, option_map};
+ghost use Rattle.std.specs.Cow.{cow_str_bytes};
+ghost use Rattle.clap.specs.{Words.{found_of, rows_of}, Walk.texts};
+ghost use Rattle.bac_words.specs.{Job.typed_word, Marks.{marked, marked_words, unmarked, wants_mark}};
+
+use bac_text::WordSource;
+use clap::ArgMatches;
+use std::alloc::{AllocError, Global};
+use std::borrow::CowStr;
+
+/// The words, each after the program's name with a mark where it wants one. Only those with a mark are copied.
+pub(crate) fn marked_words<'a>(
+    alloc: Global,
+    words: &[&'a str],
+) -> Result<Vec<CowStr<'a>>, AllocError>
+    ensures { IfOk result (λ v. map cow_str_bytes v.items ≡ marked_words (texts words.now)) }
+{
+    let mut seen = Vec::new(alloc);
+    if let Some((program, arguments)) = words.split_first() {
+        seen.push(CowStr::Borrowed(program))?;
+        for word in arguments {
+            seen.push(marked(alloc, word)?)?;
+        }
+    }
+    Ok(seen)
+}
+
+/// The word of an argument, as it was typed, where it is given.
+#[tactic(auto, using(crate::proofs::Given::first_words))]
+pub(crate) fn typed_word<'a>(matches: &ArgMatches<'a>, id: &str) -> Option<&'a str>
+    ensures { option_map (λ word. word.now) result ≡ typed_word id.now (rows_of (found_of matches.now)) }
+{
+    Some(unmarked(matches.get_str(id)?))
+}
+
+/// Marked words, taken as they were typed.
+#[derive(Drop)]
+pub(crate) struct TypedWords<'w, 'a> {
+    words: &'w [&'a str],
+    // How many are taken.
+    taken: usize,
+}
+
+impl<'w, 'a> TypedWords<'w, 'a> {
+    pub(crate) fn new(words: &'w [&'a str]) -> Self
+        ensures { map unmarked (texts (drop result.taken result.words.now)) ≡ map unmarked (texts words.now) }
+    {
+        TypedWords { words, taken: 0 }
+    }
+}
+
+impl<'w, 'a> WordSource<'a> for TypedWords<'w, 'a> {
+    ghost left = { λ typed. map unmarked (texts (drop typed.taken typed.words.now)) };
+
+    #[tactic(auto, using(crate::proofs::WordsLeft::typed_next, crate::proofs::WordsLeft::typed_end))]
+    fn next_word(&mut self) -> Option<&'a [u8]> {
+        if self.taken < self.words.len() {
+            let word = self.words[self.taken];
+            self.taken += 1;
+            return Some(unmarked(word).as_bytes());
+        }
+        None
+    }
+
+    #[tactic(auto, using(crate::proofs::WordsLeft::typed_fewer))]
+    fn are_countable(&self) {}
+}
+
+// A word without its mark.
+fn unmarked(word: &str) -> &str
+    ensures { result.now ≡ unmarked word.now }
+{
+    word.strip_prefix("~").unwrap_or(word)
+}
+
+// The word, with a mark where it wants one.
+fn marked<'a>(alloc: Global, word: &'a str) -> Result<CowStr<'a>, AllocError>
+    ensures { IfOk result (λ s. cow_str_bytes s ≡ marked word.now) }
+{
+    if wants_mark(word) {
+        Ok(CowStr::Owned(format!(in alloc; "~{word}")?))
+    } else {
+        Ok(CowStr::Borrowed(word))
+    }
+}
+
+// Whether the word is to be marked: `clap` would take it for an option, or it would be taken for a marked one.
+fn wants_mark(word: &str) -> bool
+    ensures { result ≡ wants_mark word.now }
+{
+    match word.as_bytes() {
+        [b'~', ..] => true,
+        [b'-', digit, ..] => digit.is_ascii_digit(),
+        _ => false,
+    }
+}
