@@ -135,9 +135,9 @@ fn examples_of_searches_and_servers()
     // A server whose first wait fails leaves the device as it was.
     ensures served { Serves 1 (device 7) (device 7) (asked_so []) (asked_so deaf) (Err ReceiveFailed) }
     ensures other_device { Serves 1 (device 7) (device 8) (asked_so []) (asked_so deaf) (Err ReceiveFailed) → ⊥ }
-    ensures not_served { Serves 1 (device 7) (device 7) (asked_so []) (asked_so []) (Ok 0) → ⊥ }
-    ensures served_none { Serves 0 (device 7) (device 7) (asked_so []) (asked_so []) (Ok 0) }
-    ensures replied { Serves 0 (device 7) (device 7) (asked_so []) (asked_so []) (Ok 1) → ⊥ }
+    ensures not_served { Serves 1 (device 7) (device 7) (asked_so []) (asked_so []) good → ⊥ }
+    ensures served_none { Serves 0 (device 7) (device 7) (asked_so []) (asked_so []) good }
+    ensures replied { Serves 0 (device 7) (device 7) (asked_so []) (asked_so []) bad → ⊥ }
 {}
 
 // What the system is asked for a link over a socket.

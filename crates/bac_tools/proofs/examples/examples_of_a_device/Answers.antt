@@ -22,12 +22,10 @@ runs : ToolRuns no_contents unasked unasked (asked_so []) (asked_so deaf) (Err R
 runs = (
   record {
     device = _;
-    served = Err ReceiveFailed;
     serves = record {
       plays = record { gained = deaf; gains = refl; follows = (refl, tt); over = refl };
       device = refl;
     };
-    answers = refl;
   },
   refl,
 )
@@ -46,7 +44,7 @@ at_any = (refl, refl)
 pub returns : goal.returns
 returns c = record {
   runs = runs;
-  other_fault = λ h. let over = ends h.0.serves.plays in let answers = h.0.answers in grind arith;
+  other_fault = λ h. let over = ends h.0.serves.plays in grind arith;
   not_asked = λ h. let over = ends h.0.serves.plays in grind arith;
   prints = λ h. untaken _ h.1;
   calls = record {
