@@ -8,7 +8,7 @@ import unittest.mock
 import harness
 from bacsite import addresses, calls, reasons, survey
 from bacsite.controller import Controller
-from bacsite.device import Bounds, Device, SiteObject
+from bacsite.device import Bounds, Device, SiteObject, shortened
 from bacsite.earlier import Earlier, Known
 from bacsite.reasons import Why
 from bacsite.report import Columns, Counts, PollList
@@ -110,6 +110,15 @@ class Order(unittest.TestCase):
         many = QuickCalls({A: {**device(11), (0, 2, 77): ("error", 1, 31)}})
         self.surveyed(many, [A])
         self.assertEqual([it for it in many.asked if it[1:3] == (0, 2)], [(A, 0, 2, 77)])
+
+    def test_who_says_to_be_no_device_is_none(self):
+        many = QuickCalls({A: {**device(11), (8, 4194303, 75): an_object(0, 11)}})
+        found = self.surveyed(many, [A])
+        self.assertEqual(found, [(A, None, 0, ["no device: 0:11 (analog-input)"])])
+
+    def test_so_many_reasons_are_told(self):
+        self.assertEqual(shortened(list("abcd")), list("abcd"))
+        self.assertEqual(shortened(list("abcdef")), ["a", "b", "c", "2 more such", "f"])
 
     def test_requests_are_counted(self):
         many = QuickCalls({A: device(11, 60)})

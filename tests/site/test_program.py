@@ -17,7 +17,7 @@ from contextlib import suppress
 
 import harness
 import bacsite
-from bacsite.processes import Processes
+from bacsite.processes import NotBegun, Processes
 from stand_ins import enumerated, local_socket, real, string
 
 # The names that stand in front of each line of the package's text.
@@ -124,6 +124,18 @@ class Running(unittest.TestCase):
         self.assertFalse(process.is_ready(0.05))
         process.kill()
         self.assertEqual(process.outcome().lines, ["c"])
+
+
+    def test_a_line_is_waited_for_until_the_time_is_up(self):
+        process = Processes().start(["sh", "-c", "sleep 0.3; echo a; exec sleep 9"], time.monotonic() + 5)
+        self.assertEqual((process.line(), process.line()), ("a", None))
+        self.assertIsNone(process.outcome().status)
+
+    def test_none_begins_once_all_are_ended(self):
+        processes = Processes()
+        processes.end()
+        with self.assertRaises(NotBegun):
+            processes.start(["true"])
 
 
 class Streams(harness.SiteTest):
