@@ -33,7 +33,7 @@ def missed(command, faults, check):
         tree = f"{room}/tree"
         shutil.copytree(TOP, tree, symlinks=True, ignore=NOT_COPIED, copy_function=os.link)
         lost = [it for row in [*faults, *check] for it in plant(tree, *row[:3])]
-        done = ran(sys.executable, *command, cwd=tree, timeout=300)
+        done = ran("timeout", "1200", sys.executable, *command, cwd=tree)
     lost += [message for *_, message in faults if message not in done.stdout]
     return lost if done.returncode else [*lost, "status 0"]
 

@@ -47,9 +47,9 @@ def one(word: str) -> Tuple[Optional[int], str]:
     route, behind = ROUTE.fullmatch(rest), ""
     if route and 1 <= int(route[2]) <= MOST_NETWORK:
         rest, behind = route[1], f"/{int(route[2])}/{route[3].lower()}"
-    found, name = ADDRESS.fullmatch(rest), HOST.fullmatch(rest)
-    if found:
-        return instance, _checked(found[1], found[2], word) + behind
+    numbers, name = ADDRESS.fullmatch(rest), HOST.fullmatch(rest)
+    if numbers:
+        return instance, _checked(numbers[1], numbers[2], word) + behind
     host = _looked_up(name[1]) if name else ""
     if not name or not host:
         raise wrong("no address: " + word)
@@ -65,34 +65,34 @@ def is_routed(address: str) -> bool:
 def _looked_up(name: str) -> str:
     """The address of a host; empty where it has none. Each name is looked up once."""
     try:
-        found = socket.getaddrinfo(name, None, socket.AF_INET, socket.SOCK_DGRAM)
+        hosts = socket.getaddrinfo(name, None, socket.AF_INET, socket.SOCK_DGRAM)
     except (OSError, UnicodeError):
         return ""
-    return str(found[0][4][0])
+    return str(hosts[0][4][0])
 
 
 def targets(words: Sequence[str]) -> List[Target]:
     """What each word names: one address, or a range of them. None of them stands there twice."""
-    found: Dict[str, Target] = {}
+    by_address: Dict[str, Target] = {}
     for word in words:
         many = ADDRESS_RANGE.fullmatch(word)
         addresses = _addresses(many, word) if many else []
         for address in addresses:
-            found.setdefault(address, Target(address, (None,), in_range=True))
+            by_address.setdefault(address, Target(address, (None,), in_range=True))
         if not many:
             instance, address = one(word)
-            earlier = found.get(address)
+            earlier = by_address.get(address)
             wanted = earlier.wanted if earlier and not earlier.in_range else ()
-            found[address] = Target(address, tuple(dict.fromkeys((*wanted, instance))))
-    return list(found.values())
+            by_address[address] = Target(address, tuple(dict.fromkeys((*wanted, instance))))
+    return list(by_address.values())
 
 
 def _split(word: str) -> Tuple[Optional[int], str]:
-    found = INSTANCE_AT.fullmatch(word)
-    assert found, "the pattern takes any word"
-    if found[1] and int(found[1]) > MOST_DEVICE:
+    match = INSTANCE_AT.fullmatch(word)
+    assert match, "the pattern takes any word"
+    if match[1] and int(match[1]) > MOST_DEVICE:
         raise wrong("no device instance: " + word)
-    return int(found[1]) if found[1] else None, found[2]
+    return int(match[1]) if match[1] else None, match[2]
 
 
 def _checked(host: str, port: Optional[str], word: str) -> str:
@@ -103,9 +103,9 @@ def _checked(host: str, port: Optional[str], word: str) -> str:
     return ".".join(map(str, parts)) + f":{number}"
 
 
-def _addresses(found: "re.Match[str]", word: str) -> List[str]:
+def _addresses(match: "re.Match[str]", word: str) -> List[str]:
     """The addresses of 192.0.2.0/24, 192.0.2.1-254 or 192.0.2.1-192.0.2.9, perhaps with a port."""
-    first, size, last, port = found.groups()
+    first, size, last, port = match.groups()
     try:
         if size:
             network = ipaddress.IPv4Network((first, int(size)), strict=False)

@@ -52,8 +52,8 @@ def _head(heads: Sequence[str]) -> str:
     return f"<thead><tr>{''.join(cells)}</tr></thead>"
 
 
-def _is_odd(found: SiteObject) -> bool:
-    return bool(found.reasons or found.flags)
+def _is_odd(site_object: SiteObject) -> bool:
+    return bool(site_object.reasons or site_object.flags)
 
 
 def _badge(flag: str, words: str) -> str:
@@ -61,24 +61,30 @@ def _badge(flag: str, words: str) -> str:
     return f'<span class="{name}">{safe(words)}</span>'
 
 
-def _object_row(found: SiteObject) -> str:
-    kind, instance, value = found.object_type, found.instance, _own(found.value.text)
-    if found.meaning:
-        value += f' <span class="meaning">({_own(found.meaning)})</span>'
-    if found.unit:
-        value += f' <span class="unit">{safe(found.unit)}</span>'
-    if found.held:
-        value += f' <span class="soft">priority {safe(found.held)}</span>'
-    flags = [_badge(flag, flag) for flag in found.flags or ()]
+def _object_row(site_object: SiteObject) -> str:
+    kind, instance, value = (
+        site_object.object_type,
+        site_object.instance,
+        _own(site_object.value.text),
+    )
+    if site_object.meaning:
+        value += f' <span class="meaning">({_own(site_object.meaning)})</span>'
+    if site_object.unit:
+        value += f' <span class="unit">{safe(site_object.unit)}</span>'
+    if site_object.held:
+        value += f' <span class="soft">priority {safe(site_object.held)}</span>'
+    flags = [_badge(flag, flag) for flag in site_object.flags or ()]
     cells = [
-        _cell("id", str(found.which), kind << 22 | instance),
-        _cell("type", safe(found.type_name)),
-        _cell("name", _own(found.name) + _soft(found.description)),
-        _cell("value", value, found.value.number),
-        _cell("flags", " ".join(flags) or f'<span class="soft">{safe(found.told_flags)}</span>'),
-        _cell("reason", safe("; ".join(found.reasons))),
+        _cell("id", str(site_object.which), kind << 22 | instance),
+        _cell("type", safe(site_object.type_name)),
+        _cell("name", _own(site_object.name) + _soft(site_object.description)),
+        _cell("value", value, site_object.value.number),
+        _cell(
+            "flags", " ".join(flags) or f'<span class="soft">{safe(site_object.told_flags)}</span>'
+        ),
+        _cell("reason", safe("; ".join(site_object.reasons))),
     ]
-    odd = ' data-odd="1"' if _is_odd(found) else ""
+    odd = ' data-odd="1"' if _is_odd(site_object) else ""
     return f"<tr{odd}>{''.join(cells)}</tr>\n"
 
 

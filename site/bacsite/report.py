@@ -73,12 +73,23 @@ def as_lines(device: Device, columns: Columns) -> str:
     return "".join(line + "\n" for line in lines)
 
 
-def _cells(found: SiteObject, columns: Columns) -> List[str]:
-    shown = f"{found.value.text} ({found.meaning})" if found.meaning else found.value.text
-    shown = " ".join(filter(None, [shown, found.unit])) if shown else ""
-    more = [str(OF_OBJECT[it](found)) for it in columns.objects]
-    told = [str(found.which), found.type_name, found.name, shown, found.told_flags, *more]
-    return [*told, "; ".join(found.reasons)]
+def _cells(site_object: SiteObject, columns: Columns) -> List[str]:
+    shown = (
+        f"{site_object.value.text} ({site_object.meaning})"
+        if site_object.meaning
+        else site_object.value.text
+    )
+    shown = " ".join(filter(None, [shown, site_object.unit])) if shown else ""
+    more = [str(OF_OBJECT[it](site_object)) for it in columns.objects]
+    told = [
+        str(site_object.which),
+        site_object.type_name,
+        site_object.name,
+        shown,
+        site_object.told_flags,
+        *more,
+    ]
+    return [*told, "; ".join(site_object.reasons)]
 
 
 def as_csv(device: Device, columns: Columns) -> str:
@@ -189,20 +200,20 @@ def work(words: argparse.Namespace) -> int:
     bounds = Bounds(
         words.objects, words.deadline, words.devices, words.details, words.held, words.stations
     )
-    counts, found = Counts(len(targets)), []
+    counts, devices = Counts(len(targets)), []
     in_order = words.sorted or bool(words.html)
     for device in surveyed(Calls.of(words), targets, bounds, earlier, in_order):
         counts.add(device)
         if device.hidden and not words.silent:
             continue
-        found.append(device)
+        devices.append(device)
         if not words.html:
             put(form(device, columns))
     if words.html:
-        replace_file(words.html, page_of(found, stamp()))
+        replace_file(words.html, page_of(devices, stamp()))
     if any(it.in_range for it in targets):
         show(counts.line())
-    return MISSING if counts.missing or not found else 0
+    return MISSING if counts.missing or not devices else 0
 
 
 class Counts:

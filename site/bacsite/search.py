@@ -52,38 +52,39 @@ class Search:
 
 def late_answers(calls: Calls, addresses: Sequence[str], patience: int) -> Dict[str, str]:
     """What those say who answer a read at last, by their addresses. All are waited for together."""
-    parts = [addresses[at : at + MOST_OPEN] for at in range(0, len(addresses), MOST_OPEN)]
-    found: Dict[str, str] = {}
+    count = len(addresses) if patience > 0 else 0
+    parts = [addresses[at : at + MOST_OPEN] for at in range(0, count, MOST_OPEN)]
+    told: Dict[str, str] = {}
     with ThreadPoolExecutor(calls.at_once) as pool:
         for ended in pool.map(lambda it: _ended(calls, it, patience), parts):
-            found.update((it, _told(how)) for it, how in ended.items() if how.outcome != TIMEOUT)
-    return found
+            told.update((it, _told(how)) for it, how in ended.items() if how.outcome != TIMEOUT)
+    return told
 
 
 def _ended(calls: Calls, addresses: Sequence[str], patience: int) -> Dict[str, Ended]:
     """How a read of each of these ends, which is sent once."""
     words = ["bacrun", "--apdu-timeout", str(patience), "--apdu-retries", "0", "--window"]
-    found: Dict[str, Ended] = {}
+    ends: Dict[str, Ended] = {}
     for _ in range(MOST_TRIES):
         try:
             session = Session(calls.start([*words, str(MOST_OPEN)]), window=MOST_OPEN)
         except NotBegun:
             break
         asked = {session.put(f"read {it} {ITSELF.words()}"): it for it in addresses}
-        while len(found) < len(addresses):
+        while len(ends) < len(addresses):
             ended = session.ended()
             if ended is None:
                 break
-            found[asked[ended.ticket]] = ended
+            ends[asked[ended.ticket]] = ended
         if calls.processes.over(session.asks).told != BIND_FAILED:
             break
-    return found
+    return ends
 
 
 def _told(ended: Ended) -> str:
     """Who it is, or else what it answers."""
     answer = answer_of(ended, ITSELF)
-    found = elements_of(answer.region) or []
-    if [(it.kind, it.of_object.object_type) for it in found] == [(OBJECT, DEVICE)]:
-        return f"device {found[0].of_object.instance} answers a read very late"
+    elements = elements_of(answer.region) or []
+    if [(it.kind, it.of_object.object_type) for it in elements] == [(OBJECT, DEVICE)]:
+        return f"device {elements[0].of_object.instance} answers a read very late"
     return f"a read is answered very late: {answer.reason or 'by no device'}"

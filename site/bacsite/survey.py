@@ -43,9 +43,9 @@ def surveyed(
     jobs += [partial(survey.stations_behind, it) for it in turns if it.target.may_be_router]
     of_ranges = [it for it in turns if it.target.in_range]
     last = [partial(survey.looked_at_last, of_ranges)] if of_ranges else []
-    found = (it for devices in side_by_side(calls, [*jobs, *last], in_order) for it in devices)
+    devices = (it for some in side_by_side(calls, [*jobs, *last], in_order) for it in some)
     seen: Dict[int, str] = {}
-    for device in _sorted(found, targets) if in_order and last else found:
+    for device in _sorted(devices, targets) if in_order and last else devices:
         if device.instance is not None:
             first = seen.setdefault(device.instance, device.address)
             if first != device.address:
@@ -67,15 +67,15 @@ class _Survey:
 
     def devices_at(self, turn: _Turn) -> List[Device]:
         """The device at an address, and a line for each other one that is looked for there."""
-        found: List[Device] = []
+        devices: List[Device] = []
         try:
             until = deadline_of(self.bounds.seconds)
             with Controller(self.calls, turn.target.address, until) as controller:
-                found = self._devices(controller, turn)
+                devices = self._devices(controller, turn)
         finally:
-            turn.hidden = [it for it in found if it.hidden]
+            turn.hidden = [it for it in devices if it.hidden]
             turn.is_over.set()
-        return [it for it in found if not it.hidden]
+        return [it for it in devices if not it.hidden]
 
     def stations_behind(self, turn: _Turn) -> List[Device]:
         """Who answers a Who-Is from behind the router at an address: named, or surveyed as well.
@@ -84,9 +84,9 @@ class _Survey:
         which device is there, and waits beside what that is asked.
         """
         turn.is_over.wait()
-        router, found = turn.target.address + "/", turn.search.heard() if turn.search else []
+        router, heard = turn.target.address + "/", turn.search.heard() if turn.search else []
         stations = [
-            (instance, address) for instance, address in found if address.startswith(router)
+            (instance, address) for instance, address in heard if address.startswith(router)
         ]
         if not self.bounds.stations:
             return [Device(address, instance, asked=stamp()) for instance, address in stations]
@@ -98,35 +98,33 @@ class _Survey:
         awaited long, as far as their time goes: who answers then is not hidden."""
         for turn in turns:
             turn.is_over.wait()
-        found = [it for turn in turns for it in turn.hidden]
-        was_asked = (self.calls.retries + 2) * self.calls.timeout
-        patience = min(
-            LATE * self.calls.timeout, MOST_TIMEOUT, self.bounds.seconds * 1000 - was_asked
-        )
-        told = (
-            late_answers(self.calls, [it.address for it in found], patience) if patience > 0 else {}
-        )
-        for device in found:
+        hidden, timeout = [it for turn in turns for it in turn.hidden], self.calls.timeout
+        left = self.bounds.seconds * 1000 - (self.calls.retries + 2) * timeout
+        patience = min(LATE * timeout, MOST_TIMEOUT, left)
+        told = late_answers(self.calls, [it.address for it in hidden], patience)
+        for device in hidden:
             device.hidden = device.address not in told
             device.reasons += [] if device.hidden else [told[device.address]]
-        return found
+        return hidden
 
     def _devices(self, controller: Controller, turn: _Turn) -> List[Device]:
-        found: List[Device] = []
+        devices: List[Device] = []
         asked = stamp()
         for wanted in turn.target.wanted:
             reason = _identified(controller, wanted, turn)
             if reason:
                 strange = _others(controller, turn)
                 hidden = turn.target.in_range and why_of(reason) is Why.SILENT and not strange
-                found.append(Device(controller.address, reasons=[reason, *strange], hidden=hidden))
-            elif all(device.instance is None for device in found):
-                found.append(device_of(controller, self.bounds, self.earlier.names_of))
-        for device in found:
+                devices.append(
+                    Device(controller.address, reasons=[reason, *strange], hidden=hidden)
+                )
+            elif all(device.instance is None for device in devices):
+                devices.append(device_of(controller, self.bounds, self.earlier.names_of))
+        for device in devices:
             device.asked = asked
             device.changes = self.earlier.changes_of(device)
             device.hidden = device.hidden and not device.changes
-        return found
+        return devices
 
 
 def _identified(controller: Controller, wanted: Optional[int], turn: _Turn) -> str:
@@ -145,10 +143,10 @@ def _identified(controller: Controller, wanted: Optional[int], turn: _Turn) -> s
 
 def _others(controller: Controller, turn: _Turn) -> List[str]:
     """What is odd about those who answered a Who-Is that was sent to one who is no device."""
-    found = []
+    odd = []
     for instance, address in turn.search.heard() if turn.search and controller.silent else []:
         if address == controller.address:
-            found.append(f"device {instance} answers a Who-Is, and no read")
+            odd.append(f"device {instance} answers a Who-Is, and no read")
         elif turn.target.in_range or not is_routed(address):
-            found.append(f"device {instance} answers a Who-Is from {address}")
-    return shortened(found)
+            odd.append(f"device {instance} answers a Who-Is from {address}")
+    return shortened(odd)

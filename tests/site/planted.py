@@ -45,7 +45,11 @@ def noticed(program, fault):
         command = [sys.executable, f"{room}/tests/site/run.py", program, *tests]
         try:
             done = subprocess.run(
-                command, stdout=subprocess.PIPE, stderr=subprocess.STDOUT, timeout=MOST_SECONDS
+                command,
+                stdout=subprocess.PIPE,
+                stderr=subprocess.STDOUT,
+                timeout=MOST_SECONDS,
+                env={**os.environ, "FAILFAST": "1"},
             )
         except subprocess.TimeoutExpired:
             return "noticed, since the tests do not end"

@@ -3,7 +3,8 @@
 
 Usage: tests/site/run.py PROGRAM [NAME ..]. They run in a network of their own, where one can be
 made. PROGRAM is the one that bacsite asks by; PYTHON names another Python to run bacsite by. A NAME
-is that of a file, as test_page, or of a test in it. What a file that fails has printed is shown.
+is that of a file, as test_page, or of a test in it. What a file that fails has printed is shown;
+with FAILFAST=1 each ends at its first fault.
 """
 
 import glob
@@ -24,7 +25,8 @@ IS_ALONE = "BACSITE_TESTS_ARE_ALONE"
 def ran(name):
     """Runs a file; its name, its status, what it printed, and the seconds that it took."""
     start = time.monotonic()
-    command = [sys.executable, "-m", "unittest", "-v", name]
+    options = ["-v", "-f"] if os.environ.get("FAILFAST") else ["-v"]
+    command = [sys.executable, "-m", "unittest", *options, name]
     done = subprocess.run(
         command, cwd=HERE, stdout=subprocess.PIPE, stderr=subprocess.STDOUT, encoding="utf-8"
     )

@@ -9,7 +9,7 @@ import harness
 from bacsite import addresses, calls, reasons, survey
 from bacsite.controller import Controller
 from bacsite.device import Bounds, Device, SiteObject
-from bacsite.earlier import Earlier
+from bacsite.earlier import Earlier, Known
 from bacsite.reasons import Why
 from bacsite.report import Columns, Counts, PollList
 from bacsite.search import Search
@@ -224,6 +224,15 @@ class Lists(unittest.TestCase):
             text = found.of(Device(address, 9, objects=[point]), Columns())
             names_ += [line.split()[0] for line in text.splitlines()[1:]]
         self.assertEqual(names_, ["9.Room_1", "9.Room_1.0.5", "9.Room_1.0.5'"])
+
+
+class Changes(unittest.TestCase):
+    def test_what_was_not_read_is_no_change(self):
+        known = Known(9, {"name": "D", "vendor": "V", "model": "M"}, "1", {})
+        device = Device(A, 9, vendor="V", model="M", reasons=["object-name: timeout"])
+        self.assertEqual(Earlier({A: known}).changes_of(device), [])
+        device.reasons = []
+        self.assertEqual(Earlier({A: known}).changes_of(device), ["name was D"])
 
 
 class PortNumbers(unittest.TestCase):

@@ -78,6 +78,8 @@ class Values(unittest.TestCase):
             (read_ack, "0c0000000519553e3f", ((0, 5, 85), "", None)),
             (read_ack, "0c0000000519553e444290999a", None),
             (read_ack, "0c0000000519553e0e1f3f", None),
+            (read_ack, "0c0000000519553ef9ff053f", None),
+            (read_ack, "0c0000000519553ef9fe053f", ((0, 5, 85), "f9fe05", None)),
             (read_ack, "0c0000000519553e72003f3f", ((0, 5, 85), "72003f", None)),
             (read_ack, "0c0000000519553e0e3f0f3f", None),
             (read_ack, "0c0000000519553e0e21050fff03", ((0, 5, 85), "0e21050f", None)),

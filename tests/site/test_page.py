@@ -131,6 +131,14 @@ class Pages(unittest.TestCase):
         ):
             self.assertIn(part, page)
 
+    def test_flags_of_a_device_stand_by_what_they_say(self):
+        """The worst in front, and behind them those that the standard does not have."""
+        told = ("overridden", "out-of-service", "strange", "fault", "in-alarm", "beside")
+        page, _ = read([Device(HERE, 9, objects=[an_object(flags=(it,)) for it in told])])
+        row = page[page.index("<tbody>") : page.index("</tbody>")]
+        wanted = ["in-alarm", "fault", "overridden", "out-of-service", "beside", "strange"]
+        self.assertEqual(re.findall(r">1 ([a-z-]+)</span>", row), wanted)
+
     def test_addresses_are_sorted_as_numbers(self):
         page, _ = read([Device("10.0.0.9:47808"), Device("10.0.0.10:1")])
         numbers = re.findall(r'<td class="id"( data-n="([0-9]+)")?><a', page)

@@ -261,6 +261,14 @@ class Frames(unittest.TestCase):
             len(self.found(Packet(0, 101, 0, INNER), Packet(2 * second, 101, 1, INNER))[0]), 2
         )
 
+    def test_what_is_kept_for_copies_is_bounded(self):
+        passing, receiver = Passing(), "10.%d.%d.%d:1"
+        ends = [receiver % (at >> 16, at >> 8 & 255, at & 255) for at in range(9000)]
+        octets = bytes.fromhex(wrapped(read_apdu(1), "0104"))
+        packets = [Packet(at * 10**6, 101, 0, udp(CLIENT, it, octets)) for at, it in enumerate(ends)]
+        self.assertEqual(len(list(passing.datagrams(packets))), 9000)
+        self.assertLess(len(passing.seen), 5100)
+
 
 if __name__ == "__main__":
     unittest.main()

@@ -194,6 +194,13 @@ class Words(unittest.TestCase):
             ["capture", "octets", "real"],
         )
 
+    def test_words_that_begin_as_negative_numbers_are_whole(self):
+        words = commands.parsed(["prometheus", "-5.list", "-1.prom"])
+        self.assertEqual((words.list, words.file), ("-5.list", "-1.prom"))
+        with self.assertRaises(Failure) as caught:
+            commands.parsed(["read", "--journal", "-5", "192.0.2.7", "0", "5", "85"])
+        self.assertEqual((str(caught.exception), caught.exception.status), ("no folder: -5", 3))
+
     def test_the_version_is_that_of_the_program(self):
         told = subprocess.run(
             [harness.TOOL, "--help"], stdout=subprocess.PIPE, encoding="utf-8"

@@ -628,6 +628,7 @@ class Encode(unittest.TestCase):
             ("2200-01-01", standard.DATE),
             ("24:00", standard.TIME),
             ("12:60", standard.TIME),
+            ("12:30:60", standard.TIME),
             ("12", standard.TIME),
             ("5", standard.OBJECT),
             ("0:4194304", standard.OBJECT),

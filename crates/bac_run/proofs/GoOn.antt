@@ -31,6 +31,7 @@ use Rattle.bac_run.specs.Replay.{AskNext}
 use Rattle.bac_run.specs.Went.{IsAsked, IsSpent}
 use Rattle.bac_run.specs.declared.fault.RunFault.{RunFault}
 use Rattle.bac_run.specs.declared.fault.RunFault.TheVariants.{Link, Script}
+use Rattle.bac_run.proofs.Out.{fronts_join}
 use Rattle.bac_run.proofs.Acts.{journal-append}
 use Rattle.bac_run.proofs.Alike.{next_none, settled_wider, wider}
 use Rattle.bac_run.proofs.Ends.{Ended, IsStuck, Lost, Rested, Spent, after_wider, ended, ended_none, rest_by}
@@ -430,7 +431,7 @@ taken contents writer after text result printed wrote = go (has_failed after) re
         inl (printed.took.passed ∙ sym (printed.whole ∙ ap (λ (xs : List ℕ). printed.taken ++ xs) none
         ∙ append-nil printed.taken))
 
-journal_front : (session : Session) (acts more : List Act)
+pub journal_front : (session : Session) (acts more : List Act)
     → IsFrontOf (journal_of session acts) (journal_of session (acts ++ more))
 journal_front session acts more =
     let client = new_client session.config.timeout session.config.retries in
@@ -442,10 +443,6 @@ journal_front session acts more =
           ∙ sym (append_assoc line (journal client acts) later))
           ∙ folded-append folded_line (journal_lines session acts) later,
     )
-
-fronts_join : (xs ys zs : List ℕ) → IsFrontOf xs ys → IsFrontOf ys zs → IsFrontOf xs zs
-fronts_join xs ys zs (rest, is) (more, is') =
-    (rest ++ more, is' ∙ ap (λ (os : List ℕ). os ++ more) is ∙ append_assoc xs rest more)
 
 -- Both took one text, or a front of it where they were cut off.
 pub one_text : (session : Session) (acts others : List Act) (result other : Result TraceEnd RunFault)

@@ -1,4 +1,5 @@
 pub mod Acts
+pub mod Out
 pub mod Counts
 pub mod Cut
 pub mod Parts

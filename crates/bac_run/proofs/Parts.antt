@@ -11,7 +11,10 @@ use Rattle.bac_tsm.specs.Events.{Ask, Event, Outcome, Refused, Note}
 use Rattle.bac_tsm.specs.Client.{Client, rules_of, keeping}
 use Rattle.bac_tsm.specs.Machine.{datagram, datagram_notes, due_notes, tick}
 use Rattle.bac_print.specs.declared.page.Page.{Page}
-use Rattle.bac_print.specs.Page.{Prints}
+use Rattle.bac_print.specs.Checked.{has_failed}
+use Rattle.bac_print.specs.Page.{held, writer_of, Prints}
+use Rattle.bac_run.specs.Run.{IsWait}
+use Rattle.bac_run.proofs.Out.{out_behind, out_more, out_none, out_one, passed_here, printed_on}
 use Rattle.bac_print.proofs.Printed.{◌⨾◌, printed_as, prints_nothing}
 use Rattle.bac_links.specs.declared.fault.ToolFault.TheVariants.{SendFailed, ReceiveFailed, TurnsSpent}
 use Rattle.bac_links.specs.declared.fault.ToolFault.TheVariants.{WriteFailed as LinkNotWritten}
@@ -24,7 +27,7 @@ use Rattle.bac_run.specs.declared.turns.Run.{Run}
 use Rattle.bac_run.specs.declared.turns.Until.{Until}
 use Rattle.bac_run.specs.declared.turns.Until.TheVariants.{FewOpen, TimeTold}
 use Rattle.bac_run.specs.Inner.Went.{send_failed}
-use Rattle.bac_run.specs.Inner.Went.{IsOfWait, Went, WentFor, Opened, begins_turn, outside, started}
+use Rattle.bac_run.specs.Inner.Went.{HasPassed, IsOfWait, Went, WentFor, Opened, begins_turn, outside, started}
 use Rattle.bac_run.specs.Course.{Aim, Does, Fresh, Goes, IsDue, Stage, Turns, aims_for, is_reached, moved, open_in}
 use Rattle.bac_run.specs.Course.{ready, stage_after}
 use Rattle.bac_run.specs.Input.{input_in}
@@ -152,6 +155,7 @@ module _ {Origin W : Type 0} {contents : W → Option (List ℕ)} where
             (sym (after_on here there (from i) (mid i) first.acts second.acts same (first.comes i))) (second.comes i);
         client_is = grind (arith, moved', first.client_is, second.client_is);
         prints = printed_as (first.prints ⨾ second.prints) (grind (arith, printed, first.client_is));
+        out = out_more first.client_is first.out first.prints second.out second.prints;
         asks = asked_more first.client_is first.asks second.asks;
         fit = fit_append first.acts second.acts first.fit second.fit;
       }
@@ -168,6 +172,7 @@ module _ {Origin W : Type 0} {contents : W → Option (List ℕ)} where
     comes = stages;
     client_is = client;
     prints = prints_nothing p;
+    out = out_none c.client p p;
     asks = asked_nothing c.client s;
     fit = tt;
   }
@@ -180,7 +185,7 @@ module _ {Origin W : Type 0} {contents : W → Option (List ℕ)} where
   pub went_turned : {A I : Type 0} {result : Result A RunFault} {c d : Run} {p q r : Page W} {s t : Account Origin}
       {from to : I → Stage} {xs : List Act} → Prints contents p q [] → Went contents c d q r s t from to result xs
       → Went contents c d p r s t from to result xs
-  went_turned first then = record {
+  went_turned {c} {p = p} {q = q} {r = r} first then = record {
     acts = then.acts;
     of_input = then.of_input;
     same = then.same;
@@ -188,6 +193,7 @@ module _ {Origin W : Type 0} {contents : W → Option (List ℕ)} where
     comes = then.comes;
     client_is = then.client_is;
     prints = first ⨾ then.prints;
+    out = out_behind c.client p q r first then.out;
     asks = then.asks;
     fit = then.fit;
   }
@@ -204,6 +210,7 @@ module _ {Origin W : Type 0} {contents : W → Option (List ℕ)} where
     comes = λ j. went.comes (f j);
     client_is = went.client_is;
     prints = went.prints;
+    out = went.out;
     asks = went.asks;
     fit = went.fit;
   }
@@ -219,6 +226,7 @@ module _ {Origin W : Type 0} {contents : W → Option (List ℕ)} where
     comes = λ i. rw (is i) (went.comes i);
     client_is = went.client_is;
     prints = went.prints;
+    out = went.out;
     asks = went.asks;
     fit = went.fit;
   }
@@ -234,6 +242,7 @@ module _ {Origin W : Type 0} {contents : W → Option (List ℕ)} where
     comes = λ i. went.comes i ∙ is i;
     client_is = went.client_is;
     prints = went.prints;
+    out = went.out;
     asks = record { gained = went.asks.gained; gains = went.asks.gains; as_due = went.asks.as_due };
     fit = went.fit;
   }
@@ -250,6 +259,7 @@ module _ {Origin W : Type 0} {contents : W → Option (List ℕ)} where
     comes = λ i. rw (sym same) (went.comes i);
     client_is = rw (sym client) went.client_is;
     prints = rw (sym client) went.prints;
+    out = rw (sym client) went.out;
     asks = rw (sym client) went.asks;
     fit = went.fit;
   }
@@ -260,9 +270,10 @@ module _ {Origin W : Type 0} {contents : W → Option (List ℕ)} where
       → ((i : I) → IsDue c.session.config.timeout (from i) act)
       → ((i : I) → ComesTo result (to i) (moved c.session.config.timeout (from i) act))
       → Prints contents p q (line_of act ++ remarks (turn_at c.client act).notes)
+      → (IsWait act → HasPassed p (writer_of q) [])
       → GainsDue result (asked_by act ++ posts (turn_at c.client act).notes) s t
       → Went contents c d p q s t from to result (input_in act)
-  went_one act fits same moved' due comes printed asked = record {
+  went_one {c} {p = p} {q = q} act fits same moved' due comes printed out asked = record {
     acts = act ∷ [];
     of_input = append-nil _;
     same = same;
@@ -270,6 +281,7 @@ module _ {Origin W : Type 0} {contents : W → Option (List ℕ)} where
     comes = comes;
     client_is = moved';
     prints = printed_as printed (sym (append-nil _));
+    out = out_one c.client p q act out;
     asks = asked_once act asked;
     fit = (fits, tt);
   }
@@ -280,9 +292,11 @@ module _ {Origin W : Type 0} {contents : W → Option (List ℕ)} where
       → ((i : I) → IsDue c.session.config.timeout (from i) (Passed wait heard))
       → ((i : I) → ComesTo result (to i) (moved c.session.config.timeout (from i) (Passed wait heard)))
       → ((gained : List Entry) → gained ≡ Waited wait heard ∷ [] → IsGained result (Waited wait heard ∷ []) gained)
-      → Gains (Waited wait heard) s t → Went contents c d p p s t from to result []
-  went_passed c d p wait heard same client due comes fits gains =
+      → has_failed (writer_of p) ≡ false → held p ≡ [] → Gains (Waited wait heard) s t
+      → Went contents c d p p s t from to result []
+  went_passed c d p wait heard same client due comes fits sound none gains =
       went_one (Passed wait heard) tt same client due comes (prints_nothing p)
+      (λ waits. passed_here sound none ([], sym (append-nil _)))
       (record { gained = Waited wait heard ∷ []; gains = gains; as_due = fits _ refl })
 
   -- The time was read.
@@ -292,7 +306,7 @@ module _ {Origin W : Type 0} {contents : W → Option (List ℕ)} where
       → ((i : I) → moved c.session.config.timeout (from i) (Read time) ≡ to i)
       → Gains (Timed time) s t → Went contents c d p p s t from to done []
   went_read c d p time same client due comes gains =
-      went_one (Read time) tt same client due comes (prints_nothing p)
+      went_one (Read time) tt same client due comes (prints_nothing p) (λ waits. absurd waits)
       (record { gained = Timed time ∷ []; gains = gains; as_due = refl })
 
   -- A datagram was handed on.
@@ -304,12 +318,14 @@ module _ {Origin W : Type 0} {contents : W → Option (List ℕ)} where
       → ((i : I) → IsDue c.session.config.timeout (from i) (Came wait peer octets))
       → ((i : I) → moved c.session.config.timeout (from i) (Came wait peer octets) ≡ to i)
       → Prints contents p q (arrival_line peer octets) → Prints contents q r (remarks (datagram_notes answer))
-      → Gains (Waited wait (Arrived peer octets)) s t → Went contents c d p r s t from to done []
-  went_came {c} wait peer octets answer fits same is left due comes line notes gains =
+      → has_failed (writer_of p) ≡ false → held p ≡ [] → Gains (Waited wait (Arrived peer octets)) s t
+      → Went contents c d p r s t from to done []
+  went_came {c} wait peer octets answer fits same is left due comes line notes sound none_held gains =
       let none = posts-answer answer in
       went_one (Came wait peer octets) fits same left due comes
       (printed_as (line ⨾ notes) (ap (λ (a : Option (ℕ × Outcome)). arrival_line peer octets ++ remarks
       (datagram_notes a)) is))
+      (λ waits. passed_here sound none_held (printed_on (line ⨾ notes)))
       (record {
         gained = Waited wait (Arrived peer octets) ∷ [];
         gains = gains;
@@ -331,7 +347,7 @@ module _ {Origin W : Type 0} {contents : W → Option (List ℕ)} where
       (arith, is, left) in
       went_one (Told time) fits same left is_due comes
       (printed_as (line ⨾ notes) (ap (λ (ns : List Note). time_line time ++ remarks ns) alike))
-      (rw (sym alike) sends)
+      (λ waits. absurd waits) (rw (sym alike) sends)
 
   -- A request was asked for.
   pub went_asked : {A I : Type 0} {result : Result A RunFault} {c d : Run} {p q r : Page W} {s t : Account Origin}
@@ -341,7 +357,8 @@ module _ {Origin W : Type 0} {contents : W → Option (List ℕ)} where
       → Prints contents p q (whole_line line) → Opened contents c.client d.client q r s t result event
       → Went contents c d p r s t from to result (Asked line event ∷ [])
   went_asked line event same due comes printed opened =
-      went_one (Asked line event) tt same opened.client_is due comes (printed ⨾ opened.prints) opened.asks
+      went_one (Asked line event) tt same opened.client_is due comes (printed ⨾ opened.prints)
+      (λ waits. absurd waits) opened.asks
 
   -- A fault of one part is that of the whole.
   pub went_err : {A I : Type 0} (B : Type 0) {c d : Run} {p q : Page W} {s t : Account Origin} {from : I → Stage}
@@ -356,6 +373,7 @@ module _ {Origin W : Type 0} {contents : W → Option (List ℕ)} where
     comes = λ i. comes_err A B fault _ _ _ (same i) (went.comes i);
     client_is = went.client_is;
     prints = went.prints;
+    out = went.out;
     asks = record {
       gained = went.asks.gained;
       gains = went.asks.gains;
@@ -382,6 +400,7 @@ module _ {Origin W : Type 0} {contents : W → Option (List ℕ)} where
     comes = λ i. comes_wait A B fault _ _ _ waits (went.comes i);
     client_is = went.client_is;
     prints = went.prints;
+    out = went.out;
     asks = record {
       gained = went.asks.gained;
       gains = went.asks.gains;
@@ -402,6 +421,7 @@ module _ {Origin W : Type 0} {contents : W → Option (List ℕ)} where
     comes = went.comes;
     client_is = went.client_is;
     prints = went.prints;
+    out = went.out;
     asks = record { gained = went.asks.gained; gains = went.asks.gains; as_due = went.asks.as_due };
     fit = went.fit;
   }
@@ -417,6 +437,7 @@ module _ {Origin W : Type 0} {contents : W → Option (List ℕ)} where
     comes = λ i. comes_stopped A fault (from i);
     client_is = refl;
     prints = prints_nothing p;
+    out = out_none c.client p p;
     asks = asked_stopped A fault c.client s;
     fit = tt;
   }
@@ -434,6 +455,7 @@ module _ {Origin W : Type 0} {contents : W → Option (List ℕ)} where
     comes = λ i. rw (went.comes i) (spent' i);
     client_is = went.client_is;
     prints = went.prints;
+    out = went.out;
     asks = record { gained = went.asks.gained; gains = went.asks.gains; as_due = went.asks.as_due };
     fit = went.fit;
   }

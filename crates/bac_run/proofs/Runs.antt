@@ -40,6 +40,7 @@ use Rattle.bac_run.specs.Run.{EndsAt, IsAtRest, Runs, first_stage}
 use Rattle.bac_run.specs.Inner.Run.{RunsOn}
 use Rattle.bac_run.specs.Fault.{write_failed}
 use Rattle.bac_run.proofs.Acts.{done, failed}
+use Rattle.bac_run.proofs.Out.{out_behind, out_whole, passed_on}
 use Rattle.bac_run.proofs.Cut.{IsCut, all_push, concat_push, cut_all, cut_push, feed_so, gave_so, reading_on}
 use Rattle.bac_run.proofs.Cut.{reads_on, split_push}
 use Rattle.bac_run.proofs.Parts.{quiet_went, within_at, within_both, within_fault, within_from, within_turned}
@@ -313,7 +314,7 @@ module _ {Origin R W : Type 0} {remaining : R → Option (List ℕ)} {contents :
           → EndsAt result reading (f.taken ++ lines rest reading)
           (stage_after session.config.timeout (at_line (front later)) all.acts)
           → RunsOn remaining contents session reader reader'' page r s v result
-      whole_run result reading rest front later all is takes gave stands over within ends =
+      whole_run {r = r} result reading rest front later all is takes gave stands over within ends =
           let all_aims = ap (λ (ls : List (List ℕ)). aims_of_lines session.window reading ls) (f.split rest reading)
           ∙ aims_so_far session.window reading f.taken (lines rest reading) f.good
           ∙ ap (λ (others : List Aim). taken_aims session.window f.taken ++ (room_for session.window ∷ others)) is in
@@ -330,6 +331,7 @@ module _ {Origin R W : Type 0} {remaining : R → Option (List ℕ)} {contents :
               ends = ends_as session all.acts result reading (f.split rest reading) all_aims ends;
             };
             prints = f.settings ⨾ all.prints;
+            out = out_behind (start session) page f.first r f.settings all.out;
             asks = all.asks;
             fit = all.fit;
             over = subst (λ (client : Client). IsOver result client) all.client_is over;
@@ -590,7 +592,7 @@ module _ {Origin R W : Type 0} {remaining : R → Option (List ℕ)} {contents :
         → (fault : RunFault) → Went contents c d p q t u (λ later. started c (room_for session.window ∷ later))
         (λ later. started d later) (stopped fault) [] → IsOfWait fault
         → RunsOn remaining contents session reader middle page q s u (failed TraceEnd fault)
-    stops_waiting {held} {p} {q} {t} {u} {c} {d} f fault last waits =
+    stops_waiting {held} {page} {p} {q} {t} {u} {c} {d} f fault last waits =
         let end : Went contents c d p q t u (λ later. started c (room_for session.window ∷ later))
         (λ later. started d later) (failed TraceEnd fault) [] = went_failed TraceEnd fault waits last in
         let room = λ (later : List Aim). room_for session.window ∷ later in
@@ -618,6 +620,7 @@ module _ {Origin R W : Type 0} {remaining : R → Option (List ℕ)} {contents :
                 (lines held Open))));
           };
           prints = f.settings ⨾ all.prints;
+          out = out_behind (start session) page f.first q f.settings all.out;
           asks = all.asks;
           fit = all.fit;
           over = subst (λ (client : Client). IsOver (failed TraceEnd fault) client) all.client_is
@@ -634,11 +637,13 @@ module _ {Origin R W : Type 0} {remaining : R → Option (List ℕ)} {contents :
         → AreSettings session → writer_of first ≡ writer → held first ≡ [] → room_of first ≡ Some folded_line
         → Writes contents (writer_of last) after (held last) [] []
         → Runs remaining contents session reader reader' writer back s t result
-    goes_out is runs settings same empty folds gone = record {
+    goes_out {first = first} {last = last} {after = after} is runs settings same empty folds gone = record {
       acts = runs.acts;
       takes = runs.takes;
       course = runs.course;
       printed = rw is at (folded_out same empty folds runs.prints gone);
+      out = λ earlier later wait waits split. rw is at
+          (out_whole same empty folds (passed_on first last after (runs.out earlier later wait waits split) gone));
       asks = runs.asks;
       over = runs.over;
       within = runs.within;
@@ -669,6 +674,7 @@ module _ {Origin R W : Type 0} {remaining : R → Option (List ℕ)} {contents :
         ends = tt;
       };
       printed = runs.printed;
+      out = runs.out;
       asks = record {
         gained = runs.asks.gained;
         gains = runs.asks.gains;

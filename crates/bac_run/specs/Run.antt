@@ -1,5 +1,5 @@
 -- A whole run: its journal, and what it asked of its link.
-use Rattle.std.specs.Prelude.{◌≡◌, ℕ, List, [], ◌++◌, length, Option, Some, None, Result, Ok, Err, ⊤}
+use Rattle.std.specs.Prelude.{◌≡◌, ℕ, List, [], ◌∷◌, ◌++◌, length, Option, Some, None, Result, Ok, Err, ⊤}
 use Rattle.bac_print.specs.declared.checked.Checked.{Checked}
 use Rattle.bac_print.specs.Page.{folded, folded_line, Writes}
 use Rattle.bac_print.specs.Checked.{octets_of}
@@ -10,7 +10,8 @@ use Rattle.bac_script.specs.declared.input.Reading.TheVariants.{AtEnd, Failed}
 use Rattle.bac_script.specs.declared.tracing.TraceEnd.{TraceEnd}
 use Rattle.bac_script.specs.declared.tracing.TraceFault.TheVariants.{ReadFailed, WriteFailed}
 use Rattle.bac_links.specs.History.{Account}
-use Rattle.bac_run.specs.Journal.{Act, FitsLine, client_after, new_client, settings_line, journal}
+use Rattle.bac_script.specs.Alike.{IsFrontOf}
+use Rattle.bac_run.specs.Journal.{Act, Came, FitsLine, Passed, client_after, new_client, settings_line, journal}
 use Rattle.bac_run.specs.Went.{ComesTo, HasAsked, IsOver, IsWithin}
 use Rattle.bac_run.specs.Course.{Aim, Goes, Outside, Stage, aims_of_lines, ready, stage_after}
 use Rattle.std.specs.List.{AllByRecursion}
@@ -52,6 +53,17 @@ EndsAt (Err (Script ReadFailed)) reading lines stage =
 EndsAt (Err (Script fault)) reading lines stage = IsAtRest stage × (fault_in 1 lines ≡ Some fault)
 EndsAt (Err (Link fault)) reading lines stage = ComesTo {A = TraceEnd} (Err (Link fault)) stage stage
 
+-- The act is a wait.
+abbrev pub IsWait : Act → Type 0
+IsWait (Came wait from octets) = ⊤
+IsWait (Passed wait heard) = ⊤
+IsWait act = ⊥
+
+-- What was told before each wait was out then: a writer that failed took at least the journal up to the last of them.
+abbrev pub IsOut : {W : Type 0} → Session → Checked W → Checked W → List Act → Type 0
+IsOut session before after acts = (earlier later : List Act) (wait : Act) → IsWait wait
+    → acts ≡ earlier ++ wait ∷ later → IsFrontOf (octets_of before ++ journal_of session earlier) (octets_of after)
+
 -- Each act of a run was due where it was done, by the lines of the octets that the reader gave, and by how reading
 -- stands in the end.
 pub record IsCourse {R : Type 0} (remaining : R → Option (List ℕ)) (session : Session) (reader reader' : Checked R)
@@ -76,6 +88,7 @@ pub record Runs {Origin R W : Type 0} (remaining : R → Option (List ℕ)) (con
   pub takes : Takes remaining reader reader' acts result
   pub course : IsCourse remaining session reader reader' acts result
   pub printed : IsPrinted contents before after (journal_of session acts)
+  pub out : IsOut session before after acts
   pub asks : HasAsked result (new_client session.config.timeout session.config.retries) acts seen left
   pub over : IsOver result (client_after (new_client session.config.timeout session.config.retries) acts)
   pub within : IsWithin session.window (new_client session.config.timeout session.config.retries) acts

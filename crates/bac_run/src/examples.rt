@@ -1,23 +1,25 @@
 //! Examples of what a run does, worked out by computation. They show what the definitions mean.
 
-ghost use Rattle.std.specs.Prelude.{◌≡◌, ◌^◌, ◌<◌, ℕ, [], ◌∷◌, ◌++◌, codes, replicate, false, Err};
+ghost use Rattle.std.specs.Prelude.{◌≡◌, ◌^◌, ◌<◌, ℕ, List, [], ◌∷◌, ◌++◌, codes, replicate, false, Err};
 ghost use Rattle.bac_tsm.specs.Events.{Tick};
 ghost use Rattle.bac_script.specs.Line.{Happens, Nothing};
 ghost use Rattle.bac_script.specs.declared.input.Reading.TheVariants.{AtEnd, Failed, Open};
 ghost use Rattle.bac_script.specs.declared.line.LineFault.TheVariants.{TooLong};
 ghost use Rattle.bac_script.specs.declared.tracing.TraceFault.TheVariants.{BadLine, ReadFailed};
 ghost use Rattle.bac_links.specs.History.{Arrived, Posted, Silence, Timed, Unposted, Waited};
-ghost use Rattle.bac_links.specs.declared.fault.ToolFault.TheVariants.{ReceiveFailed, SendFailed, TurnsSpent};
+ghost use Rattle.bac_links.specs.declared.fault.ToolFault.TheVariants.{ReceiveFailed, TurnsSpent};
 ghost use Rattle.bac_links.specs.Limits.{most_turns};
+ghost use Rattle.bac_print.specs.Checked.{fresh};
 ghost use Rattle.bac_run.specs.Course.{AreSteady, Does, Fresh, Goes, IsDue, Turns, aims_of_lines, room_for};
 ghost use Rattle.bac_run.specs.Fault.{write_failed};
 ghost use Rattle.bac_run.specs.Input.{EndsWithFeed, HasNoFeed, said_of};
-ghost use Rattle.bac_run.specs.Inner.Examples.{IsRunOf, about, answer, asked, at_rest, busy, deaf, desk, ended, idle};
+ghost use Rattle.bac_run.specs.Inner.Examples.{IsRunOf, about, answer, asked, at_rest, busy, deaf, desk, ended};
+ghost use Rattle.bac_run.specs.Inner.Examples.{filled, idle};
 ghost use Rattle.bac_run.specs.Inner.Examples.{long_answer, octets, one_by_one, read, read_line, sent, unsent, waiting};
 ghost use Rattle.bac_run.specs.Journal.{Asked, Came, FitsLine, Passed, Paused, Read, Told, history_of, journal};
 ghost use Rattle.bac_run.specs.Journal.{events_of, notes_of, time_line};
 ghost use Rattle.bac_run.specs.Replay.{AreSent, AskNext, IsLineOf, IsReadBack, posted_in, sent_in};
-ghost use Rattle.bac_run.specs.Run.{EndsAt, journal_of};
+ghost use Rattle.bac_run.specs.Run.{EndsAt, IsOut, journal_of};
 ghost use Rattle.bac_run.specs.Went.{IsAsked, IsWithin};
 ghost use Rattle.bac_run.specs.declared.fault.RunFault.TheVariants.{Link, Script};
 ghost use Rattle.bac_run.specs.declared.turns.Until.TheVariants.{FewOpen};
@@ -142,9 +144,17 @@ fn examples_of_runs()
         ++ codes "data 127.0.0.1:47808 810a0017010030010c0c0000000519553e444290999a3f\n# done 0 value 4290999a\n")
         (Timed 0 ∷ Posted desk octets ∷ Timed 5 ∷ Waited 50 (Arrived desk answer) ∷ []) }
 
-    // Over a remark the link is asked for nothing.
-    ensures unasked { IsRunOf (codes "# x\n") (codes "client 3000 3 0\n")
+    // Whatever is printed: over a remark the link is asked for nothing, and what is asked for is sent.
+    ensures unasked { (printed : List ℕ) → IsRunOf (codes "# x\n") printed
         (Timed 0 ∷ Posted desk octets ∷ Timed 5 ∷ Waited 50 (Arrived desk answer) ∷ []) → ⊥ }
+    ensures unsent { (printed : List ℕ) → IsRunOf read_line printed
+        (Timed 0 ∷ Timed 5 ∷ Waited 50 (Arrived desk answer) ∷ []) → ⊥ }
+
+    // Before a wait the settings are out.
+    ensures out { (timed : 0 < 3000) (some : 0 < 1) → IsOut (one_by_one timed some) (fresh 0)
+        (filled (codes "client 3000 3 0\n")) (Passed 50 Silence ∷ []) }
+    ensures kept_back { (timed : 0 < 3000) (some : 0 < 1) → IsOut {W = ℕ} (one_by_one timed some) (fresh 0) (fresh 0)
+        (Passed 50 Silence ∷ []) → ⊥ }
 
     // A remark of 4,122 octets goes on in a second line.
     ensures folded { (timed : 0 < 3000) (some : 0 < 1)

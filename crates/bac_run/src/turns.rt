@@ -154,6 +154,7 @@ impl Run {
         page: &mut Page<'_, W>,
     ) -> Result<bool, RunFault>
         requires link { L.has_failed link.old ≡ false }
+        requires sound { has_failed (writer_of page.old) ≡ false }
         requires out { held page.old ≡ [] }
         ensures fault { L.has_failed link.new ≡ is_of_link result }
         ensures went { Went W.contents self.old self.new page.old page.new (L.seen link.old) (L.seen link.new)

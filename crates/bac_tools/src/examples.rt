@@ -13,7 +13,7 @@ ghost use Rattle.bac_run.specs.declared.fault.RunFault.TheVariants.{Link, Script
 ghost use Rattle.bac_links.specs.declared.fault.ToolFault.TheVariants.{ReceiveFailed, SendFailed};
 ghost use Rattle.bac_words.specs.Telling.{Line};
 ghost use Rattle.bac_words.specs.declared.faults.UsageFault.TheVariants.{BadMac, Memory};
-ghost use Rattle.bac_tools.specs.Alike.{AreAlike, AreGivenAlike, CalledRun};
+ghost use Rattle.bac_tools.specs.Alike.{AreAlike, AreGivenAlike, CalledRun, ProgramRun};
 ghost use Rattle.bac_tools.specs.Calls.{AsksAtMostOnce, GivesSockets, RunsAsCalls, RunsUnasked, RunsWithout};
 ghost use Rattle.bac_tools.specs.Program.{IsRun, Only, Program, texts_of};
 ghost use Rattle.bac_tools.specs.Report.{IsStatusOf, report_of};
@@ -100,6 +100,7 @@ fn examples_of_no_words()
         (ran_without (report_of (Usage Memory)) (Some 0)) [] }
     ensures lacked_otherwise { Program gives_none unknown 0 unasked unasked unasked unasked
         (ran_without no_text (Some 0)) [] → ⊥ }
+    ensures no_run { (run : ProgramRun gives_none unknown []) → run.ran.report ≡ no_text → ⊥ }
 
     // A line is told whole, and where there is nothing to tell nothing is.
     ensures told { IsTold no_contents unasked (having (codes "bactool: x\n")) (Some (Line (codes "x"))) }

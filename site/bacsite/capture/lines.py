@@ -94,8 +94,8 @@ def shown(region: bytes, what: What) -> str:
 def _other_words(service: int, octets: bytes) -> str:
     """What a request of another service asks for, where that is known here."""
     if service == services.READ_MULTIPLE:
-        found = services.asked_for(octets)
-        return "read several: " + _listed([point(it) for it in found]) if found else ""
+        asked_for = services.asked_for(octets)
+        return "read several: " + _listed([point(it) for it in asked_for]) if asked_for else ""
     if service == services.SUBSCRIBE:
         return _subscription(octets)
     return _notice(octets) if service == services.NOTIFY else ""
@@ -108,24 +108,24 @@ def _listed(texts: Sequence[str]) -> str:
 
 
 def _subscription(octets: bytes) -> str:
-    found = services.subscription_of(octets)
-    if not found:
+    subscription = services.subscription_of(octets)
+    if not subscription:
         return ""
-    kind, instance = found.which
+    kind, instance = subscription.which
     where = f"{standard.OBJECT_TYPES.get(kind, str(kind))} {instance} ({kind} {instance})"
-    if found.confirmed is None:
-        return f"unsubscribe from {where}, process {found.process}"
-    how = "confirmed" if found.confirmed else "unconfirmed"
-    span = f"for {found.seconds} s" if found.seconds else "for ever"
-    return f"subscribe to {where} {span}, {how}, process {found.process}"
+    if subscription.confirmed is None:
+        return f"unsubscribe from {where}, process {subscription.process}"
+    how = "confirmed" if subscription.confirmed else "unconfirmed"
+    span = f"for {subscription.seconds} s" if subscription.seconds else "for ever"
+    return f"subscribe to {where} {span}, {how}, process {subscription.process}"
 
 
 def _notice(octets: bytes) -> str:
-    found = services.notice_of(octets)
-    if not found:
+    notice = services.notice_of(octets)
+    if not notice:
         return ""
-    told = _listed([f"{point(it.what)} = {_told(it)}" for it in found.told])
-    return f"change at device {found.device}: {told}"
+    told = _listed([f"{point(it.what)} = {_told(it)}" for it in notice.told])
+    return f"change at device {notice.device}: {told}"
 
 
 def _told(told: Told) -> str:
@@ -148,8 +148,8 @@ def ended(apdu: Apdu, body: Optional[Body]) -> str:
     if ack and ack.value is not None:
         return shown(ack.value, body.what if body else ack.what)
     if (apdu.kind, apdu.service, apdu.is_cut) == (COMPLEX, services.READ_MULTIPLE, False):
-        found = services.told_by(apdu.body) if apdu.part is None else None
-        return _listed([_told(it) for it in found]) if found else outcome
+        told = services.told_by(apdu.body) if apdu.part is None else None
+        return _listed([_told(it) for it in told]) if told else outcome
     if word == "error":
         return _error(int(numbers[0]), int(numbers[1]))
     if word in REASONS:
@@ -230,15 +230,15 @@ def message_words(message: Message) -> str:
 
 
 def _i_am(octets: bytes) -> str:
-    found = elements_of(octets) or []
-    if [it.kind for it in found] != [
+    elements = elements_of(octets) or []
+    if [it.kind for it in elements] != [
         standard.OBJECT,
         standard.UNSIGNED,
         standard.ENUMERATED,
         standard.UNSIGNED,
     ]:
         return ""
-    device, most, number, vendor = (it.number for it in found)
+    device, most, number, vendor = (it.number for it in elements)
     if device >> 22 != standard.DEVICE:
         return ""
     parts = MEANINGS["segmentation-supported"].get(number, str(number))
@@ -247,9 +247,9 @@ def _i_am(octets: bytes) -> str:
 
 
 def _who_is(octets: bytes) -> str:
-    found = list(parameters(octets))
-    tags, limits = [tag for tag, _ in found], [int.from_bytes(it, "big") for _, it in found]
-    if tags not in ([], [0, 1]) or any(not 1 <= len(it) <= 4 for _, it in found):
+    parts = list(parameters(octets))
+    tags, limits = [tag for tag, _ in parts], [int.from_bytes(it, "big") for _, it in parts]
+    if tags not in ([], [0, 1]) or any(not 1 <= len(it) <= 4 for _, it in parts):
         return ""
     if not limits:
         return "Who-Is"

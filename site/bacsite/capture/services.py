@@ -52,7 +52,7 @@ class Subscription(NamedTuple):
 
 def items_of(octets: bytes) -> Optional[List[Item]]:
     """The context tags of a body, where it has nothing else."""
-    found, at = [], 0
+    items, at = [], 0
     while at < len(octets):
         tag = tag_at(octets, at)
         if not tag or not tag.context or tag.length == CLOSING:
@@ -66,9 +66,9 @@ def items_of(octets: bytes) -> Optional[List[Item]]:
             end, after = inner, closing.end
         if after > len(octets):
             return None
-        found.append(Item(tag.number, octets[tag.end : end], tag.length == OPENING))
+        items.append(Item(tag.number, octets[tag.end : end], tag.length == OPENING))
         at = after
-    return found
+    return items
 
 
 def _object(item: Item) -> Optional[Which]:
@@ -77,7 +77,7 @@ def _object(item: Item) -> Optional[Which]:
 
 def _lists(octets: bytes) -> Optional[List[Tuple[Which, List[Item]]]]:
     """Each object, with what stands in the brackets behind it."""
-    items, found = items_of(octets), []
+    items, lists = items_of(octets), []
     if not items or len(items) % 2:
         return None
     for first, second in zip(items[::2], items[1::2]):
@@ -86,66 +86,66 @@ def _lists(octets: bytes) -> Optional[List[Tuple[Which, List[Item]]]]:
             return None
         if which is None or inner is None:
             return None
-        found.append((which, inner))
-    return found
+        lists.append((which, inner))
+    return lists
 
 
 def asked_for(octets: bytes) -> Optional[List[What]]:
     """The properties that a ReadPropertyMultiple asks for."""
-    found: List[What] = []
+    every: List[What] = []
     for which, items in _lists(octets) or []:
         asked = _asked(which, items)
         if asked is None:
             return None
-        found += asked
-    return found or None
+        every += asked
+    return every or None
 
 
 def _asked(which: Which, items: List[Item]) -> Optional[List[What]]:
     """Properties, each with an index, if there is one, behind it."""
-    found: List[What] = []
+    asked: List[What] = []
     for item in items:
         if item.is_open or item.number not in (0, 1):
             return None
         if item.number == 0:
-            found.append(which.what(item.value))
-        elif not found or found[-1].element is not None:
+            asked.append(which.what(item.value))
+        elif not asked or asked[-1].element is not None:
             return None
         else:
-            found[-1] = found[-1].at(item.value)
-    return found
+            asked[-1] = asked[-1].at(item.value)
+    return asked
 
 
 def told_by(octets: bytes) -> Optional[List[Told]]:
     """What the acknowledgement of a ReadPropertyMultiple tells."""
-    found: List[Told] = []
+    every: List[Told] = []
     for which, items in _lists(octets) or []:
         told = _told(which, items, first=2)
         if told is None:
             return None
-        found += told
-    return found or None
+        every += told
+    return every or None
 
 
 def _told(which: Which, items: List[Item], first: int) -> Optional[List[Told]]:
     """Properties, each by the tag `first`, an index by the next, a value and an error by those
     behind; a priority, which a notification may have in place of the error, is passed over."""
-    found: List[Told] = []
+    told: List[Told] = []
     for item in items:
         at = item.number - first
-        if at not in range(4) or (at and not found) or item.is_open != (at == 2 or first + at == 5):
+        if at not in range(4) or (at and not told) or item.is_open != (at == 2 or first + at == 5):
             return None
         if at == 0:
-            found.append(Told(which.what(item.value)))
-        elif at == 1 and found[-1].what.element is not None:
+            told.append(Told(which.what(item.value)))
+        elif at == 1 and told[-1].what.element is not None:
             return None
         elif at == 1:
-            found[-1] = found[-1]._replace(what=found[-1].what.at(item.value))
+            told[-1] = told[-1]._replace(what=told[-1].what.at(item.value))
         elif at == 2:
-            found[-1] = found[-1]._replace(value=item.contents)
+            told[-1] = told[-1]._replace(value=item.contents)
         elif item.is_open:
-            found[-1] = found[-1]._replace(error=error_body(item.contents))
-    return None if any(it.value is None and it.error is None for it in found) else found
+            told[-1] = told[-1]._replace(error=error_body(item.contents))
+    return None if any(it.value is None and it.error is None for it in told) else told
 
 
 def notice_of(octets: bytes) -> Optional[Notice]:

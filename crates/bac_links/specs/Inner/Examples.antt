@@ -29,9 +29,12 @@ desk = record { ip = 0x7f000001; port = 47808; route = None }
 abbrev pub steady : ℕ → ℕ
 steady waits = 50 * waits
 
--- How a tool ended: as it was meant to; by a send or a write that failed.
+-- How a tool ended: as it was meant to; otherwise; by a send or a write that failed.
 abbrev pub good : Result Exit ToolFault
 good = Ok Good
+
+abbrev pub bad : Result Exit ToolFault
+bad = Ok Bad
 
 abbrev pub unsent : Result Exit ToolFault
 unsent = Err SendFailed

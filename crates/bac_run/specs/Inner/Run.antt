@@ -1,8 +1,9 @@
 -- A run of which some of the journal may still be on the page.
-use Rattle.std.specs.Prelude.{ℕ, List, Option, Result}
+use Rattle.std.specs.Prelude.{◌≡◌, ℕ, List, ◌∷◌, ◌++◌, Option, Result}
 use Rattle.bac_print.specs.declared.checked.Checked.{Checked}
 use Rattle.bac_print.specs.declared.page.Page.{Page}
-use Rattle.bac_print.specs.Page.{Prints}
+use Rattle.bac_print.specs.Page.{writer_of, Prints}
+use Rattle.bac_run.specs.Inner.Went.{HasPassed}
 use Rattle.bac_script.specs.declared.tracing.TraceEnd.{TraceEnd}
 use Rattle.bac_links.specs.History.{Account}
 use Rattle.bac_run.specs.Journal.{Act, FitsLine, client_after, new_client}
@@ -11,7 +12,7 @@ use Rattle.std.specs.List.{AllByRecursion}
 use Rattle.bac_run.specs.Input.{Takes}
 use Rattle.bac_run.specs.declared.session.Session.{Session}
 use Rattle.bac_run.specs.declared.fault.RunFault.{RunFault}
-use Rattle.bac_run.specs.Run.{IsCourse, journal_lines}
+use Rattle.bac_run.specs.Run.{IsCourse, IsWait, journal_lines}
 
 -- The same, while some of the journal may still be on the page.
 pub record RunsOn {Origin R W : Type 0} (remaining : R → Option (List ℕ)) (contents : W → Option (List ℕ))
@@ -21,6 +22,8 @@ pub record RunsOn {Origin R W : Type 0} (remaining : R → Option (List ℕ)) (c
   pub takes : Takes remaining reader reader' acts result
   pub course : IsCourse remaining session reader reader' acts result
   pub prints : Prints contents page page' (journal_lines session acts)
+  pub out : (earlier later : List Act) (wait : Act) → IsWait wait → acts ≡ earlier ++ wait ∷ later
+      → HasPassed page (writer_of page') (journal_lines session earlier)
   pub asks : HasAsked result (new_client session.config.timeout session.config.retries) acts seen left
   pub over : IsOver result (client_after (new_client session.config.timeout session.config.retries) acts)
   pub within : IsWithin session.window (new_client session.config.timeout session.config.retries) acts

@@ -1,11 +1,15 @@
 -- What a part of a run did to its client, its page and its link.
-use Rattle.std.specs.Prelude.{◌≡◌, ℕ, suc, Bool, ⊤, List, [], ◌∷◌, ◌++◌, if◌then◌else◌, Option, None, Result, Ok, Err}
-use Rattle.std.specs.Prelude.{Some, unwrap_or}
+use Rattle.std.specs.Prelude.{◌≡◌, ℕ, suc, Bool, false, ⊤, List, [], ◌∷◌, ◌++◌, if◌then◌else◌, Option, None, Some}
+use Rattle.std.specs.Prelude.{Result, Ok, Err, unwrap_or}
 use Rattle.std.specs.List.{AllByRecursion}
 use Rattle.bac_tsm.specs.Client.{Client}
 use Rattle.bac_tsm.specs.Events.{Event}
 use Rattle.bac_print.specs.declared.page.Page.{Page}
-use Rattle.bac_print.specs.Page.{Prints}
+use Rattle.bac_print.specs.Checked.{has_failed, octets_of}
+use Rattle.bac_print.specs.Page.{held, laid_out, room_of, writer_of, Prints}
+use Rattle.bac_print.specs.declared.checked.Checked.{Checked}
+use Rattle.bac_script.specs.Alike.{IsFrontOf}
+use Rattle.bac_run.specs.Run.{IsWait}
 use Rattle.bac_script.specs.declared.tracing.TraceFault.TheVariants.{WriteFailed}
 use Rattle.bac_links.specs.History.{Account, Entry, GainsAll}
 use Rattle.bac_links.specs.declared.fault.ToolFault.TheVariants.{SendFailed}
@@ -73,6 +77,16 @@ abbrev pub hearing : {A : Type 0} → Run → Result Bool A → ℕ × List Aim 
 hearing run (Ok defers) (time, aims) = heard_until run defers time aims
 hearing run (Err fault) (time, aims) = started run aims
 
+-- A page took so much at least, up to this writer; it had not failed before.
+pub record HasPassed {W : Type 0} (page : Page W) (after : Checked W) (text : List ℕ) : Type 0 where
+  pub sound : has_failed (writer_of page) ≡ false
+  pub front : IsFrontOf (octets_of (writer_of page) ++ (held page ++ laid_out (room_of page) text)) (octets_of after)
+
+-- At each wait among these acts what was told before it had passed.
+abbrev pub IsOutAt : {W : Type 0} → Client → (page page' : Page W) → List Act → Type 0
+IsOutAt client page page' acts = (earlier later : List Act) (wait : Act) → IsWait wait
+    → acts ≡ earlier ++ wait ∷ later → HasPassed page (writer_of page') (journal client earlier)
+
 -- Some acts were done, of the input these, each where it was due, from one stage to another, whatever the run is about
 -- then: the client is what they leave, their journal was printed, and the link was asked what they ask.
 pub record Went {Origin W A I : Type 0} (contents : W → Option (List ℕ)) (run run' : Run) (page page' : Page W)
@@ -85,6 +99,7 @@ pub record Went {Origin W A I : Type 0} (contents : W → Option (List ℕ)) (ru
   pub comes : (i : I) → ComesTo result (to i) (stage_after run.session.config.timeout (from i) acts)
   pub client_is : run'.client ≡ client_after run.client acts
   pub prints : Prints contents page page' (journal run.client acts)
+  pub out : IsOutAt run.client page page' acts
   pub asks : HasAsked result run.client acts seen left
   pub fit : AllByRecursion FitsLine acts
 

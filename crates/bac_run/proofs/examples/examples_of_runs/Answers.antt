@@ -3,16 +3,23 @@ use Rattle.std.proofs.Common.{◌≡◌, ◌∙◌, ℕ, true, List, [], ◌∷�
 use Rattle.std.proofs.lemmas.Bool.Decides.{nat_tests}
 use Rattle.std.specs.Prelude.{codes, length, Ok}
 use Rattle.std.specs.List.{list_all}
+use Rattle.bac_print.specs.Checked.{octets_of}
 use Rattle.bac_print.specs.StreamCall.{WriteCall}
 use Rattle.bac_script.proofs.Computed.{computed}
 use Rattle.bac_script.specs.Script.{lines}
 use Rattle.bac_script.specs.declared.input.Reading.{Reading}
 use Rattle.bac_script.specs.declared.input.Reading.TheVariants.{AtEnd}
-use Rattle.bac_links.specs.History.{Account, Arrived, Posted, Timed, Waited}
-use Rattle.bac_run.specs.Course.{Goes, aims_of_lines, ready}
+use Rattle.bac_links.specs.History.{Account, Arrived, Entry, Posted, Silence, Timed, Waited}
+use Rattle.bac_links.specs.Limits.{most_turns}
+use Rattle.bac_run.specs.Course.{Does, Goes, Turns, aims_of_lines, ready, room_for}
 use Rattle.bac_run.specs.Input.{HasNoFeed}
-use Rattle.bac_run.specs.Inner.Examples.{answer, asked, desk, octets, read_line}
-use Rattle.bac_run.specs.Journal.{Act, Came, Read, history_of, new_client}
+use Rattle.bac_run.specs.Inner.Examples.{IsRunOf, about, answer, asked, desk, drained, idle, octets, one_by_one}
+use Rattle.bac_run.specs.Inner.Examples.{read_line}
+use Rattle.bac_run.specs.Journal.{Act, Asked, Came, Passed, Paused, Read, Told, history_of}
+use Rattle.bac_run.specs.declared.turns.Until.TheVariants.{FewOpen}
+use Rattle.bac_run.specs.Run.{journal_of}
+use Rattle.bac_script.specs.Alike.{IsFrontOf}
+use Rattle.bac_run.proofs.GoOn.{journal_front}
 use Rattle.bac_run.proofs.ReadBack.{settings_read_back}
 use Rattle.bac_run.proofs.examples.examples_of_runs.Goals as goal
 
@@ -61,6 +68,10 @@ returns-clause-answered c = (
       sound = λ sound. (refl, refl);
       stopped = λ stopped. grind arith;
     };
+    out = λ earlier later wait waits is.
+        let session = one_by_one (omega arith) (omega arith) in
+        subst (λ (acts : List Act). IsFrontOf (journal_of session earlier) (journal_of session acts)) (sym is)
+        (journal_front session earlier (wait ∷ later));
     asks = record {
       gained = Timed 0 ∷ Posted desk octets ∷ Timed 5 ∷ Waited 50 (Arrived desk answer) ∷ [];
       gains = refl;
@@ -73,23 +84,87 @@ returns-clause-answered c = (
   },
 )
 
--- Where the input is a remark, nothing is done.
-nothing_done : (given : List ℕ) (acts : List Act) → codes "# x\n" ≡ given
-    → Goes 3000 (ready (new_client 3000 3) 0 (aims_of_lines 1 AtEnd (lines given AtEnd))) acts → acts ≡ []
+-- Over an input that was read to its end each act was due, and the link was asked what they ask.
+record Ran (input : List ℕ) (entries : List Entry) : Type 0 where
+  acts : List Act
+  goes : Goes 3000 (ready idle 0 (aims_of_lines 1 AtEnd (lines input AtEnd))) acts
+  asks : entries ≡ history_of idle acts
+
+ran : (input text : List ℕ) (entries : List Entry) → IsRunOf input text entries → octets_of (drained input) ≡ input
+    → Ran input entries
+ran input text entries (timed, some, runs) whole =
+    let (rest, over, sound, count) = runs.course.ends in
+    record {
+      acts = runs.acts;
+      goes = subst (λ (given : List ℕ). Goes 3000 (ready idle 0 (aims_of_lines 1 AtEnd (lines given AtEnd))) runs.acts)
+          (sym runs.course.gave ∙ whole)
+          (subst (λ (reading : Reading).
+          Goes 3000 (ready idle 0 (aims_of_lines 1 reading (lines runs.course.given reading))) runs.acts)
+          over runs.course.goes);
+      asks = ap (λ (account : Account ℕ). account.history) runs.asks.gains ∙ runs.asks.as_due;
+    }
+
+-- Over a remark nothing is due.
+nothing_asked : {entry : Entry} {later : List Entry} (acts : List Act)
+    → Goes 3000 (ready idle 0 (aims_of_lines 1 AtEnd (lines (codes "# x\n") AtEnd))) acts
+    → entry ∷ later ≡ history_of idle acts → ⊥
 unfolding computed
-nothing_done given [] is goes = refl
-nothing_done given (act ∷ later) is goes = let due = rw (sym is) at goes in absurd (due.0)
+nothing_asked [] goes is = absurd (cc)
+nothing_asked (act ∷ acts) goes is = goes.0
 
 pub returns-clause-unasked : goal.returns-clause-unasked
-returns-clause-unasked c = λ (timed, some, runs).
-    let (rest, over, sound, count) = runs.course.ends in
-    let goes = subst (λ (reading : Reading).
-    Goes 3000 (ready (new_client 3000 3) 0 (aims_of_lines 1 reading (lines runs.course.given reading))) runs.acts)
-    over runs.course.goes in
-    let none = nothing_done runs.course.given runs.acts runs.course.gave goes in
-    let asked = ap (λ (account : Account ℕ). account.history) runs.asks.gains ∙ runs.asks.as_due
-    ∙ ap (λ (acts : List Act). history_of (new_client 3000 3) acts) none in
-    absurd (cc)
+returns-clause-unasked c = λ text run.
+    let over = ran _ text _ run refl in
+    nothing_asked over.acts over.goes over.asks
+
+-- Once the time was read the request is due, which is sent.
+sent_next : {time : ℕ} {later : List Entry} (acts : List Act)
+    → Goes 3000 (about idle 0 (Does asked ∷ room_for 1 ∷ Turns (FewOpen 0) most_turns ∷ [])) acts
+    → Timed time ∷ later ≡ history_of idle acts → ⊥
+unfolding computed
+sent_next [] goes is = absurd (cc)
+sent_next (act ∷ acts) (due, goes) is = absurd (let sends = rw due at is in cc)
+
+sent_first : {later : List Entry} (acts : List Act)
+    → Goes 3000 (ready idle 0 (aims_of_lines 1 AtEnd (lines read_line AtEnd))) acts
+    → Timed 0 ∷ Timed 5 ∷ later ≡ history_of idle acts → ⊥
+unfolding computed
+sent_first [] goes is = absurd (cc)
+sent_first {later} (Read time ∷ acts) (due, goes) is =
+    let zero : 0 ≡ time = cc in
+    let more : Timed 5 ∷ later ≡ history_of idle acts = cc in
+    sent_next acts (rw (sym zero) at goes) more
+sent_first (Asked line event ∷ acts) goes is = goes.0
+sent_first (Paused ∷ acts) goes is = goes.0
+sent_first (Came wait from heard ∷ acts) goes is = goes.0
+sent_first (Passed wait heard ∷ acts) goes is = goes.0
+sent_first (Told time ∷ acts) goes is = goes.0
+
+pub returns-clause-unsent : goal.returns-clause-unsent
+returns-clause-unsent c = λ text run.
+    let over = ran _ text _ run refl in
+    sent_first over.acts over.goes over.asks
+
+-- One act is the first.
+first_alone : (act : Act) (earlier later : List Act) (wait : Act) → act ∷ [] ≡ earlier ++ wait ∷ later → earlier ≡ []
+first_alone act [] later wait is = refl
+first_alone act (x ∷ []) later wait is = absurd (cc)
+first_alone act (x ∷ y ∷ earlier) later wait is = absurd (cc)
+
+pub returns-clause-out : goal.returns-clause-out
+unfolding computed
+returns-clause-out c = λ timed some earlier later wait waits is.
+    subst (λ (acts : List Act). IsFrontOf (journal_of (one_by_one timed some) acts) (codes "client 3000 3 0\n"))
+    (sym (first_alone (Passed 50 Silence) earlier later wait is)) ([], refl)
+
+unsettled : (rest : List ℕ) → [] ≡ codes "client 3000 3 0\n" ++ rest → ⊥
+unfolding computed
+unsettled rest is = absurd (cc)
+
+pub returns-clause-kept_back : goal.returns-clause-kept_back
+unfolding computed
+returns-clause-kept_back c = λ timed some out.
+    let (rest, is) = out [] [] (Passed 50 Silence) tt refl in unsettled rest is
 
 pub returns-clause-folded : goal.returns-clause-folded
 unfolding computed

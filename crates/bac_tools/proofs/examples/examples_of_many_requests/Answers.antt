@@ -5,6 +5,7 @@ use Rattle.bac_script.specs.Script.{lines}
 use Rattle.bac_script.specs.declared.input.Reading.{Reading}
 use Rattle.bac_script.specs.declared.input.Reading.TheVariants.{AtEnd}
 use Rattle.bac_run.specs.declared.session.Session.{Session}
+use Rattle.bac_run.proofs.Out.{out_nothing}
 use Rattle.bac_run.proofs.ReadBack.{settings_read_back}
 use Rattle.bac_tools.proofs.Worked.{given}
 use Rattle.bac_tools.proofs.examples.examples_of_many_requests.Goals as goal
@@ -47,6 +48,7 @@ returns c = record {
         ends = ((refl, refl), refl, refl, refl);
       };
       printed = given _ (λ none. grind arith) refl refl refl;
+      out = out_nothing _ _ _;
       asks = record { gained = []; gains = refl; as_due = refl };
       over = refl;
       within = tt;

@@ -52,15 +52,16 @@ not_traced : (answer : Result TraceEnd TraceFault) → no_text ≡ trace_report 
 not_traced (Ok end) e = grind arith
 not_traced (Err fault) e = grind arith
 
-not_run : (answer : Result Job UsageFault) (opened : Option (Result ℕ NoSocket))
-    → IsGiven gives_none unknown 0 (option_and_then asked_by (result_ok answer)) opened
-    → RunsAsRead gives_none unknown 0 unasked unasked unasked unasked (ran_without no_text (Some 0)) answer opened → ⊥
-not_run (Err fault) opened given ends = let ran = ends.2 in grind arith
-not_run (Ok Trace) opened given ends = not_traced ends.0.answer ends.0.reported
-not_run (Ok (Run batch)) None given ends = given
-not_run (Ok (Run batch)) (Some socket) given ends = absurd (grind arith)
-not_run (Ok (Over tool)) None given ends = given
-not_run (Ok (Over tool)) (Some socket) given ends = absurd (grind arith)
+module _ (network : ℕ) (reader reader' writer writer' : Checked ℕ) (ran : Ran ℕ ℕ) (is : ran.report ≡ no_text) where
+  not_run : (answer : Result Job UsageFault) (opened : Option (Result ℕ NoSocket))
+      → IsGiven gives_none unknown network (option_and_then asked_by (result_ok answer)) opened
+      → RunsAsRead gives_none unknown network reader reader' writer writer' ran answer opened → ⊥
+  not_run (Err fault) opened given ends = let same = sym is ∙ ap (λ ran. ran.report) ends.2 in grind arith
+  not_run (Ok Trace) opened given ends = not_traced ends.0.answer (sym is ∙ ends.0.reported)
+  not_run (Ok (Run batch)) None given ends = given
+  not_run (Ok (Run batch)) (Some socket) given ends = absurd (grind arith)
+  not_run (Ok (Over tool)) None given ends = given
+  not_run (Ok (Over tool)) (Some socket) given ends = absurd (grind arith)
 
 not_reported : RunsUnasked {L = ℕ} no_contents no_contents no_contents 0 unasked unasked unasked unasked unasked
     told_no_socket (ran_without no_socket (Some 0)) (Err NotFound) → ⊥
@@ -100,7 +101,9 @@ returns c = record {
   only = (refl, refl, refl);
   not_only = λ h. untaken _ h.1;
   lacked = forgotten.program;
-  lacked_otherwise = λ h. not_run h.answer h.opened h.given h.ends;
+  lacked_otherwise = λ h. not_run _ _ _ _ _ _ refl h.answer h.opened h.given h.ends;
+  no_run = λ run is.
+      let p = run.program in not_run _ _ _ _ _ run.ran is p.answer p.opened p.given p.ends;
   told = (codes "bactool: x\n", refl, given _ (λ none. grind arith) refl refl refl);
   not_told = silent (codes "x");
   nothing = refl;

@@ -22,7 +22,8 @@ returns-in_ok-wait-clause-went g c =
     for_same (grind (arith, c.is_remark.ensures, c.if-not-is_remark.true))
     (for_quiet _ (tt, tt)
     (went_more (went_at (λ later. Does Paused ∷ later) c.in_ok-wait.ensures.went)
-    (went_one Paused tt refl refl (λ later. refl) (λ later. refl) c.print.ensures (due_nothing _))))
+    (went_one Paused tt refl refl (λ later. refl) (λ later. refl) c.print.ensures (λ waits. absurd waits)
+    (due_nothing _))))
 
 pub returns-else-not-is_remark-clause-went : goal.returns-else-not-is_remark-clause-went
 returns-else-not-is_remark-clause-went g c =

@@ -1,0 +1,147 @@
+-- What is out before a wait.
+use Rattle.std.proofs.Common.{◌≡◌, ◌⊎◌, ◌∙◌, ℕ, false, List, [], ◌∷◌, ◌++◌, Option, Some, append_assoc, refl, sym, ap}
+use Rattle.std.proofs.Common.{subst, inl, inr}
+use Rattle.std.proofs.lemmas.List.{append-nil}
+use Rattle.bac_tsm.specs.Client.{Client}
+use Rattle.bac_print.specs.declared.checked.Checked.{Checked}
+use Rattle.bac_print.specs.declared.page.Page.{Page}
+use Rattle.bac_print.specs.Checked.{has_failed, octets_of}
+use Rattle.bac_print.specs.Page.{folded, folded_line, held, laid_out, room_of, writer_of, Prints, Writes, Wrote}
+use Rattle.bac_print.proofs.Folding.{laid_out-append, laid_out-none}
+use Rattle.bac_script.specs.Alike.{IsFrontOf}
+use Rattle.bac_run.specs.Run.{IsOut, IsWait}
+use Rattle.bac_run.specs.declared.session.Session.{Session}
+use Rattle.bac_run.specs.Journal.{Act, client_after, journal}
+use Rattle.bac_run.specs.Inner.Went.{HasPassed, IsOutAt}
+use Rattle.bac_run.proofs.Acts.{journal-append}
+
+pub fronts_join : (xs ys zs : List ℕ) → IsFrontOf xs ys → IsFrontOf ys zs → IsFrontOf xs zs
+fronts_join xs ys zs (rest, is) (more, is') =
+    (rest ++ more, is' ∙ ap (λ (os : List ℕ). os ++ more) is ∙ append_assoc xs rest more)
+
+-- Of acts one after another a wait is among the first or among the second.
+split_at : (xs ys earlier later : List Act) (wait : Act) → xs ++ ys ≡ earlier ++ wait ∷ later
+    → ((more : List Act) × (xs ≡ earlier ++ wait ∷ more))
+    ⊎ ((less : List Act) × (earlier ≡ xs ++ less) × (ys ≡ less ++ wait ∷ later))
+split_at [] ys earlier later wait is = inr (earlier, refl, is)
+split_at (x ∷ xs) ys [] later wait is =
+    let first : x ≡ wait = cc in inl (xs, ap (λ (a : Act). a ∷ xs) first)
+split_at (x ∷ xs) ys (e ∷ earlier) later wait is =
+    let first : x ≡ e = cc in
+    let rest : xs ++ ys ≡ earlier ++ wait ∷ later = cc in
+    go first (split_at xs ys earlier later wait rest)
+  where
+    go : x ≡ e → ((more : List Act) × (xs ≡ earlier ++ wait ∷ more))
+        ⊎ ((less : List Act) × (earlier ≡ xs ++ less) × (ys ≡ less ++ wait ∷ later))
+        → ((more : List Act) × (x ∷ xs ≡ (e ∷ earlier) ++ wait ∷ more))
+        ⊎ ((less : List Act) × (e ∷ earlier ≡ (x ∷ xs) ++ less) × (ys ≡ less ++ wait ∷ later))
+    go first (inl (more, is)) =
+        inl (more, ap (λ (a : Act). a ∷ xs) first ∙ ap (λ (zs : List Act). e ∷ zs) is)
+    go first (inr (less, is, later)) =
+        inr (less, ap (λ (a : Act). a ∷ earlier) (sym first) ∙ ap (λ (zs : List Act). x ∷ zs) is, later)
+
+no_split : {A : Type 0} (xs ys : List A) (x : A) → [] ≡ xs ++ x ∷ ys → ⊥
+no_split [] ys x is = absurd (cc)
+no_split (z ∷ xs) ys x is = absurd (cc)
+
+-- Where nothing was done nothing was waited for.
+pub out_nothing : {W : Type 0} (session : Session) (before after : Checked W) → IsOut session before after []
+out_nothing session before after earlier later wait waits is = absurd (no_split earlier later wait is)
+
+module _ {W : Type 0} where
+  -- Where nothing is held, all that was told has passed.
+  pub passed_here : {p : Page W} {after : Checked W} → has_failed (writer_of p) ≡ false → held p ≡ []
+      → IsFrontOf (octets_of (writer_of p)) (octets_of after) → HasPassed p after []
+  passed_here {p} {after} sound none front = record {
+    sound = sound;
+    front = subst (λ (os : List ℕ). IsFrontOf os (octets_of after))
+        (sym (ap (λ (os : List ℕ). octets_of (writer_of p) ++ os)
+        (ap (λ (os : List ℕ). os ++ laid_out (room_of p) []) none ∙ laid_out-none (room_of p))
+        ∙ append-nil (octets_of (writer_of p)))) front;
+  }
+
+  pub out_none : (client : Client) (p q : Page W) → IsOutAt client p q []
+  out_none client p q earlier later wait waits is = absurd (no_split earlier later wait is)
+
+  pub out_one : (client : Client) (p q : Page W) (act : Act) → (IsWait act → HasPassed p (writer_of q) [])
+      → IsOutAt client p q (act ∷ [])
+  out_one client p q act out [] later wait waits is =
+      let same : act ≡ wait = cc in out (subst (λ (a : Act). IsWait a) (sym same) waits)
+  out_one client p q act out (x ∷ []) later wait waits is = absurd (cc)
+  out_one client p q act out (x ∷ y ∷ earlier) later wait waits is = absurd (cc)
+
+  -- What had passed was taken, once the page is given up.
+  pub out_whole : {first : Page W} {writer after : Checked W} {text : List ℕ} → writer_of first ≡ writer
+      → held first ≡ [] → room_of first ≡ Some folded_line → HasPassed first after text
+      → IsFrontOf (octets_of writer ++ folded folded_line text) (octets_of after)
+  unfolding laid_out
+  out_whole {first} {writer} {after} {text} same empty folds passed =
+      subst (λ (os : List ℕ). IsFrontOf os (octets_of after))
+      (ap (λ (w : Checked W). octets_of w ++ (held first ++ laid_out (room_of first) text)) same
+      ∙ ap (λ (os : List ℕ). octets_of writer ++ (os ++ laid_out (room_of first) text)) empty
+      ∙ ap (λ (room : Option ℕ). octets_of writer ++ laid_out room text) folds)
+      passed.front
+
+module _ {W : Type 0} {contents : W → Option (List ℕ)} where
+  grown : {before after : Checked W} {held kept text : List ℕ} → Writes contents before after held kept text
+      → IsFrontOf (octets_of before) (octets_of after)
+  grown writes = (writes.taken, writes.took.passed)
+
+  -- What passed had passed later.
+  pub passed_on : (p q : Page W) (after : Checked W) {text more held kept : List ℕ} → HasPassed p (writer_of q) text
+      → Writes contents (writer_of q) after held kept more → HasPassed p after text
+  passed_on p q after passed writes =
+      record { sound = passed.sound; front = fronts_join _ _ _ passed.front (grown writes) }
+
+  -- What was printed before had passed with it.
+  pub passed_before : {p q : Page W} {after : Checked W} {text more : List ℕ} → Prints contents p q text
+      → HasPassed q after more → HasPassed p after (text ++ more)
+  unfolding Wrote
+  passed_before {p} {q} {after} {text} {more} printed passed =
+      let writes = printed.wrote.writes in
+      let (sound, kept) = writes.sound passed.sound in
+      let behind = laid_out (room_of q) more in
+      let room = ap (λ (r : Option ℕ). laid_out r more) printed.wrote.room in
+      let laid = laid_out-append (room_of p) text more in
+      let here : octets_of (writer_of q) ++ (held q ++ behind)
+      ≡ octets_of (writer_of p) ++ (held p ++ laid_out (room_of p) (text ++ more)) =
+      ap (λ (os : List ℕ). os ++ (held q ++ behind)) writes.took.passed
+      ∙ append_assoc (octets_of (writer_of p)) writes.taken (held q ++ behind)
+      ∙ ap (λ (os : List ℕ). octets_of (writer_of p) ++ os)
+      (sym (append_assoc writes.taken (held q) behind)
+      ∙ ap (λ (os : List ℕ). os ++ behind) (ap (λ (os : List ℕ). writes.taken ++ os) (sym kept) ∙ sym writes.whole)
+      ∙ append_assoc (held p) (laid_out (room_of p) text) behind
+      ∙ ap (λ (os : List ℕ). held p ++ os) (ap (λ (os : List ℕ). laid_out (room_of p) text ++ os) room ∙ sym laid)) in
+      record {
+        sound = sound;
+        front = subst (λ (os : List ℕ). IsFrontOf os (octets_of after)) here passed.front;
+      }
+
+  pub printed_on : {p q : Page W} {text : List ℕ} → Prints contents p q text
+      → IsFrontOf (octets_of (writer_of p)) (octets_of (writer_of q))
+  unfolding Wrote
+  printed_on printed = grown printed.wrote.writes
+
+  pub out_more : {client middle : Client} {p q r : Page W} {xs ys : List Act} → middle ≡ client_after client xs
+      → IsOutAt client p q xs → Prints contents p q (journal client xs) → IsOutAt middle q r ys
+      → Prints contents q r (journal middle ys) → IsOutAt client p r (xs ++ ys)
+  unfolding Wrote
+  out_more {client} {middle} {p} {q} {r} {xs} {ys} is first printed second then earlier later wait waits same =
+      go (split_at xs ys earlier later wait same)
+    where
+      go : ((more : List Act) × (xs ≡ earlier ++ wait ∷ more))
+          ⊎ ((less : List Act) × (earlier ≡ xs ++ less) × (ys ≡ less ++ wait ∷ later))
+          → HasPassed p (writer_of r) (journal client earlier)
+      go (inl (more, is)) = passed_on p q (writer_of r) (first earlier more wait waits is) then.wrote.writes
+      go (inr (less, here, there)) =
+          subst (λ (os : List ℕ). HasPassed p (writer_of r) os)
+          (ap (λ (c : Client). journal client xs ++ journal c less) is ∙ sym (journal-append client xs less)
+          ∙ ap (λ (zs : List Act). journal client zs) (sym here))
+          (passed_before printed (second less later wait waits there))
+
+  -- The page was turned in before, or something else was printed.
+  pub out_behind : (client : Client) (p q r : Page W) {text : List ℕ} {xs : List Act} → Prints contents p q text
+      → IsOutAt client q r xs → (earlier later : List Act) (wait : Act) → IsWait wait → xs ≡ earlier ++ wait ∷ later
+      → HasPassed p (writer_of r) (text ++ journal client earlier)
+  out_behind client p q r printed out earlier later wait waits is =
+      passed_before printed (out earlier later wait waits is)
