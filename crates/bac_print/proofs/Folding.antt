@@ -1,11 +1,9 @@
 -- A text that is folded piece by piece.
-use Rattle.std.proofs.{
-  Common.{◌≡◌, ℕ, ◌+◌, ◌-◌, ◌≤◌, zero, suc, min, nat_lt, ◌==◌, true, List, [], ◌∷◌, ◌++◌, length, take},
-  Common.{Option, Some, None, refl, sym, ◌∙◌, ap, arith, append_assoc, inl, inr},
-  lemmas.{Bool.{cases_Bool, Decides.nat_tests}, List.{length-take, Sums.prefix_len-le-length}},
-}
-use Rattle.std.specs.{Prelude.{not, position, unwrap_or}, List.position_or_len}
-use Rattle.bac_print.specs.Page.{folded, folded_octet, left_after, left_behind, laid_out, room_after}
+use Rattle.std.proofs.Common.{[], ◌++◌, ◌+◌, ◌-◌, ◌==◌, ◌∙◌, ◌∷◌, ◌≡◌, ◌≤◌, ap, append_assoc, arith, inl, inr, length}
+use Rattle.std.proofs.Common.{List, min, nat_lt, None, Option, refl, Some, suc, sym, take, true, zero, ℕ}
+use Rattle.std.proofs.lemmas.{Bool.{cases_Bool, Decides.nat_tests}, List.{length-take, Sums.prefix_len-le-length}}
+use Rattle.std.specs.{List.position_or_len, Prelude.{not, position, unwrap_or}}
+use Rattle.bac_print.specs.{folded, folded_octet, laid_out, left_after, left_behind, room_after}
 
 pub left_after-append : (left : ℕ) (xs ys : List ℕ) → left_after left (xs ++ ys) ≡ left_after (left_after left xs) ys
 left_after-append left [] ys = refl

@@ -1,15 +1,12 @@
 -- What several reads or writes in a row do to known octets.
-use Rattle.std.{
-  proofs.Common.{arith, ◌≡◌, ◌≢◌, ℕ, Bool, false, ◌||◌, List, [], ◌∷◌, ◌++◌, length, drop},
-  proofs.Common.{Option, Result, refl, append_assoc, take, ◌+◌, zero, suc, Ok, Err},
-  proofs.lemmas.{List.{append-nil, take-append-drop, Sums.fold-append}, Grind.flat_map-append},
-  specs.Prelude.{is_err, if◌then◌else◌},
-  specs.{Result.result_unwrap_or, declared.io.Error.Error, Io.KnownBytes.{Appends, WriteAppends}},
-}
+use Rattle.std.proofs.Common.{[], ◌++◌, ◌+◌, ◌||◌, ◌∷◌, ◌≡◌, ◌≢◌, append_assoc, arith, Bool, drop, Err, false, length}
+use Rattle.std.proofs.{Common.{List, Ok, Option, refl, Result, suc, take, zero, ℕ}, lemmas.Grind.flat_map-append}
+use Rattle.std.{proofs.lemmas.List.{append-nil, take-append-drop, Sums.fold-append}, specs.declared.io.Error.Error}
+use Rattle.std.specs.{Io.KnownBytes.{Appends, WriteAppends}, Prelude.{if◌then◌else◌, is_err}, Result.result_unwrap_or}
 use Rattle.bac_wire.specs.Steps.{result_seen}
-use Rattle.bac_print.specs.Checked.{inner_of, calls_of, has_failed, has_ended, ends_of, meets_end}
-use Rattle.bac_print.specs.{Checked.{octets_of, passes_none, gone, OnlyWrites, Took, Gave}, Inner.Checked.HasNotRead}
-use Rattle.bac_print.specs.{StreamCall.{StreamCall, ReadCall, WriteCall, FlushCall}, declared.checked.Checked.Checked}
+use Rattle.bac_print.specs.{calls_of, ends_of, FlushCall, Gave, gone, has_ended, has_failed, inner_of, meets_end}
+use Rattle.bac_print.specs.{octets_of, OnlyWrites, passes_none, ReadCall, Took, WriteCall, StreamCall.StreamCall}
+use Rattle.bac_print.specs.{declared.checked.Checked.Checked, Inner.HasNotRead}
 
 -- ---- one call more
 

@@ -1,5 +1,5 @@
 -- How many digits a number of one, two or eight octets has.
-use Rattle.std.proofs.{Common.{decimal, lit<, ℕ, ◌^◌, ◌<◌, ◌≤◌, length, arith}, lemmas.Fmt.length-decimal-le}
+use Rattle.std.proofs.{Common.{◌<◌, ◌^◌, ◌≤◌, arith, decimal, length, lit<, ℕ}, lemmas.Fmt.length-decimal-le}
 
 pub one_octet : (n : ℕ) → n < 256 → length (decimal n) ≤ 3
 one_octet = grind (arith, length-decimal-le)

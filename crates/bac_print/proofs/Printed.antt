@@ -1,14 +1,13 @@
 -- What several prints in a row come to.
-use Rattle.std.proofs.Common.{◌≡◌, ℕ, ◌-◌, List, [], ◌∷◌, ◌++◌, length, Option, Some, None, arith, refl, subst, sym}
-use Rattle.std.proofs.Common.{◌∙◌, ap, append_assoc, inl, inr}
-use Rattle.std.proofs.lemmas.{List.{append-nil, take-append-drop}, Bool.{cases_Bool, false≢true, Decides.nat_tests}}
-use Rattle.hex.specs.Hex.{encode_with, encode_lower}
-use Rattle.bac_print.specs.declared.{checked.Checked.Checked, page.Page.Page}
-use Rattle.bac_print.specs.{Checked.has_failed, Inner.Page.Holds}
-use Rattle.bac_print.specs.Page.{folded, folded_octet, held, left_after, left_behind, laid_out, room_after, room_of}
-use Rattle.bac_print.specs.Page.{writer_of, Writes, Wrote, Prints}
-use Rattle.bac_print.proofs.{Known.Took-more, Folding.{folded-append, left_after-append}}
-use Rattle.bac_print.proofs.Folding.{laid_out-append, laid_out-none, room_after-append, room_after-none}
+use Rattle.std.proofs.Common.{[], ◌++◌, ◌-◌, ◌∙◌, ◌∷◌, ◌≡◌, ap, append_assoc, arith, inl, inr, length, List, None}
+use Rattle.std.proofs.{Common.{Option, refl, Some, subst, sym, ℕ}, lemmas.Bool.{cases_Bool, false≢true}}
+use Rattle.std.proofs.lemmas.{Bool.Decides.nat_tests, List.{append-nil, take-append-drop}}
+use Rattle.hex.specs.Hex.{encode_lower, encode_with}
+use Rattle.bac_print.specs.{folded, folded_octet, has_failed, held, laid_out, left_after, left_behind, Prints}
+use Rattle.bac_print.specs.{room_after, room_of, writer_of, Writes, Wrote, declared.checked.Checked.Checked}
+use Rattle.bac_print.{specs.{declared.page.Page.Page, Inner.Holds}, proofs.Folding.{room_after-append, room_after-none}}
+use Rattle.bac_print.proofs.Folding.{folded-append, laid_out-append, laid_out-none, left_after-append}
+use Rattle.bac_print.proofs.Known.{Took-more}
 
 pub encode_with-append : (t xs ys : List ℕ) → encode_with t (xs ++ ys) ≡ encode_with t xs ++ encode_with t ys
 unfolding encode_with

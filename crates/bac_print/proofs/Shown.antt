@@ -1,9 +1,8 @@
 -- What is shown on a page of its own.
-use Rattle.std.proofs.Common.{◌≡◌, ℕ, false, List, [], Option, Some, None, Result, Ok, Err, ap, subst, arith}
+use Rattle.std.proofs.Common.{[], ◌≡◌, ap, arith, Err, false, List, None, Ok, Option, Result, Some, subst, ℕ}
 use Rattle.std.{proofs.lemmas.List.append-nil, specs.Prelude.is_err}
-use Rattle.bac_print.{proofs.Printed.writes_more, specs.declared.{checked.Checked.Checked, page.Page.Page}}
-use Rattle.bac_print.specs.Page.{folded, held, laid_out, room_of, writer_of, Writes, Wrote, Prints}
-use Rattle.bac_print.specs.Checked.{has_failed, Took, TookOrFailed}
+use Rattle.bac_print.specs.{folded, has_failed, held, laid_out, Prints, room_of, Took, TookOrFailed, writer_of, Writes}
+use Rattle.bac_print.{specs.{Wrote, declared.{checked.Checked.Checked, page.Page.Page}}, proofs.Printed.writes_more}
 
 module _ {W : Type 0} {contents : W → Option (List ℕ)} where
   -- What was printed on an empty page that was finished was written, as it was laid out there, as far as the writer

@@ -1,17 +1,15 @@
 -- The texts of values, and of what they are made of.
-use Rattle.std.{
-  proofs.Common.{◌≡◌, ℕ, ◌+◌, ◌-◌, ◌*◌, ◌<◌, min, false, List, [], ◌∷◌, ◌++◌, length, take, get_or, Option, Some},
-  proofs.{Common.{None, refl, sym, ◌∙◌, ap, arith, append_assoc, length-append, decimal}, Math.Seq.take-append-add},
-  proofs.lemmas.{List.{append-nil, take_more, Concat.flat_map-append}, Option.none-some, Int.{ints, to_z-of_z}},
-  specs.Prelude.{◌==◌, ℤ, pos, ◌<ℤ◌, unsigned_abs, option_map, IfSome, codes},
-  specs.{Fmt.signed_decimal, List.flat_map, Option.option_map_or},
+use Rattle.std.proofs.Common.{[], ◌*◌, ◌++◌, ◌+◌, ◌-◌, ◌<◌, ◌∙◌, ◌∷◌, ◌≡◌, ap, append_assoc, arith, decimal, false}
+use Rattle.std.proofs.Common.{get_or, length, length-append, List, min, None, Option, refl, Some, sym, take, ℕ}
+use Rattle.std.proofs.lemmas.{Int.{ints, to_z-of_z}, List.{append-nil, take_more, Concat.flat_map-append}}
+use Rattle.std.{proofs.{lemmas.Option.none-some, Math.Seq.take-append-add}, specs.{Fmt.signed_decimal, List.flat_map}}
+use Rattle.std.specs.{Option.option_map_or, Prelude.{◌<ℤ◌, ◌==◌, codes, IfSome, option_map, pos, unsigned_abs, ℤ}}
+use Rattle.{
+  bac_wire.{specs.{Datum.Datum, DatumReading.{value_at, values_of, values_within}}, proofs.ValueLists.values-first},
+  hex.specs.Hex.encode_lower,
+  bac_print.specs.{bits_text, datum_text, octet_bits, Prints, region_text, values_text, declared.page.Page.Page},
+  bac_print.{specs.Inner.{joined, separator}, proofs.Printed.{◌⨾◌, printed_as, prints_nothing}},
 }
-use Rattle.hex.specs.Hex.{encode_lower}
-use Rattle.bac_wire.specs.Datum.{Datum}
-use Rattle.bac_wire.{specs.DatumReading.{value_at, values_within, values_of}, proofs.ValueLists.values-first}
-use Rattle.bac_print.specs.declared.page.Page.{Page}
-use Rattle.bac_print.specs.{Page.Prints, Values.{octet_bits, bits_text, datum_text, values_text, region_text}}
-use Rattle.bac_print.{specs.Inner.Values.{joined, separator}, proofs.Printed.{◌⨾◌, printed_as, prints_nothing}}
 
 -- The text of one more octet.
 pub texts_more : (text : ℕ → List ℕ) (xs : List ℕ) (i : ℕ) → i < length xs →

@@ -1,10 +1,10 @@
 -- What walks over a ghost list share, besides what `Walks` of bac_wire has: its struct has a mark of its type.
+use Rattle.bac_wire.proofs.Walks.{[], ◌$◌, ◌∷◌, fjoin, List, move, nothing, RattleType, refl, ‵}
 use seplogic.Ra.Ura.{Ura}
 use mir.Val.{Val, vstruct, vcons, vnil}
 use types.{Logic.Logic, Kit.{Goal, Step, step, Item, fpack, feq_i}}
 use denote.{RattleType.Valss, Laws.Is, Steps.owned, Struct.{Laws.makes, Struct.{Struct, Shape, within}}}
 use Rattle.std.specs.contracts.marker.PhantomData as Mark
-use Rattle.bac_wire.proofs.Walks.{List, [], ◌∷◌, refl, ‵, ◌$◌, move, fjoin, nothing, RattleType}
 
 abbrev pub marked : Val
 marked = vstruct (vcons (vstruct vnil) vnil)

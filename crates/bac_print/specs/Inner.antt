@@ -3,3 +3,7 @@ pub mod Checked
 pub mod Values
 pub mod Page
 pub mod Examples
+unfoldable pub use Checked.*
+unfoldable pub use Values.*
+unfoldable pub use Page.*
+unfoldable pub use Examples.*

@@ -1,11 +1,9 @@
 //! Readers and writers that remember whether they failed.
-ghost use Rattle.std.specs.Prelude.{◌≡◌, ◌+◌, ◌-◌, ◌^◌, [], ◌∷◌, ◌++◌, ◌||◌, length, take, min, is_err, if◌then◌else◌};
-ghost use Rattle.std.specs.Io.{ReadsAtMost, WritesAtMost, KnownBytes.{ReadConsumes, WriteAppends, Keeps}};
+ghost use Rattle.std.specs.Io.{ReadsAtMost, WritesAtMost, KnownBytes.{Keeps, ReadConsumes, WriteAppends}};
+ghost use Rattle.std.specs.Prelude.{[], ◌++◌, ◌+◌, ◌-◌, ◌^◌, ◌||◌, ◌∷◌, ◌≡◌, if◌then◌else◌, is_err, length, min, take};
 ghost use Rattle.bac_wire.specs.Steps.{result_seen};
-ghost use Rattle.bac_print.specs.{
-  StreamCall.{ReadCall, WriteCall, FlushCall},
-  Checked.{inner_of, calls_of, has_failed, has_ended, ends_of, reads_of, octets_of, last_of, gone, fresh, passes_none},
-};
+ghost use Rattle.bac_print.specs.{calls_of, ends_of, FlushCall, fresh, gone, has_ended, has_failed, inner_of, last_of};
+ghost use Rattle.bac_print.specs.{octets_of, passes_none, ReadCall, reads_of, WriteCall};
 
 use crate::noted::Noted;
 use std::io::{self, Read, Write};

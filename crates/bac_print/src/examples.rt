@@ -1,12 +1,9 @@
 //! Examples of texts, worked out by computation. They show what the definitions mean.
 
-ghost use Rattle.std.specs.Prelude.{◌≡◌, [], ◌∷◌, codes, replicate};
-ghost use Rattle.bac_print.specs.{Checked.TookOrFailed, Page.{Prints, Writes}};
-ghost use Rattle.bac_print.specs.Inner.Examples.{having, unasked, unknown, written, failed, page, page_named};
-ghost use Rattle.bac_print.{
-  specs.{Inner.Examples.{PrintsAs, device, far_device}, Page.{folded, folded_line, left_after}},
-  specs.{PeerTexts.peer_text, Values.region_text},
-};
+ghost use Rattle.std.specs.Prelude.{[], ◌∷◌, ◌≡◌, codes, replicate};
+ghost use Rattle.bac_print.specs.{folded, folded_line, left_after, peer_text, Prints, region_text, TookOrFailed};
+ghost use Rattle.bac_print.specs.{Writes, Inner.{unknown, written}};
+ghost use Rattle.bac_print.specs.Inner.{device, failed, far_device, having, page, page_named, PrintsAs, unasked};
 
 // A value of each kind (ANSI/ASHRAE 135, 20.2), and the text of its octets.
 #[tactic(none)]

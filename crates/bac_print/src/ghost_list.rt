@@ -1,5 +1,5 @@
 //! A list that exists in proofs alone: it takes no memory, and its methods do nothing.
-ghost use Rattle.std.specs.{Prelude.{◌≡◌, List, [], ◌∷◌, ◌++◌}, Borrow.ftrue, Coded.coded_list};
+ghost use Rattle.std.specs.{Borrow.ftrue, Coded.coded_list, Prelude.{[], ◌++◌, ◌∷◌, ◌≡◌, List}};
 
 use std::marker::{Model, PhantomData};
 

@@ -1,6 +1,6 @@
 //! What is told of a fault.
 ghost use Rattle.std.specs.Prelude.{Some};
-ghost use Rattle.bac_print.specs.{Message.message_text, Page.Prints};
+ghost use Rattle.bac_print.specs.{message_text, Prints};
 
 use crate::page::Page;
 use std::fmt;

@@ -1,8 +1,8 @@
 //! Readers and writers with a note of each of their calls.
-ghost use Rattle.std.specs.{Prelude.{◌≡◌, [], ◌∷◌, ◌++◌, length, take}, Borrow.ftrue};
-ghost use Rattle.std.specs.Io.{ReadsAtMost, WritesAtMost, KnownBytes.{ReadConsumes, WriteAppends, Keeps}};
+ghost use Rattle.std.specs.{Borrow.ftrue, Io.{ReadsAtMost, WritesAtMost}, Prelude.{[], ◌++◌, ◌∷◌, ◌≡◌, length, take}};
+ghost use Rattle.std.specs.Io.KnownBytes.{Keeps, ReadConsumes, WriteAppends};
 ghost use Rattle.bac_wire.specs.Steps.{result_seen};
-ghost use Rattle.bac_print.specs.StreamCall.{StreamCall, ReadCall, WriteCall, FlushCall};
+ghost use Rattle.bac_print.specs.StreamCall.{FlushCall, ReadCall, StreamCall, WriteCall};
 
 use crate::ghost_list::{GhostList, NoteOf};
 use std::io::{self, Read, Write};

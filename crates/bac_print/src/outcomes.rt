@@ -1,7 +1,7 @@
 //! How a request ended, as it is printed.
-ghost use Rattle.std.specs.Prelude.{◌≡◌, ◌++◌, false, decimal, is_err};
-ghost use Rattle.bac_tsm.specs.{Events.Failed, Client.outcome_seen};
-ghost use Rattle.bac_print.specs.{Checked.{has_failed, TookOrFailed}, Page.Prints, Outcomes.outcome_text};
+ghost use Rattle.std.specs.Prelude.{◌++◌, ◌≡◌, decimal, false, is_err};
+ghost use Rattle.bac_tsm.specs.{Client.outcome_seen, Events.Failed};
+ghost use Rattle.bac_print.specs.{has_failed, outcome_text, Prints, TookOrFailed};
 
 use crate::checked::{Checked, WriteFailed};
 use crate::page::Page;

@@ -1,11 +1,8 @@
 //! Text on its way to a writer.
-ghost use Rattle.std.specs.Prelude.{◌≡◌, ◌+◌, ◌≤◌, ◌==◌, [], ◌++◌, drop, length, position, decimal, is_err, false};
-ghost use Rattle.std.specs.Prelude.{Some, None};
+ghost use Rattle.std.specs.Prelude.{[], ◌++◌, ◌+◌, ◌==◌, ◌≡◌, ◌≤◌, decimal, drop, false, is_err, length, position};
 ghost use Rattle.hex.specs.Hex.{encode_lower};
-ghost use Rattle.bac_print.{
-  specs.{Checked.{has_failed, TookOrFailed}, Inner.{Checked.HasNotRead, Page.Holds}},
-  specs.Page.{folded, folded_line, folded_octet, held, left_after, left_behind, room_of, writer_of, Writes, Prints},
-};
+ghost use Rattle.bac_print.specs.{folded, folded_line, folded_octet, has_failed, held, left_after, left_behind, Prints};
+ghost use Rattle.bac_print.specs.{room_of, TookOrFailed, writer_of, Writes, Inner.{HasNotRead, Holds}};
 
 use crate::checked::{Checked, WriteFailed};
 use arrayvec::ArrayVec;

@@ -1,8 +1,8 @@
 //! A peer as it is printed.
-ghost use Rattle.std.specs.Prelude.{◌≡◌, ◌+◌, ◌≤◌, [], ◌++◌, ◌∷◌, option_map, drop, length, decimal};
 ghost use Rattle.std.specs.Option.{option_map_or};
-ghost use Rattle.bac_pdu.specs.Peer.{station, network_address};
-ghost use Rattle.bac_print.specs.{Page.Prints, PeerTexts.{address_text, route_text, peer_text}};
+ghost use Rattle.std.specs.Prelude.{[], ◌++◌, ◌+◌, ◌∷◌, ◌≡◌, ◌≤◌, decimal, drop, length, option_map};
+ghost use Rattle.bac_pdu.specs.Peer.{network_address, station};
+ghost use Rattle.bac_print.specs.{address_text, peer_text, Prints, route_text};
 
 use crate::page::{Page, write_digits};
 use bac_pdu::{Peer, Route};

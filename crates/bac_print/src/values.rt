@@ -1,12 +1,10 @@
 //! What is printed of values.
-ghost use Rattle.std.specs.Prelude.{◌≡◌, ◌<◌, ◌+◌, ◌%◌, ◌==◌, ◌||◌, false, length, option_map, is_err, IfSome};
-ghost use Rattle.std.specs.{List.flat_map, Fmt.signed_decimal, Int.is_in_range};
-ghost use Rattle.bac_wire.specs.Datum.{datum, boolean, char_string, bit_string, object};
-ghost use Rattle.bac_wire.specs.{DatumReading.{value_at, values_of}, Identifier.identifier};
-ghost use Rattle.bac_print.{
-  specs.{Checked.{has_failed, TookOrFailed}, Inner.Values.{joined, separator}, Page.Prints},
-  specs.Values.{quoted_octet, quoted, lettered, octet_bits, bits_text, datum_text, region_text, ack_text},
-};
+ghost use Rattle.std.specs.{Fmt.signed_decimal, Int.is_in_range, List.flat_map};
+ghost use Rattle.std.specs.Prelude.{◌%◌, ◌+◌, ◌<◌, ◌==◌, ◌||◌, ◌≡◌, false, IfSome, is_err, length, option_map};
+ghost use Rattle.bac_wire.specs.{Datum.{bit_string, boolean, char_string, datum, object}, Identifier.identifier};
+ghost use Rattle.bac_wire.specs.DatumReading.{value_at, values_of};
+ghost use Rattle.bac_print.specs.{ack_text, bits_text, datum_text, has_failed, lettered, octet_bits, Prints, quoted};
+ghost use Rattle.bac_print.specs.{quoted_octet, region_text, TookOrFailed, Inner.{joined, separator}};
 
 use crate::checked::{Checked, WriteFailed};
 use crate::page::Page;

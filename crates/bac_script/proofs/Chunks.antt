@@ -1,20 +1,14 @@
 -- The octets of a chunk: a range of its room, of which a front was searched for a line feed.
-use Rattle.std.proofs.{
-  Common.{◌≡◌, ℕ, ◌+◌, ◌-◌, ◌<◌, ◌≤◌, List, [], ◌++◌, length, take, drop, Option, Some, None, refl, sym, ◌∙◌, ap},
-  Common.{inl, append-nil, arith, length-drop, ◌==◌, min, position, drop-drop, length-take-le, take-append-drop},
-  Common.{◌⊎◌, inr, length-append, take-take, take_all},
-  lemmas.{Grind.common_steps, List.{drop-append-le, take-append-le}, List.Edits.take-paste},
-  lemmas.Slice.{between_is, take-put_mid},
-  Math.Seq.{take-add, take-append-add},
-}
-use Rattle.std.specs.{List.{slice_range, copy_within}, Io.KnownBytes.{Consumes, Keeps}}
+use Rattle.std.proofs.Common.{[], ◌++◌, ◌+◌, ◌-◌, ◌<◌, ◌==◌, ◌∙◌, ◌≡◌, ◌≤◌, ◌⊎◌, ap, append-nil, arith, drop, drop-drop}
+use Rattle.std.proofs.Common.{inl, inr, length, length-append, length-drop, length-take-le, List, min, None, Option}
+use Rattle.std.proofs.Common.{position, refl, Some, sym, take, take-append-drop, take-take, take_all, ℕ}
+use Rattle.std.proofs.lemmas.{Grind.common_steps, List.{drop-append-le, take-append-le, Edits.take-paste}}
+use Rattle.std.proofs.{lemmas.Slice.{between_is, take-put_mid}, Math.Seq.{take-add, take-append-add}}
+use Rattle.std.specs.{Io.KnownBytes.{Consumes, Keeps}, List.{copy_within, slice_range}}
+use Rattle.bac_print.specs.{Checked.{inner_of, octets_of}, declared.checked.Checked.Checked}
+use Rattle.bac_script.specs.{chunk_room, HasNoFeed, HasNoLine, IsLineCut, IsUnread, line_room, Open, TakesAndKeeps}
+use Rattle.bac_script.proofs.Taken.{feed_at, no_feed, no_feed_on}
 use borrow.Rule.Slice.PartMut.{put_mid}
-use Rattle.bac_print.specs.{declared.checked.Checked.Checked, Checked.{inner_of, octets_of}}
-use Rattle.bac_script.{
-  specs.{Feeds.HasNoFeed, Limits.{line_room, chunk_room}, NextLine.{TakesAndKeeps, HasNoLine, IsLineCut, IsUnread}},
-  specs.declared.input.Reading.TheVariants.Open,
-  proofs.Taken.{no_feed, no_feed_on, feed_at},
-}
 
 pub range_size : (xs held : List ℕ) (start end : ℕ) → slice_range xs start end ≡ held → end ≤ length xs
     → length held ≡ end - start

@@ -1,14 +1,14 @@
 -- What the worked examples compute with, and what those of a device do: who unfolds `computed` unfolds all of it.
-use lib.Utf8.{encode}
-use Rattle.std.specs.{Str.{is_utf8, chars}, Fmt.digits}
-use Rattle.hex.specs.Hex.{decode_pairs, encode_with}
-use Rattle.bac_wire.specs.DatumReading.{values_within}
-use Rattle.bac_pdu.specs.{PropertyReading.ack_of, ValueReading.{who_is_of, introduction_of}}
-use Rattle.bac_tsm.specs.Lookahead.{next_invoke_id, refusal_of}
-use Rattle.bac_tsm.specs.Answers.{answer_in_datagram, same_station, is_answer_to}
-use Rattle.bac_device.specs.{Reply.who_is_reply, Inner.Demo.with_row, Point.description_of}
-use Rattle.bac_device.{specs.{Kind.kind_of, Places.place_at, Device.add_point}, proofs.Computed.computed as replies}
+use Rattle.std.specs.{Fmt.digits, Str.{chars, is_utf8}}
+use Rattle.bac_device.specs.{Device.add_point, Kind.kind_of, Places.place_at, Point.description_of, Reply.who_is_reply}
+use Rattle.bac_device.{specs.Inner.Demo.with_row, proofs.Computed.computed as replies}
+use Rattle.bac_pdu.specs.{PropertyReading.ack_of, ValueReading.{introduction_of, who_is_of}}
 use Rattle.bac_text.specs.ValueWords.{value_under}
+use Rattle.bac_tsm.specs.Answers.{answer_in_datagram, is_answer_to, same_station}
+use Rattle.bac_tsm.specs.Lookahead.{next_invoke_id, refusal_of}
+use Rattle.bac_wire.specs.DatumReading.{values_within}
+use Rattle.hex.specs.Hex.{decode_pairs, encode_with}
+use lib.Utf8.{encode}
 
 unfoldable pub computed : Unit {0}
 unfolding replies encode is_utf8 chars digits decode_pairs encode_with value_under values_within ack_of next_invoke_id

@@ -1,13 +1,10 @@
 -- The course of a script, line after line.
-use Rattle.std.proofs.Common.{◌≡◌, ℕ, ◌+◌, Bool, true, List, [], ◌∷◌, ◌++◌, length, Option, Some}
-use Rattle.std.proofs.Common.{None, Result, Ok, Err, refl, ap, append_assoc, arith, ◌&&◌, MatchOption}
-use Rattle.std.specs.{Option.option_map_or, Result.result_ok}
-use Rattle.bac_script.{
-  specs.declared.{input.Reading.Reading, line.LineFault.LineFault},
-  specs.{declared.tracing.{TraceEnd.TraceEnd, TraceFault.TraceFault}, Line.{Said, said}, Inner.Running.{Stage, ran}},
-  specs.Script.{lines, is_nothing, said_from, all_said, text_of, fault_at, fault_from, first_fault, text, EndsAs},
-  proofs.{Machine.{first_stage, text_from, text_is}, Settled.settings_first},
-}
+use Rattle.std.proofs.Common.{[], ◌&&◌, ◌++◌, ◌+◌, ◌∷◌, ◌≡◌, ap, append_assoc, arith, Bool, Err, length, List}
+use Rattle.std.{proofs.Common.{MatchOption, None, Ok, Option, refl, Result, Some, true, ℕ}, specs.Option.option_map_or}
+use Rattle.std.specs.Result.{result_ok}
+use Rattle.bac_script.specs.{all_said, EndsAs, fault_at, fault_from, first_fault, is_nothing, LineFault, lines, Reading}
+use Rattle.bac_script.specs.{Said, said, said_from, text, text_of, TraceEnd, TraceFault, Inner.{ran, Stage}}
+use Rattle.bac_script.proofs.{Machine.{first_stage, text_from, text_is}, Settled.settings_first}
 
 -- What is printed, the fault of the first line that is bad or too long, and without one the number of all lines.
 pub record Course : Type 0 where

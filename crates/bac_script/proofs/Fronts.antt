@@ -1,14 +1,11 @@
 -- The text of the first octets of a script is the beginning of its text.
-use Rattle.std.proofs.Common.{◌≡◌, ◌⊎◌, ℕ, ◌+◌, zero, suc, ◌≤◌, Bool, true, false, List, [], ◌∷◌}
-use Rattle.std.proofs.Common.{◌++◌, length, Result, Ok, Err, refl, sym, ◌∙◌, ap, subst, append_assoc, inl, inr, arith}
-use Rattle.std.proofs.{Common.{◌&&◌, ◌==◌, nat_lt, length-append, eqb-true}, lemmas.Bool.{eqb-false, Decides.nat_tests}}
+use Rattle.std.proofs.Common.{[], ◌&&◌, ◌++◌, ◌+◌, ◌==◌, ◌∙◌, ◌∷◌, ◌≡◌, ◌≤◌, ◌⊎◌, ap, append_assoc, arith, Bool}
+use Rattle.std.proofs.Common.{eqb-true, Err, false, inl, inr, length, length-append, List, nat_lt, Ok, refl, Result}
+use Rattle.std.proofs.{Common.{subst, suc, sym, true, zero, ℕ}, lemmas.Bool.{eqb-false, Decides.nat_tests}}
 use Rattle.bac_text.specs.Limits.{longest_line}
-use Rattle.bac_script.{
-  specs.{declared.{input.Reading.{Reading, TheVariants.Open}, line.LineFault.LineFault}, Alike.IsFrontOf},
-  specs.{Line.{Said, said}, Script.{lines, is_nothing, text}, Feeds.HasNoFeed, Inner.Running.{Stage, ran}},
-  proofs.Courses.{and_on, course, course_on, runs_text},
-  proofs.{Machine.first_stage, Pieces.{pieces-open, ends_with_feed-none, said-long, lines-ended}},
-}
+use Rattle.bac_script.specs.{HasNoFeed, is_nothing, IsFrontOf, LineFault, lines, Open, Reading, Said, said, text}
+use Rattle.bac_script.{specs.Inner.{ran, Stage}, proofs.Courses.{and_on, course, course_on, runs_text}}
+use Rattle.bac_script.proofs.{Machine.first_stage, Pieces.{ends_with_feed-none, lines-ended, pieces-open, said-long}}
 
 -- The octets up to the first line feed, and those behind it.
 pub record FirstLine (octets : List ℕ) : Type 0 where

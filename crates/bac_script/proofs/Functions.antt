@@ -1,15 +1,11 @@
 -- A script is a function of its octets and of whether they ended.
-use Rattle.std.proofs.Common.{◌≡◌, ◌≢◌, ◌⊎◌, ℕ, ◌+◌, ◌≤◌, Bool, true, List, [], ◌∷◌, ◌++◌, Option, Result, Err}
-use Rattle.std.{proofs.Common.{sym, ◌∙◌, ap, arith, append_assoc, IfSome, MatchOption, append-nil}, specs.Prelude.⊤}
-use Rattle.bac_print.specs.{declared.checked.Checked.Checked, Checked.{fresh, has_failed, ends_of, reads_of, octets_of}}
-use Rattle.bac_script.{
-  proofs.{Courses.RunsWhole, Fronts.text_front},
-  specs.Alike.{IsFrontOf, GaveSame, GaveFront, IsWrittenOf, AreAlike},
-  specs.{Input.{most_reads, ReaderStands}, Line.{Said, said}},
-  specs.{Script.{lines, text, fault_or, fault_from, EndsAs, Runs}, Tracing.Traces, declared.input.Reading.Reading},
-  specs.declared.{input.Reading.TheVariants.{Open, AtEnd, Failed}, line.LineFault.LineFault, tracing.TraceEnd.TraceEnd},
-  specs.declared.tracing.TraceFault.{TraceFault, TheVariants.{BadLine, LineTooLong, ReadFailed, WriteFailed}},
-}
+use Rattle.std.proofs.Common.{[], ◌++◌, ◌+◌, ◌∙◌, ◌∷◌, ◌≡◌, ◌≢◌, ◌≤◌, ◌⊎◌, ap, append-nil, append_assoc, arith, Bool}
+use Rattle.std.{proofs.Common.{Err, IfSome, List, MatchOption, Option, Result, sym, true, ℕ}, specs.Prelude.⊤}
+use Rattle.bac_print.specs.{Checked.{ends_of, fresh, has_failed, octets_of, reads_of}, declared.checked.Checked.Checked}
+use Rattle.bac_script.specs.{AreAlike, AtEnd, EndsAs, Failed, fault_from, fault_or, GaveFront, GaveSame, IsFrontOf}
+use Rattle.bac_script.specs.{IsWrittenOf, LineFault, lines, most_reads, Open, ReaderStands, ReadFailed, Reading, Runs}
+use Rattle.bac_script.{specs.{Said, said, text, TraceEnd, TraceFault, Traces, WriteFailed}, proofs.Courses.RunsWhole}
+use Rattle.bac_script.{specs.declared.tracing.TraceFault.TheVariants.{BadLine, LineTooLong}, proofs.Fronts.text_front}
 
 -- How often reading met the end.
 abbrev ends : Reading → ℕ

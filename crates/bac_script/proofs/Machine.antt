@@ -1,14 +1,13 @@
 -- What the machine prints for all that a script says is what the look-ahead gives.
-use Rattle.std.proofs.Common.{◌≡◌, ℕ, zero, suc, List, [], ◌∷◌, ◌++◌}
-use Rattle.std.{proofs.Common.{drop, Option, Some, slice_get, refl, sym, ◌∙◌, ap, arith}, specs.List.AllByRecursion}
+use Rattle.std.proofs.Common.{[], ◌++◌, ◌∙◌, ◌∷◌, ◌≡◌, ap, arith, drop, List, Option, refl, slice_get, Some, suc, sym}
+use Rattle.std.{proofs.Common.{zero, ℕ}, specs.List.AllByRecursion}
+use Rattle.bac_device.specs.{Demo.demo_points, Places.Write, Turns.replies_to}
 use Rattle.bac_pdu.specs.Peer.{Station}
-use Rattle.bac_tsm.specs.{Events.{Event, Note}, Lookahead.output, Machine.{State, Stepped}}
-use Rattle.bac_tsm.specs.{Limits.table_size, Laws.{state_at, NumbersComeBackLate}, Client.{client_rules, keeping}}
-use Rattle.bac_tsm.proofs.Laws.{by_number, few_open, begins, one_step, back_late}
-use Rattle.bac_device.specs.{Places.Write, Demo.demo_points, Turns.replies_to}
-use Rattle.bac_script.specs.{Line.{Said, Nothing, Settings, Happens, Asks}, Text.notes_text}
-use Rattle.bac_script.specs.{Running.small_device, Inner.Running.{Stage, new_client, ran, writes_with}}
-use Rattle.bac_script.specs.Script.{events_in, arrivals_in, requests_in, printed, text_of}
+use Rattle.bac_tsm.specs.{Client.{client_rules, keeping}, Events.{Event, Note}, Laws.{NumbersComeBackLate, state_at}}
+use Rattle.bac_tsm.specs.{Limits.table_size, Lookahead.output, Machine.{State, Stepped}}
+use Rattle.bac_tsm.proofs.Laws.{back_late, begins, by_number, few_open, one_step}
+use Rattle.bac_script.specs.{arrivals_in, Asks, events_in, Happens, notes_text, Nothing, printed, requests_in, Said}
+use Rattle.bac_script.specs.{Settings, small_device, text_of, Inner.{new_client, ran, Stage, writes_with}}
 
 -- What a script runs on before its first line.
 abbrev pub first_stage : Stage

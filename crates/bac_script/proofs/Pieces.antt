@@ -1,11 +1,10 @@
 -- Where the octets of a script are cut.
-use Rattle.std.proofs.Common.{◌≡◌, ◌≢◌, ℕ, ◌<◌, Bool, true, false, List, [], ◌∷◌, ◌++◌, length, get_or, refl, sym, ◌∙◌}
-use Rattle.std.proofs.Common.{ap, append_assoc, arith, Err, ◌||◌, nat_lt, filter, append-nil, length-append, ne_eqb}
-use Rattle.std.{proofs.lemmas.{Grind.common_steps, Bool.Decides.nat_tests}, specs.List.onto_first}
+use Rattle.std.proofs.Common.{[], ◌++◌, ◌<◌, ◌||◌, ◌∙◌, ◌∷◌, ◌≡◌, ◌≢◌, ap, append-nil, append_assoc, arith, Bool, Err}
+use Rattle.std.proofs.Common.{false, filter, get_or, length, length-append, List, nat_lt, ne_eqb, refl, sym, true, ℕ}
+use Rattle.std.{proofs.lemmas.{Bool.Decides.nat_tests, Grind.common_steps}, specs.List.onto_first}
 use Rattle.bac_text.specs.Limits.{longest_line}
-use Rattle.bac_script.specs.{Limits.line_room, Feeds.HasNoFeed, Script.{pieces, lines, is_line}}
-use Rattle.bac_script.specs.declared.input.Reading.{Reading, TheVariants.{AtEnd, Failed}}
-use Rattle.bac_script.specs.{declared.line.LineFault.TheVariants.TooLong, Line.{ends_with_feed, without_feed, said}}
+use Rattle.bac_script.specs.{AtEnd, ends_with_feed, Failed, HasNoFeed, is_line, line_room, lines, pieces, Reading, said}
+use Rattle.bac_script.specs.{without_feed, declared.line.LineFault.TheVariants.TooLong}
 
 pub pieces-line : (text more : List ℕ) → HasNoFeed text → pieces (text ++ 10 ∷ more) ≡ (text ++ 10 ∷ []) ∷ pieces more
 pieces-line [] = grind arith

@@ -1,28 +1,22 @@
 -- What holds between two lines of a script, and where it stops.
-use Rattle.std.{
-  proofs.Common.{◌≡◌, ◌≢◌, ℕ, ◌+◌, ◌<◌, ◌≤◌, Bool, true, false, List, [], ◌∷◌, ◌++◌, length},
-  proofs.Common.{take, drop, Option, Some, None, Result, Ok, Err, refl, sym, ◌∙◌, ap, subst, inl, inr, append_assoc},
-  proofs.Common.{arith, ◌&&◌, append-nil, length-append, take-append-drop, ◌⊎◌, MatchOption},
-  proofs.lemmas.List.append_cancel_right,
-}
-use Rattle.bac_tsm.specs.Client.{Client}
+use Rattle.std.proofs.Common.{[], ◌&&◌, ◌++◌, ◌+◌, ◌<◌, ◌∙◌, ◌∷◌, ◌≡◌, ◌≢◌, ◌≤◌, ◌⊎◌, ap, append-nil, append_assoc}
+use Rattle.std.proofs.Common.{arith, Bool, drop, Err, false, inl, inr, length, length-append, List, MatchOption, None}
+use Rattle.std.proofs.Common.{Ok, Option, refl, Result, Some, subst, sym, take, take-append-drop, true, ℕ}
+use Rattle.std.proofs.lemmas.List.{append_cancel_right}
 use Rattle.bac_device.specs.Device.{DeviceState}
-use Rattle.bac_print.specs.{Checked.{has_failed, reads_of, last_of, octets_of}, declared.page.Page.Page}
-use Rattle.bac_print.specs.{declared.checked.Checked.Checked, Page.{held as on_page, laid_out, room_of, writer_of}}
-use Rattle.bac_print.specs.Page.{Writes, Wrote, Prints}
-use Rattle.bac_print.proofs.{Known.Gave-none, Shown.{finished, all_written}, Printed.{◌⨾◌, prints_nothing}}
-use Rattle.bac_script.{
-  specs.declared.{input.Reading.{Reading, TheVariants.{Open, AtEnd, Failed}}, line.LineFault.LineFault},
-  specs.declared.tracing.{TraceEnd.TraceEnd, TraceFault.{TraceFault, TheVariants.{ReadFailed, WriteFailed}}},
-  specs.{Input.{ReadsNoMore, ReaderStands}, Line.{Said, said}},
-  specs.{NextLine.{TakesAndKeeps, ReadForLine, empty_reads, IsLineCut}, Feeds.HasNoFeed, Limits.line_room},
-  specs.Inner.{Input.HasNotEnded, Tracing.RunsOn, Running.{Stage, Stands, new_client, device_with, ran}},
-  specs.Script.{lines, is_nothing, fault_at, first_fault, text, EndsAs, Runs},
-  specs.Tracing.{LastIsNeeded, Traces, IsToldFirst},
-  proofs.Pieces.{NextLine, next_ended, next_long, next_last, lines-rest, lines-last, lines-ended, said-whole_long},
-  proofs.{Taken.{Takes-more, Takes-front, further}, Machine.first_stage, Courses.Course},
-  proofs.Courses.{behind, behind_both, and_on, course, course_on, whole, runs_text, fault_is, RunsWhole, runs_as},
-}
+use Rattle.bac_print.specs.{Checked.{has_failed, last_of, octets_of, reads_of}, declared.checked.Checked.Checked}
+use Rattle.bac_print.{specs.declared.page.Page.Page, proofs.{Known.Gave-none, Printed.{◌⨾◌, prints_nothing}}}
+use Rattle.bac_print.specs.Page.{held as on_page, laid_out, Prints, room_of, writer_of, Writes, Wrote}
+use Rattle.bac_print.proofs.Shown.{all_written, finished}
+use Rattle.bac_tsm.specs.Client.{Client}
+use Rattle.bac_script.specs.{AtEnd, empty_reads, EndsAs, Failed, fault_at, first_fault, HasNoFeed, is_nothing}
+use Rattle.bac_script.specs.{IsLineCut, IsToldFirst, LastIsNeeded, line_room, LineFault, lines, Open, ReaderStands}
+use Rattle.bac_script.specs.{ReadFailed, ReadForLine, Reading, ReadsNoMore, Runs, Said, said, TakesAndKeeps, text}
+use Rattle.bac_script.{specs.{TraceEnd, TraceFault, Traces, WriteFailed}, proofs.Courses.{runs_text, RunsWhole, whole}}
+use Rattle.bac_script.specs.Inner.{device_with, HasNotEnded, new_client, ran, RunsOn, Stage, Stands}
+use Rattle.bac_script.proofs.Courses.{and_on, behind, behind_both, Course, course, course_on, fault_is, runs_as}
+use Rattle.bac_script.proofs.{Machine.first_stage, Pieces.said-whole_long, Taken.{further, Takes-front, Takes-more}}
+use Rattle.bac_script.proofs.Pieces.{lines-ended, lines-last, lines-rest, next_ended, next_last, next_long, NextLine}
 
 -- What was printed on an empty page is out, or still held.
 out_so_far : {W : Type 0} {contents : W → Option (List ℕ)} {page between : Page W} {printed : List ℕ}

@@ -1,18 +1,14 @@
 -- What is taken in several steps.
-use Rattle.std.{
-  proofs.lemmas.{List.{take_more, drop_all, Sums.fails_before_first, Quantifiers.position-Some}, Bool.eqb-false},
-  proofs.{lemmas.Bool.Decides.nat_tests, Common.{◌≡◌, ◌⊎◌, ℕ, ◌+◌, ◌<◌, ◌≤◌, zero, suc, Bool, false, List}},
-  proofs.Common.{[], ◌∷◌, ◌++◌, length, take, drop, get_or, Option, Some, None, inl, inr, true},
-  proofs.Common.{append_assoc, length-append, arith, ◌==◌, position, eqb-true, take-append-drop, take_all, append-nil},
-}
+use Rattle.std.proofs.Common.{[], ◌++◌, ◌+◌, ◌<◌, ◌==◌, ◌∷◌, ◌≡◌, ◌≤◌, ◌⊎◌, append-nil, append_assoc, arith, Bool, drop}
+use Rattle.std.proofs.Common.{eqb-true, false, get_or, inl, inr, length, length-append, List, None, Option, position}
+use Rattle.std.proofs.{Common.{Some, suc, take, take-append-drop, take_all, true, zero, ℕ}, lemmas.Bool.eqb-false}
+use Rattle.std.proofs.lemmas.{Bool.Decides.nat_tests, List.{drop_all, take_more, Quantifiers.position-Some}}
+use Rattle.std.proofs.lemmas.List.Sums.{fails_before_first}
+use Rattle.bac_print.specs.{Checked.{has_failed, last_of, octets_of, reads_of}, declared.checked.Checked.Checked}
+use Rattle.bac_print.specs.{declared.page.Page.Page, Page.{held as on_page, Prints, room_of, writer_of, Wrote}}
 use Rattle.bac_print.proofs.{Folding.laid_out-none, Printed.◌⨾◌}
-use Rattle.bac_print.specs.declared.{page.Page.Page, checked.Checked.Checked}
-use Rattle.bac_print.specs.Checked.{last_of, octets_of, has_failed, reads_of}
-use Rattle.bac_print.specs.Page.{held as on_page, room_of, writer_of, Wrote, Prints}
-use Rattle.bac_script.{
-  specs.{Feeds.HasNoFeed, NextLine.{TakesAndKeeps, ReadForLine, IsNext, IsTurnedIn, IsUnread}, Inner.Input.HasNotEnded},
-  specs.{Limits.line_room, Input.ReaderStands, declared.input.Reading.{Reading, TheVariants.Open}},
-}
+use Rattle.bac_script.specs.{HasNoFeed, IsNext, IsTurnedIn, IsUnread, line_room, Open, ReaderStands, ReadForLine}
+use Rattle.bac_script.specs.{Reading, TakesAndKeeps, Inner.HasNotEnded}
 
 pub Takes-more : {R : Type 0} {remaining : R → Option (List ℕ)} {a b c : Checked R} {held mid kept xs ys : List ℕ}
     → TakesAndKeeps remaining a b held mid xs → TakesAndKeeps remaining b c mid kept ys →

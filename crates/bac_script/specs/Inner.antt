@@ -4,3 +4,8 @@ pub mod Line
 pub mod Running
 pub mod Tracing
 pub mod Examples
+unfoldable pub use Input.*
+unfoldable pub use Line.*
+unfoldable pub use Running.*
+unfoldable pub use Tracing.*
+unfoldable pub use Examples.*

@@ -11,3 +11,19 @@ pub mod Script
 pub mod Tracing
 pub mod Alike
 pub mod Inner
+unfoldable pub use Feeds.*
+unfoldable pub use Limits.*
+unfoldable pub use Input.*
+unfoldable pub use NextLine.*
+unfoldable pub use Line.*
+unfoldable pub use LongBody.*
+unfoldable pub use LineSeen.*
+unfoldable pub use Text.*
+unfoldable pub use Running.*
+unfoldable pub use Script.*
+unfoldable pub use Tracing.*
+unfoldable pub use Alike.*
+pub use Rattle.bac_script.specs.declared.input.Reading.{Reading, TheVariants.{AtEnd, Failed, Open}}
+pub use Rattle.bac_script.specs.declared.line.LineFault.{LineFault}
+pub use Rattle.bac_script.specs.declared.tracing.TraceEnd.{TraceEnd}
+pub use Rattle.bac_script.specs.declared.tracing.TraceFault.{TraceFault, TheVariants.{ReadFailed, WriteFailed}}

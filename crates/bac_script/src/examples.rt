@@ -1,15 +1,13 @@
 //! Examples of scripts, worked out by computation. They show what the definitions mean.
 
-ghost use Rattle.std.specs.Prelude.{◌≡◌, [], ◌∷◌, codes, replicate, Err};
-ghost use Rattle.bac_tsm.specs.{Client.client_rules, Events.{Ask, Tick, request_of}};
-ghost use Rattle.bac_print.specs.Inner.Examples.{having, page, unasked, unknown};
-ghost use Rattle.bac_script.{
-  specs.declared.input.Reading.TheVariants.{Open, AtEnd, Failed},
-  specs.declared.tracing.TraceFault.TheVariants.{BadLine, LineTooLong, ReadFailed, WriteFailed},
-  specs.{Inner.Examples.{IsTraced, ended, read, sent, answer}, Line.Happens, Script.{Runs, requests_in}},
-  specs.Inner.Examples.{broken, desk, gave, has_read},
-  specs.{Alike.{AreAlike, GaveFront, GaveSame, IsFrontOf, IsWrittenOf}, Input.{ReaderStands, ReadsNoMore, most_reads}},
-  specs.{NextLine.{IsNext, ReadForLine, TakesAndKeeps}, Tracing.Traces},
+ghost use Rattle.std.specs.Prelude.{[], ◌∷◌, ◌≡◌, codes, replicate};
+ghost use Rattle.{
+  bac_print.specs.Inner.Examples.{having, page, unasked, unknown},
+  bac_tsm.specs.{Client.client_rules, Events.{Ask, request_of, Tick}},
+  bac_script.specs.{AreAlike, AtEnd, Failed, GaveFront, GaveSame, Happens, IsFrontOf, IsNext, IsWrittenOf, most_reads},
+  bac_script.specs.{Open, ReaderStands, ReadFailed, ReadForLine, ReadsNoMore, requests_in, Runs, TakesAndKeeps, Traces},
+  bac_script.specs.{WriteFailed, declared.tracing.TraceFault.TheVariants.{BadLine, LineTooLong}},
+  bac_script.specs.Inner.{answer, broken, desk, ended, gave, has_read, IsTraced, read, sent},
 };
 
 // What is printed of a client's events.

@@ -1,12 +1,10 @@
 //! The lines of a reader, one at a time.
 
-ghost use Rattle.std.specs.Prelude.{◌≡◌, ◌≢◌, ◌==◌, ◌+◌, ◌<◌, ◌≤◌, ◌⊎◌, ◌++◌};
-ghost use Rattle.std.specs.Prelude.{[], length, take, drop, position, true, false, IfNone, MatchOption, MatchResult};
-ghost use Rattle.bac_print.specs.{Checked.{has_failed, reads_of, last_of}, Page.{writer_of, Prints}};
-ghost use Rattle.bac_script.{
-  specs.{Feeds.HasNoFeed, NextLine.{most_to_come, may_read, empty_reads, TakesAndKeeps}},
-  specs.{NextLine.{ReadForLine, HasNoLine, IsLineCut, IsNext, IsUnread}, Input.{ReaderStands, ReadsNoMore}},
-};
+ghost use Rattle.std.specs.Prelude.{[], ◌++◌, ◌+◌, ◌<◌, ◌==◌, ◌≡◌, ◌≢◌, ◌≤◌, ◌⊎◌, drop, false, IfNone, length};
+ghost use Rattle.std.specs.Prelude.{MatchOption, MatchResult, position, take, true};
+ghost use Rattle.bac_print.specs.{Checked.{has_failed, last_of, reads_of}, Page.{Prints, writer_of}};
+ghost use Rattle.bac_script.specs.{empty_reads, HasNoFeed, HasNoLine, IsLineCut, IsNext, IsUnread, may_read};
+ghost use Rattle.bac_script.specs.{most_to_come, ReaderStands, ReadForLine, ReadsNoMore, TakesAndKeeps};
 
 use bac_print::{Checked, Page, WriteFailed};
 use bac_text::{Delimiter, LONGEST_LINE, position_of_end};
@@ -47,7 +45,7 @@ pub enum Reading {
 }
 
 impl Model for Chunk {
-    ghost use Rattle.std.specs.Prelude.{ℕ, ◌≤◌, List, slice_range};
+    ghost use Rattle.std.specs.Prelude.{◌≤◌, List, slice_range, ℕ};
     ghost use Rattle.bac_script.specs.Limits.{chunk_room};
 
     ghost Value = { List ℕ };

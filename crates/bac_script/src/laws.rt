@@ -1,13 +1,11 @@
 //! What holds of the definitions that the contracts cite. Each function has an empty body, and its clauses are
 //! the laws.
-ghost use Rattle.std.specs.Prelude.{◌≡◌, ◌≤◌, ◌⊎◌, true, ℕ, List, Result, Err};
-ghost use Rattle.bac_wire.specs.Copies.{MakesCopies, EqualsBy};
+ghost use Rattle.std.specs.Prelude.{◌≡◌, ◌≤◌, ◌⊎◌, List, Result, true, ℕ};
+ghost use Rattle.bac_print.specs.{Checked.{fresh, has_failed, octets_of, reads_of}, declared.checked.Checked.Checked};
 ghost use Rattle.bac_tsm.specs.{Laws.NumbersComeBackLate, Limits.table_size};
-ghost use Rattle.bac_print.specs.{Checked.{has_failed, reads_of, fresh, octets_of}, declared.checked.Checked.Checked};
-ghost use Rattle.bac_script.{
-  specs.Alike.{IsFrontOf, GaveSame, GaveFront, IsWrittenOf, AreAlike},
-  specs.{Input.most_reads, Script.{lines, all_said, requests_in}, Tracing.Traces, declared.input.Reading.Reading},
-};
+ghost use Rattle.bac_wire.specs.Copies.{EqualsBy, MakesCopies};
+ghost use Rattle.bac_script.specs.{all_said, AreAlike, GaveFront, GaveSame, IsFrontOf, IsWrittenOf, lines, most_reads};
+ghost use Rattle.bac_script.specs.{Reading, requests_in, Traces};
 
 use crate::input::{Next, Reading as ReadingState};
 use crate::line::{LineFault, Received};

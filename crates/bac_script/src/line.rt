@@ -1,16 +1,12 @@
 //! The lines of a script.
 
-ghost use Rattle.std.specs.Prelude.{◌≡◌, [], option_map, None, Some, IfSome, MatchOption, MatchResult, Ok, Err};
-ghost use Rattle.std.specs.Str.{is_utf8};
-ghost use Rattle.bac_wire.specs.{Identifier.identifier, Steps.result_seen};
-ghost use Rattle.bac_pdu.specs.{Peer.station, Property.IsPriority};
-ghost use Rattle.bac_text.{
-  specs.{Words.{octets_of, next_as}, Address.{plain_peer_of, peer_of}, Parameters.write_index_of},
-};
-ghost use Rattle.bac_script.{
-  specs.Line.{Happens, settings_of, property_in},
-  specs.Line.{index_in, reading_of, priority_of, writing_of, arrival_of, tick_of, said_by, text_of_line, said},
-  specs.{Inner.Line.IsLeft, LineSeen.{arrival_seen, line_seen}, Script.is_nothing},
+ghost use Rattle.std.specs.{Prelude.{[], ◌≡◌, IfSome, MatchOption, MatchResult, option_map}, Str.is_utf8};
+ghost use Rattle.{
+  bac_pdu.specs.{Peer.station, Property.IsPriority},
+  bac_text.specs.{Address.{peer_of, plain_peer_of}, Parameters.write_index_of, Words.{next_as, octets_of}},
+  bac_wire.specs.{Identifier.identifier, Steps.result_seen},
+  bac_script.specs.{arrival_of, arrival_seen, Happens, index_in, is_nothing, line_seen, priority_of, property_in},
+  bac_script.specs.{reading_of, said, said_by, settings_of, text_of_line, tick_of, writing_of, Inner.IsLeft},
 };
 
 use crate::long_write::LongWrite;

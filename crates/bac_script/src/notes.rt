@@ -1,11 +1,11 @@
 //! What is printed of a client's notes, and of a device's replies.
 
-ghost use Rattle.std.specs.{Prelude.{[], ◌∷◌, ◌++◌, option_map}, List.flat_map};
-ghost use Rattle.hex.specs.Hex.{encode_lower};
+ghost use Rattle.std.specs.{List.flat_map, Prelude.{[], ◌++◌, ◌∷◌, option_map}};
 ghost use Rattle.bac_pdu.specs.Peer.{station};
-ghost use Rattle.bac_tsm.specs.{Events.{Done, Refused, TimedOut}, Machine.{sent, due_notes}, Client.outcome_seen};
 ghost use Rattle.bac_print.specs.{Page.Prints, PeerTexts.peer_text};
-ghost use Rattle.bac_script.specs.Text.{note_text, notes_text, reply_text};
+ghost use Rattle.bac_tsm.specs.{Client.outcome_seen, Events.{Done, Refused, TimedOut}, Machine.{due_notes, sent}};
+ghost use Rattle.hex.specs.Hex.{encode_lower};
+ghost use Rattle.bac_script.specs.{note_text, notes_text, reply_text};
 
 use bac_pdu::Peer;
 use bac_print::{Page, print_outcome};

@@ -1,9 +1,8 @@
 //! A script, run as it is read.
 
-ghost use Rattle.std.specs.Prelude.{◌≡◌, ◌↔◌, true, false, Err, []};
+ghost use Rattle.std.specs.Prelude.{[], ◌↔◌, ◌≡◌, Err, false, true};
 ghost use Rattle.bac_print.specs.{Checked.has_failed, Message.message_text, Page.{held, room_of, writer_of}};
-ghost use Rattle.bac_script.specs.Inner.{Running.new_client, Tracing.RunsOn};
-ghost use Rattle.bac_script.specs.{Script.fault_at, Tracing.{Traces, trace_fault_text}};
+ghost use Rattle.bac_script.specs.{fault_at, trace_fault_text, Traces, Inner.{new_client, RunsOn}};
 
 use crate::input::{Chunk, Reading};
 use crate::line::{LineFault, LineRoom, read_line};

@@ -1,15 +1,14 @@
 -- The numbers of an argument that several tools have, and the peer that a word names.
-use Rattle.std.proofs.Common.{◌≡◌, ◌∙◌, ℕ, true, inl, inr, codes, List, [], map, Option, Some, None, refl}
-use Rattle.std.{proofs.{Common.{ap, unwrap_or, IfSome}, lemmas.Option.same_Some}, specs.{Borrow.Bor, Option.option_map}}
-use Rattle.clap.{specs.Walk.{Row, Rule, Text, texts}, proofs.WalkLemmas.first_value-rows}
-use Rattle.clap_laws.specs.Inner.Commands.{rules_of}
-use Rattle.clap_laws.{specs.{Inner.Numbers.{FitsWord, bounds_in, is_needed}, Passes.IsTaken}, proofs.Getters.needed}
-use Rattle.bac_wire.specs.Steps.{◌>>=◌}
-use Rattle.bac_pdu.specs.{Peer.{Station, network_address, station}, declared.{peer.Peer.Peer, route.Route.Route}}
+use Rattle.std.proofs.Common.{[], ◌∙◌, ◌≡◌, ap, codes, IfSome, inl, inr, List, map, None, Option, refl, Some, true}
+use Rattle.std.{proofs.{Common.{unwrap_or, ℕ}, lemmas.Option.same_Some}, specs.{Borrow.Bor, Prelude.option_map}}
+use Rattle.bac_pdu.specs.{declared.{peer.Peer.Peer, route.Route.Route}, Peer.{network_address, Station, station}}
 use Rattle.bac_text.specs.Address.{address_of, cut_at, plain_peer_of, short_number, station_at}
-use Rattle.bac_words.specs.Command.{bacrp, bacrun, bacwp, bacwi}
-use Rattle.bac_words.specs.{Job.peer_in, Marks.unmarked}
-use Rattle.bac_words.specs.Inner.Job.{IsClient, IsGiven, IsNumberWord, IsRequest, IsSender, bounds}
+use Rattle.bac_wire.specs.Steps.{◌>>=◌}
+use Rattle.clap.{specs.Walk.{Row, Rule, Text, texts}, proofs.WalkLemmas.first_value-rows}
+use Rattle.clap_laws.specs.{Passes.IsTaken, Inner.{Commands.rules_of, Numbers.{bounds_in, FitsWord, is_needed}}}
+use Rattle.clap_laws.proofs.Getters.{needed}
+use Rattle.bac_words.specs.{bacrp, bacrun, bacwi, bacwp, peer_in, unmarked}
+use Rattle.bac_words.specs.Inner.{bounds, IsClient, IsGiven, IsNumberWord, IsRequest, IsSender}
 
 -- What the getters of words read.
 pub ruleset first_words = (first_value-rows)

@@ -1,14 +1,14 @@
 -- Words that `clap` takes name one of the six tools, with matches that passed its rules.
-use Rattle.std.proofs.Common.{◌∙◌, ◌≡◌, ◌⊎◌, Bool, codes, true, false}
-use Rattle.std.proofs.Common.{refl, sym, subst, inl, inr, List, [], ◌∷◌, Some, Result, Ok, Err, IsSomeAnd, IsErrAnd}
-use Rattle.std.{proofs.{Math.Bool.or-false, lemmas.{Bool.false≢true, Slice.Eq.bytes_eq-Decides}}, specs.List.find}
-use Rattle.clap.specs.{Walk.{Text, answers_to, nothing_held}, Faults.{fault_of, is_simple_and_free, level_fault}}
-use Rattle.clap.specs.{Kinds.{HasKind, IsAmong}, Values.kind_of, declared.error.{Error.Error, kind.ErrorKind.ErrorKind}}
-use Rattle.clap.specs.Simple.{Shape, built, label_of, is_simple, rows_at, subcommand_of}
-use Rattle.clap.specs.declared.error.kind.ErrorKind.TheVariants as kind
+use Rattle.std.proofs.Common.{[], ◌∙◌, ◌∷◌, ◌≡◌, ◌⊎◌, Bool, codes, Err, false, inl, inr, IsErrAnd, IsSomeAnd, List, Ok}
+use Rattle.std.proofs.{Common.{refl, Result, Some, subst, sym, true}, lemmas.Bool.false≢true, Math.Bool.or-false}
+use Rattle.std.{proofs.lemmas.Slice.Eq.bytes_eq-Decides, specs.List.find}
+use Rattle.clap.specs.{declared.error.{Error.Error, kind.ErrorKind.ErrorKind}, Kinds.{HasKind, IsAmong}, Values.kind_of}
+use Rattle.clap.specs.{Faults.{fault_of, is_simple_and_free, level_fault}, Walk.{answers_to, nothing_held, Text}}
+use Rattle.clap.specs.Simple.{built, is_simple, label_of, rows_at, Shape, subcommand_of}
 use Rattle.clap_laws.{specs.Entering.asks_for_help, proofs.{Enters.enters, Rows.{level_taken, when_found}}}
-use Rattle.bac_words.specs.{declared.{faults.UsageFault.UsageFault, job.Job.Job}, Command.bactool}
-use Rattle.bac_words.specs.{Inner.{Fault.{fault_by, fault_from}, Job.IsTool}, Line.IsRefusal, Marks.marked_words}
+use Rattle.bac_words.specs.{bactool, IsRefusal, marked_words, declared.{faults.UsageFault.UsageFault, job.Job.Job}}
+use Rattle.bac_words.specs.Inner.{fault_by, fault_from, IsTool}
+use Rattle.clap.specs.declared.error.kind.ErrorKind.TheVariants as kind
 
 abbrev AllOf : (Shape → Type 0) → List Shape → Type 0
 AllOf P [] = Unit {0}

@@ -1,8 +1,7 @@
 -- The words that are left, from their front.
-use Rattle.std.proofs.Common.{◌≡◌, ℕ, ◌+◌, ◌<◌, ◌≤◌, List, [], ◌∷◌, length, map, drop, get_or, sym, ◌∙◌, ap, arith}
-use Rattle.std.{proofs.{Common.{add-one, drop-cons, length-drop}, lemmas.List.{drop_all, length-map}}, specs.Borrow.Bor}
-use Rattle.clap.specs.Walk.{Text, texts}
-use Rattle.bac_words.specs.Marks.{unmarked}
+use Rattle.std.proofs.Common.{[], ◌+◌, ◌<◌, ◌∙◌, ◌∷◌, ◌≡◌, ◌≤◌, add-one, ap, arith, drop, drop-cons, get_or, length}
+use Rattle.std.{proofs.{Common.{length-drop, List, map, sym, ℕ}, lemmas.List.{drop_all, length-map}}, specs.Borrow.Bor}
+use Rattle.{clap.specs.Walk.{Text, texts}, bac_words.specs.unmarked}
 
 pub typed_next : (words : List (Bor Text)) (n : ℕ) (d : Bor Text) → n < length words →
     map unmarked (texts (drop n words)) ≡ unmarked (get_or words n d).now ∷ map unmarked (texts (drop (n + 1) words))

@@ -2,3 +2,6 @@
 pub mod Fault
 pub mod Job
 pub mod Examples
+unfoldable pub use Fault.*
+unfoldable pub use Job.*
+unfoldable pub use Examples.*

@@ -6,3 +6,10 @@ pub mod Marks
 pub mod Job
 pub mod Line
 pub mod Inner
+unfoldable pub use Called.*
+unfoldable pub use Command.*
+unfoldable pub use Telling.*
+unfoldable pub use Fault.*
+unfoldable pub use Marks.*
+unfoldable pub use Job.*
+unfoldable pub use Line.*

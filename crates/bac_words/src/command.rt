@@ -1,12 +1,10 @@
 //! The command that `clap` reads the words by.
 
-ghost use Rattle.std.specs.{Prelude.{◌≡◌, false, IfOk, codes, map}, List.{fold, list_any}};
+ghost use Rattle.std.specs.{List.{fold, list_any}, Prelude.{◌≡◌, codes, false, IfOk, map}};
 ghost use Rattle.clap.specs.Words.{App, new_app, new_rule, rule_of, with_rule, with_subcommand};
-ghost use Rattle.clap_laws.specs.Commands.{IsCommand, number, needed, by_name, several};
-ghost use Rattle.bac_words.{
-  specs.Command.{mac_rule, timeout_rule, retries_rule, port_rule},
-  specs.Command.{bacrp, bacwp, bacwi, bacdev, bacrun, bactrace, bactool},
-};
+ghost use Rattle.clap_laws.specs.Commands.{by_name, IsCommand, needed, number, several};
+ghost use Rattle.bac_words.specs.{bacdev, bacrp, bacrun, bactool, bactrace, bacwi, bacwp, mac_rule, port_rule};
+ghost use Rattle.bac_words.specs.{retries_rule, timeout_rule};
 
 use crate::help;
 use clap::builder::ValueParser;

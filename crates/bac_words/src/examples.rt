@@ -1,15 +1,12 @@
 //! Examples of what command lines order, worked out by computation. They show what the definitions mean.
 
-ghost use Rattle.std.specs.Prelude.{◌≡◌, ℕ, List, [], ◌∷◌, codes, Some, None, Ok, Err};
-ghost use Rattle.bac_words.specs.{Called.{tool_named, words_called}, Job.{CanOpen, CanRun, IsReady}};
-ghost use Rattle.bac_words.specs.Line.{Answers, IsRefusal};
-ghost use Rattle.bac_words.specs.declared.{faults.UsageFault.TheVariants.Memory, job.{Batch.Batch, Serve.Serve}};
+ghost use Rattle.std.specs.Prelude.{[], ◌∷◌, ◌≡◌, codes, List, ℕ};
 ghost use Rattle.bac_pdu.specs.declared.discovery.WhoIs.TheVariants.{All, Range};
-ghost use Rattle.bac_words.{
-  specs.declared.job.{Job.TheVariants.{Over, Run, Trace}, Tool.TheVariants.{Read, Write, WhoIs, Device}},
-};
-ghost use Rattle.bac_words.specs.declared.faults.UsageFault.TheVariants.{BadIndex, BadMac, BadValue};
-ghost use Rattle.bac_words.specs.Inner.Examples.{IsOrdered, at_port, usual};
+ghost use Rattle.bac_words.specs.{Answers, CanOpen, CanRun, IsReady, IsRefusal, tool_named, words_called};
+ghost use Rattle.bac_words.specs.declared.faults.UsageFault.TheVariants.{BadIndex, BadMac, BadValue, Memory};
+ghost use Rattle.bac_words.specs.declared.job.{Batch.Batch, Job.TheVariants.{Over, Run, Trace}, Serve.Serve};
+ghost use Rattle.bac_words.specs.declared.job.Tool.TheVariants.{Device, Read, WhoIs, Write};
+ghost use Rattle.bac_words.specs.Inner.{at_port, IsOrdered, usual};
 
 // What the words of a request order: to whom it goes, how long and how often, and its service body.
 #[tactic(none)]

@@ -1,8 +1,8 @@
 //! Why the words give no job.
 
 ghost use Rattle.std.specs.Prelude.{◌≡◌};
-ghost use Rattle.bac_words.specs.{Fault.{usage_of, usage_told}, Telling.told_by};
-ghost use Rattle.bac_words.specs.{Inner.Fault.fault_from, declared.faults.UsageFault.TheVariants.Memory};
+ghost use Rattle.bac_words.specs.{told_by, usage_of, usage_told, declared.faults.UsageFault.TheVariants.Memory};
+ghost use Rattle.bac_words.specs.Inner.{fault_from};
 
 use crate::telling::Telling;
 use bac_print::Message;

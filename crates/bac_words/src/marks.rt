@@ -1,10 +1,9 @@
 //! The marks of words: put on before `clap` reads them, so that none is taken for an option, and taken off again. Each
 //! text of a word is had from here, but that of `--mac`, so that no mark is left on it.
 
-ghost use Rattle.std.specs.Prelude.{◌≡◌, IfOk, drop, map, option_map};
-ghost use Rattle.std.specs.Cow.{cow_str_bytes};
-ghost use Rattle.clap.specs.{Words.{found_of, rows_of}, Walk.texts};
-ghost use Rattle.bac_words.specs.{Job.typed_word, Marks.{marked, marked_words, unmarked, wants_mark}};
+ghost use Rattle.std.specs.{Cow.cow_str_bytes, Prelude.{◌≡◌, drop, IfOk, map, option_map}};
+ghost use Rattle.clap.specs.{Walk.texts, Words.{found_of, rows_of}};
+ghost use Rattle.bac_words.specs.{marked, marked_words, typed_word, unmarked, wants_mark};
 
 use bac_text::WordSource;
 use clap::ArgMatches;

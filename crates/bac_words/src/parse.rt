@@ -1,19 +1,16 @@
 //! From the words to the job.
 
-ghost use Rattle.std.{
-  specs.Prelude.{◌≡◌, ◌<◌, ◌≤◌, ◌⊎◌, IfOk, IfSome, IsSomeAnd, Some, codes, length, IsErrAnd, option_map},
-};
-ghost use Rattle.clap.specs.{Words.{found_of, rows_of, subcommand_rows_of}, Walk.texts};
-ghost use Rattle.clap_laws.specs.{Inner.{Commands.rules_of, Numbers.IsWithin}, Numbers.number_of, Passes.IsTaken};
-ghost use Rattle.bac_wire.specs.{Identifier.identifier, Steps.result_seen};
-ghost use Rattle.bac_pdu.specs.Property.{IsPriority, read_octets, reference};
-ghost use Rattle.bac_text.specs.Parameters.{priority_from};
-ghost use Rattle.bac_words.{
-  specs.Command.{bacdev, bacrp, bacrun, bacwi, bacwp},
-  specs.Job.{peer_in, peer_given, index_given, object_given, needed_number, timeout_given, retries_given, port_given},
-  specs.Job.{call_given, body_given, limits, read_order, write_order, search_order, serve_order, run_order, order_of},
-  specs.Job.{CanRun},
-  specs.{Inner.Job.{IsTool, IsRequest, IsSender, IsClient, IsNumberWord, IsGiven, bounds}, Line.{Answers, IsRefusal}},
+ghost use Rattle.std.specs.Prelude.{◌<◌, ◌≡◌, ◌≤◌, ◌⊎◌, codes, IfOk, IfSome, IsErrAnd, IsSomeAnd, length, option_map};
+ghost use Rattle.{
+  bac_pdu.specs.Property.{IsPriority, read_octets, reference},
+  bac_text.specs.Parameters.priority_from,
+  bac_wire.specs.{Identifier.identifier, Steps.result_seen},
+  clap.specs.{Walk.texts, Words.{found_of, rows_of, subcommand_rows_of}},
+  clap_laws.specs.{Numbers.number_of, Passes.IsTaken, Inner.{Commands.rules_of, Numbers.IsWithin}},
+  bac_words.specs.{Answers, bacdev, bacrp, bacrun, bacwi, bacwp, body_given, call_given, CanRun, index_given},
+  bac_words.specs.{IsRefusal, limits, needed_number, object_given, order_of, peer_given, peer_in, port_given},
+  bac_words.specs.{read_order, retries_given, run_order, search_order, serve_order, timeout_given, write_order},
+  bac_words.specs.Inner.{bounds, IsClient, IsGiven, IsNumberWord, IsRequest, IsSender, IsTool},
 };
 
 use crate::command::bactool;

@@ -1,5 +1,5 @@
 //! What is told of a fault.
-ghost use Rattle.bac_words.specs.Telling.{telling_octets};
+ghost use Rattle.bac_words.specs.{telling_octets};
 
 use bac_print::Message;
 use std::fmt;

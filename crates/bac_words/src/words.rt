@@ -1,8 +1,8 @@
 //! The words with the tool's name in front, where the program was called by it.
 
-ghost use Rattle.std.specs.Prelude.{◌≡◌, [], ◌∷◌, IfOk, map, option_copied};
-ghost use Rattle.std.specs.{Option.option_map_or, String.string_bytes};
-ghost use Rattle.bac_words.specs.Called.{is_tool, tool_named, words_called};
+ghost use Rattle.std.specs.{Option.option_map_or, Prelude.{[], ◌∷◌, ◌≡◌, IfOk, map, option_copied}};
+ghost use Rattle.std.specs.String.{string_bytes};
+ghost use Rattle.bac_words.specs.{is_tool, tool_named, words_called};
 
 use std::alloc::{AllocError, Global};
 use std::path::Path;

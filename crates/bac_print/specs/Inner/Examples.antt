@@ -1,12 +1,9 @@
 -- The octets, the peers, the streams and the pages of examples.
-use Rattle.std.specs.Prelude.{◌≡◌, ℕ, List, [], ◌∷◌, codes, false, length, Option, Some, None, Result, Ok, Err}
-use Prim.Native.String.{String}
+use Rattle.std.specs.Prelude.{[], ◌∷◌, ◌≡◌, codes, Err, false, length, List, None, Ok, Option, Result, Some, ℕ}
 use Rattle.bac_pdu.specs.Peer.{Station}
-use Rattle.bac_print.specs.Checked.{fresh}
-use Rattle.bac_print.specs.StreamCall.{WriteCall}
+use Rattle.bac_print.specs.{Checked.fresh, declared.{checked.Checked.Checked, page.Page.Page}, StreamCall.WriteCall}
 use Rattle.bac_print.specs.Values.{region_text}
-use Rattle.bac_print.specs.declared.checked.Checked.{Checked}
-use Rattle.bac_print.specs.declared.page.Page.{Page}
+use Prim.Native.String.{String}
 
 -- These octets are printed so.
 abbrev pub PrintsAs : List ℕ → String → Type 0

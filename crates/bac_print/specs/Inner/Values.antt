@@ -1,7 +1,6 @@
 -- The texts of values in a row, and what stands between two of them.
-use Rattle.std.specs.{Prelude.{ℕ, List, [], ◌∷◌, map}, List.join_with_byte}
-use Rattle.bac_wire.specs.Datum.{Datum}
-use Rattle.bac_print.specs.Values.{datum_text}
+use Rattle.std.specs.{List.join_with_byte, Prelude.{[], ◌∷◌, List, map, ℕ}}
+use Rattle.{bac_wire.specs.Datum.Datum, bac_print.specs.Values.datum_text}
 
 -- The texts of values, joined by commas (44).
 abbrev pub joined : List Datum → List ℕ

@@ -1,8 +1,6 @@
 -- A page whose writer was asked for nothing holds all that was printed on it.
-use Rattle.std.proofs.Common.{ℕ, List, [], ◌∷◌, ◌++◌, refl, arith}
-use Rattle.bac_print.specs.Checked.{Took}
-use Rattle.bac_print.specs.Inner.Examples.{page, unasked, unknown}
-use Rattle.bac_print.specs.Page.{Prints, Wrote, laid_out, room_after}
+use Rattle.std.proofs.Common.{[], ◌++◌, ◌∷◌, arith, List, refl, ℕ}
+use Rattle.bac_print.specs.{laid_out, Prints, room_after, Took, Wrote, Inner.{page, unasked, unknown}}
 use Rattle.bac_print.proofs.examples.examples_of_pages.Goals as goal
 
 nothing : Took unknown unasked unasked []

@@ -1,7 +1,6 @@
 -- A writer that was asked for nothing took nothing.
-use Rattle.std.proofs.Common.{[], ◌∷◌, refl, arith}
-use Rattle.bac_print.specs.Checked.{Took}
-use Rattle.bac_print.specs.Inner.Examples.{unasked, unknown}
+use Rattle.std.proofs.Common.{[], ◌∷◌, arith, refl}
+use Rattle.bac_print.specs.{Took, Inner.{unasked, unknown}}
 use Rattle.bac_print.proofs.examples.examples_of_writers.Goals as goal
 
 nothing : Took unknown unasked unasked []

@@ -1,5 +1,5 @@
 -- The parts are written from the last to the first, and their texts are joined otherwise than the definition says.
-use Rattle.std.proofs.Common.{◌≡◌, ℕ, List, ◌∷◌, ◌++◌, get_or, decimal, ◌∙◌, ap, append_assoc, append-nil, arith}
+use Rattle.std.proofs.Common.{◌++◌, ◌∙◌, ◌∷◌, ◌≡◌, ap, append-nil, append_assoc, arith, decimal, get_or, List, ℕ}
 use Rattle.std.proofs.Math.ListN.{drop_of_length-le}
 use Rattle.bac_print.proofs.peer_texts.write_station.Goals as goal
 

@@ -1,10 +1,8 @@
 -- Each computes; what is not so is told by a field.
-use Rattle.std.proofs.Common.{◌≡◌, ◌++◌, ℕ, List, [], ◌∷◌, inl, inr, refl, arith}
-use Rattle.bac_tsm.specs.Lookahead.{next_invoke_id, refusal_of}
-use Rattle.bac_script.specs.NextLine.{IsNext, ReadForLine}
+use Rattle.std.proofs.Common.{[], ◌++◌, ◌∷◌, ◌≡◌, arith, inl, inr, List, refl, ℕ}
 use Rattle.bac_print.specs.Inner.Examples.{page, unasked, unknown}
-use Rattle.bac_script.specs.Inner.Examples.{gave}
-use Rattle.bac_script.specs.declared.input.Reading.TheVariants.{Open}
+use Rattle.bac_tsm.specs.Lookahead.{next_invoke_id, refusal_of}
+use Rattle.bac_script.specs.{IsNext, Open, ReadForLine, Inner.gave}
 use Rattle.bac_script.proofs.examples.examples_of_lines.Goals as goal
 
 not_out : ReadForLine unasked (gave (1 ∷ [])) (page (3 ∷ [])) (page (3 ∷ [])) (2 ∷ []) (2 ∷ 1 ∷ []) → ⊥

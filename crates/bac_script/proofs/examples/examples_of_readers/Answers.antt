@@ -1,9 +1,6 @@
 -- Each computes, or is arithmetic; what is not so is told by a field.
-use Rattle.std.proofs.Common.{[], ◌∷◌, inl, inr, refl, arith}
-use Rattle.bac_script.specs.Input.{ReaderStands}
-use Rattle.bac_print.specs.Inner.Examples.{unasked, unknown}
-use Rattle.bac_script.specs.Inner.Examples.{gave}
-use Rattle.bac_script.specs.declared.input.Reading.TheVariants.{Failed}
+use Rattle.std.proofs.Common.{[], ◌∷◌, arith, inl, inr, refl}
+use Rattle.{bac_print.specs.Inner.Examples.{unasked, unknown}, bac_script.specs.{Failed, ReaderStands, Inner.gave}}
 use Rattle.bac_script.proofs.examples.examples_of_readers.Goals as goal
 
 sound : ReaderStands unknown Failed unasked (gave (1 ∷ [])) [] → ⊥

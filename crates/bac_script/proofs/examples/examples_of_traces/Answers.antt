@@ -1,18 +1,10 @@
 -- What the reader gave is read off it, and with it the text and the end of the script.
-use Rattle.std.proofs.Common.{◌≡◌, ◌++◌, ℕ, List, [], ◌∷◌, length, length-append, Result, inl, inr, refl, sym, ap}
-use Rattle.std.proofs.Common.{◌∙◌, subst, arith}
-use Rattle.bac_print.specs.declared.checked.Checked.{Checked}
-use Rattle.bac_print.specs.Checked.{Took, octets_of}
-use Rattle.bac_script.specs.Input.{ReaderStands}
-use Rattle.bac_script.specs.Tracing.{IsToldFirst, Traces}
+use Rattle.std.proofs.Common.{[], ◌++◌, ◌∙◌, ◌∷◌, ◌≡◌, ap, arith, inl, inr, length, length-append, List, refl, Result}
+use Rattle.std.proofs.Common.{subst, sym, ℕ}
+use Rattle.bac_print.specs.{Checked.{octets_of, Took}, declared.checked.Checked.Checked}
 use Rattle.bac_print.specs.Inner.Examples.{unasked, unknown}
-use Rattle.bac_script.specs.Inner.Examples.{ended, gave}
-use Rattle.bac_script.specs.declared.input.Reading.{Reading}
-use Rattle.bac_script.specs.declared.input.Reading.TheVariants.{Open, AtEnd, Failed}
-use Rattle.bac_script.specs.Script.{Runs}
-use Rattle.bac_script.specs.declared.tracing.TraceEnd.{TraceEnd}
-use Rattle.bac_script.specs.declared.tracing.TraceFault.{TraceFault}
-use Rattle.bac_script.proofs.Computed.{computed}
+use Rattle.bac_script.specs.{AtEnd, Failed, IsToldFirst, Open, ReaderStands, Reading, Runs, TraceEnd, TraceFault}
+use Rattle.bac_script.{specs.{Traces, Inner.{ended, gave}}, proofs.Computed.computed}
 use Rattle.bac_script.proofs.examples.examples_of_traces.Goals as goal
 
 nothing : Took unknown unasked unasked []

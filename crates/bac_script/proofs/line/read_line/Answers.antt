@@ -1,8 +1,8 @@
 -- A line is refused for the first of its faults.
-use Rattle.std.proofs.{Common.{◌≡◌, Option, Some, None, option_map, ap, refl, arith, ok_or}, lemmas.Grind.common_steps}
+use Rattle.std.proofs.{Common.{◌≡◌, ap, arith, None, ok_or, Option, option_map, refl, Some}, lemmas.Grind.common_steps}
 use Rattle.bac_wire.specs.Steps.{result_seen}
-use Rattle.bac_script.specs.{Line.{said_by, said_in}, LineSeen.line_seen}
-use Rattle.bac_script.specs.declared.line.{Line.Line, LineFault.{LineFault, TheVariants.Bad}}
+use Rattle.bac_script.specs.{line_seen, LineFault, said_by, said_in, declared.line.Line.Line}
+use Rattle.bac_script.specs.declared.line.LineFault.TheVariants.{Bad}
 use Rattle.bac_script.proofs.line.read_line.Goals as goal
 
 pub returns-then-not-is_text : goal.returns-then-not-is_text

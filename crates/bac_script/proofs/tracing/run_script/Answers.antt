@@ -1,13 +1,10 @@
 -- Each way out of the loop ends the run that stands so far in another way.
-use denote.Enum.Bare.{same_true}
-use Rattle.std.proofs.Common.{◌≡◌, sym, ◌∙◌, ap, refl, arith, rules, length-drop, ◌&&◌, length-take-le}
+use Rattle.std.proofs.Common.{◌&&◌, ◌∙◌, ◌≡◌, ap, arith, length-drop, length-take-le, refl, rules, sym}
 use Rattle.bac_wire.specs.Steps.{result_seen}
-use Rattle.bac_script.{
-  specs.contracts.input.Reading.the_type,
-  specs.{declared.input.Reading.TheVariants.Open, Line.said, LineSeen.line_seen, Script.is_nothing},
-  proofs.SoFar.{SoFar-none, unwritten, unread, to_end, faulty, to_last, goes_on},
-  proofs.tracing.run_script.Goals.{then-is_first, else-is_first},
-}
+use Rattle.bac_script.specs.{is_nothing, line_seen, Open, said, contracts.input.Reading.the_type}
+use Rattle.bac_script.proofs.SoFar.{faulty, goes_on, SoFar-none, to_end, to_last, unread, unwritten}
+use Rattle.bac_script.proofs.tracing.run_script.Goals.{else-is_first, then-is_first}
+use denote.Enum.Bare.{same_true}
 use Rattle.bac_script.proofs.tracing.run_script.Goals as goal
 
 pub loop-next-init : goal.loop-next-init

@@ -1,6 +1,6 @@
 -- Each is computed: that its words are taken, and the job that they ask for.
 use Rattle.std.proofs.Common.{refl}
-use Rattle.clap.specs.{Faults.{walk_fault, defaults_fault}, Walk.walked}
+use Rattle.clap.specs.{Faults.{defaults_fault, walk_fault}, Walk.walked}
 use Rattle.bac_words.proofs.examples.examples_of_other_tools.Goals as goal
 
 pub returns : goal.returns

@@ -1,6 +1,5 @@
-use Rattle.std.{proofs.Common.{◌≡◌, ◌++◌, map, take}, specs.Cow.cow_str_bytes}
-use Rattle.clap.specs.Walk.{texts}
-use Rattle.bac_words.specs.Marks.{marked}
+use Rattle.std.{proofs.Common.{◌++◌, ◌≡◌, map, take}, specs.Cow.cow_str_bytes}
+use Rattle.{clap.specs.Walk.texts, bac_words.specs.marked}
 use Rattle.bac_words.proofs.marks.marked_words.Given as goal
 
 abbrev pub invariant-loop-word : goal.invariant-loop-word

@@ -1,7 +1,6 @@
 -- What `clap` hands out of such an argument is a number within its limits.
-use Rattle.std.proofs.Common.{subst, sym, Option, ℕ, IfSome}
-use Rattle.clap.specs.Words.{found_of}
-use Rattle.clap_laws.{specs.Inner.Numbers.{FitsWord, IsWithin}, proofs.Getters.getter}
+use Rattle.std.proofs.Common.{IfSome, Option, subst, sym, ℕ}
+use Rattle.{clap.specs.Words.found_of, clap_laws.{specs.Inner.Numbers.{FitsWord, IsWithin}, proofs.Getters.getter}}
 use Rattle.bac_words.proofs.parse.number.Goals as goal
 
 pub returns : goal.returns

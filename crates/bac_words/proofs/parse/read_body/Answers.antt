@@ -1,5 +1,5 @@
 -- There is always room for the body of a ReadProperty.
-use Rattle.std.proofs.Common.{◌∙◌, length, ap, arith}
+use Rattle.std.proofs.Common.{◌∙◌, ap, arith, length}
 use Rattle.bac_pdu.{specs.Property.reference, proofs.LengthLaws.{read_alone, read_octets_short}}
 use Rattle.bac_words.proofs.parse.read_body.Goals as goal
 

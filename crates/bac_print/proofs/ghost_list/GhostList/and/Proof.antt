@@ -1,11 +1,10 @@
 -- `and` picks the items, and what the note tells behind them.
-use Rattle.bac_wire.{
-  proofs.Walks.{[], ◌∷◌, ◌++◌, refl, proved, ‵, raw, ◌⊛◌, ◌$◌, ◌∵◌, !, qed, done, move, keep, split},
-  proofs.Walks.{fjoin, suffices, agg, enter, returns, no_more, alloc_all, pass_all, free_all, look_at, sets, yes},
-  proofs.Walks.{RefOf, owns, plain, types_at, named, nothing, shr_vals, shr_Tells, alive, says, Stays, stay_dropped},
-  proofs.Walks.{ends_at, Goes-dropped, get, and_then, a_type, dcons, dnil, inst_fn, bounded, param, RattleType},
-}
-use Rattle.bac_print.proofs.{Walks.{marked, marked_made}, ghost_list.GhostList.and.Statement.statement}
+use Rattle.bac_wire.proofs.Walks.{[], ◌$◌, ◌++◌, ◌∵◌, ◌∷◌, ◌⊛◌, !, a_type, agg, alive, alloc_all, and_then, bounded}
+use Rattle.bac_wire.proofs.Walks.{dcons, dnil, done, ends_at, enter, fjoin, free_all, get, Goes-dropped, inst_fn, keep}
+use Rattle.bac_wire.proofs.Walks.{look_at, move, named, no_more, nothing, owns, param, pass_all, plain, proved, qed}
+use Rattle.bac_wire.proofs.Walks.{RattleType, raw, refl, RefOf, returns, says, sets, shr_Tells, shr_vals, split}
+use Rattle.bac_wire.proofs.Walks.{stay_dropped, Stays, suffices, types_at, yes, ‵}
+use Rattle.bac_print.proofs.{ghost_list.GhostList.and.Statement.statement, Walks.{marked, marked_made}}
 use Rattle.bac_print.specs.contracts.ghost_list.GhostList as GhostList
 use Rattle.bac_print.specs.contracts.ghost_list.GhostList.and as f
 use Rattle.bac_print.proofs.ghost_list.GhostList.and.Code as code

@@ -1,10 +1,9 @@
 -- `new` picks no items.
-use Rattle.bac_wire.{
-  proofs.Walks.{[], ◌∷◌, refl, proved, ‵, raw, ◌⊛◌, ◌$◌, ◌∵◌, !, qed, done, move, keep},
-  proofs.Walks.{split, fjoin, suffices, agg, enter, returns, no_more, and_then, get, alloc_all, pass_all, free_all},
-  proofs.Walks.{look_at, sets, owns, types_at, nothing, alive, says, ends_at, a_type, inst_fn, layouts, param},
-}
-use Rattle.bac_print.proofs.{Walks.{marked, marked_made}, ghost_list.GhostList.new.Statement.statement}
+use Rattle.bac_wire.proofs.Walks.{[], ◌$◌, ◌∵◌, ◌∷◌, ◌⊛◌, !, a_type, agg, alive, alloc_all, and_then, done, ends_at}
+use Rattle.bac_wire.proofs.Walks.{enter, fjoin, free_all, get, inst_fn, keep, layouts, look_at, move, no_more, nothing}
+use Rattle.bac_wire.proofs.Walks.{owns, param, pass_all, proved, qed, raw, refl, returns, says, sets, split, suffices}
+use Rattle.bac_wire.proofs.Walks.{types_at, ‵}
+use Rattle.bac_print.proofs.{ghost_list.GhostList.new.Statement.statement, Walks.{marked, marked_made}}
 use Rattle.bac_print.specs.contracts.ghost_list.GhostList.new as f
 use Rattle.bac_print.proofs.ghost_list.GhostList.new.Code as code
 

@@ -1,5 +1,5 @@
 use Rattle.std.{proofs.Common.take, specs.List.flat_map}
-use Rattle.bac_print.specs.{Page.Prints, Values.quoted_octet}
+use Rattle.bac_print.specs.{Prints, quoted_octet}
 use Rattle.bac_print.proofs.page.Page.print_quoted_octets.Given as goal
 
 abbrev pub invariant-loop-octet : goal.invariant-loop-octet

@@ -1,5 +1,5 @@
 -- What is printed goes by how many values the region is, where it is values at all.
-use Rattle.std.{proofs.Common.{◌≡◌, false, arith}, specs.Prelude.◌==◌}
+use Rattle.std.{proofs.Common.{◌≡◌, arith, false}, specs.Prelude.◌==◌}
 use Rattle.bac_print.proofs.ValueTexts.{printed_in_braces, printed_octets}
 use Rattle.bac_print.proofs.page.Page.print_region.Goals as goal
 

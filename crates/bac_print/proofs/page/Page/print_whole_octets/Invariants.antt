@@ -1,5 +1,5 @@
 use Rattle.std.{proofs.Common.take, specs.List.flat_map}
-use Rattle.bac_print.specs.{Page.Prints, Values.octet_bits}
+use Rattle.bac_print.specs.{octet_bits, Prints}
 use Rattle.bac_print.proofs.page.Page.print_whole_octets.Given as goal
 
 abbrev pub invariant-loop-octet : goal.invariant-loop-octet
