@@ -7,6 +7,7 @@ use Rattle.bac_script.specs.declared.input.Reading.TheVariants.{AtEnd}
 use Rattle.bac_run.specs.declared.session.Session.{Session}
 use Rattle.bac_run.proofs.Out.{out_nothing}
 use Rattle.bac_run.proofs.ReadBack.{settings_read_back}
+use Rattle.bac_tools.specs.Inner.Examples.{settings_told, unasked}
 use Rattle.bac_tools.proofs.Worked.{given}
 use Rattle.bac_tools.proofs.examples.examples_of_many_requests.Goals as goal
 
@@ -48,7 +49,7 @@ returns c = record {
         ends = ((refl, refl), refl, refl, refl);
       };
       printed = given _ (λ none. grind arith) refl refl refl;
-      out = out_nothing _ _ _;
+      out = out_nothing (session (omega arith) (omega arith)) unasked settings_told;
       asks = record { gained = []; gains = refl; as_due = refl };
       over = refl;
       within = tt;
