@@ -91,6 +91,9 @@ def what_is_put(room):
                        ("share/man/man1/bacdev.1", "/opt/tools/share/doc/bactool/examples"),
                        (f"{DOC}/examples/bacdev.service", "\nExecStart=/opt/tools/bin/bacdev ")]:
         same(f"{path} has {text}", text in (room.put / path).read_text(encoding="utf-8"), True)
+    for document in (room.put / DOC).glob("**/*.md"):
+        for link in re.findall(r"\]\(([^)#:\s]+)[)#]", document.read_text(encoding="utf-8")):
+            same(f"{document.name}: {link} leads somewhere", (document.parent / link).exists(), True)
 
 
 def what_is_replaced(room, count):
