@@ -1,6 +1,6 @@
 -- How two runs of one session go on, and what they print.
 use Rattle.std.proofs.Common.{◌≡◌, ◌≢◌, ◌⊎◌, ◌∙◌, ℕ, ◌≤◌, ◌<◌, Bool, false, true, List, [], ◌∷◌, ◌++◌}
-use Rattle.std.proofs.Common.{Option, None, Some, Result, Err, refl, sym, ap, subst, inl, inr, append_assoc}
+use Rattle.std.proofs.Common.{Option, None, Some, Result, Err, refl, sym, ap, subst, inl, inr}
 use Rattle.std.proofs.Common.{arith, length, ◌↔◌}
 use Rattle.std.proofs.lemmas.Bool.{false≢true}
 use Rattle.std.proofs.lemmas.List.{append-nil, append_cancel_left}
@@ -16,23 +16,20 @@ use Rattle.bac_script.specs.declared.tracing.TraceFault.TheVariants.{WriteFailed
 use Rattle.bac_script.specs.Alike.{GaveFront, GaveSame, IsFrontOf}
 use Rattle.bac_script.specs.Input.{ReaderStands, most_reads}
 use Rattle.bac_print.specs.Checked.{ends_of, fresh, has_failed, octets_of, reads_of}
-use Rattle.bac_print.specs.Page.{folded, folded_line, left_after}
 use Rattle.bac_print.specs.declared.checked.Checked.{Checked}
-use Rattle.bac_print.proofs.Folding.{folded-append}
 use Rattle.bac_script.specs.Script.{lines}
 use Rattle.bac_run.specs.Course.{Aim, Goes, IsDue, Outside, Stage, aims_of_lines}
 use Rattle.bac_run.specs.Course.{room_for, stage_after, Broken}
 use Rattle.bac_run.specs.Input.{fault_in}
-use Rattle.bac_run.specs.Journal.{Act, client_after}
-use Rattle.bac_run.specs.Journal.{journal, new_client, settings_line}
-use Rattle.bac_run.specs.Run.{EndsAt, IsAtRest, IsPrinted, Runs, first_stage, journal_lines, journal_of}
+use Rattle.bac_run.specs.Journal.{Act}
+use Rattle.bac_run.specs.Journal.{new_client}
+use Rattle.bac_run.specs.Run.{EndsAt, IsAtRest, IsPrinted, Runs, first_stage, journal_of}
 use Rattle.bac_run.specs.declared.session.Session.{Session}
 use Rattle.bac_run.specs.Replay.{AskNext}
 use Rattle.bac_run.specs.Went.{IsAsked, IsSpent}
 use Rattle.bac_run.specs.declared.fault.RunFault.{RunFault}
 use Rattle.bac_run.specs.declared.fault.RunFault.TheVariants.{Link, Script}
-use Rattle.bac_run.proofs.Out.{fronts_join}
-use Rattle.bac_run.proofs.Acts.{journal-append}
+use Rattle.bac_run.proofs.Out.{fronts_join, journal_front}
 use Rattle.bac_run.proofs.Alike.{next_none, settled_wider, wider}
 use Rattle.bac_run.proofs.Ends.{Ended, IsStuck, Lost, Rested, Spent, after_wider, ended, ended_none, rest_by}
 use Rattle.bac_run.proofs.Ends.{same_result, spent_wider, stuck_result}
@@ -430,19 +427,6 @@ taken contents writer after text result printed wrote = go (has_failed after) re
         let (_, none) = printed.sound is in
         inl (printed.took.passed ∙ sym (printed.whole ∙ ap (λ (xs : List ℕ). printed.taken ++ xs) none
         ∙ append-nil printed.taken))
-
-pub journal_front : (session : Session) (acts more : List Act)
-    → IsFrontOf (journal_of session acts) (journal_of session (acts ++ more))
-journal_front session acts more =
-    let client = new_client session.config.timeout session.config.retries in
-    let line = settings_line session.config.timeout session.config.retries in
-    let later = journal (client_after client acts) more in (
-      folded (left_after folded_line (journal_lines session acts)) later,
-      ap (λ (xs : List ℕ). folded folded_line xs)
-          (ap (λ (xs : List ℕ). line ++ xs) (journal-append client acts more)
-          ∙ sym (append_assoc line (journal client acts) later))
-          ∙ folded-append folded_line (journal_lines session acts) later,
-    )
 
 -- Both took one text, or a front of it where they were cut off.
 pub one_text : (session : Session) (acts others : List Act) (result other : Result TraceEnd RunFault)

@@ -6,18 +6,33 @@ use Rattle.bac_tsm.specs.Client.{Client}
 use Rattle.bac_print.specs.declared.checked.Checked.{Checked}
 use Rattle.bac_print.specs.declared.page.Page.{Page}
 use Rattle.bac_print.specs.Checked.{has_failed, octets_of}
-use Rattle.bac_print.specs.Page.{folded, folded_line, held, laid_out, room_of, writer_of, Prints, Writes, Wrote}
-use Rattle.bac_print.proofs.Folding.{laid_out-append, laid_out-none}
+use Rattle.bac_print.specs.Page.{folded, folded_line, held, laid_out, left_after, room_of, writer_of}
+use Rattle.bac_print.specs.Page.{Prints, Writes, Wrote}
+use Rattle.bac_print.proofs.Folding.{folded-append, laid_out-append, laid_out-none}
 use Rattle.bac_script.specs.Alike.{IsFrontOf}
-use Rattle.bac_run.specs.Run.{IsOut, IsWait}
+use Rattle.bac_run.specs.Run.{IsOut, IsWait, journal_lines, journal_of}
 use Rattle.bac_run.specs.declared.session.Session.{Session}
-use Rattle.bac_run.specs.Journal.{Act, client_after, journal}
+use Rattle.bac_run.specs.Journal.{Act, client_after, journal, new_client, settings_line}
 use Rattle.bac_run.specs.Inner.Went.{HasPassed, IsOutAt}
 use Rattle.bac_run.proofs.Acts.{journal-append}
 
 pub fronts_join : (xs ys zs : List ℕ) → IsFrontOf xs ys → IsFrontOf ys zs → IsFrontOf xs zs
 fronts_join xs ys zs (rest, is) (more, is') =
     (rest ++ more, is' ∙ ap (λ (os : List ℕ). os ++ more) is ∙ append_assoc xs rest more)
+
+-- The journal of some acts is a front of that of more.
+pub journal_front : (session : Session) (acts more : List Act)
+    → IsFrontOf (journal_of session acts) (journal_of session (acts ++ more))
+journal_front session acts more =
+    let client = new_client session.config.timeout session.config.retries in
+    let line = settings_line session.config.timeout session.config.retries in
+    let later = journal (client_after client acts) more in (
+      folded (left_after folded_line (journal_lines session acts)) later,
+      ap (λ (xs : List ℕ). folded folded_line xs)
+          (ap (λ (xs : List ℕ). line ++ xs) (journal-append client acts more)
+          ∙ sym (append_assoc line (journal client acts) later))
+          ∙ folded-append folded_line (journal_lines session acts) later,
+    )
 
 -- Of acts one after another a wait is among the first or among the second.
 split_at : (xs ys earlier later : List Act) (wait : Act) → xs ++ ys ≡ earlier ++ wait ∷ later

@@ -155,7 +155,11 @@ fn examples_of_runs()
         (filled (codes "client 3000 3 0\n")) (Passed 50 Silence ∷ []) }
     ensures kept_back { (timed : 0 < 3000) (some : 0 < 1) → IsOut {W = ℕ} (one_by_one timed some) (fresh 0) (fresh 0)
         (Passed 50 Silence ∷ []) → ⊥ }
+{}
 
+// A journal whose remark is longer than a line.
+#[tactic(auto, unfolding(bac_script::proofs::Computed::computed))]
+fn examples_of_folding()
     // A remark of 4,122 octets goes on in a second line.
     ensures folded { (timed : 0 < 3000) (some : 0 < 1)
         → journal_of (one_by_one timed some) (asked ∷ Came 50 desk long_answer ∷ [])

@@ -19,7 +19,7 @@ use Rattle.bac_run.specs.Journal.{Act, Asked, Came, Passed, Paused, Read, Told, 
 use Rattle.bac_run.specs.declared.turns.Until.TheVariants.{FewOpen}
 use Rattle.bac_run.specs.Run.{journal_of}
 use Rattle.bac_script.specs.Alike.{IsFrontOf}
-use Rattle.bac_run.proofs.GoOn.{journal_front}
+use Rattle.bac_run.proofs.Out.{journal_front}
 use Rattle.bac_run.proofs.ReadBack.{settings_read_back}
 use Rattle.bac_run.proofs.examples.examples_of_runs.Goals as goal
 
@@ -165,7 +165,3 @@ pub returns-clause-kept_back : goal.returns-clause-kept_back
 unfolding computed
 returns-clause-kept_back c = λ timed some out.
     let (rest, is) = out [] [] (Passed 50 Silence) tt refl in unsettled rest is
-
-pub returns-clause-folded : goal.returns-clause-folded
-unfolding computed
-returns-clause-folded c = λ timed some. refl

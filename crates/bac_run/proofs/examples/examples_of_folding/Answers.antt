@@ -1,0 +1,8 @@
+-- A folded journal is computed.
+use Rattle.std.proofs.Common.{refl}
+use Rattle.bac_script.proofs.Computed.{computed}
+use Rattle.bac_run.proofs.examples.examples_of_folding.Goals as goal
+
+pub returns : goal.returns
+unfolding computed
+returns c = record { folded = λ timed some. refl }
