@@ -4,19 +4,21 @@
 # make demo: the same, and shows what it does, with a small device on this machine
 # make check: proves every crate, without tests and wrong bodies, over what earlier checks kept; for daily work
 # make test: over what make demo keeps, the tests of the crates, some wrong bodies, make examples and make lint; minutes
-# make gate: what a change has to pass: proves and tries everything from nothing; half an hour to three quarters with
-#     four processors, an hour and more with two
+# make gate: what a change has to pass: proves and tries everything from nothing; three quarters of an hour to an hour
+#     with four processors, two with two
 # make examples: runs examples/, the program's own tests, those of bacsite and the guide. Two minutes
 # make forget: takes away what the prover keeps, 3.2 GB, but not the program; the next check proves from nothing
 # make documents: compares the documents, the reading lists and what reads the rules back with the tree. Seconds
 # make reading: writes docs/reading/ anew, and the sizes of its lists in README.md. Seconds
 # All but try, check, test, forget, documents and reading build the program first, where it is not as the sources.
-# packaging.mk has install, uninstall, deb, lint and guide; measuring.mk has bench, soak, interop and holes
 
 PROGRAM = crates/bactool/out/bactool
 SOURCES := $(shell find crates -name out -prune -o \( -name '*.rt' -o -name '*.antt' \) -print) crates.txt
 
-.PHONY: try demo check test gate examples forget program documents reading
+.PHONY: help try demo check test gate examples forget program documents reading kit
+
+help:
+	@sed -n 's/^# \(make[ ,].*\)/\1/p; s/^#\(     .*\)/\1/p' Makefile packaging.mk measuring.mk
 
 program: $(PROGRAM)
 
@@ -39,7 +41,7 @@ test: program
 gate:
 	@tests/parts.py gate
 
-examples: program
+examples: program guide
 	@python3 tests/tree.py examples/demo.sh $(PROGRAM) | sed -E 's/(--port |127\.0\.0\.1:)[0-9]+/\147808/' | \
 	    diff - examples/demo.out
 	@echo "examples/demo.sh: as it is to be"
@@ -52,8 +54,6 @@ examples: program
 forget:
 	rm -rf crates/*/out/incremental crates/*/out/rlib
 
-lint: documents
-
 documents:
 	@tests/documents/documents.py
 	@tests/documents/reading.py
@@ -61,19 +61,9 @@ documents:
 reading:
 	@tests/documents/reading.py --write
 
-.DEFAULT_GOAL := help
-.PHONY: help kit
-
-help:
-	@sed -n 's/^# \(make[ ,].*\)/\1/p; s/^#\(     .*\)/\1/p' Makefile packaging.mk measuring.mk
-
 try check test gate bench: kit
 
 kit:
-	@command -v rt >/dev/null || { \
-	    echo "This needs rt, of the Rattle kit, which is not in the PATH." \
-	        "No public place has it that we know of: see README.md." >&2; \
-	    exit 1; \
-	}
+	@command -v rt >/dev/null || ./build.py  # which says so, and where it comes from
 
 include packaging.mk measuring.mk

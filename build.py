@@ -1,14 +1,13 @@
 #!/usr/bin/env python3
 """Proves the crates that the program rests on, and builds the program. Usage: ./build.py [--tests]
 
-With --tests it runs the tests of the trials, over what is kept of the crates below. Those of bac_trials are proved the
-first time; those of tool_trials, which take 12 to 19 minutes of processor time, are run as the sources stand, by
-`rt try`, until `rt test` was run there.
+With --tests it runs the tests of the trials, over what is kept of the crates below. Those of tool_trials take long to
+prove, and are run as the sources stand, by `rt try`, until `rt test` was run there.
 
-Crates that don't rest on one another are proved side by side, as many as there are processors (or RT_JOBS) and memory
-for. `rt` lets nobody else into a crate that it works in, nor into the crates below. So each crate is proved in a room
-of its own, out/build/CRATE: a copy of the sources, with links to what is built of the crates below. What is kept of the
-crate goes there and comes back. What the prover says of a crate goes to out/build/CRATE.log.
+Crates that don't rest on one another are proved side by side, as many as there are processors (as taskset leaves them)
+and memory for. `rt` lets nobody else into a crate that it works in, nor into the crates below. So each crate is proved
+in a room of its own, out/build/CRATE: a copy of the sources, with links to what is built of the crates below. What is
+kept of the crate goes there and comes back. What the prover says of a crate goes to out/build/CRATE.log.
 """
 import fcntl
 import os
@@ -24,21 +23,14 @@ TRIALS = ["bac_trials", "tool_trials"]
 ROOMS = "out/build"
 CRATE_MEMORY = 2 << 30  # what a crate takes while it is proved, in octets
 PROCESS_CODE = 9000  # octets of code for each process: each loads the proofs of the crates below anew
-COST = """From nothing this takes 15 to 40 minutes of processor time, as fast as the machine is: 8 to 20 minutes of the
+COST = """From nothing this takes 15 to 50 minutes of processor time, as fast as the machine is: 8 to 20 minutes of the
 clock with four processors, longer with two. Memory: up to 2.5 GB for each crate at work. Disk: 3.2 GB, which are kept,
 so that the next build proves only what has changed."""
-NO_KIT = "This needs rt, of the Rattle kit, which is not in the PATH; README.md says where it comes from."
 
 
 def size(crate):
     """The octets of its code: a measure of how long it takes to prove. Lemmas take little."""
-    files = (os.path.join(folder, name) for folder, _, names in os.walk(f"crates/{crate}/src") for name in names)
-    return sum(map(os.path.getsize, files))
-
-
-def processors():
-    given = os.environ.get("RT_JOBS", "")
-    return int(given) if given.isdigit() and int(given) > 0 else tree.processors()
+    return sum(map(os.path.getsize, tree.files(f"crates/{crate}/src/**")))
 
 
 class Work(tree.Job):
@@ -86,12 +78,12 @@ class Work(tree.Job):
 def build(crates, below, done):
     """Builds these crates, each once those below it are done. Answers whether each was proved."""
     began, left, working = time.monotonic(), sorted(crates, key=size, reverse=True), []
-    places = max(min(processors(), tree.free_memory() // CRATE_MEMORY), 1)
+    places = max(min(tree.processors(), tree.free_memory() // CRATE_MEMORY), 1)
     try:
         while left or working:
             ready = [it for it in left if below[it] <= done][: places - len(working)]
             large = sum(size(crate) > PROCESS_CODE for crate in [*ready, *(work.crate for work in working)])
-            share = -(-processors() // max(large, 1))
+            share = -(-tree.processors() // max(large, 1))
             for crate in ready:
                 working.append(Work(crate, below[crate], max(min(share, size(crate) // PROCESS_CODE), 1)))
                 left.remove(crate)
@@ -117,8 +109,7 @@ def build(crates, below, done):
 def main(words):
     os.chdir(tree.TOP)
     if not shutil.which("rt"):
-        print(NO_KIT, file=sys.stderr)
-        return 1
+        sys.exit("This needs rt, of the Rattle kit, which is not in the PATH; README.md says where it comes from.")
     os.makedirs(ROOMS, exist_ok=True)
     below = {crate: rests_on - {crate} for crate, rests_on in tree.crates_below().items()}
     if words == ["--tests"]:
@@ -133,5 +124,4 @@ def main(words):
     return 0
 
 
-if __name__ == "__main__":
-    tree.end_by_signals(main)
+tree.end_by_signals(main)

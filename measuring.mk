@@ -1,5 +1,5 @@
 # What measures and tries the built program from outside, none of it in the gate. docs/SPEED.md has what was measured.
-#
+
 # make bench: what the program costs: over 127.0.0.1 bacdev beside a bare echo server, bacrun beside a bare client,
 #     memory; instructions by callgrind, where valgrind is installed; and replies, values and the client's calls in
 #     memory, proved first. Some minutes. ROUNDS=15
@@ -10,7 +10,6 @@
 # make holes: wrong bodies that no contract can refuse, each with the test that has to fail. A minute or two of
 #     processor time each, and some thirty of them. JOBS=1
 
-ROUNDS ?= 15
 DATAGRAMS ?= 1000000
 LINES ?= 10000000
 RUNS ?= 1000
@@ -20,7 +19,7 @@ JOBS ?= 1
 .PHONY: bench soak interop holes
 
 bench: program
-	@ROUNDS=$(ROUNDS) bench/measure.py
+	@bench/measure.py
 
 soak: program
 	@bench/soak.py device $(DATAGRAMS)
@@ -32,4 +31,4 @@ interop: program
 	@tests/program/interop.py
 
 holes:
-	@tests/bodies/holes.py --jobs $(JOBS)
+	@tests/bodies/holes.py $(JOBS)

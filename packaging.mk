@@ -1,5 +1,5 @@
 # Puts the built program where a Unix expects it, takes it away again, and packs it.
-#
+
 # make install PREFIX=/usr/local DESTDIR=: the program, links of the tools' names to it, manual pages, completions,
 #     documents and examples. What it did not put there it names and leaves, unless FORCE=1 says so. A second
 # make uninstall: takes away what make install put, where it is still as it was put; it builds nothing. A second
@@ -9,11 +9,6 @@
 # make guide: runs every command of docs/GUIDE.md, and compares what comes out; make examples runs it too. Half a minute
 # make deb: a Debian package in crates/bactool/out, of the same octets each time; needs dpkg-deb and binutils. A second
 
-PREFIX ?= /usr/local
-DESTDIR ?=
-FORCE ?= 0
-export PREFIX DESTDIR FORCE ZSH_COMPLETIONS
-
 .PHONY: install uninstall lint guide deb
 
 install: program
@@ -22,7 +17,7 @@ install: program
 uninstall:
 	@packaging/install.py --remove
 
-lint: program
+lint: program documents
 	@tests/package/pages.py $(PROGRAM)
 	@tests/package/completions.py $(PROGRAM)
 	@tests/site/lint.sh
@@ -34,8 +29,6 @@ lint: program
 	else \
 	    echo "shellcheck is not installed, left out"; \
 	fi
-
-examples: guide
 
 guide: program
 	@tests/program/guide.py $(PROGRAM)

@@ -9,8 +9,6 @@ all; with --write what comes is written there.
 
 BACTOOL names another program than the repository's own, and ROUNDS how often two servers are compared.
 """
-import datetime
-import itertools
 import os
 import re
 import shutil
@@ -59,8 +57,6 @@ def wide(name, one, many):
     return f"{name:34} {one:25}   {many}"
 
 
-# ---- over 127.0.0.1 ----
-
 def load(port, outstanding, count):
     """The replies a second of a server, with so many requests on their way."""
     return int(subprocess.check_output([UDP, "load", str(port), str(outstanding), str(count)]))
@@ -82,7 +78,7 @@ def rounds(windows, asked):
     return ([rates[program, window] for window in windows] for program in (UDP, PROGRAM))
 
 
-def servers():
+def network():
     echoes, ours = rounds((1, 32), lambda _, port, window: load(port, window, REPLIES))
     yield wide(f"replies a second, {ROUNDS} x {REPLIES}", "one outstanding", "32 outstanding")
     yield wide("bare echo server", *map(spread, echoes))
@@ -90,6 +86,7 @@ def servers():
     ratios = [[one / echo for one, echo in zip(*both)] for both in zip(ours, echoes)]
     yield wide("bacdev by echo, round by round", *(spread(it, "{:.2f}") for it in ratios))
     yield wide("bacdev by echo, best by best", *(f"{max(one) / max(echo):8.2f}" for one, echo in zip(ours, echoes)))
+    yield from memory()
 
 
 def grown(words, lines, count):
@@ -112,17 +109,10 @@ def memory():
         load(port, 32, MANY_REPLIES)
         yield row(f"bacdev, 1000 and {MANY_REPLIES} replies", early, resident(process))
     with device() as (_, port):
-        reads = itertools.repeat(f"read 127.0.0.1:{port} 0 5 85\n", MANY_REPLIES)
+        reads = [f"read 127.0.0.1:{port} 0 5 85\n"] * MANY_REPLIES
         yield grown([PROGRAM, "bacrun"], reads, MANY_REPLIES)
     yield grown([PROGRAM, "bactrace"], mixed(LINES), LINES)
 
-
-def network():
-    yield from servers()
-    yield from memory()
-
-
-# ---- many requests ----
 
 def batch(port, window):
     """The reads a second of one bacrun, each of which has to be answered."""
@@ -148,8 +138,6 @@ def runs():
     yield row("bacrun by the bare client", *(f"{one / by:.2f}" for one, by in zip(ours, bare)))
     yield row("bacrun by bacrp", *(f"{it / alone:.0f}" for it in ours))
 
-
-# ---- instructions ----
 
 def counted(said):
     """The instructions of a run, as callgrind says."""
@@ -181,8 +169,6 @@ def instructions():
     yield f"{of_a_run('--help'):9} for a run that prints the help"
 
 
-# ---- calls in memory ----
-
 def calls():
     """What each benchmark prints; of the client's calls the least of nine runs. They are proved beside a copy of the
     crates that they call: in the tree the gate would prove them too."""
@@ -191,12 +177,11 @@ def calls():
         os.mkdir(f"{room}/.git")  # the top of a repository, for rt
         subprocess.run(["cp", "-a", *(f"{TOP}/crates/{name}" for name in below), room], check=True)
         rows = [f"{name}: {' '.join(all_crates()[name])}\n" for name in below]
-        for name in ("values", "kinds", "clients"):
+        for name, runs in (("values", 1), ("kinds", 1), ("clients", 9)):
             os.makedirs(f"{room}/{name}/src")
             shutil.copy(f"{TOP}/bench/{name}.rattle", f"{room}/{name}/src/main.rt")
             write(f"{room}/crates.txt", "".join(rows) + f"{name}: {' '.join(below)}\n")
             subprocess.run(["rt", "run"], cwd=f"{room}/{name}", check=True, capture_output=True)
-            runs = 9 if name == "clients" else 1
             texts[name] = subprocess.check_output(["sh", "-c", f"{room}/{name}/out/{name};" * runs], text=True)
     yield texts["values"] + texts["kinds"].rstrip("\n")
     yield "| Call, with so many open | 2 | 8 | 16 | 64 |\n|---|---|---|---|---|"
@@ -207,18 +192,15 @@ def calls():
         yield " | ".join([f"| {call}", *(str(min(nanos)) for nanos in found.values())]) + " |"
 
 
-# ---- the boxes of SPEED ----
-
 PARTS = {"network": network, "runs": runs, "instructions": instructions, "calls": calls}
 
 
 def lines_of(part):
     """A box: the command, when and where it was run, and what came."""
     tree = subprocess.check_output(["git", "describe", "--always"], cwd=TOP, text=True).strip()
-    day = datetime.date.today()
     yield f"$ bench/measure.py {part}"
     load_now = lambda: "{:.2f} {:.2f} {:.2f}".format(*os.getloadavg())
-    yield f"# {day.day} {day:%B %Y}, tree {tree}, {processors()} processors, load {load_now()}"
+    yield f"# {time.strftime('%-d %B %Y')}, tree {tree}, {processors()} processors, load {load_now()}"
     yield from PARTS[part]()
     yield f"# load at the end {load_now()}"
 
@@ -236,5 +218,4 @@ def main(words):
             write(f"{TOP}/docs/SPEED.md", re.sub(shown, lambda _, box=box: box, text_of("docs/SPEED.md")))
 
 
-if __name__ == "__main__":
-    main(sys.argv[1:])
+main(sys.argv[1:])

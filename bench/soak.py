@@ -7,8 +7,7 @@ names another program than the tree's.
 
 `device` sends datagrams to bacdev over 127.0.0.1, and reads every reply. What each must get is told from what bacsite
 reads of it, by the rules of docs/PROTOCOL.md: silence, an I-Am, or one reply to its confirmed request, to its own
-invoke id and of no more octets than it announced. Everything stays on this machine: a forwarded datagram names
-127.0.0.1 as its originator, or port 0 there.
+invoke id and of no more octets than it announced.
 
 `script` runs one long script through bactrace, and follows each request through what it prints. Each line but a tick
 prints one line. A request that is sent gets the next ticket, and is sent again three times at most; it ends once, and
@@ -22,9 +21,7 @@ send, and looks at each run as tests/program/runs.py does: bactrace prints the r
 It stops at the first that is not so, and shows it.
 """
 import contextlib
-import glob
 import itertools
-import os
 import random
 import re
 import subprocess
@@ -32,23 +29,24 @@ import sys
 import time
 from collections import Counter
 
-HERE = os.path.dirname(__file__)
-sys.path[:0] = [HERE + "/../tests", HERE + "/../tests/program", HERE + "/../site"]
+sys.path[:0] = [f"{sys.path[0]}/../{folder}" for folder in ("tests", "tests/program", "site")]
 from bacsite.answers import outcome_of
 from bacsite.bodies import parameters, read_ack
 from bacsite.messages import CONFIRMED, DISTRIBUTE, UNCONFIRMED, UNICAST, Datagram, message_of
 from rows import row_cases
 from runs import check, run
-from tree import PROGRAM, TOP, WRONG, device, local_socket, resident
+from tree import PROGRAM, TOP, WRONG, device, files, local_socket, resident
 
-# ---- random datagrams ----
 
 def known():
-    """What the scripts of the rows have: lines by which the client asks, and datagrams."""
-    cases = [case for path in glob.glob(TOP + "/tests/program/rows/scripts-*.rows") for case in row_cases(path)]
+    """What the scripts of the rows have: lines by which the client asks, datagrams, and the answers among these, each
+    with the place of its invoke number."""
+    cases = [case for path in files(TOP + "/tests/program/rows/scripts-*.rows") for case in row_cases(path)]
     asks = {line for case in cases if case.status == 0 for line in re.findall("(?m)^(?:read|write) .*", case.script)}
     found = {it for case in cases for it in re.findall(r"\b81(?:0a|0b|04)[0-9a-f]{4,}", case.script)}
-    return sorted(asks), [bytes.fromhex(it) for it in sorted(found)]
+    datagrams = [bytes.fromhex(it) for it in sorted(found)]
+    answers = [(it.datagram.octets, it.at + 1) for it in map(read, datagrams) if it.apdu and it.apdu.is_answer]
+    return sorted(asks), datagrams, answers
 
 
 def read(octets):
@@ -71,7 +69,7 @@ def damaged(dice, datagram):
 
 
 def any_datagram(dice, datagrams, port):
-    """One of these, as it is or damaged. If it is forwarded, it names this machine alone."""
+    """One of these, as it is or damaged. If it is forwarded, it names this machine alone, or port 0 there."""
     datagram = dice.choice(datagrams)
     if dice.random() < 0.6:
         datagram = damaged(dice, datagram)
@@ -80,8 +78,6 @@ def any_datagram(dice, datagrams, port):
         datagram = datagram[:4] + here[: max(0, len(datagram) - 4)] + datagram[10:]
     return datagram
 
-
-# ---- the device ----
 
 INSTANCE = 1234
 BATCH, BATCHES = 16, 3000  # of datagrams that one bacdev answers, each batch with one of ours behind it
@@ -164,7 +160,7 @@ def tried(desk, batch):
 
 def soak_device(dice, left):
     """Sends so many datagrams, and counts what comes back."""
-    counts, (_, datagrams) = Counter(), known()
+    counts, (_, datagrams, _) = Counter(), known()
     while left > 0:
         batches = min(BATCHES, -(-left // BATCH))
         left -= batches * BATCH
@@ -180,8 +176,6 @@ def soak_device(dice, left):
     return counts
 
 
-# ---- scripts ----
-
 PLACES, RETRIES = 64, 3
 BLOCK = 200
 # Each block ends by a question, whose answer says that all before it has been printed.
@@ -189,11 +183,6 @@ ASK, REPLY = "ask 127.0.0.9:9 810a001101040005010c0c000000051955", "reply 127.0.
 PRINTED = re.compile(
     r"send \d+ \S+ [0-9a-f]+|done \d+ .+|timeout \d+|full|too-long|drop|silent|reply \S+ 810a[0-9a-f]+"
 )
-
-
-def answers_among(datagrams):
-    """The answers among these, each with the place of its invoke number."""
-    return [(it.datagram.octets, it.at + 1) for it in map(read, datagrams) if it.apdu and it.apdu.is_answer]
 
 
 def any_answer(dice, answers, number):
@@ -205,8 +194,8 @@ def any_answer(dice, answers, number):
 
 def pool(dice):
     """Lines to choose from, but for ticks, in the shares that they are to have. An answer has any invoke number."""
-    asks, datagrams = known()
-    peers, answers = [line.split()[1].split("/")[0] for line in asks], answers_among(datagrams)
+    asks, datagrams, answers = known()
+    peers = [line.split()[1].split("/")[0] for line in asks]
     lines = dice.choices(asks, k=6000) + ["", "# a comment", "  \t"]
     for _ in range(24000):
         lines.append(f"data {dice.choice(peers)} {any_answer(dice, answers, dice.randrange(256)) or '81'}")
@@ -273,8 +262,6 @@ def soak_script(dice, lines):
     return seen.counts
 
 
-# ---- runs ----
-
 def plan(dice, answers):
     """What the peers do with each datagram that they hear, as tests/program/runs.txt has it: mostly they answer it."""
     for number in itertools.count():
@@ -291,8 +278,7 @@ def plan(dice, answers):
 
 def soak_runs(dice, count):
     """Makes so many runs, and counts what their remarks say."""
-    counts, (asks, datagrams) = Counter(), known()
-    answers = answers_among(datagrams)
+    counts, (asks, _, answers) = Counter(), known()
     asks += [f"read P 2 {dice.randrange(17000)} 85" for _ in range(len(asks) // 10)]  # bits of many lines
     asks = [re.sub("(?<=[de]) [^/ ]+", f" {peer}", ask, count=1) for ask in asks if len(ask) < 4000 for peer in "AB"]
     for _ in range(count):
@@ -306,8 +292,6 @@ def soak_runs(dice, count):
         counts.update(remark.split()[0] for remark in remarks)
     return counts
 
-
-# ---- the two readers ----
 
 ASKED, HEADS = "127.0.0.9:47808", ["0100"] * 4 + ["0103", "0120ffff00ff", "0157"]
 
@@ -344,14 +328,14 @@ def soak_readers(dice, count):
     return counts
 
 
+SOAKS = {"device": soak_device, "script": soak_script, "runs": soak_runs, "readers": soak_readers}
+
+
 def main(what, count, seed=random.randrange(1 << 32)):
     print(f"seed {seed}", flush=True)
     begun = time.time()
-    kinds = {"device": (soak_device, "datagrams"), "script": (soak_script, "lines")}
-    kinds |= {"runs": (soak_runs, "runs"), "readers": (soak_readers, "answers")}
-    soaked, unit = kinds[what]
-    counts = soaked(random.Random(int(seed)), int(count))
-    print(f"{count} {unit} in {time.time() - begun:.0f} s")
+    counts = SOAKS[what](random.Random(int(seed)), int(count))
+    print(f"{what}: {count} in {time.time() - begun:.0f} s")
     for kind, number in sorted(counts.items()):
         print(f"{number:9}  {kind}")
 

@@ -1,5 +1,4 @@
 /* The yardsticks of the device and of its clients, as measure.py calls them.
- *
  * udp bacdev 1234 --port PORT: sends each datagram back to where it came from, with bacdev's words and addresses.
  * udp load PORT OUTSTANDING COUNT: asks a server for one property, COUNT times, OUTSTANDING at a time, and prints how
  *     many requests it answers a second. */

@@ -4,11 +4,10 @@ a template of each shell, which finds of which kind the word at the cursor is by
 walk.sh in common for that. Usage: completions/make.py FOLDER, which gets PROGRAM.bash, _PROGRAM and PROGRAM.fish of
 each program.
 """
-import os
 import re
 import sys
 
-sys.path.insert(0, os.path.dirname(os.path.abspath(__file__)) + "/../man")
+sys.path.insert(0, sys.path[0] + "/../man")
 import tables
 
 
@@ -91,5 +90,4 @@ def main(folder):
             tables.write(f"{folder}/{file_name.format(names[0])}", text)
 
 
-if __name__ == "__main__":
-    main(sys.argv[1]) if len(sys.argv) == 2 else sys.exit(__doc__)
+main(sys.argv[1]) if len(sys.argv) == 2 else sys.exit(__doc__)

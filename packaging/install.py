@@ -109,8 +109,7 @@ def install(tree, root, prefix):
             (root / path).unlink()
     for path in paths:
         (root / path).parent.mkdir(parents=True, exist_ok=True)
-        with contextlib.suppress(FileNotFoundError):
-            (root / path).unlink()
+        (root / path).unlink(missing_ok=True)
         shutil.copy2(tree / path, root / path, follow_symlinks=False)
     (root / LIST).parent.mkdir(parents=True, exist_ok=True)
     (root / LIST).write_text("".join(f"{new[path]} {path}\n" for path in paths), encoding="utf-8")
@@ -136,5 +135,4 @@ def main(word):
     print(f"bactool {version} and {count - 1} files and links beside it are below {prefix}")
 
 
-if __name__ == "__main__":
-    main(sys.argv[1]) if len(sys.argv) == 2 else sys.exit(__doc__)
+main(sys.argv[1]) if len(sys.argv) == 2 else sys.exit(__doc__)

@@ -4,7 +4,6 @@
 The same sources give the same octets, whichever Python and machine makes them: the parts stand in the order of their
 names, with the earliest time and one mode, and are not compressed, since that differs from one zlib to the next.
 """
-import io
 import pathlib
 import sys
 import zipfile
@@ -26,15 +25,13 @@ run()
 def main(target):
     paths = sorted(path for path in PACKAGE.rglob("*.*") if path.suffix in PARTS and path.name != "__main__.py")
     parts = [(f"bacsite/{path.relative_to(PACKAGE)}", path.read_bytes()) for path in paths]
-    octets = io.BytesIO()
-    with zipfile.ZipFile(octets, "w") as file:
+    target.write_bytes(b"#!/usr/bin/env python3\n")
+    with zipfile.ZipFile(target, "a") as file:
         for name, text in [("__main__.py", MAIN), *parts]:
             part = zipfile.ZipInfo(name)
             part.create_system, part.external_attr = 3, 0o100644 << 16  # of Unix
             file.writestr(part, text)
-    target.write_bytes(b"#!/usr/bin/env python3\n" + octets.getvalue())
     target.chmod(0o755)
 
 
-if __name__ == "__main__":
-    main(pathlib.Path(sys.argv[1])) if len(sys.argv) == 2 else sys.exit(__doc__)
+main(pathlib.Path(sys.argv[1])) if len(sys.argv) == 2 else sys.exit(__doc__)

@@ -3,27 +3,26 @@
 check of such a script pass always, one at a time: then a fault has to be missed. Usage: tests/false_checks.py PROGRAM
 [SCRIPT], with false_checks.txt, whose head says what its rows are.
 """
-import contextlib
 import os
+import pathlib
 import re
 import shutil
 import sys
 import tempfile
 from concurrent.futures import ThreadPoolExecutor
 
-from tree import TOP, end_by_signals, processors, ran, sections_of, text_of, write
+from tree import TOP, end_by_signals, processors, ran, sections_of, status_of, text_of, write
 
 NOT_COPIED = shutil.ignore_patterns(".git", "out", "__pycache__", "*_cache")
 
 
 def plant(tree, path, old, new):
     """Plants a fault in a copy of the tree, in a new file. What is not there for it is answered."""
-    text = text_of(f"{tree}/{path}") if os.path.exists(f"{tree}/{path}") else ""
-    mode = os.stat(f"{tree}/{path}").st_mode if text else 0o644
-    with contextlib.suppress(FileNotFoundError):
-        os.remove(f"{tree}/{path}")
-    write(f"{tree}/{path}", new if old == "*" else text.replace(old, new, 1) if old else text + new)
-    os.chmod(f"{tree}/{path}", mode)
+    place = pathlib.Path(tree, path)
+    text, mode = (text_of(place), place.stat().st_mode) if place.exists() else ("", 0o644)
+    place.unlink(missing_ok=True)
+    write(place, new if old == "*" else text.replace(old, new, 1) if old else text + new)
+    place.chmod(mode)
     return [] if old == "*" or old in text else [f"{path} has no {old}"]
 
 
@@ -64,12 +63,9 @@ def main(words):
     with ThreadPoolExecutor(processors()) as pool:
         found = list(pool.map(lambda it: missed(*it[1:]), every))
     wrong = [f"{name}: missed: {lost}" for (name, _, _, check), lost in zip(every, found) if bool(check) != bool(lost)]
-    print("".join(f"{it}\n" for it in wrong), end="")
     faults = sum(len(faults) for _, _, faults, check in every if not check)
     checks = sum(bool(check) for *_, check in every)
-    print(f"tests/false_checks.py: {faults} faults and {checks} false checks, {len(wrong)} not seen")
-    return 1 if wrong or not faults or not checks else 0
+    return status_of(wrong, faults and checks, f"{faults} faults and {checks} false checks, {len(wrong)} not seen")
 
 
-if __name__ == "__main__":
-    end_by_signals(main)
+end_by_signals(main)

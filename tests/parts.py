@@ -1,25 +1,20 @@
 #!/usr/bin/env python3
 """Runs what is tried of the tree, part by part, and ends with a line of counts. Usage: tests/parts.py test|gate
 
-CONTRIBUTING.md (The gate) says what the parts of each are, and in which order they come. In `test` a part that fails
-ends no other; in `gate` it ends all. There `rt ci` sets aside what is kept of the proofs: so it goes on in a copy of
-the tree, without must-fail/, whose edits it would try one by one. Two parts go side by side where there are 4 GB of
-free memory for each processor. All that a part says is in out/parts, and the end of that is shown where it fails.
-
-The last line is `N passed, M failed, K skipped`: so much was left out, as for a tool that is not installed here. A part
-that tried nothing has failed, and so has one of make a script of which says nothing.
+CONTRIBUTING.md (The gate) says what the parts of each are, in which order they come, and when one has failed. In `test`
+such a part ends no other; in `gate` it ends all. There `rt ci` sets aside what is kept of the proofs: so it goes on in
+a copy of the tree, without must-fail/, whose edits it would try one by one. The last line is `N passed, M failed, K
+skipped`: so much was left out, as for a tool that is not installed here.
 """
-import glob
 import os
 import re
 import shutil
-import subprocess
 import sys
 import tempfile
 import time
 import typing
 
-from tree import TOP, Job, end_by_signals, free_memory, processors
+from tree import TOP, Job, crates_below, end_by_signals, free_memory, processors, ran
 
 LOGS, GENTLY = "out/parts", ["nice", "-n", "5"]
 PROGRAM = "crates/bactool/out/bactool"
@@ -53,8 +48,7 @@ def beside(*rows):
 def target(name):
     """A target of make that runs the built program."""
     command = ["make", "--no-print-directory", name]
-    listed = subprocess.run([*command, "-n"], check=True, stdout=subprocess.PIPE, text=True).stdout
-    return Part(name, command, re.findall(r"(?m)^tests/\S+", listed))
+    return Part(name, command, re.findall(r"(?m)^tests/\S+", ran(*command, "-n").stdout))
 
 
 def whole_proof(room):
@@ -156,25 +150,22 @@ def run(steps, ends_at_failure):
 
 
 def test(_):
-    """The steps of `test`."""
     print("Here: the tests of both trials, some wrong bodies of each crate, examples, rows and guide, and make lint.")
     print("Left to make gate: proofs from nothing, and all other wrong bodies.", flush=True)
-    others = ("_trials", "/bac_uses")  # the program doesn't rest on them
-    if not all(os.path.isdir(f"{it}/out/incremental") for it in glob.glob("crates/*") if not it.endswith(others)):
+    if not all(os.path.isdir(f"crates/{it}/out/incremental") for it in crates_below()["bactool"]):
         yield [[Part("build", ["./build.py"], tried=r"^ *\d+ of \d+ +\w+ +proved")]]
     trials = Part("trials", ["./build.py", "--tests"], tried=r"(\d+) tests passed")
     yield beside([trials], [Part("wrong bodies", [*GENTLY, "tests/bodies/wrong_bodies.py", "--sample"])])
-    yield [[target("examples"), target("lint")]]
+    yield beside([target("examples")], [target("lint")])
 
 
 def gate(room):
-    """The steps of `gate`, in this room."""
     tree, wrong = f"{room}/tree", "tests/bodies/wrong_bodies.py"
     documents = Part("documents", ["make", "--no-print-directory", "documents"])
     yield [[documents, Part("fit", [wrong, "--list"], shown=r"^crates/|fit")]]
     self_test = Part("self test", [*GENTLY, "tests/bodies/self_test.py"])
     yield beside([whole_proof(room)], [self_test, Part("wrong bodies", [*GENTLY, wrong, "--over", tree])])
-    refused = Part("refused", ["tests/bodies/refused.py", "--over", tree])
+    refused = Part("refused", ["tests/bodies/refused.py", tree])
     program = Part("program", ["install", "-D", f"{tree}/{PROGRAM}", PROGRAM], tried="")
     false = Part("false checks", ["tests/false_checks.py", PROGRAM])
     yield [[refused, program, false, target("examples"), target("lint")]]
@@ -194,5 +185,4 @@ def main(words):
     return 1 if lost else 0
 
 
-if __name__ == "__main__":
-    end_by_signals(main)
+end_by_signals(main)

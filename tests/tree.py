@@ -6,6 +6,7 @@ import fcntl
 import functools
 import glob
 import os
+import pathlib
 import re
 import shutil
 import signal
@@ -25,8 +26,12 @@ COMPARED, WRONG = [], []  # what a script has compared, and what is not as it is
 
 def text_of(path):
     """The text of a file of the repository."""
-    with open(os.path.join(TOP, path), encoding="utf-8") as file:
-        return file.read()
+    return pathlib.Path(TOP, path).read_text(encoding="utf-8")
+
+
+def files(*places):
+    """The files at these places, as the shell writes them, in order; `**` is any folder below."""
+    return sorted(file for place in places for file in glob.glob(place, recursive=True) if os.path.isfile(file))
 
 
 def sections_of(path):
@@ -39,8 +44,7 @@ def sections_of(path):
 def write(path, text):
     """Writes a file, and the folder that it is in."""
     os.makedirs(os.path.dirname(path), exist_ok=True)
-    with open(path, "w", encoding="utf-8") as file:
-        file.write(text)
+    pathlib.Path(path).write_text(text, encoding="utf-8")
 
 
 def all_crates():
@@ -91,10 +95,20 @@ def says(document, *sentences):
 
 
 def verdict(well):
-    """The status of a script that has compared so much: it tells what is wrong, or that all is well."""
-    wrong = "\n".join(f"not as it is to be: {it}" for it in WRONG)
-    print(wrong or f"{SCRIPT}: {len(COMPARED)} {well}")
-    return 1 if WRONG else 0
+    """The status of a script that has compared so much."""
+    return well_or([f"not as it is to be: {it}" for it in WRONG], f"{len(COMPARED)} {well}")
+
+
+def well_or(differences, well):
+    """The status of a script: it tells what differs, or behind its path that all is well."""
+    print("\n".join(differences) or f"{SCRIPT}: {well}")
+    return 1 if differences else 0
+
+
+def status_of(wrong, tried, told):
+    """The status of a script: it tells what is wrong and, behind its path, what it tried, which may not be nothing."""
+    print("".join(f"{it}\n" for it in wrong) + f"{SCRIPT}: {told}")
+    return 1 if wrong or not tried else 0
 
 
 def copy_sources(room):
@@ -147,8 +161,7 @@ class Job:
             self.process = subprocess.Popen(command, **how)
 
     def said(self):
-        with open(self.log, encoding="utf-8", errors="replace") as file:
-            return file.read()
+        return pathlib.Path(self.log).read_text(encoding="utf-8", errors="replace")
 
     def has_ended(self):
         return self.process.poll() is not None
@@ -200,7 +213,7 @@ def free_port(first=47808):
 
 def is_taken(port):
     """Whether a UDP socket of this machine has this port, for IPv4 or IPv6."""
-    tables = "".join(text_of(path) for path in glob.glob("/proc/net/udp*") if path.endswith(("udp", "udp6")))
+    tables = "".join(text_of(path) for path in ("/proc/net/udp", "/proc/net/udp6") if os.path.exists(path))
     return bool(re.search(rf"(?m)^ *\d+: [0-9A-F]+:{int(port):04X} ", tables))
 
 

@@ -1,15 +1,10 @@
 """What a wrong body is: a file NAME.edit in crates/CRATE/must-fail, with lines as `rt must-fail` reads them, or an
 entry of crates/CRATE/wrong/FILE.edits, which holds those of src/FILE.rt: a line `[NAME]` and the lines below it.
 CONTRIBUTING.md (A wrong body) says what the lines `file:`, `in:`, `old:`, `new:`, `body:`, `clause:`, `twin:`, `at:`,
-`by:` and `hole:` are.
-
-A body or a twin that may call back to the function that it stands in would pass, beside stubs, for one that returns. So
-one with a name by which it might is tried in its function's place, with all that lies on the way as it is: the check
-refuses a cycle. A `body:` is tried beside the right function, and may call that.
+`by:` and `hole:` are, and what is tried in its function's place, or beside it.
 """
 import collections
 import functools
-import glob
 import os
 import re
 import typing
@@ -86,15 +81,15 @@ def module_of(path):
 def home_of(crate, path, kind):
     """Where a check has what this file holds, in parts: in its module, or where the type of a method is declared."""
     declares = re.compile(rf"(?m)^(?:pub(?:\([^)]*\))? )?(?:struct|enum) {kind}\b")
-    files = (it for it, text in sources_of(crate).items() if declares.search(text))
-    return [*module_of(next(files)), kind] if kind else module_of(path)
+    found = (it for it, text in sources_of(crate).items() if declares.search(text))
+    return [*module_of(next(found)), kind] if kind else module_of(path)
 
 
 @functools.cache
 def sources_of(crate):
     """The files of a crate below src/, each with its text."""
     home = f"{ROOT}/crates/{crate}"
-    return {os.path.relpath(it, home): text_of(it) for it in sorted(glob.glob(f"{home}/src/**/*.rt", recursive=True))}
+    return {os.path.relpath(it, home): text_of(it) for it in tree.files(f"{home}/src/**/*.rt")}
 
 
 def body_of(crate, path, name):
@@ -114,8 +109,8 @@ def law_of(crate, by):
 def answered(crate):
     """What of a crate has answers, by the name that a check has for it."""
     home = f"{ROOT}/crates/{crate}/proofs"
-    files = (it for it in glob.glob(f"{home}/**/*.antt", recursive=True) if os.path.basename(it) in ANSWERS)
-    return sorted({"::".join([crate, *os.path.relpath(os.path.dirname(it), home).split("/")]) for it in files})
+    found = (it for it in tree.files(f"{home}/**/*.antt") if os.path.basename(it) in ANSWERS)
+    return sorted({"::".join([crate, *os.path.relpath(os.path.dirname(it), home).split("/")]) for it in found})
 
 
 def names_in(text):
@@ -178,10 +173,10 @@ def entries_in(file, source):
 def entries_of(crate):
     """The entries of a crate. In must-fail a line that `rt` does not read, and would tell of, stands behind `# `."""
     home = f"{ROOT}/crates/{crate}"
-    for file in sorted(glob.glob(f"{home}/must-fail/*.edit")):
+    for file in tree.files(f"{home}/must-fail/*.edit"):
         text = re.sub(r"(?m)^(?!file: |old: |new:|# )", "bare: ", text_of(file).rstrip("\n"))
         yield Entry(file, os.path.basename(file)[: -len(".edit")], re.sub(r"(?m)^# (?!file|old|new)", "", text))
-    for file in sorted(glob.glob(f"{home}/wrong/**/*.edits", recursive=True)):
+    for file in tree.files(f"{home}/wrong/**/*.edits"):
         yield from entries_in(file, f"file: src/{os.path.relpath(file, f'{home}/wrong')[: -len('.edits')]}.rt")
 
 

@@ -2,17 +2,16 @@
 """Sees that what no contract can refuse is refused by a test: puts in each wrong body that has a line `hole:`, runs the
 test which that line names, and says so where the test passes.
 
-Usage: tests/bodies/holes.py [--only PATTERN] [--jobs N]. The status is 0 where each test fails, and passes without a
-body. A line `hole:` names a file: of src/tests/ of a crate of trials, one of whose tests has to fail; of
-tests/program/rows/, one of whose rows has to; or a script of tests/program/. The trials of that file's module are run
-by `rt try --test`; the program is one that `rt try` makes, in which an index or a sum out of bounds also ends it. Each
-body takes a build of some 70 seconds of processor time, so this is no part of the gate.
+Usage: tests/bodies/holes.py [JOBS [PATTERN]]: so many builds at a time, of all of them, or of those in whose name the
+pattern is found. The status is 0 where each test fails, and passes without a body. A line `hole:` names a file: of
+src/tests/ of a crate of trials, one of whose tests has to fail; of tests/program/rows/, one of whose rows has to; or a
+script of tests/program/. The trials of that file's module are run by `rt try --test`; the program is one that `rt try`
+makes, in which an index or a sum out of bounds also ends it. Each body takes a build of some 70 seconds of processor
+time, so this is no part of the gate.
 """
-import argparse
 import collections
 import concurrent.futures
 import contextlib
-import glob
 import os
 import pathlib
 import re
@@ -24,7 +23,7 @@ import time
 
 sys.path.insert(0, os.path.dirname(__file__) + "/..")
 from edits import ROOT, Edit, entries_of
-from tree import Job, all_crates, copy_sources, free_port, local_socket, ran, text_of, write
+from tree import Job, all_crates, copy_sources, files, free_port, local_socket, ran, text_of, write
 
 TRIALS = re.compile(r"(crates/(?:bac|tool)_trials)/src/tests/(.*)\.rt")
 MOST = "1800"  # seconds that a build may take, on a machine with much else to do
@@ -38,14 +37,13 @@ class NotTried(Exception):
 def leave_one_module(trials, module):
     """Of the trials only this module, those that it names and so on, since the others' tests take long."""
     root = text_of(f"{trials}.rt")
-    files = lambda it: [f"{trials}/{it}.rt", *glob.glob(f"{trials}/{it}/**/*.rt", recursive=True)]
-    others = {it: files(it) for it in re.findall(r"(?m)^mod (\w+);", root)}
+    others = {it: files(f"{trials}/{it}.rt", f"{trials}/{it}/**/*.rt") for it in re.findall(r"(?m)^mod (\w+);", root)}
     rest = {module}
     while rest:
         said = "".join(text_of(file) for it in rest for file in others.pop(it))
         rest = set(re.findall(r"tests::(\w+)", said)) & set(others)
-    for other in others:
-        for file in files(other):
+    for other, its_files in others.items():
+        for file in its_files:
             os.remove(file)
         root = root.replace(f"mod {other};\n", "")
     write(f"{trials}.rt", root)
@@ -83,7 +81,7 @@ def built(room):
 
 def programs_with(port):
     """The files of programs that are running with this port among their words."""
-    for place in glob.glob("/proc/[0-9]*/cmdline"):
+    for place in files("/proc/[0-9]*/cmdline"):
         with contextlib.suppress(OSError):
             words = pathlib.Path(place).read_text("utf-8", "replace").split("\0")
             yield from (it for it in words if it.startswith("/") and it.endswith("/program") and port in words)
@@ -117,22 +115,17 @@ def tried(edit, test):
     return is_well
 
 
-def main():
-    parser = argparse.ArgumentParser(description=__doc__, formatter_class=argparse.RawDescriptionHelpFormatter)
-    parser.add_argument("--only", default="", metavar="PATTERN", help="take those whose name the pattern is found in")
-    parser.add_argument("--jobs", type=int, default=1, metavar="N", help="the builds at a time")
-    options = parser.parse_args()
+def main(jobs=1, pattern=""):
     edits = [Edit(it, entry) for it in all_crates() for entry in entries_of(it) if "\nhole: " in entry.text]
     if unfit := [f"{it.name}: {it.is_unfit}" for it in edits if it.is_unfit]:
         sys.exit("\n".join(unfit))
-    holes = [(it, it.test) for it in edits if re.search(options.only, it.name)]
-    if re.search(options.only, "without a body"):
+    holes = [(it, it.test) for it in edits if re.search(pattern, it.name)]
+    if re.search(pattern, "without a body"):
         holes += [(None, test) for test in sorted({it.test for it in edits})]
-    with concurrent.futures.ThreadPoolExecutor(options.jobs) as pool:
+    with concurrent.futures.ThreadPoolExecutor(int(jobs)) as pool:
         wrong = [is_well for is_well in pool.map(tried, *zip(*holes)) if not is_well]
     print(f"{len(holes)} runs, {len(wrong)} not as they are to be")
     return 1 if wrong or not holes else 0
 
 
-if __name__ == "__main__":
-    sys.exit(main())
+sys.exit(main(*sys.argv[1:]))

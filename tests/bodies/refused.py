@@ -4,27 +4,24 @@ examples, a definition that was emptied or weakened, as definitions.edits has it
 not proved then, and nothing is refused but what stands in its answers; the code does not follow such an edit, since an
 example is tried without it.
 
-Usage: tests/bodies/refused.py [--over TREE] [PATTERN]: all of them, or those in whose name the pattern is found, over
-the libraries that this tree, or another, has of the crates below, as `make demo` keeps them. Each takes some seconds.
+Usage: tests/bodies/refused.py [TREE [PATTERN]]: all of them, or those in whose name the pattern is found, over the
+libraries that this tree, or another, has of the crates below, as `make demo` keeps them. Each takes some seconds.
 """
-import argparse
-import os
 import re
 import sys
 import tempfile
 from concurrent.futures import ThreadPoolExecutor
 
-sys.path.insert(0, os.path.dirname(__file__) + "/..")
-from tree import TOP, copy_crate, processors, ran, text_of, write
+sys.path.insert(0, sys.path[0] + "/..")
+from tree import TOP, copy_crate, processors, ran, status_of, text_of, write
 from wrong_bodies import command
 
 ENTRY = re.compile(r"(?ms)^\[(\w+)\]\n(.*?)^(by|error): (.*?)$")
 PAIR = re.compile(r"(?m)^file: (.*)\nold: (.*)\nnew: (.*)$")
 
 
-def fault_of(edit, over):
-    """Why this is not refused as it is to be, or ""."""
-    _, pairs, how, by = edit
+def fault_of(over, pairs, how, by):
+    """Why this edit is not refused as it is to be, or ""."""
     pairs = [[cell.replace("\\n", "\n") for cell in pair] for pair in PAIR.findall(pairs)]
     crate, example = pairs[0][0].split("/")[1], by if how == "by" else "nothing"
     with tempfile.TemporaryDirectory(prefix="refused-") as room:
@@ -45,20 +42,13 @@ def fault_of(edit, over):
     return "" if is_so else f"it is not refused by {by} alone: {said[-600:]}"
 
 
-def main():
-    parser = argparse.ArgumentParser(description=__doc__, formatter_class=argparse.RawDescriptionHelpFormatter)
-    parser.add_argument("--over", default=TOP, metavar="TREE", help="take the crates below from this tree")
-    parser.add_argument("pattern", nargs="?", default="", metavar="PATTERN", help="try those that it is found in alone")
-    options = parser.parse_args()
+def main(over=TOP, pattern=""):
     texts = (text_of(f"tests/bodies/{name}.edits") for name in ("out_of_reach", "definitions"))
-    tried = [it for text in texts for it in ENTRY.findall(text) if re.search(options.pattern, it[0])]
+    tried = [it for text in texts for it in ENTRY.findall(text) if re.search(pattern, it[0])]
     with ThreadPoolExecutor(processors()) as workers:
-        faults = [*workers.map(lambda edit: fault_of(edit, options.over), tried)]
+        faults = [*workers.map(lambda edit: fault_of(over, *edit[1:]), tried)]
     bad = [f"{edit[0]}: {fault}" for edit, fault in zip(tried, faults) if fault]
-    print("".join(f"{line}\n" for line in bad), end="")
-    print(f"tests/bodies/refused.py: {len(tried)} drops, calls or definitions, {len(bad)} not refused")
-    return 1 if bad or not tried else 0
+    return status_of(bad, tried, f"{len(tried)} drops, calls or definitions, {len(bad)} not refused")
 
 
-if __name__ == "__main__":
-    sys.exit(main())
+sys.exit(main(*sys.argv[1:]))

@@ -3,12 +3,12 @@
 that stand in self_test.edits, most of them with a fault in body or twin, and says which came out otherwise than their
 line `wanted:` has it. The status is 0 where none did. The checks take some three minutes of processor time.
 """
-import os
 import re
 import sys
 
-sys.path.insert(0, os.path.dirname(__file__) + "/..")
+sys.path.insert(0, sys.path[0] + "/..")
 from edits import TWIN, entries_in
+from tree import status_of
 from wrong_bodies import Bodies, Body, try_all, with_twins
 
 CRATE = "bac_wire"
@@ -30,17 +30,14 @@ def main():
     unfit = {it.entry.name for it in tried if it.is_unfit}
     crate = Bodies(CRATE, [it for it in tried if it.entry.name not in unfit])
     try_all([crate], 1)
-    print("".join(f"FAILED {it}\n" for it in crate.strange), end="")
-    failed = len(crate.strange)
+    wrong = [f"FAILED {it}" for it in crate.strange]
     for it in bodies:
         wanted, got = re.search(r"(?m)^wanted: (.*)", it.entry.text)[1], outcome(it)
-        failed += got != wanted
         kinds = [f"{part or 'body'}: {of.is_unfit or of.kind}" for part, of in {"": it, **it.beside}.items()]
-        how = "" if got == wanted else f"FAILED, not {wanted}: "
-        print(f"{how}{it.entry.name}: {got}: {'; '.join(kinds)}")
-    print(f"tests/bodies/self_test.py: {len(bodies)} bodies, {failed} not told as they are to be")
-    return 1 if failed or not bodies else 0
+        told = f"{it.entry.name}: {got}: {'; '.join(kinds)}"
+        print(told)
+        wrong += [f"FAILED, not {wanted}: {told}"] * (got != wanted)
+    return status_of(wrong, bodies, f"{len(bodies)} bodies, {len(wrong)} not told as they are to be")
 
 
-if __name__ == "__main__":
-    sys.exit(main())
+sys.exit(main())

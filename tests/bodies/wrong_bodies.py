@@ -20,12 +20,10 @@ import argparse
 import collections
 import concurrent.futures
 import functools
-import glob
 import os
 import re
 import resource
 import shutil
-import signal
 import sys
 import tempfile
 import time
@@ -35,14 +33,15 @@ import twins
 from edits import CONTROL, EMPTIED, GHOST, GHOSTS, INVARIANT, NEVER, REFUTED, ROOT, TWIN, WRONG
 from edits import IMPL, Edit, entries_of, functions_of, module_of, sources_of, symbol_of
 from stubs import LINKED, PLACE, put_fault, put_stubs
-from tree import all_crates, copy_crate, crates_below, free_memory, processors, ran
+from tree import all_crates, copy_crate, crates_below, end_by_signals, files, free_memory, processors, ran
 
 KINDS = ["clause", "safety", "step", "PROVED", "bad"]
 CHECK_MEMORY = 3000000000  # what a check takes of the machine's memory, in octets
-SAMPLE = 8
+SAMPLE = 5
 LARGEST = 120  # bodies of a round
 BY_VALUES, BY_PROOF, BY_TWIN = SHOWN = ["by values", "by a proof", "by a twin"]
 HOLE, REFUSED_ONLY = "holes", "refused and not shown"
+METHOD = re.compile(r"\bimpl(?:<[^<>]*>)? (\w+) for (\w+).*?\bfn (\w+)")  # that an edit of types brings
 # Of what these do, the prover knows no more than an invariant or a contract says, if there is one.
 BRINGS = re.compile(r"\b(for|while|loop|fn|impl)\b|\|[\w\s,&*()_:]*\|(?!\|)")
 # What a check prints of a goal, of an answer, of a function, and of a text that it does not take as a program.
@@ -74,12 +73,13 @@ class Body(Edit):
         return of.name == self.copy.name if self.copy else (path, of.symbols) in own or of.name in self.way_back
 
     def asked(self):
-        """What a check of it is asked for: a copy; a law, with modules that get an `impl`; a function, or a module."""
+        """What a check of it is asked for: a copy; a law, with methods that it brings; a function, or a module."""
         if self.copy:
             return [self.copy.name]
         if self.is_wide:
-            modules = ["::".join(module_of(it.path)) for it in self.pairs if re.search(r"\bimpl\b", it.new)]
-            return modules if self.part == GHOST else [self.by, *modules]
+            brought = [(it.path, *method) for it in self.pairs for method in METHOD.findall(it.new)]
+            asked = ["::".join([*module_of(path), kind + trait, name]) for path, trait, kind, name in brought]
+            return asked if self.part == GHOST else [self.by, *asked]
         path, of = self.functions[0]
         if not of.behind or of.impl:
             return ["::".join(module_of(path)) or of.shown]
@@ -315,9 +315,8 @@ class Bodies:
             bare = [it for it in clauses if it not in opened]
             lines.append(f"    {len(bare)} of {len(clauses)} clauses of public functions are left open by no body")
             lines += [f"    no body leaves open {path}: {name}: {it or 'its clause'}" for path, name, it in bare]
-        for it in self.edits:
-            if options.goals:
-                lines.append(f"    {it.name}: {it.kind}, {it.part or it.told()}: {'; '.join(it.why)}")
+        if options.goals:
+            lines += [f"    {it.name}: {it.kind}, {it.part or it.told()}: {'; '.join(it.why)}" for it in self.edits]
         return "\n".join(lines)
 
 
@@ -388,9 +387,9 @@ def build(crates):
 
 def strays():
     """What stands in a folder of edits, and is none of a crate."""
-    files = [it for part in ("must-fail", "wrong") for it in glob.glob(f"{ROOT}/crates/*/{part}/**", recursive=True)]
     known = re.compile(rf"{ROOT}/crates/({'|'.join(crates_below())})/(must-fail/.*\.edit|wrong/.*\.edits|.*\.md)")
-    return sorted(it for it in files if os.path.isfile(it) and not known.fullmatch(it))
+    there = files(f"{ROOT}/crates/*/must-fail/**", f"{ROOT}/crates/*/wrong/**")
+    return [it for it in there if not known.fullmatch(it)]
 
 
 def unfit_of(edits):
@@ -401,7 +400,7 @@ def unfit_of(edits):
     return list(dict.fromkeys(unfit))
 
 
-def options_of():
+def options_of(words):
     parser = argparse.ArgumentParser(description=__doc__, formatter_class=argparse.RawDescriptionHelpFormatter)
     flag, word = functools.partial(parser.add_argument, action="store_true"), parser.add_argument
     flag("--list", help="try nothing: name the bodies that don't fit the code")
@@ -413,7 +412,7 @@ def options_of():
     jobs = max(1, min(processors(), free_memory() // CHECK_MEMORY))
     word("--jobs", type=int, default=jobs, metavar="N", help="the checks at a time (%(default)s here)")
     word("crates", nargs="*", help="take these crates alone")
-    return parser.parse_args()
+    return parser.parse_args(words)
 
 
 def failed_of(crates):
@@ -427,8 +426,8 @@ def failed_of(crates):
     return failed
 
 
-def main():
-    options = options_of()
+def main(words):
+    options = options_of(words)
     chosen = [it for it in crates_below() if not options.crates or it in options.crates]
     tried = {crate: edits for crate in chosen if (edits := edits_of(crate, options.only))}
     edits = [it for group in tried.values() for it in group]
@@ -455,5 +454,4 @@ def main():
 
 
 if __name__ == "__main__":
-    signal.signal(signal.SIGTERM, lambda number, _: sys.exit(128 + number))
-    sys.exit(main())
+    end_by_signals(main)

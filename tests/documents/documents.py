@@ -2,7 +2,6 @@
 """Compares the documents with the tree and with one another, as the head of each look says. Usage:
 tests/documents/documents.py; it ends with 1 where they differ, and says in what.
 """
-import collections
 import glob
 import os
 import re
@@ -12,8 +11,8 @@ import textwrap
 sys.path[:0] = [os.path.dirname(__file__) + "/..", os.path.dirname(__file__) + "/../site"]
 import planted
 from program.rows import LETTERS
-from sources import code_of
-from tree import TOP, all_crates, crates_below, ran, sections_of, text_of
+from sources import OF_PROGRAM, code_of
+from tree import TOP, all_crates, crates_below, files, ran, sections_of, text_of, well_or
 
 SOURCES = ["crates/*/src/**/*.rt", "crates/*/specs/**/*.antt", "crates/*/proofs/**/*.antt"]
 OF_STD = {"arrayvec", "byteorder", "clap", "hex", "thiserror", "std", "fault_of", "map", "filter", "flat_map"}
@@ -23,10 +22,8 @@ DEFINES = {
     **dict.fromkeys(SOURCES[1:], r"^ *(?:(?:abbrev|record|data|pub|unfoldable) +)*(\w+)(?: [^:\n]*)? :"),
     "crates/*/wrong/*.edits": r"^\[(\w+)\]$",
 }
-TRIALS = {"bac_uses", "bac_trials", "tool_trials"}  # crates that the program does not rest on
 WHOLE = ["docs/", "bench/", "tests/", "tests/[a-z]*/"]  # folders whose row names each file
-PAGES = {"README.md", "CONTRIBUTING.md", "SECURITY.md", "CHANGELOG.md"}
-WELL_KNOWN = PAGES | {"LICENSE", ".gitignore", ".git", "crates", "out"}
+WELL_KNOWN = set("README.md CONTRIBUTING.md SECURITY.md CHANGELOG.md LICENSE .gitignore .git crates out".split())
 WIDTH = 120
 UNSEEN = {
     "a `Drop` by hand": (SOURCES[0], r"(?m)^ *impl\b[^{;]*?\bDrop\s+for\s+\w+"),
@@ -65,10 +62,6 @@ def names_below(section, head):
 
 def on_one_line(text):
     return " ".join(text.split())
-
-
-def files(*places):
-    return sorted(file for place in places for file in glob.glob(place, recursive=True) if os.path.isfile(file))
 
 
 def compare(what, said, there):
@@ -158,13 +151,13 @@ def heads_of_sources():
 
 def names_of_sources():
     """Each name that the sources define, and the clauses of each function."""
-    known, clauses = {*os.listdir("crates"), *OF_STD}, collections.defaultdict(set)
+    known, clauses = {*os.listdir("crates"), *OF_STD}, {}
     for place, pattern in DEFINES.items():
         for file in files(place):
             found = re.finditer(pattern, code_of(file), re.M)
             known.update([os.path.splitext(os.path.basename(file))[0], *(it[1] or it[2] for it in found)])
     for part in (part for file in files(SOURCES[0]) for part in re.split(r"\bfn (?=\w)", code_of(file))[1:]):
-        clauses[re.match(r"\w+", part)[0]].update(re.findall(r"\bensures (\w+) *\{", part))
+        clauses.setdefault(re.match(r"\w+", part)[0], set()).update(re.findall(r"\bensures (\w+) *\{", part))
     return known, clauses
 
 
@@ -192,7 +185,7 @@ def what_stands_twice(readme, proofs):
     shown = "".join(box for kind, box in boxes if kind == "console").splitlines() or ["of a run"]
     yield from (f"README.md: docs/GUIDE.md has no line {line}" for line in shown if line not in [*guide, ".."])
     proved = sections(readme)["What is proved"]
-    for crate in sorted(names_below(proved, "Crate") ^ ({*all_crates()} - TRIALS)):
+    for crate in sorted(names_below(proved, "Crate") ^ OF_PROGRAM):
         yield f"README.md: the crate {crate} is in one place alone, its table or crates.txt"
     trusted = names_below(proofs["What is trusted of the system"], "Function")
     said = {*names(proved.partition("**Trusted**")[2])}
@@ -208,7 +201,7 @@ def functions_without_a_contract(section):
     for file in files(SOURCES[0]):
         crate, owner = file.split("/")[1], ""
         parts = re.split(r"(?=\bfn \w+)|(?=^impl\b)|(?=^\}$)", code_of(file), flags=re.M)
-        for part in parts if crate not in TRIALS else ():
+        for part in parts if crate in OF_PROGRAM else ():
             if part.startswith(("impl", "}")):
                 owner = part.partition("{")[0]
             elif part.startswith("fn "):
@@ -248,7 +241,7 @@ def what_no_clause_sees():
 
 def public_names_without_a_law():
     """Each public constant, and the clone and the `==` of each public type, is said by a law."""
-    for crate in sorted({*all_crates()} - TRIALS):
+    for crate in sorted(OF_PROGRAM):
         text = "\n".join(map(text_of, files(f"crates/{crate}/src/**/*.rt")))
         laws = "\n".join(re.findall(r"(?ms)^pub fn [^{]*?\bensures.*?^\{\}$", text))
         other = {new: old for old, new in re.findall(r"\b(\w+) as (\w+)", text)}
@@ -263,15 +256,10 @@ def public_names_without_a_law():
 
 def pins():
     """Each heading, the key below it, and the files and texts below the key."""
-    heading, found = "", []
-    for line in text_of("tests/documents/pins.txt").splitlines():
-        if line.startswith("## "):
-            heading = line[3:]
-        elif line.startswith("    "):
-            found[-1][2].append(line.strip().split(": ", 1))
-        elif line and not line.startswith("#"):
-            found.append((heading, line, []))
-    return found
+    for heading, lines in sections_of("tests/documents/pins.txt"):
+        for block in re.split(r"\n(?! )", "\n".join(lines)):
+            key, *places = block.split("\n")
+            yield heading, key, [place.strip().split(": ", 1) for place in places]
 
 
 def rows_of_rules(parts):
@@ -357,10 +345,9 @@ def main():
         *links_and_lines(),
         *wide_lines(),
     ]
-    count, others = len(rows_of_rules(rules)), len(pins()) - len(rows_of_rules(rules))
+    count, others = len(rows_of_rules(rules)), len([*pins()]) - len(rows_of_rules(rules))
     well = f"{count} rows of docs/PROTOCOL.md are read back, and {others} other texts"
-    print("\n".join(differences) or f"tests/documents/documents.py: {well}; the documents agree with the tree")
-    return 1 if differences else 0
+    return well_or(differences, f"{well}; the documents agree with the tree")
 
 
 sys.exit(main())

@@ -8,8 +8,6 @@ says which public calls stand on no page, which definitions lie in the wrong roo
 clauses name no example holds, and which names a file brings in that aren't there, or that it doesn't say; ends with 1
 where there are any. With --write it writes docs/reading/ anew (make reading).
 """
-import collections
-import glob
 import os
 import re
 import shutil
@@ -17,14 +15,12 @@ import sys
 import textwrap
 
 sys.path.insert(0, os.path.dirname(__file__) + "/..")
-from sources import CLAUSE, CRATES, ROOMS, SOURCES, SPECS, TOKEN, USE, Declared, Definition, Item
+from sources import CLAUSE, CRATES, OF_PROGRAM, ROOMS, SOURCES, SPECS, TOKEN, USE, Declared, Definition, Item
 from sources import closed, code_of, defined, parts_of, public_calls, read_tree, uses_in
-from tree import TOP, text_of, write
+from tree import TOP, files, text_of, well_or, write
 
 FOLDER = "docs/reading"
-TRIALS = {"bac_trials", "tool_trials", "bac_uses"}  # no crate rests on their clauses
 SIZE = r"\[([\d,]+) lines\]\(docs/reading/(\w+)\.md\)"  # as README.md tells it
-TOLD = {"client", "device", "program"}  # the pages whose sizes it tells
 PROBLEMS = []
 
 
@@ -59,9 +55,9 @@ def page_of(title, calls):
         lines.append(f"| {name} | {len(found)} | {size(found)} |")
     in_turn = dict.fromkeys(item for found in lists.values() for item in found)
     lines += ["", *listed(in_turn), "", "What the libraries add:", ""]
-    outside = collections.defaultdict(set)
+    outside = {}
     for module, name in (need for item in items for need in item.needs if not isinstance(need, Item)):
-        outside[module].add(f"`{name}`")
+        outside.setdefault(module, set()).add(f"`{name}`")
     lines += [columns(f"- {module}: {', '.join(sorted(names))}") for module, names in sorted(outside.items())]
     if len(kept) > len(items):
         lines += ["", "What types keep to themselves, which no promise needs:", ""]
@@ -72,7 +68,7 @@ def page_of(title, calls):
 def pages():
     """The text of each page by its path, and the lines of each page by its name."""
     texts, sizes, index = {}, {}, text_of("tests/documents/pages.txt")
-    every = {name: call for crate in CRATES if crate not in TRIALS for name, call in called(crate).items()}
+    every = {name: call for crate in CRATES if crate in OF_PROGRAM for name, call in called(crate).items()}
     rest = dict(every)
     for row, page, title, names in re.findall(r"(?m)^((\w+) \| (.*) \| (.*))$", index):
         calls, shown = {}, []
@@ -86,8 +82,8 @@ def pages():
             rest = {one: call for one, call in rest.items() if one not in found}
         texts[f"{FOLDER}/{page}.md"], items = page_of(title, calls)
         sizes[page] = size(items)
-        files = len({item.file for item in items})
-        cells = f"[{title}]({page}.md) | {', '.join(shown)} | {len(items)} | {sizes[page]} | {files}"
+        count = len({item.file for item in items})
+        cells = f"[{title}]({page}.md) | {', '.join(shown)} | {len(items)} | {sizes[page]} | {count}"
         index = index.replace(row, f"| {cells} |")
     PROBLEMS.extend(f"{name} stands on no page of {FOLDER}" for name in rest)
     texts[f"{FOLDER}/README.md"] = index
@@ -95,7 +91,7 @@ def pages():
 
 
 def compare(texts, sizes):
-    there = {*glob.glob(f"{FOLDER}/*")}
+    there = {*files(f"{FOLDER}/*")}
     yield from (f"{path} is not made by this script" for path in sorted(there - {*texts}))
     for path, text in texts.items():
         now, then = text.splitlines(), text_of(path).splitlines() if path in there else []
@@ -104,7 +100,7 @@ def compare(texts, sizes):
             yield f"{path} differs from the tree: {[*new, *gone, 'its order'][0].strip()[:100]}"
     readme = text_of("README.md")
     told = {page: lines for lines, page in re.findall(SIZE, readme)}
-    named = {*re.findall(r"docs/reading/(\w+)\.md", readme), *TOLD} - {"README"}
+    named = {*re.findall(r"docs/reading/(\w+)\.md", readme), "client", "device", "program"} - {"README"}
     yield from (f"README.md: it does not tell the lines of {page}, on one line" for page in sorted(named - {*told}))
     for page in told:
         if page in sizes and told[page] != f"{sizes[page]:,}":
@@ -120,10 +116,10 @@ def make(texts, sizes):
 
 def rooms():
     """What lies in the wrong room: what no public clause needs belongs in Inner, and nothing else does."""
-    public = [public_calls(crate) for crate in CRATES if crate not in TRIALS]
+    public = [public_calls(crate) for crate in CRATES if crate in OF_PROGRAM]
     needed = closed([item for calls, types in public for item in (*calls.values(), *types)], kept=True)
     for specs in SPECS.values():
-        for item in specs.items.values() if specs.crate not in TRIALS else ():
+        for item in specs.items.values() if specs.crate in OF_PROGRAM else ():
             is_inner = "/specs/Inner/" in specs.path
             if is_inner and item in needed:
                 yield f"{specs.path}: {item.name} is needed by a public clause, so it belongs outside Inner"
@@ -146,7 +142,7 @@ def unheld():
     """The definitions that laws and public clauses name and that no example holds: of a relation one clause says that
     it holds, and one that it does not; of a number one says it; anything else stands in what one computes."""
     of_files = lambda name: [it for path, file in SOURCES.items() if name in path for it in file.items.values()]
-    named = [call for crate in CRATES if crate not in TRIALS for call in public_calls(crate)[0].values()]
+    named = [call for crate in CRATES if crate in OF_PROGRAM for call in public_calls(crate)[0].values()]
     named += [it for name in ("/laws.rt", "/theorems.rt", "/comparing.rt") for it in of_files(name)]
     clauses = [*said_by(of_files("/examples.rt"))]
     holds = set().union(*(said for text, said in clauses if not text.endswith("→ ⊥")))
@@ -167,8 +163,7 @@ def unheld():
 
 def unused_or_gone():
     """The names that a file brings in, and that it does not say, or that are not there."""
-    kinds = ("src/**/*.rt", "specs/**/*.antt", "proofs/**/*.antt")
-    for path in sorted(path for kind in kinds for path in glob.glob(f"crates/*/{kind}", recursive=True)):
+    for path in files("crates/*/src/**/*.rt", "crates/*/specs/**/*.antt", "crates/*/proofs/**/*.antt"):
         for uses, text in used_and_said(code_of(path), path.endswith(".rt")):
             said = names_in(text)
             for module, name, here, public in uses_in(uses):
@@ -203,9 +198,7 @@ def main(arguments):
         make(texts, sizes)
     else:
         PROBLEMS.extend([*compare(texts, sizes), *rooms(), *unheld(), *unused_or_gone()])
-    print("\n".join(PROBLEMS) or f"tests/documents/reading.py: {len(texts)} pages of {FOLDER} agree with the tree")
-    return 1 if PROBLEMS else 0
+    return well_or(PROBLEMS, f"{len(texts)} pages of {FOLDER} agree with the tree")
 
 
-if __name__ == "__main__":
-    sys.exit(main(sys.argv[1:]))
+sys.exit(main(sys.argv[1:]))

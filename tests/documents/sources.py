@@ -6,16 +6,13 @@ and its signature; a trait the same of its methods, and its ghost members; a typ
 other is a variable, and so is a small one that is bound: before a colon, behind a λ or a `let`, in the pattern of a
 case. The layout is rt fmt's. Lines are counted without comments, blank lines and attributes.
 """
-import collections
 import functools
-import glob
-import itertools
 import re
 
-from tree import all_crates, text_of
+from tree import all_crates, crates_below, files, text_of
 
-CRATES = all_crates()
-OUTSIDE = {"std", "core", *itertools.chain(*CRATES.values())} - {*CRATES}
+CRATES, OF_PROGRAM = all_crates(), crates_below()["bactool"]
+OUTSIDE = {"std", "core"}.union(*CRATES.values()) - {*CRATES}
 SPECS = {}  # the file of each module of specs/
 ROOMS = {}  # of specs/ and specs/Inner the modules that it passes on, and the names of src/ beside them
 SOURCES = {}  # the files of src/, by their paths
@@ -310,12 +307,12 @@ def defined(module, name):
     return SPECS[module].find(name) if module in SPECS else None
 
 
-def passed_on(path):
-    """The modules that specs/Lib or specs/Inner passes on whole, and the names that it passes on."""
+def read_room(path):
+    """Notes the modules that specs/Lib or specs/Inner passes on whole, and the names that it passes on."""
     room = path[len("crates/") :].removesuffix(".antt").removesuffix("/Lib").replace("/", ".")
     uses = [it for it in uses_in(code_of(path)) if it[3]]
     modules = [f"{room}.{module[:-2]}" for module, name, *_ in uses if not name]
-    return room, (modules, {here: (module, name) for module, name, here, _ in uses if name})
+    ROOMS[room] = modules, {here: (module, name) for module, name, here, _ in uses if name}
 
 
 def in_crate(crate, parts):
@@ -329,14 +326,13 @@ def in_crate(crate, parts):
 
 def read_tree():
     for crate in CRATES:
-        for path in sorted(glob.glob(f"crates/{crate}/specs/**/*.antt", recursive=True)):
+        for path in files(f"crates/{crate}/specs/**/*.antt"):
             if path.endswith(("specs/Lib.antt", "specs/Inner.antt")):
-                room, passed = passed_on(path)
-                ROOMS[room] = passed
+                read_room(path)
             else:
                 file = Specs(crate, path)
                 SPECS[file.module] = file
-        for path in sorted(glob.glob(f"crates/{crate}/src/**/*.rt", recursive=True)):
+        for path in files(f"crates/{crate}/src/**/*.rt"):
             SOURCES[path] = Source(crate, path)
     for source in SOURCES.values():
         source.link()
@@ -362,9 +358,9 @@ def public_calls(crate):
 
 def closed(roots, kept=False):
     """What these need, breadth first, they themselves first; with what the types keep, if that is asked for."""
-    found, rest = dict.fromkeys(roots), collections.deque(roots)
-    while rest:
-        item = rest.popleft()
+    found = dict.fromkeys(roots)
+    rest = list(found)  # which grows while it is walked
+    for item in rest:
         for need in [*item.needs, *(item.keeps if kept else ())]:
             if isinstance(need, Item) and need not in found:
                 found[need] = None

@@ -6,7 +6,6 @@ standard's numbers from another hand, is asked what it calls those of site/bacsi
 Usage: tests/package/pages.py PROGRAM
 """
 import datetime
-import glob
 import os
 import re
 import subprocess
@@ -14,8 +13,8 @@ import sys
 import tempfile
 
 sys.path.insert(0, os.path.dirname(__file__) + "/..")
-from tree import TOOLS, TOP, device, left_out, plain, put_tools, ran, same, says, sections_of, shown, text_of
-from tree import verdict, write
+from tree import TOOLS, TOP, device, files, left_out, plain, put_tools, ran, same, says, sections_of, shown
+from tree import text_of, verdict, write
 
 sys.path.append(TOP + "/man")
 import tables
@@ -157,7 +156,7 @@ def faults():
 def versions():
     """The program is of the version that CHANGELOG.md tells of, whose day is that of the page which changed last."""
     changes, day = re.search(r"(?m)^## ([0-9][0-9.]*) \((.*)\)$", text_of("CHANGELOG.md")).groups()
-    days = re.findall(r"(?m)^\.Dd (.*)$", "".join(map(text_of, glob.glob(f"{TOP}/man/*.[17]"))))
+    days = re.findall(r"(?m)^\.Dd (.*)$", "".join(map(text_of, files(f"{TOP}/man/*.[17]"))))
     last = max(datetime.datetime.strptime(it, "%B %d, %Y") for it in days)
     same("day of the last page and of CHANGELOG.md", f"{last:%Y-%m-%d}", day)
     version = re.match(r"bactool ([\d.]+\d)", help_of(PROGRAM))[1]
@@ -169,7 +168,7 @@ def mandoc():
     for path, text in tables.made():
         same(f"{path} is as man/tables.py makes it", text_of(path) == text, True)
     if not left_out("mandoc"):
-        lint = ["mandoc", "-Tlint", "-Wwarning", *sorted(glob.glob(f"{TOP}/man/*.[17]"))]
+        lint = ["mandoc", "-Tlint", "-Wwarning", *files(f"{TOP}/man/*.[17]")]
         same("what mandoc says", ran(*lint).stdout, "")
 
 
@@ -273,7 +272,7 @@ def properties():
 
 def examples():
     """What the pages show is run, and prints what they show; and the pages that they refer to are there."""
-    for path in sorted(glob.glob(f"{TOP}/man/*.[17]")):
+    for path in files(f"{TOP}/man/*.[17]"):
         text = text_of(path).replace("\\", "").replace("/var/lib/prometheus/node-exporter", ROOM.name)
         for name in {*re.findall(r"\bXr (\S+ [0-9])", text)}:
             same(f"{path}: {name} is a page", os.path.isfile(f"{TOP}/man/{name.replace(' ', '.')}"), True)

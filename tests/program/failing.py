@@ -10,7 +10,6 @@ for memory is refused, since it has its memory from elsewhere. But there it show
 searched again at each read: a program that LLVM makes searches so fast that its reads hide it.
 """
 import errno
-import glob
 import itertools
 import os
 import re
@@ -20,7 +19,7 @@ import tempfile
 from collections import namedtuple
 
 sys.path.insert(0, os.path.dirname(__file__) + "/..")
-from tree import TOP, failing_library, free_port, text_of
+from tree import TOP, failing_library, files, free_port, text_of
 
 # The errors, by what a receive that fails so is: a fault; a fault to the tool that sent, since its peer refuses, or no
 # way leads there, while a device has its peers from strangers; and silence to both.
@@ -106,7 +105,7 @@ def memory_refused(status, words, given=""):
 
 
 def memory():
-    requests = sum(memory_refused(0, ["bactrace"], text_of(script)) for script in glob.glob(f"{TOP}/examples/*.trace"))
+    requests = sum(memory_refused(0, ["bactrace"], text_of(script)) for script in files(f"{TOP}/examples/*.trace"))
     bad = [[], READ[:4], [*READ, "--mac", "1.2.3"], [*WRITE[:5], "16", "-1", "4", "zz", "--mac", "127.0.0.1"]]
     bad.append(["bacwi", "1", "2", "--mac", "1.2.3"])
     for status, words in [(0, ["--help"]), (0, ["bacwp", "--help"]), *((2, words) for words in bad)]:

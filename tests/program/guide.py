@@ -16,7 +16,7 @@ import sys
 import tempfile
 
 sys.path.insert(0, os.path.dirname(__file__) + "/..")
-from tree import TOP, Job, end_by_signals, free_port, left_out, put_tools, text_of
+from tree import TOP, Job, end_by_signals, free_port, left_out, put_tools, text_of, well_or
 
 TIMES = ["[1-5]?[0-9]", "1?[0-9]|2[0-3]", "[12]?[1-9]|[123]0|31", "[1-9]|1[0-2]", "[0-7]"]  # of a line of crontab
 # Waits, for ten seconds at most, until a socket has the port.
@@ -93,9 +93,7 @@ def main(words):
     with tempfile.TemporaryDirectory() as room:
         came = run(text, os.path.realpath(words[0]), room)
     told = list(difflib.unified_diff(shown.splitlines(), came.splitlines(), "docs/GUIDE.md", "came", lineterm="", n=4))
-    well = f"tests/program/guide.py: {len(rows)} commands of docs/GUIDE.md at port {first}, as shown"
-    print("\n".join(told) or well)
-    return 1 if told else 0
+    return well_or(told, f"{len(rows)} commands of docs/GUIDE.md at port {first}, as shown")
 
 
 end_by_signals(main)

@@ -6,14 +6,13 @@ Usage: tests/program/interop.py, once the program is built; interop.txt has what
 needs root, nmap and tshark. It ends with 1 where something is not as it is to be, and says what: a tool or nmap that
 prints something else, a datagram that tshark finds malformed or reads as something else than it is.
 """
-import os
 import re
 import subprocess
 import sys
 import tempfile
 import time
 
-sys.path.insert(0, os.path.dirname(__file__) + "/..")
+sys.path.insert(0, sys.path[0] + "/..")
 from tree import PROGRAM, Job, device, left_out, local_socket, ran, same, sections_of, verdict
 
 IS_BAD = "_ws.malformed or _ws.expert.severity >= 0x600000 or not bacapp"

@@ -1,32 +1,8 @@
 #!/usr/bin/env python3
 """Runs the scripts of examples/ and the scripts and command lines of rows/ by the built program, each script also with
 one octet at each read, and compares output, errors and status. Usage: tests/program/rows.py PROGRAM [FILE..]: all that
-there is, or the rows of these files alone.
-
-Rows are parted by blank lines. The mark at the front of a line says what the rest of it is:
-
-    #   a remark
-    <   a line of a script for bactrace
-    |   the last line of a script: with several of them the row is several scripts
-    $   a command line, cut at each space, where '' is an empty word: with several the row is several command lines. Its
-        first word is the name by which the program is called
-    N   the least and the greatest value of the number N of these command lines: the row holds of both, and one past
-        either is refused
-    X   what stands for each X of the other lines and, behind ` = `, for each Y: with several it is several rows
-    >   a line of standard output, but for those of the time, which nobody can know, in the journal of bacrun
-    ~   what stands somewhere in standard output, which is the same text for all command lines of the row and ends with
-        a line feed
-    !   the status, where it is not 0, and standard error behind `bactool: `; or what it begins with, if it ends with
-        two full stops
-    @   a redirection, as a shell has it: with several the row is run with each alone
-
-In a line, P, Q, M, V and A as whole words stand for the texts below, Z for an address where nobody answers, S for
-options by which a tool asks there, {93*x} for 93 times x, [0100..] for the datagram whose link header has these octets
-behind it, and \\n, \\r, \\t and \\xff for octets. {1..300*x} is x for each of these numbers, which stands for each # of
-it, and for each ## as one octet, the last of the number; and {cut 810a0017*x} is x for each front of these octets,
-which stands for each #. A backslash at the end of a line says that no line feed follows.
+there is, or the rows of these files alone. CONTRIBUTING.md (A row) says what a row has.
 """
-import glob
 import os
 import pathlib
 import re
@@ -37,7 +13,7 @@ from collections import namedtuple
 from concurrent.futures import ThreadPoolExecutor
 
 sys.path.insert(0, os.path.dirname(__file__) + "/..")
-from tree import TOP, failing_library, free_port
+from tree import TOP, failing_library, files, free_port, put_tools
 
 LETTERS = {
     "P": "127.0.0.1:47808",
@@ -141,7 +117,7 @@ def row_cases(path):
 
 def examples():
     """Each script of examples/, and what it writes."""
-    for path in map(pathlib.Path, sorted(glob.glob(f"{TOP}/examples/*.trace"))):
+    for path in map(pathlib.Path, files(f"{TOP}/examples/*.trace")):
         script, output = (file.read_text(encoding="ascii") for file in (path, path.with_suffix(".out")))
         yield Case(f"examples/{path.name}", SCRIPT, script, 0, output, "")
 
@@ -184,14 +160,13 @@ def tell(case, ending, how):
     print(f"    came:   status {ending.status}, error {ending.error[:300]!a}, output from {start} on {came!a}")
 
 
-def main(program, files):
-    paths = files or sorted(glob.glob(os.path.relpath(TOP + "/tests/program/rows") + "/*.rows"))
-    cases = [case for path in paths for case in row_cases(path)] + ([] if files else [*examples()])
+def main(program, given):
+    paths = given or files(os.path.relpath(TOP + "/tests/program/rows") + "/*.rows")
+    cases = [case for path in paths for case in row_cases(path)] + ([] if given else [*examples()])
     scripts = [case for case in cases if case.words == SCRIPT and not case.redirection]
     wrong, texts = set(), {}
     with tempfile.TemporaryDirectory() as room, ThreadPoolExecutor() as pool:
-        for name in {case.words[0] for case in cases}:
-            os.symlink(program, os.path.join(room, name))
+        put_tools(program, room)
         runs = [(case, None, "") for case in cases]
         if library := failing_library(room):
             runs += [(case, library, ", one octet at a read") for case in scripts]

@@ -24,7 +24,6 @@ from tree import TOP, local_socket, same, verdict
 LINE = 4096  # the most octets of a line
 # A Reject of a request that nobody made, so long that a run reads it no faster than it comes.
 STRAY = bytes.fromhex("810a03e80100606309") + bytes(991)
-SLOW = "--apdu-timeout 2000 --apdu-retries 1"
 Run = namedtuple("Run", "status fault journal heard seconds")
 
 
@@ -127,7 +126,6 @@ def in_short(remark):
 
 
 def tried(program, place, row):
-    """A row is as it is to be."""
     options, plan, wanted = (braced(row[mark][0]) for mark in "$@>")
     groups = [[] if group == "-" else group.split(",") for group in plan.split()]
     text, it = run(program, options, braced("\n".join(row["<"])).replace("\\n", "\n"), groups)

@@ -10,6 +10,7 @@ import json
 import os
 import random
 import shutil
+import signal
 import subprocess
 import sys
 import tempfile
@@ -81,7 +82,11 @@ class Browser:
         options = "headless=new no-sandbox disable-gpu hide-scrollbars remote-debugging-pipe no-first-run"
         words = ["--" + it for it in [*options.split(), "user-data-dir=" + folder]]
         self.process = subprocess.Popen(
-            [program, *words, "about:blank"], preexec_fn=pipes, close_fds=False, stderr=subprocess.DEVNULL
+            [program, *words, "about:blank"],
+            preexec_fn=pipes,
+            close_fds=False,
+            stderr=subprocess.DEVNULL,
+            start_new_session=True,
         )
         os.close(down), os.close(up)
         self.count, self.rest, self.events, self.session = 0, b"", [], None
@@ -136,7 +141,8 @@ class Browser:
             file.write(base64.b64decode(self.call(method, **params)["data"]))
 
     def close(self):
-        self.process.terminate()
+        """Ends it and its processes at once: each of them writes into the profile."""
+        os.killpg(self.process.pid, signal.SIGKILL)
         self.process.wait()
 
 

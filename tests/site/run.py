@@ -18,7 +18,7 @@ from concurrent.futures import ThreadPoolExecutor
 import alone
 
 HERE = os.path.dirname(os.path.abspath(__file__))
-LONGEST = ("test_monitoring", "test_survey", "test_program", "test_words", "test_write")  # at first
+LONGEST = ("test_order", "test_write", "test_ranges", "test_survey", "test_monitoring", "test_calls")  # at first
 IS_ALONE = "BACSITE_TESTS_ARE_ALONE"
 
 
@@ -45,7 +45,7 @@ def main(names):
     files = sorted(os.path.basename(it)[:-3] for it in glob.glob(HERE + "/test_*.py"))
     names = names or [*LONGEST, *(it for it in files if it not in LONGEST)]
     tests, failed = 0, 0
-    with ThreadPoolExecutor(os.cpu_count() or 1) as pool:
+    with ThreadPoolExecutor(2 * (os.cpu_count() or 1)) as pool:  # they wait more than they work
         for name, status, said, seconds in pool.map(ran, names):
             print("%-16s %5.1f s" % (name, seconds), flush=True)
             for test, why in re.findall(r"(?m)^(\w+) .* skipped '(.*)'$", said):

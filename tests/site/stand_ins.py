@@ -43,6 +43,9 @@ def string(text, charset=0):
     return tagged(7, bytes([charset]) + (text if isinstance(text, bytes) else text.encode()))
 
 
+NAMED = {(8, 77, 77): string("D"), (8, 77, 121): string("V"), (8, 77, 70): string("M")}  # of device 77
+
+
 def bits(text):  # of up to eight bits
     return tagged(8, bytes([8 - len(text), int(text.ljust(8, "0"), 2)]))
 

@@ -1,5 +1,6 @@
 """Calls: late answers, those about other points, busy and slow controllers, tools that fail."""
 
+import io
 import os
 import resource
 import struct
@@ -56,6 +57,7 @@ class WhoseAnswer(harness.SiteTest):
             ((8, 4194303, 75), (8, 77, 77), strange),
             ((8, 4194303, 75), (0, 77, 75), strange),
             ((8, 77, 75), (8, 78, 75), strange),
+            ((0, 4194303, 85), (0, 7, 85), strange),
         ):
             for head in "0100", "01080005010a", "0120ffff00ff":
                 with self.subTest(asked=asked, told=told, head=head):
@@ -236,6 +238,15 @@ class Calls(harness.SiteTest):
                 out = shown or found[1]
                 self.assertEqual((found, os.path.getsize(name)), ((status, out, told), 150))
         self.assertEqual(found[1].count("1000@"), 11)
+
+    def test_a_journal_that_takes_a_line_in_parts(self):
+        class Slow(io.BytesIO):
+            def write(self, octets):
+                return super().write(octets[:5])
+
+        file = Slow()
+        journals.Journal(journals.Journals(), file).add("# done 0 ok")
+        self.assertEqual(file.getvalue(), b"# done 0 ok\n")
 
     def test_a_journal_that_can_not_be_begun(self):
         folder = self.world.folder + "/gone"

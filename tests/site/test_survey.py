@@ -9,10 +9,9 @@ import unittest
 import harness
 from bacsite.report import csv_lines
 from devices import ODD_VALUES
-from stand_ins import LateStandIn, StandIn, an_object, bits, enumerated, real, string, unsigned
+from stand_ins import NAMED, an_object, bits, enumerated, real, string, unsigned
 
 HEAD = "address,device,device_name,vendor,model,type,instance,type_name,name,value,meaning,unit,flags,reason"
-NAMED = {(8, 77, 77): string("D"), (8, 77, 121): string("V"), (8, 77, 70): string("M")}
 
 
 def listed(*objects):
@@ -36,15 +35,6 @@ def sensors(count):
             }
         )
     return values
-
-
-class TwoStandIn(StandIn):
-    """An address from which another device says by a Who-Is that it is there too."""
-
-    def send(self, reply, client):
-        super().send(reply, client)
-        if reply[:2] == b"\x10\x00":
-            super().send(reply[:2] + an_object(8, 78) + reply[7:], client)
 
 
 class Survey(harness.SiteTest):
@@ -283,23 +273,6 @@ DEAD;device -;timeout
             (0, self.spelled(wanted.split("\n")[0] + "\n")),
         )
 
-    def test_who_does_not_know_4194303_is_asked_by_a_who_is(self):
-        old = self.stand_in({**NAMED, (8, 77, 76): b""}, knows_itself=False)
-        self.assertEqual(
-            self.run_site("survey", "HERE")[:2], (0, self.spelled("HERE  device 77  D  V  M\n"))
-        )
-        self.assertIn("who-is", old.asked)
-        self.rows(
-            "survey 78@HERE => 1 HERE  device -  another device: 8:77\nread 77@HERE 8 77 77 => 0 D"
-        )
-        stranger = self.stand_in({}, knows_itself=False)
-        del stranger.values[8, 77, 75]
-        self.rows("survey HERE => 1 HERE  device -  error 2 32")
-
-    def test_two_who_answer_a_who_is_are_none(self):
-        self.stand_in(NAMED, kind=TwoStandIn, knows_itself=False)
-        self.rows("survey HERE => 1 HERE  device -  error 1 31")
-
     def test_devices_alone(self):
         device = self.stand_in({**NAMED, **sensors(3)})
         self.assertEqual(
@@ -307,59 +280,6 @@ DEAD;device -;timeout
             (0, self.spelled("HERE  device 77  D  V  M\n")),
         )
         self.assertNotIn((8, 77, 76), device.asked)
-
-    def test_ranges_hide_who_is_silent(self):
-        self.stand_in(NAMED)
-        port = self.names["HERE"].split(":")[1]
-        found = self.run_site("survey", "--devices", "127.0.0.1-4:" + port)
-        wanted = self.spelled("HERE  device 77  D  V  M\n")
-        self.assertEqual(found, (0, wanted, "4 asked, 1 devices, 3 silent\n"))
-        status, out, _ = self.run_site("survey", "--devices", "--silent", "127.0.0.0/29:" + port)
-        self.assertEqual((status, out.count("\n"), out.count("timeout")), (0, 6, 5))
-        port = self.names["DEAD"].split(":")[1]
-        found = self.run_site("survey", "127.0.0.1-2:" + port)
-        self.assertEqual(found, (1, "", "2 asked, 0 devices, 2 silent\n"))
-
-    def test_a_range_hides_nobody_who_answers_a_who_is(self):
-        port = self.names["DEV"].split(":")[1]
-        status, out, err = self.run_site("survey", "--devices", "--sorted", "127.0.0.1-2:" + port)
-        odd = "127.0.0.2:%s  device -  timeout; device 1000 answers a Who-Is from 127.0.0.1:%s"
-        self.assertEqual((status, out.splitlines()[1]), (1, odd % (port, port)))
-        told = "2 asked, 1 devices, 0 silent, 1 for another reason without a device\n"
-        self.assertEqual(err, told)
-        own = {(8, 4194303, 75): "silent", (8, 77, 75): "silent"}
-        self.stand_in({**NAMED, **own})
-        status, out, _ = self.run_site("survey", "127.0.0.1-1:" + self.names["HERE"].split(":")[1])
-        told = "HERE  device -  timeout; device 77 answers a Who-Is, and no read\n"
-        self.assertEqual((status, out), (1, self.spelled(told)))
-
-    def test_one_who_answers_very_late_is_not_hidden(self):
-        """Later than all that he is sent at first is waited for."""
-        for values, told in (
-            ({}, "device 77 answers a read very late"),
-            ({(8, 4194303, 75): ("error", 1, 31)}, "a read is answered very late: error 1 31"),
-            ({(8, 4194303, 75): an_object(0, 1)}, "a read is answered very late: by no device"),
-        ):
-            self.stand_in({**NAMED, **values}, kind=LateStandIn, delay=1.8)
-            word = "127.0.0.1-2:" + self.names["HERE"].split(":")[1]
-            line = self.spelled("HERE  device -  timeout; %s\n" % told)
-            counts = "2 asked, 0 devices, 1 silent, 1 for another reason without a device\n"
-            self.assertEqual(self.run_site("survey", word), (1, line, counts))
-        found = self.run_site("survey", word, "--apdu-timeout", "250", "--deadline", "2")
-        self.assertEqual(found, (1, "", "2 asked, 0 devices, 2 silent\n"))
-        words = ["survey", "--devices", "--sorted", "--silent", word, "1000@DEV"]
-        lines = self.run_site(*words)[1].splitlines()
-        other = line.replace("127.0.0.1", "127.0.0.2").partition(";")[0]
-        self.assertEqual(lines[:2], [line[:-1], other])
-        self.assertIn("  device 1000  ", lines[2])
-
-    def test_a_lost_race_does_not_cost_the_device(self):
-        for word in "HERE", "127.0.0.1-1:":
-            own = an_object(8, 77)
-            self.stand_in({**NAMED, (8, 77, 76): own, (8, 4194303, 75): ["silent"] * 3 + [own]})
-            word += self.names["HERE"].split(":")[1] if word[-1] == ":" else ""
-            wanted = self.spelled("HERE  device 77  D  V  M\n")
-            self.assertEqual(self.run_site("survey", word)[:2], (0, wanted))
 
     def test_a_device_that_becomes_another_is_told(self):
         for words in [], ["--devices"]:
@@ -430,10 +350,15 @@ DEAD;device -;timeout
         more = {(15, 1, 77): string("None"), (0, 2, 77): string("S1"), (0, 3, 85): real("7fc00000")}
         values = {**NAMED, **sensors(3), **more}
         values[8, 77, 76] += an_object(15, 1)
-        self.stand_in(values)
+        device = self.stand_in(values)
         text = self.run_site("survey", "HERE", "--list")[1]
         names = [line.split()[0] for line in text.splitlines()]
         self.assertEqual(names, ["#", "77.S1", "77.S1.0.2", "77.S3"])
+        device.values.update({(0, 1, 77): string("S1.0.3"), (0, 3, 77): string("S1")})
+        again = self.run_site("survey", "HERE", "--list")[1]
+        names = [line.split()[0] for line in again.splitlines()]
+        self.assertEqual(names, ["#", "77.S1.0.3", "77.S1", "77.S1.0.3'"])
+        device.values.update({(0, 1, 77): string("S1"), (0, 3, 77): string("S3")})
         status, out, _ = self.run_site("poll", self.path("made", text))
         rows = [line.split("\t")[1:] for line in out.splitlines()]
         self.assertEqual((status, rows[0]), (1, ["77.S1", "42.25", "-"]))

@@ -1,11 +1,11 @@
 -- How long replies are: each to a confirmed request fits the announced size, or is the stated Abort.
 use Rattle.std.proofs.Common.{[], ◌∷◌, ◌≡◌, ◌≤◌, ◌⊎◌, arith, Bool, false, IfSome, if◌then◌else◌, leb-true, length, List}
-use Rattle.std.proofs.{Common.{None, Option, refl, Some, subst, sym, true, ℕ}, lemmas.Bool.cond_both}
-use Rattle.std.{proofs.lemmas.Option.{none-some, some_pair_parts}, specs.Option.{ForSome, option_and_then}}
-use Rattle.std.specs.Prelude.{option_map}
-use Rattle.bac_pdu.specs.{Apdu.{announced_size, confirmed, IsLaidOut, laid_out, Message, unconfirmed}, Discovery.asks}
+use Rattle.std.proofs.Common.{None, Option, refl, Some, subst, sym, true, ℕ}
+use Rattle.std.proofs.lemmas.{Bool.cond_both, Option.{none-some, some_pair_parts}}
+use Rattle.std.specs.{Option.{ForSome, option_and_then}, Prelude.option_map}
+use Rattle.bac_pdu.specs.Apdu.{announced_size, confirmed, IsLaidOut, laid_out, Message, unconfirmed}
 use Rattle.bac_pdu.specs.{Datagram.{Carries, Delivery, Takes, wrapped}, declared.discovery.WhoIs.WhoIs}
-use Rattle.bac_pdu.specs.{declared.peer.Peer.Peer, Peer.{IsRoutable, Station, station}}
+use Rattle.bac_pdu.specs.{declared.peer.Peer.Peer, Discovery.asks, Peer.{IsRoutable, Station, station}}
 use Rattle.bac_pdu.proofs.{ApduLaws.{announced_most, apdu_is}, DatagramLaws.{carried_is, wrapped_short, wrapped_takes}}
 use Rattle.bac_wire.specs.{Datum.plain, Steps.◌>>=◌, Tag.plain_tag}
 use Rattle.bac_device.specs.{Arrival, Description, device_after, DeviceState, FitsRequest, fitting, i_am, replies_to}

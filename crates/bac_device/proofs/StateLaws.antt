@@ -1,15 +1,15 @@
 -- A device whose places are those after some writes.
 use Rattle.std.proofs.Common.{[], ◌++◌, ◌∙◌, ◌∷◌, ◌≡◌, ap, append-nil, arith, Bool, false, find, IfSome, if◌then◌else◌}
-use Rattle.std.proofs.{Common.{List, map, None, Option, refl, Some, subst, sym, true, ℕ}, lemmas.Bool.cases_Bool}
-use Rattle.std.{proofs.lemmas.{Grind.common_steps, Option.none-some, Simd.map-map}, specs.Prelude.option_map}
-use Rattle.std.specs.{Option.{option_and_then, option_to_list}, Result.result_ok}
-use Rattle.bac_pdu.specs.{Apdu.{confirmed, Message}, ApduReading.apdu_of, DatagramReading.carried, Peer.Station}
-use Rattle.bac_pdu.specs.{declared.apdu.Part.Part, Property.Order}
+use Rattle.std.proofs.Common.{List, map, None, Option, refl, Some, subst, sym, true, ℕ}
+use Rattle.std.proofs.lemmas.{Bool.cases_Bool, Grind.common_steps, Option.none-some, Simd.map-map}
+use Rattle.std.specs.{Option.{option_and_then, option_to_list}, Prelude.option_map, Result.result_ok}
+use Rattle.bac_pdu.specs.{Apdu.{confirmed, Message}, ApduReading.apdu_of, DatagramReading.carried}
+use Rattle.bac_pdu.specs.{declared.apdu.Part.Part, Peer.Station, Property.Order}
 use Rattle.bac_wire.specs.{Identifier.Identifier, Steps.◌>>=◌}
-use Rattle.bac_device.specs.{accepted_write, AreDefined, Arrival, Description, description_of, device_after, Info.Info}
+use Rattle.bac_device.specs.{accepted_write, AreDefined, Arrival, Description, description_of, device_after}
 use Rattle.bac_device.specs.{DeviceState, Given, Holds, NoneTo, order_in, place_after, place_at, point_at, points_of}
 use Rattle.bac_device.specs.{present, present_after, put, Replies, RepliesInTurn, reply_to, Standing, standing_after}
-use Rattle.bac_device.specs.{standing_at, with_point, with_write, Write, write_in_datagram, writes_after}
+use Rattle.bac_device.specs.{standing_at, with_point, with_write, Write, write_in_datagram, writes_after, Info.Info}
 use Rattle.bac_device.specs.Inner.{IsUrgent, write_in_body, write_in_request}
 use Rattle.bac_device.proofs.PlaceLaws.{map_same, place_none, put_after}
 

@@ -1,8 +1,7 @@
 //! Which writes the device accepts.
 
 ghost use Rattle.std.specs.Prelude.{◌≡◌, IfOk, IfSome};
-ghost use Rattle.bac_pdu.specs.Property.{IsPriority, order};
-ghost use Rattle.bac_wire.specs.Steps.{result_seen};
+ghost use Rattle.{bac_pdu.specs.Property.{IsPriority, order}, bac_wire.specs.Steps.result_seen};
 ghost use Rattle.bac_device.specs.Inner.{write_seen};
 ghost use Rattle.bac_device.specs.Access as spec;
 

@@ -2,8 +2,7 @@
 //! its clause is the law.
 
 ghost use Rattle.std.specs.{Option.ForSome, Prelude.{◌≡◌, List, Option, ℕ}};
-ghost use Rattle.bac_pdu.specs.Peer.{Station};
-ghost use Rattle.bac_wire.specs.Copies.{EqualsBy, MakesCopies};
+ghost use Rattle.{bac_pdu.specs.Peer.Station, bac_wire.specs.Copies.{EqualsBy, MakesCopies}};
 ghost use Rattle.bac_device.specs.{AreDefined, Arrival, Description, device_after, device_room, DeviceState, Holds};
 ghost use Rattle.bac_device.specs.{longest_name, points_of, replies_to, RepliesFit, RepliesInTurn, reply_of, ReplyFits};
 ghost use Rattle.bac_device.specs.{Write, Info.Info};

@@ -2,13 +2,14 @@
 
 ghost use Rattle.std.specs.Prelude.{[], ◌*◌, ◌+◌, ◌<◌, ◌≡◌, ◌≤◌, IfNone, IfOk, IfSome, length, List, OnErr, OnOk};
 ghost use Rattle.std.specs.Prelude.{option_map};
-ghost use Rattle.bac_pdu.specs.{Apdu.{error, laid_out, reject}, Failure.error_octets, Peer.station, Property.reference};
-ghost use Rattle.bac_pdu.specs.Reject.{reason_number};
-ghost use Rattle.bac_wire.specs.{Identifier.identifier, Limits.frame_room, Steps.result_seen};
-ghost use Rattle.bac_device.specs.{device_after, error_class, error_code, Holds, points_of, read_property, ReplyFits};
-ghost use Rattle.bac_device.specs.{Write};
-ghost use Rattle.bac_device.specs.Inner.{IsSoundProperty, property_seen, reply_apdu, write_in_apdu, write_in_body};
-ghost use Rattle.bac_device.specs.Inner.Reply.{ordered_write, whole_reply};
+ghost use Rattle.{
+  bac_pdu.specs.{Apdu.{error, laid_out, reject}, Failure.error_octets, Peer.station, Property.reference},
+  bac_pdu.specs.Reject.reason_number,
+  bac_wire.specs.{Identifier.identifier, Limits.frame_room, Steps.result_seen},
+  bac_device.specs.{device_after, error_class, error_code, Holds, points_of, read_property, ReplyFits},
+  bac_device.specs.{Write, Inner.{IsSoundProperty, property_seen, reply_apdu, write_in_apdu, write_in_body}},
+  bac_device.specs.Inner.Reply.{ordered_write, whole_reply},
+};
 ghost use Rattle.bac_device.specs.Reply as spec;
 
 use crate::device::Device;

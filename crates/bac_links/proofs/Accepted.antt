@@ -1,8 +1,8 @@
 -- The replies of a device, one after another, are those of the definition.
-use Rattle.std.proofs.Common.{◌≡◌, List, [], ◌∷◌, refl, arith}
-use Rattle.bac_device.specs.{Info.Info, Point.Description}
-use Rattle.bac_device.specs.{Places.Write, Device.{DeviceState, device_after, Holds}, Reply.{writes_after}}
-use Rattle.bac_device.{specs.Turns.{Arrival, AreDefined, all_writes, replies_to}, proofs.Answering.next_after}
+use Rattle.std.proofs.Common.{[], ◌∷◌, ◌≡◌, arith, List, refl}
+use Rattle.bac_device.specs.{Device.{device_after, DeviceState, Holds}, Info.Info, Places.Write, Point.Description}
+use Rattle.bac_device.specs.{Reply.writes_after, Turns.{all_writes, AreDefined, Arrival, replies_to}}
+use Rattle.bac_device.proofs.Answering.{next_after}
 use Rattle.bac_links.specs.Serve.{device_behind, replies_of}
 
 module _ (info : Info) (points : List Description) where

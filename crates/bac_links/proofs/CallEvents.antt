@@ -11,9 +11,9 @@ use Rattle.bac_tsm.{
   specs.Lookahead.{Accepted, End, accepted, accepted_at, end, end_notes, or_dropped, send_notes, next_invoke_id},
   specs.{Lookahead.{refusal_of, output}, declared.client.SubmitFault.SubmitFault, Client.{Client, rules_of, keeping}},
   specs.Machine.{State, Stepped, Answered, Run, step, initial, folded, submit, tick, sent},
-  specs.{Events.{Outcome, Event, Ask, Note, Dropped, Rules, Request}, Laws.{AnswersByNumber, state_at, waiting_at}},
+  specs.{Events.{Outcome, Event, Ask, Note, Dropped, Rules, Request}, Laws.{AnswersByInvokeId, state_at, waiting_at}},
   proofs.Laws.{drop_head, one_step, run_first, run_whole, both_are},
-  proofs.Laws.{looks_back, past_unended, early_unended, early_unsent, quiet_unsent, sent_first, by_number, few_open},
+  proofs.Laws.{looks_back, past_unended, early_unended, early_unsent, quiet_unsent, sent_first, by_invoke_id, few_open},
 }
 use Rattle.bac_text.specs.declared.jobs.Call.{Call}
 use Rattle.bac_links.{
@@ -28,14 +28,14 @@ pub slice_get-last : (events : List Event) (event : Event)
 slice_get-last [] _ = refl
 slice_get-last (x ∷ events) event = slice_get-last events event
 
-module _ (rules : Rules) (by_number : AnswersByNumber rules) (small : rules.most_open ≤ 255) (events : List Event)
+module _ (rules : Rules) (by_invoke_id : AnswersByInvokeId rules) (small : rules.most_open ≤ 255) (events : List Event)
     (event : Event) where
   -- What is kept before the last event does not rest on it.
   state_before : state_at rules 0 (events ++ event ∷ []) (length events) ≡ state_at rules 0 events (length events)
   state_before =
-      let first = run_first rules 0 _ by_number small (length events)
+      let first = run_first rules 0 _ by_invoke_id small (length events)
       (let e = length_push events event in omega arith) in
-      let whole = run_whole rules 0 events by_number small in
+      let whole = run_whole rules 0 events by_invoke_id small in
       sym (ap (λ r. r.after) first)
       ∙ ap (λ xs. (folded rules (initial 0) 0 xs).after) (take-append_seam events (event ∷ []))
       ∙ ap (λ r. r.after) whole
@@ -46,7 +46,7 @@ module _ (rules : Rules) (by_number : AnswersByNumber rules) (small : rules.most
         notes = output rules 0 (events ++ event ∷ []) (length events);
         after = state_at rules 0 (events ++ event ∷ []) (suc (length events));
       }
-  last_step = grind (arith, state_before, one_step, by_number, slice_get-last)
+  last_step = grind (arith, state_before, one_step, by_invoke_id, slice_get-last)
 
 -- ---- the events of a call
 
@@ -201,7 +201,7 @@ module _ (purpose : Purpose) (call : Call) (time : ℕ) (later : List Event)
         after = state_at (rules_for call) 0 after (length after);
       }
   step_is =
-      last_step (rules_for call) (by_number call.timeout call.retries) few_open before event
+      last_step (rules_for call) (by_invoke_id call.timeout call.retries) few_open before event
       ∙ both_are _ _ _ _ refl (ap (state_at (rules_for call) 0 after) (sym longer))
 
   told_last : TellsPlaced (rules_for call) after (asked purpose call) (length before)
@@ -300,7 +300,7 @@ module _ (purpose : Purpose) (call : Call) (time : ℕ) (short : length call.bod
         not_silent (asked purpose call).request _ x e (ap endings none));
     client_is =
         ap (λ (r : Run). Client_of call r.after)
-        (run_whole (rules_for call) 0 first (by_number call.timeout call.retries) few_open);
+        (run_whole (rules_for call) 0 first (by_invoke_id call.timeout call.retries) few_open);
   }
 
   pub begins_sent : sent_last purpose call first ≡ posts (sent submitted.after 0)

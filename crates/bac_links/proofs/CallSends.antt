@@ -51,14 +51,8 @@ module _ (purpose : Purpose) (call : Call) where
     at_push : at after
         ≡ at before ++ (if is_sent_last purpose call after then place (length after - 1) ∷ [] else [])
     at_push =
-        grind (
-          arith,
-          pushed,
-          sends_push (rules_for call) before event a (omega arith),
-          map-append,
-          length_push,
-          append-nil,
-        )
+        let more = sends_push (rules_for call) before event a (omega arith) in
+        grind (arith, pushed, map-append, length_push, append-nil)
 
     unended : is_sent_last purpose call after ≡ true → end_in purpose call after ≡ None
     unended = grind (arith, pushed, sent_unended (rules_for call) before event a (omega arith), length_push)
@@ -66,13 +60,7 @@ module _ (purpose : Purpose) (call : Call) where
     data_unsent : (from : Station) (octets : List ℕ) → event ≡ Data from octets
         → is_sent_last purpose call after ≡ false
     data_unsent =
-        grind (
-          arith,
-          pushed,
-          quiet_unsent (rules_for call) after a (length before),
-          slice_get-last,
-          length_push,
-        )
+        grind (arith, pushed, quiet_unsent (rules_for call) after a (length before), slice_get-last, length_push)
 
   module _ (time : ℕ) where
     abbrev first : List Event

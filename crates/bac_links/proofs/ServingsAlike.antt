@@ -1,8 +1,8 @@
 -- Two servers that are answered alike, over devices in the same state, ask and send alike, and end alike.
-use Rattle.std.proofs.Common.{◌≡◌, ℕ, Result, arith}
+use Rattle.std.proofs.Common.{◌≡◌, arith, Result, ℕ}
 use Rattle.bac_device.specs.Device.{DeviceState}
-use Rattle.bac_links.specs.{Answered.AskAlike, Serve.{Serves}}
-use Rattle.bac_links.{specs.declared.{exit.Exit.Exit, fault.ToolFault.ToolFault}, proofs.Asking.to_the_end}
+use Rattle.bac_links.specs.{Answered.AskAlike, declared.{exit.Exit.Exit, fault.ToolFault.ToolFault}, Serve.Serves}
+use Rattle.bac_links.proofs.Asking.{to_the_end}
 
 module _ (count : ℕ) (before after after' : DeviceState) where
   abbrev EndAlike : Result Exit ToolFault → Result Exit ToolFault → Type 0

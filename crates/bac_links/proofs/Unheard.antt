@@ -1,9 +1,8 @@
 -- A call over a link whose history gained nothing has not ended.
-use Rattle.std.proofs.{Common.{◌≡◌, ℕ, List, [], Option, Ok, sym}, lemmas.List.append-nil}
-use Rattle.bac_text.specs.declared.jobs.Call.{Call}
-use Rattle.bac_print.specs.declared.checked.Checked.{Checked}
-use Rattle.bac_links.specs.{History.Account, Asking.{Asks, Over, ForTime}, Call.{Tells}}
-use Rattle.bac_links.{specs.declared.{ending.Purpose.Purpose, exit.Exit.Exit}, proofs.Asking.plays_all}
+use Rattle.std.proofs.{Common.{[], ◌≡◌, List, Ok, Option, sym, ℕ}, lemmas.List.append-nil}
+use Rattle.{bac_text.specs.declared.jobs.Call.Call, bac_print.specs.declared.checked.Checked.Checked}
+use Rattle.bac_links.specs.{Asking.{Asks, ForTime, Over}, Call.Tells, declared.{ending.Purpose.Purpose, exit.Exit.Exit}}
+use Rattle.bac_links.{specs.History.Account, proofs.Asking.plays_all}
 
 pub not_ended : {Origin W : Type 0} (contents : W → Option (List ℕ)) (purpose : Purpose) (call : Call)
     (before after : Checked W)

@@ -1,10 +1,7 @@
 -- What examples of whole runs have in common.
-use Rattle.std.proofs.Common.{◌≡◌, List, [], Option, sym, ap, subst, arith, refl}
-use Rattle.bac_print.specs.Checked.{Took}
-use Rattle.bac_print.specs.Inner.Examples.{unasked, unknown}
-use Rattle.bac_links.specs.History.{Entry, GainsAll}
-use Rattle.bac_links.specs.Asking.{Move, Over, Plays, next_move}
-use Rattle.bac_links.specs.Inner.Examples.{asked_so}
+use Rattle.std.proofs.Common.{[], ◌≡◌, ap, arith, List, Option, refl, subst, sym}
+use Rattle.bac_print.specs.{Checked.Took, Inner.Examples.{unasked, unknown}}
+use Rattle.bac_links.specs.{Asking.{Move, next_move, Over, Plays}, History.{Entry, GainsAll}, Inner.Examples.asked_so}
 
 module _ {h : List Entry} where
   -- What a link gained that had been asked nothing is its history.

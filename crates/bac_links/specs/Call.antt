@@ -33,7 +33,7 @@ or_ended None other = other
 
 module _ (purpose : Purpose) (call : Call) where
   -- The request of a call. It is asked for after one event, by a client that has none open, so it has the first ticket
-  -- and the number 1.
+  -- and the invoke id 1.
   abbrev pub asked : Accepted
   asked = record {
     position = 1;

@@ -1,11 +1,10 @@
 -- What is printed of how a call's request ended, and how the tool ends then.
-use Rattle.std.specs.Prelude.{ℕ, List, ◌∷◌, [], ◌++◌, codes}
-use Rattle.std.specs.{Prelude.{Option, Some, None, is_some, if◌then◌else◌}, Option.option_map_or}
-use Rattle.bac_pdu.specs.{Property.ReadAck, PropertyReading.ack_of}
-use Rattle.bac_tsm.specs.Events.{Outcome, Simple, Complex}
-use Rattle.bac_print.specs.{Values.region_text, Outcomes.outcome_text}
+use Rattle.std.specs.Option.{option_map_or}
+use Rattle.std.specs.Prelude.{[], ◌++◌, ◌∷◌, codes, if◌then◌else◌, is_some, List, None, Option, Some, ℕ}
+use Rattle.{bac_pdu.specs.{Property.ReadAck, PropertyReading.ack_of}, bac_tsm.specs.Events.{Complex, Outcome, Simple}}
+use Rattle.bac_print.specs.{Outcomes.outcome_text, Values.region_text}
 use Rattle.bac_links.specs.declared.ending.Purpose.{Purpose, TheVariants.{Reading, Writing}}
-use Rattle.bac_links.specs.declared.exit.Exit.{Exit, TheVariants.{Good, Bad}}
+use Rattle.bac_links.specs.declared.exit.Exit.{Exit, TheVariants.{Bad, Good}}
 
 -- What is printed of how the request ended: of a read the value; `bad-ack` where the acknowledgement can't be read, or
 -- is not one of the service; else the outcome, as `ok` of a write.

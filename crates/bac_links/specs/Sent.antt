@@ -1,10 +1,8 @@
 -- What was sent over a link, by its history.
-use Rattle.std.specs.Prelude.{◌≡◌, ℕ, ◌-◌, List, [], ◌∷◌, ◌++◌, length, map, Result, Err}
-use Rattle.bac_pdu.specs.Peer.{Station}
-use Rattle.bac_tsm.specs.Lookahead.{sends}
-use Rattle.bac_text.specs.declared.jobs.Call.{Call}
-use Rattle.bac_links.specs.{History.{Entry, Posted}, Call.{rules_for, asked, events_of}}
-use Rattle.bac_links.specs.declared.{ending.Purpose.Purpose, fault.ToolFault.{ToolFault, TheVariants.SendFailed}}
+use Rattle.std.specs.Prelude.{[], ◌++◌, ◌-◌, ◌∷◌, ◌≡◌, Err, length, List, map, Result, ℕ}
+use Rattle.{bac_pdu.specs.Peer.Station, bac_tsm.specs.Lookahead.sends, bac_text.specs.declared.jobs.Call.Call}
+use Rattle.bac_links.specs.{Call.{asked, events_of, rules_for}, declared.ending.Purpose.Purpose}
+use Rattle.bac_links.specs.{declared.fault.ToolFault.{ToolFault, TheVariants.SendFailed}, History.{Entry, Posted}}
 
 -- The datagrams that were sent behind these entries, in their order, each with what is told of it there.
 abbrev pub sent_behind : {D : Type 0} → (List Entry → Station → List ℕ → D) → (before later : List Entry) → List D

@@ -3,18 +3,17 @@
 
 ghost use Rattle.std.specs.Prelude.{◌≡◌, ◌≢◌, ◌≤◌, ◌+◌, ◌*◌, ◌++◌, ℕ, suc, ⊤, List};
 ghost use Rattle.std.specs.{Prelude.{[], ◌∷◌, length, Result, Ok, Err, IfOk}, List.flat_map, Option.option_to_list};
-ghost use Rattle.bac_wire.specs.Copies.{MakesCopies, EqualsBy};
-ghost use Rattle.bac_pdu.specs.{Apdu.longest_body, Peer.station};
-ghost use Rattle.bac_device.{
-  specs.{Places.Write as Change, Device.{DeviceState, points_of, Holds}, Turns.{AreDefined, replies_to}},
-};
-ghost use Rattle.bac_text.specs.declared.jobs.{Call.Call, Search.Search};
-ghost use Rattle.bac_print.specs.declared.checked.Checked.{Checked};
-ghost use Rattle.bac_links.{
-  specs.{Answered.{AskAlike, OneText}, Asking.waits_in, Call.{IsAccepted, Tells, events_of}, History.{Entry, Account}},
-  specs.{Limits.longest_datagram, Memory.PlaysItsScenes, Progress.{AreTold, ArePrompt}, Search.{Searched, who_is_to}},
-  specs.{Sent.{sent_in, sent_at, sends_of_call, AllSent}, Serve.{arrivals_in, replies_of, Serves}, Socket.LogsHistory},
-  specs.declared.{ending.Purpose.Purpose, exit.Exit.Exit as ExitValue, fault.ToolFault.ToolFault as Fault},
+ghost use Rattle.{
+  bac_wire.specs.Copies.{EqualsBy, MakesCopies},
+  bac_pdu.specs.{Apdu.longest_body, Peer.station},
+  bac_device.specs.{Device.{DeviceState, Holds, points_of}, Places.Write as Change, Turns.{AreDefined, replies_to}},
+  bac_text.specs.declared.jobs.{Call.Call, Search.Search},
+  bac_print.specs.declared.checked.Checked.Checked,
+  bac_links.specs.{Answered.{AskAlike, OneText}, Asking.waits_in, Call.{events_of, IsAccepted, Tells}},
+  bac_links.specs.declared.{ending.Purpose.Purpose, exit.Exit.Exit as ExitValue, fault.ToolFault.ToolFault as Fault},
+  bac_links.specs.{History.{Account, Entry}, Limits.longest_datagram, Memory.PlaysItsScenes, Progress.ArePrompt},
+  bac_links.specs.{Progress.AreTold, Search.{Searched, who_is_to}, Sent.{AllSent, sends_of_call, sent_at, sent_in}},
+  bac_links.specs.{Serve.{arrivals_in, replies_of, Serves}, Socket.LogsHistory},
 };
 
 use crate::datagram::DATAGRAM_OCTETS;

@@ -1,9 +1,8 @@
 //! What the tools send and receive datagrams through.
 ghost use Rattle.std.specs.Prelude.{◌≡◌, Bool, false, is_err, None, IfOk, IfNone, IfSome};
 ghost use Rattle.std.specs.{Option.option_flatten, Result.result_ok};
-ghost use Rattle.bac_pdu.specs.Peer.{station};
-ghost use Rattle.bac_print.specs.Message.{message_text};
-ghost use Rattle.bac_links.specs.{Fault.link_fault_text, History.{heard_by, Waited, Timed, Account, Gains, posted}};
+ghost use Rattle.{bac_pdu.specs.Peer.station, bac_print.specs.Message.message_text};
+ghost use Rattle.bac_links.specs.{Fault.link_fault_text, History.{Account, Gains, heard_by, posted, Timed, Waited}};
 
 use crate::datagram::Datagram;
 use bac_pdu::Peer;

@@ -1,10 +1,10 @@
 //! The search for devices.
 ghost use Rattle.std.specs.Prelude.{◌≡◌, ◌<◌, false, is_err, IfErr};
-ghost use Rattle.bac_pdu.specs.{Found.found_seen, Peer.station};
-ghost use Rattle.bac_print.specs.{Checked.{has_failed, TookOrFailed}, Page.Prints};
-ghost use Rattle.bac_links.{
-  specs.{Fault.{is_link_fault, is_write_fault}, History.{Gains, posted}, Inner.Search.who_is_datagram},
-  specs.{Inner.SearchSteps.Listens, Search.{found_line, who_is_to, Searched}},
+ghost use Rattle.{
+  bac_pdu.specs.{Found.found_seen, Peer.station},
+  bac_print.specs.{Checked.{has_failed, TookOrFailed}, Page.Prints},
+  bac_links.specs.{Fault.{is_link_fault, is_write_fault}, History.{Gains, posted}, Inner.Search.who_is_datagram},
+  bac_links.specs.{Inner.SearchSteps.Listens, Search.{found_line, Searched, who_is_to}},
 };
 
 use crate::datagram::Datagram;

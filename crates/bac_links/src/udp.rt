@@ -3,11 +3,11 @@ ghost use Rattle.std.{
   specs.Prelude.{◌≡◌, ◌≢◌, ◌+◌, ◌*◌, ◌++◌, [], None, IfOk, IfErr, IfNone, IfSome, MatchOption, OnOk, OnErr, length},
   specs.{Prelude.{Ok, false, is_ok, is_err, max, vec_len}, Duration.as_nanos, Option.option_flatten, Result.result_ok},
 };
-ghost use Rattle.bac_pdu.specs.Peer.{station};
-ghost use Rattle.bac_links.{
-  specs.Limits.longest_datagram,
-  specs.{History.{heard_by, Waited, Timed, Gains, posted}, Socket.{BindsAtMost, IsAddressOf, heard_from, is_quiet}},
-  specs.{Socket.{peer_at, time_by, Logs, Binds, Sends, Times, Waits, OverSocket, limits, account_over}, Keeps.Keeps},
+ghost use Rattle.{
+  bac_pdu.specs.Peer.station,
+  bac_links.specs.{History.{Gains, heard_by, posted, Timed, Waited}, Keeps.Keeps, Limits.longest_datagram},
+  bac_links.specs.Socket.{account_over, Binds, BindsAtMost, heard_from, is_quiet, IsAddressOf, limits, Logs},
+  bac_links.specs.Socket.{OverSocket, peer_at, Sends, time_by, Times, Waits},
 };
 
 use crate::datagram::{DATAGRAM_OCTETS, Datagram};

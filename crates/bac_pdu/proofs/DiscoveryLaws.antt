@@ -55,14 +55,10 @@ pub introduction_is : (body : List ℕ) (i : Introduction) → (introduction_of 
 unfolding introduction_of
 introduction_is _ i = (
   introduction_takes _ i,
-  λ s. let (_, device, (_, size, (_, segments, (_, vendor, all)))) = s.spelled in rw (
-    object_step.again _ _ _ device,
-    unsigned_step.again _ _ _ size,
-    enumerated_step.again _ _ _ segments,
-    unsigned_step.again _ _ _ vendor,
-    eq-eqb _ 8 s.device,
-    all,
-  ) refl,
+  λ s.
+      let (_, device, (_, size, (_, segments, (_, vendor, all)))) = s.spelled in
+      rw (object_step.again _ _ _ device, unsigned_step.again _ _ _ size, enumerated_step.again _ _ _ segments)
+      (rw (unsigned_step.again _ _ _ vendor, eq-eqb _ 8 s.device, all) refl),
 )
 
 error_again : (body : List ℕ) (x : ℕ × ℕ) → IsErrorBody body x → error_of body ≡ Some x

@@ -1,5 +1,5 @@
 -- `==` on peers compares the stations.
-use Rattle.std.proofs.Common.{◌++◌, ◌-◌, ◌∙◌, ◌≡◌, ap, arith, drop, length, List, Option, refl, sym, take, true, ℕ}
+use Rattle.std.proofs.Common.{◌-◌, ◌∙◌, ◌≡◌, ap, arith, drop, length, Option, refl, sym, take, true, ℕ}
 use Rattle.std.proofs.lemmas.{Bool.{and_parts, eq-eqb, eqb-true}, Grind.common_steps, Option.{none-some, same_Some}}
 use Rattle.std.{proofs.lemmas.List.{length-drop, length-take-le, take-append-drop}, specs.Option.option_eq}
 use Rattle.std.specs.{Cmp.Lexicographic.bytes_decides, Prelude.{◌↔◌, option_map, replicate}}
@@ -15,19 +15,10 @@ room = grind (arith, common_steps, length-drop)
 same_octets : (a b : Route) → network_address a ≡ network_address b → (a.count ≡ b.count) × (a.octets ≡ b.octets)
 same_octets a b e =
     let address : take a.count a.octets ≡ take b.count b.octets = ap (λ (n : NetworkAddress). n.address) e in
-    let count : a.count ≡ b.count =
-    omega (
-      arith,
-      ap length address,
-      length-take-le a.count a.octets (omega (arith, room a)),
-      length-take-le b.count b.octets (omega (arith, room b)),
-    ) in
+    let count : a.count ≡ b.count = grind (arith, ap length address, room, length-take-le) in
     let behind : drop a.count a.octets ≡ drop b.count b.octets = a.unused ∙ ap (λ (n : ℕ). replicate (8 - n) 0) count
-    ∙ sym b.unused in (
-      count,
-      sym (take-append-drop _ _) ∙ ap (λ (l : List ℕ). l ++ drop a.count a.octets) address
-          ∙ ap (λ (l : List ℕ). take b.count b.octets ++ l) behind ∙ take-append-drop _ _,
-    )
+    ∙ sym b.unused in
+    (count, cc (address, behind, take-append-drop a.count a.octets, take-append-drop b.count b.octets))
 
 -- routes are equal just where they lead to the same station
 pub route_decides : (a b : Route) → (route_eq.it a b ≡ true) ↔ (network_address a ≡ network_address b)

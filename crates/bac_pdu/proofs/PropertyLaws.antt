@@ -28,15 +28,10 @@ reference_takes body r rest e =
     let (index, last) = optional_at 2 after in
     let same : ◌≡◌ {A = Reference × List ℕ} (record { object = object; property = property; index = index }, last)
     (r, rest) = cc in
-    subst (λ ((r, rest) : Reference × List ℕ). SpellsTo SpellsParameter body (reference_parameters r) rest) same (
-      behind,
-      object_step.takes body _ _ (needs_takes body _ (object, behind) object_read),
-      (
-        after,
-        (numbered_step 1).takes _ _ after (needs_takes behind _ (property, after) property_read),
-        optional_begins 2 _ (numbered_step 2) after,
-      ),
-    )
+    let first = object_step.takes body _ _ (needs_takes body _ (object, behind) object_read) in
+    let second = (numbered_step 1).takes _ _ after (needs_takes behind _ (property, after) property_read) in
+    subst (λ ((r, rest) : Reference × List ℕ). SpellsTo SpellsParameter body (reference_parameters r) rest) same
+    (behind, first, (after, second, optional_begins 2 _ (numbered_step 2) after))
 
 -- what stands behind a reference is no longer than the body
 pub reference_no_longer : (body rest : List ℕ) (r : Reference) → Ok (r, rest) ≡ reference_at body
@@ -50,11 +45,8 @@ pub reference_again : (body : List ℕ) (r : Reference) (rest : List ℕ)
     → (r.index ≡ None → number_at 2 rest ≡ None) → reference_at body ≡ Ok (r, rest)
 unfolding reference_at
 reference_again _ r _ (_, object, (_, property, index)) none =
-    rw (
-      step_ok object_step (no_object 0) _ _ _ object,
-      step_ok (numbered_step 1) (no_number 1) _ _ _ property,
-      optional_read _ _ (numbered_step 2) _ _ _ index none,
-    ) refl
+    let read = step_ok (numbered_step 1) (no_number 1) _ _ _ property in
+    rw (step_ok object_step (no_object 0) _ _ _ object, read, optional_read _ _ (numbered_step 2) _ _ _ index none) refl
 
 pub reference_lacks : (body : List ℕ) → LacksReference body → reference_at body ≡ Err MissingParameter
 unfolding reference_at
@@ -138,13 +130,9 @@ pub value_again : (body v last : List ℕ) (r : Reference) (others : List Parame
     → (x : List ℕ) × (rest : List ℕ) × (reference_at body ≡ Ok (r, x)) × Begins SpellsParameter x (value v) rest
     × SpellsTo SpellsParameter rest others last
 value_again _ v _ r _ s =
-    let (behind, named, (rest, b, more)) = split_to _ _ _ (reference_parameters r) _ s in (
-      behind,
-      rest,
-      reference_again _ r _ named (λ none. enclosed_no_number 2 3 _ _ v _ b.spelled b.whole),
-      b,
-      more,
-    )
+    let (behind, named, (rest, b, more)) = split_to _ _ _ (reference_parameters r) _ s in
+    let read = reference_again _ r _ named (λ none. enclosed_no_number 2 3 _ _ v _ b.spelled b.whole) in
+    (behind, rest, read, b, more)
 
 -- ---- ReadProperty-ACK
 
@@ -181,11 +169,8 @@ write_again_at : (body : List ℕ) (o : Order) → SpellsAll SpellsParameter bod
 unfolding write_of
 write_again_at _ o s =
     let (_, _, named, valued, last) = value_again _ _ [] _ _ s in
-    rw (
-      named,
-      step_ok value_step no_value _ _ _ valued,
-      optional_read _ _ (numbered_step 4) _ _ [] last (λ none. no_number 4),
-    ) refl
+    let read = optional_read _ _ (numbered_step 4) _ _ [] last (λ none. no_number 4) in
+    rw (named, step_ok value_step no_value _ _ _ valued, read) refl
 
 priority_is : (p : Option ℕ) → (is_priority p ≡ true) ↔ IfSome p IsPriority
 priority_is = grind arith

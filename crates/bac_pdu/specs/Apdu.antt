@@ -1,7 +1,7 @@
 -- The kinds of APDU, how their octets are laid out (clause 20.1), and how long an APDU each code announces.
-use Rattle.std.specs.Prelude.{◌≡◌, ℕ, ◌+◌, ◌/◌, ◌%◌, ◌<◌, Bool, true, false, if◌then◌else◌, List, [], ◌∷◌, ◌++◌}
-use Rattle.std.specs.Prelude.{slice_index_or, Option, Some, None}
-use Rattle.bac_pdu.specs.{declared.apdu.Part.Part, declared.apdu.Apdu.Apdu, Bits.bit}
+use Rattle.std.specs.Prelude.{[], ◌%◌, ◌++◌, ◌+◌, ◌/◌, ◌<◌, ◌∷◌, ◌≡◌, Bool, false, if◌then◌else◌, List, None, Option}
+use Rattle.std.specs.Prelude.{slice_index_or, Some, true, ℕ}
+use Rattle.bac_pdu.specs.{Bits.bit, declared.apdu.{Apdu.Apdu, Part.Part}}
 use Rattle.bac_pdu.specs.declared.apdu.Apdu.TheVariants as kinds
 
 -- What an APDU is, without where its octets lie in memory.

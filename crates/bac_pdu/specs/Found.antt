@@ -1,10 +1,9 @@
 -- The device that introduces itself in a datagram (I-Am, clause 16.10).
-use Rattle.std.specs.Prelude.{ℕ, ◌==◌, if◌then◌else◌, List, Option, Some, None}
+use Rattle.std.specs.Prelude.{◌==◌, if◌then◌else◌, List, None, Option, Some, ℕ}
 use Rattle.bac_wire.specs.Steps.{◌>>=◌}
 use Rattle.bac_pdu.specs.{Apdu.{Message, unconfirmed}, ApduReading.apdu_of, DatagramReading.carried}
-use Rattle.bac_pdu.specs.{Discovery.{Introduction, asks, introduction}, Peer.{Station, station}}
-use Rattle.bac_pdu.specs.{ValueReading.introduction_of, declared.discovery.WhoIs.WhoIs}
-use Rattle.bac_pdu.specs.declared.found.Found.{Found as Finding}
+use Rattle.bac_pdu.specs.{declared.{discovery.WhoIs.WhoIs, found.Found.Found as Finding}, Discovery.asks}
+use Rattle.bac_pdu.specs.{Discovery.{Introduction, introduction}, Peer.{Station, station}, ValueReading.introduction_of}
 
 -- A device that introduced itself, and where it is.
 pub record Found : Type 0 where

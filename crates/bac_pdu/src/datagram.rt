@@ -95,6 +95,7 @@ pub fn wrap(to: Peer, expect: bool, apdu: &[u8], frame: &mut Frame) -> Result<()
 /// Makes the frame, which holds an APDU, the datagram that `wrap` would make of it. Nothing is copied but within the
 /// frame. `Full`, with the frame unchanged, only where the datagram has more octets than a frame.
 #[tactic(auto, using(crate::proofs::DatagramLaws::front_before, crate::proofs::DatagramLaws::length_front, crate::proofs::DatagramLaws::length_wrapped, crate::proofs::DatagramLaws::put_front_takes))]
+#[inline(always)]
 pub fn wrap_within(to: Peer, expect: bool, frame: &mut Frame) -> Result<(), Full>
     ensures ok { OnOk result (frame.new ≡ wrapped (station to).route expect frame.old) }
     ensures whole { OnOk result (Takes (station to).route expect frame.old frame.new) }

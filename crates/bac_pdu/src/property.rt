@@ -251,6 +251,7 @@ fn append_ack_front(frame: &mut Frame, request: &ReadRequest) -> Result<(), Full
 
 // Appends the parameters that name a property. Where there is no room, a front of them may stay.
 #[tactic(auto, using(bac_wire::proofs::Writing::in_parts, crate::proofs::ShortestLaws::optional_plain), unfolding(crate::specs::Parameter::plain_parameter))]
+#[inline(always)]
 fn append_reference(frame: &mut Frame, request: &ReadRequest) -> Result<(), Full>
     ensures appended { AppendsFront frame.old (read_octets (reference request.now)) frame.new result }
     ensures known { OnOk result (AllByRecursion IsParameter (reference_parameters (reference request.now))) }

@@ -1,7 +1,7 @@
 -- The course of a script, line after line.
 use Rattle.std.proofs.Common.{[], ◌&&◌, ◌++◌, ◌+◌, ◌∷◌, ◌≡◌, ap, append_assoc, arith, Bool, Err, length, List}
-use Rattle.std.{proofs.Common.{MatchOption, None, Ok, Option, refl, Result, Some, true, ℕ}, specs.Option.option_map_or}
-use Rattle.std.specs.Result.{result_ok}
+use Rattle.std.proofs.Common.{MatchOption, None, Ok, Option, refl, Result, Some, true, ℕ}
+use Rattle.std.specs.{Option.option_map_or, Result.result_ok}
 use Rattle.bac_script.specs.{all_said, EndsAs, fault_at, fault_from, first_fault, is_nothing, LineFault, lines, Reading}
 use Rattle.bac_script.specs.{Said, said, said_from, text, text_of, TraceEnd, TraceFault, Inner.{ran, Stage}}
 use Rattle.bac_script.proofs.{Machine.{first_stage, text_from, text_is}, Settled.settings_first}

@@ -1,11 +1,10 @@
 -- What the machine prints for all that a script says is what the look-ahead gives.
 use Rattle.std.proofs.Common.{[], ◌++◌, ◌∙◌, ◌∷◌, ◌≡◌, ap, arith, drop, List, Option, refl, slice_get, Some, suc, sym}
 use Rattle.std.{proofs.Common.{zero, ℕ}, specs.List.AllByRecursion}
-use Rattle.bac_device.specs.{Demo.demo_points, Places.Write, Turns.replies_to}
-use Rattle.bac_pdu.specs.Peer.{Station}
-use Rattle.bac_tsm.specs.{Client.{client_rules, keeping}, Events.{Event, Note}, Laws.{NumbersComeBackLate, state_at}}
+use Rattle.{bac_device.specs.{Demo.demo_points, Places.Write, Turns.replies_to}, bac_pdu.specs.Peer.Station}
+use Rattle.bac_tsm.specs.{Client.{client_rules, keeping}, Events.{Event, Note}, Laws.{InvokeIdsComeBackLate, state_at}}
 use Rattle.bac_tsm.specs.{Limits.table_size, Lookahead.output, Machine.{State, Stepped}}
-use Rattle.bac_tsm.proofs.Laws.{back_late, begins, by_number, few_open, one_step}
+use Rattle.bac_tsm.proofs.Laws.{back_late, begins, by_invoke_id, few_open, one_step}
 use Rattle.bac_script.specs.{arrivals_in, Asks, events_in, Happens, notes_text, Nothing, printed, requests_in, Said}
 use Rattle.bac_script.specs.{Settings, small_device, text_of, Inner.{new_client, ran, Stage, writes_with}}
 
@@ -75,7 +74,7 @@ module _ (timeout retries first_ticket : ℕ) (events : List Event) where
   prints_output n _ (Settings t r f ∷ _) (other, _) e = absurd other
   prints_output n writes (Happens event ∷ later) (_, none) e =
       let (here, behind) = drop_next _ n _ _ e in
-      let now = one_step (client_rules timeout retries) first_ticket events (by_number timeout retries) few_open n
+      let now = one_step (client_rules timeout retries) first_ticket events (by_invoke_id timeout retries) few_open n
       event here in
       ap (text_after n writes later) now
       ∙ ap (λ (xs : List ℕ). notes_text (notes n) ++ xs) (prints_output (suc n) writes later none behind)
@@ -88,7 +87,7 @@ module _ (timeout retries first_ticket : ℕ) (events : List Event) where
   prints_all all h e =
       ap (λ (state : State).
       text_from (record { client = record { timeout = timeout; retries = retries; state = state }; writes = [] }) all)
-      (begins (client_rules timeout retries) first_ticket events (by_number timeout retries) few_open)
+      (begins (client_rules timeout retries) first_ticket events (by_invoke_id timeout retries) few_open)
       ∙ prints_output 0 [] all h e
 
 -- The text of a script is what the machine prints.
@@ -100,6 +99,6 @@ text_is (Happens event ∷ later) h =
     sym (prints_all 3000 3 0 (events_in (Happens event ∷ later)) (Happens event ∷ later) (tt, h) refl)
 text_is (Asks arrival ∷ later) h = sym (prints_all 3000 3 0 (events_in later) (Asks arrival ∷ later) (tt, h) refl)
 
--- Between two requests of a script with the same number many others are accepted.
-pub requests_late : (all : List Said) → NumbersComeBackLate table_size (requests_in all)
+-- Between two requests of a script with the same invoke id many others are accepted.
+pub requests_late : (all : List Said) → InvokeIdsComeBackLate table_size (requests_in all)
 requests_late all = grind (arith, back_late, few_open)

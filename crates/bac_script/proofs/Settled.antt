@@ -1,7 +1,7 @@
 -- Settings are said by nothing but the first line that says something.
 use Rattle.std.proofs.Common.{[], ◌∷◌, arith, Bool, Err, false, IfOk, IfSome, if◌then◌else◌, List, None, Ok, ok_or}
-use Rattle.std.{proofs.Common.{Option, option_map, Result, Some, true, ℕ}, specs.Option.option_map_or}
-use Rattle.std.specs.Result.{result_ok}
+use Rattle.std.proofs.Common.{Option, option_map, Result, Some, true, ℕ}
+use Rattle.std.specs.{Option.option_map_or, Result.result_ok}
 use Rattle.bac_script.specs.{all_said, is_nothing, LineFault, Said, said, said_by, said_from, said_in, text_of_line}
 use Rattle.bac_script.proofs.Machine.{IsOther, NoSettings, SettingsFirst}
 

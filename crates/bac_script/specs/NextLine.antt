@@ -1,10 +1,10 @@
 -- How the lines of a script are cut from what its reader gave.
 use Rattle.std.specs.Prelude.{[], ◌*◌, ◌++◌, ◌+◌, ◌-◌, ◌<◌, ◌∷◌, ◌≡◌, ◌≤◌, ◌⊎◌, drop, false, length, List, Option, take}
 use Rattle.std.specs.Prelude.{ℕ}
-use Rattle.bac_print.specs.{Checked.{Gave, has_failed, last_of, octets_of, reads_of}, declared.checked.Checked.Checked}
-use Rattle.bac_print.specs.{declared.page.Page.Page, Page.{held as on_page, writer_of}}
-use Rattle.bac_script.specs.{declared.input.Reading.{Reading, TheVariants.{AtEnd, Failed, Open}}, Feeds.HasNoFeed}
-use Rattle.bac_script.specs.{Input.{most_reads, ReaderStands}, Limits.{chunk_room, line_room}}
+use Rattle.bac_print.specs.Checked.{Gave, has_failed, last_of, octets_of, reads_of}
+use Rattle.bac_print.specs.{declared.{checked.Checked.Checked, page.Page.Page}, Page.{held as on_page, writer_of}}
+use Rattle.bac_script.specs.declared.input.Reading.{Reading, TheVariants.{AtEnd, Failed, Open}}
+use Rattle.bac_script.specs.{Feeds.HasNoFeed, Input.{most_reads, ReaderStands}, Limits.{chunk_room, line_room}}
 
 -- So many reads may still be made.
 abbrev pub may_read : {R : Type 0} → Checked R → ℕ

@@ -1,10 +1,9 @@
 -- What is printed of the client's notes, and of the device's replies.
-use Rattle.std.specs.{Prelude.{ℕ, List, [], ◌∷◌, ◌++◌, codes, decimal, Option, Some, None}, List.flat_map}
-use Rattle.hex.specs.Hex.{encode_lower}
-use Rattle.bac_pdu.specs.Peer.{Station}
-use Rattle.bac_tsm.specs.declared.client.SubmitFault.{SubmitFault, TheVariants.{TooLong, TableFull, TicketsSpent}}
-use Rattle.bac_tsm.specs.Events.{Note, Sent, Refused, Done, Dropped, TimedOut}
-use Rattle.bac_print.specs.{PeerTexts.peer_text, Outcomes.outcome_text}
+use Rattle.std.specs.{List.flat_map, Prelude.{[], ◌++◌, ◌∷◌, codes, decimal, List, None, Option, Some, ℕ}}
+use Rattle.{hex.specs.Hex.encode_lower, bac_pdu.specs.Peer.Station}
+use Rattle.bac_tsm.specs.declared.client.SubmitFault.{SubmitFault, TheVariants.{TableFull, TicketsSpent, TooLong}}
+use Rattle.bac_tsm.specs.Events.{Done, Dropped, Note, Refused, Sent, TimedOut}
+use Rattle.bac_print.specs.{Outcomes.outcome_text, PeerTexts.peer_text}
 
 abbrev pub refusal_text : SubmitFault → List ℕ
 refusal_text TooLong = codes "too-long"

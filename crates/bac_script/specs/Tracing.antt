@@ -1,10 +1,10 @@
 -- What a run read, and what it wrote and answered.
 use Rattle.std.specs.Prelude.{[], ◌++◌, ◌+◌, ◌≡◌, ◌≤◌, ◌⊎◌, codes, decimal, length, List, None, Option, Result, ℕ}
 use Rattle.bac_print.specs.{Checked.{Gave, last_of, octets_of, reads_of, Took}, declared.checked.Checked.Checked}
-use Rattle.bac_script.specs.declared.{input.Reading.{Reading, TheVariants.Open}, tracing.TraceEnd.TraceEnd}
-use Rattle.bac_script.specs.{declared.tracing.TraceFault.TraceFault, Input.{ReaderStands, ReadsNoMore}}
+use Rattle.bac_script.specs.declared.input.Reading.{Reading, TheVariants.Open}
+use Rattle.bac_script.specs.declared.tracing.{TraceEnd.TraceEnd, TraceFault.TraceFault}
 use Rattle.bac_script.specs.declared.tracing.TraceFault.TheVariants.{BadLine, LineTooLong, ReadFailed, WriteFailed}
-use Rattle.bac_script.specs.Script.{first_fault, lines, Runs, text}
+use Rattle.bac_script.specs.{Input.{ReaderStands, ReadsNoMore}, Script.{first_fault, lines, Runs, text}}
 
 -- No line with a fault was among the octets that the reader gave before its last read: so that read was needed. It was
 -- asked at most once for each of those octets, and once more.

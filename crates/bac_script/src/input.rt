@@ -73,6 +73,7 @@ impl Chunk {
     /// # Errors
     ///
     /// `WriteFailed` where the page has failed before a read that would be needed.
+    #[inline(always)]
     pub fn next_line<R: Read, W: Write>(
         &mut self,
         reader: &mut Checked<R>,

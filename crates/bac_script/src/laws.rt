@@ -2,7 +2,7 @@
 //! the laws.
 ghost use Rattle.std.specs.Prelude.{◌≡◌, ◌≤◌, ◌⊎◌, List, Result, true, ℕ};
 ghost use Rattle.bac_print.specs.{Checked.{fresh, has_failed, octets_of, reads_of}, declared.checked.Checked.Checked};
-ghost use Rattle.bac_tsm.specs.{Laws.NumbersComeBackLate, Limits.table_size};
+ghost use Rattle.bac_tsm.specs.{Laws.InvokeIdsComeBackLate, Limits.table_size};
 ghost use Rattle.bac_wire.specs.Copies.{EqualsBy, MakesCopies};
 ghost use Rattle.bac_script.specs.{all_said, AreAlike, GaveFront, GaveSame, IsFrontOf, IsWrittenOf, lines, most_reads};
 ghost use Rattle.bac_script.specs.{Reading, requests_in, Traces};
@@ -39,11 +39,11 @@ pub fn a_failed_read_has_a_cause<R: Read, W: Write>()
         → (has_failed reader' ≡ true) ⊎ (most_reads ≤ reads_of reader') }
 {}
 
-/// Between two requests of a script with the same number at least 192 others are accepted.
+/// Between two requests of a script with the same invoke id at least 192 others are accepted.
 #[tactic(auto, using(crate::proofs::Machine::requests_late))]
-pub fn numbers_come_back_late()
+pub fn invoke_ids_come_back_late()
     ensures { (octets : List ℕ) (reading : Reading)
-        → NumbersComeBackLate table_size (requests_in (all_said (lines octets reading))) }
+        → InvokeIdsComeBackLate table_size (requests_in (all_said (lines octets reading))) }
 {}
 
 /// A clone is what it was cloned from, and takes no memory.

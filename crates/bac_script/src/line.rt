@@ -86,6 +86,7 @@ pub enum LineFault {
 }
 
 /// What a line says, which may end with a line feed. `is_first` says whether no line before it said anything.
+#[inline(always)]
 pub fn read_line<'a>(
     line: &'a [u8],
     is_first: bool,
@@ -128,6 +129,7 @@ fn is_text(octets: &[u8]) -> bool
     }
 }
 
+#[inline(always)]
 fn read_words<'a>(mut words: Words<'a>, is_first: bool, room: &'a mut LineRoom) -> Option<Line<'a>>
     ensures { option_map line_seen result ≡ said_by is_first words.entry }
 {
@@ -208,6 +210,7 @@ fn read_writing<'a>(mut words: Words<'a>, room: &'a mut LineRoom) -> Option<Line
     }
 }
 
+#[inline(always)]
 fn read_arrival<'a>(mut words: Words<'_>, room: &'a mut LineRoom) -> Option<Received<'a>>
     ensures { option_map arrival_seen result ≡ arrival_of words.entry }
 {
@@ -228,6 +231,7 @@ fn read_tick(mut words: Words<'_>) -> Option<Line<'_>>
     Some(Line::Tick(now))
 }
 
+#[inline(always)]
 fn next_peer(words: &mut Words<'_>) -> Option<Peer>
     ensures { MatchOption result (next_as peer_of words.old ≡ None)
         (λ peer. next_as peer_of words.old ≡ Some (station peer, words.new)) }
@@ -278,6 +282,7 @@ fn next_write_index(words: &mut Words<'_>) -> Option<Option<u32>>
     read_write_index(word)
 }
 
+#[inline(always)]
 fn next_plain_peer(words: &mut Words<'_>) -> Option<Peer>
     ensures { MatchOption result (next_as plain_peer_of words.old ≡ None)
         (λ peer. next_as plain_peer_of words.old ≡ Some (station peer, words.new)) }
@@ -286,6 +291,7 @@ fn next_plain_peer(words: &mut Words<'_>) -> Option<Peer>
     plain_peer_in(word)
 }
 
+#[inline(always)]
 fn next_datagram<'a>(
     words: &mut Words<'_>,
     room: &'a mut [u8; LONGEST_DATAGRAM],

@@ -1,8 +1,7 @@
 //! A request to write whose service body is too long to be sent.
 
 ghost use Rattle.std.specs.Prelude.{IsTrue};
-ghost use Rattle.bac_text.specs.Pairs.{whole_body_of};
-ghost use Rattle.bac_wire.specs.Identifier.{identifier};
+ghost use Rattle.{bac_text.specs.Pairs.whole_body_of, bac_wire.specs.Identifier.identifier};
 ghost use Rattle.bac_script.specs.LongBody.{is_long};
 
 use bac_pdu::Peer;

@@ -1,11 +1,9 @@
 //! What is printed of a client's notes, and of a device's replies.
 
 ghost use Rattle.std.specs.{List.flat_map, Prelude.{[], ◌++◌, ◌∷◌, option_map}};
-ghost use Rattle.bac_pdu.specs.Peer.{station};
-ghost use Rattle.bac_print.specs.{Page.Prints, PeerTexts.peer_text};
+ghost use Rattle.{bac_pdu.specs.Peer.station, bac_print.specs.{Page.Prints, PeerTexts.peer_text}};
 ghost use Rattle.bac_tsm.specs.{Client.outcome_seen, Events.{Done, Refused, TimedOut}, Machine.{due_notes, sent}};
-ghost use Rattle.hex.specs.Hex.{encode_lower};
-ghost use Rattle.bac_script.specs.{note_text, notes_text, reply_text};
+ghost use Rattle.{hex.specs.Hex.encode_lower, bac_script.specs.{note_text, notes_text, reply_text}};
 
 use bac_pdu::Peer;
 use bac_print::{Page, print_outcome};
@@ -14,6 +12,7 @@ use std::io::Write;
 
 /// Prints what the client sends under the ticket, where the request is open.
 #[tactic(auto, using(bac_print::proofs::Printed::printing, std::proofs::lemmas::Grind::common_steps))]
+#[inline(always)]
 pub fn print_sent<W: Write>(page: &mut Page<'_, W>, client: &Client, ticket: u64)
     ensures { Prints W.contents page.old page.new (notes_text (sent client.now.state ticket)) }
 {
@@ -38,6 +37,7 @@ pub fn print_refusal<W: Write>(page: &mut Page<'_, W>, fault: SubmitFault)
 }
 
 /// Prints the end of a request.
+#[inline(always)]
 pub fn print_end<W: Write>(page: &mut Page<'_, W>, ended: Ended<'_>)
     ensures { Prints W.contents page.old page.new
         (note_text (Done ended.entry.ticket (outcome_seen ended.entry.outcome))) }

@@ -1,8 +1,8 @@
 -- The number that the first word of a text writes.
 use Rattle.std.proofs.Common.{◌<◌, ◌≡◌, arith, drop, false, get_or, length, List, refl, Some, sym, take, true, ℕ}
 use Rattle.std.specs.{Prelude.{not, position, unwrap_or}, Str.Parse.digits_value}
-use Rattle.bac_text.{specs.{is_blank, Inner.{is_not_empty, IsFirstNumber, IsLeading}}, proofs.NumberLemmas.digit_in}
-use Rattle.bac_text.proofs.{Lanes.{position_is, position_none}, WordLemmas.words_some}
+use Rattle.bac_text.specs.{is_blank, Inner.{is_not_empty, IsFirstNumber, IsLeading}}
+use Rattle.bac_text.proofs.{Lanes.{position_is, position_none}, NumberLemmas.digit_in, WordLemmas.words_some}
 
 module _ (rest : List ℕ) (number count : ℕ) (l : IsLeading rest 5 number count) where
   -- No digit is a blank.

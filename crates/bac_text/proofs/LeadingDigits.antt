@@ -1,10 +1,10 @@
 -- Numbers at the front of a text.
 use Rattle.std.proofs.Common.{◌*◌, ◌+◌, ◌-◌, ◌<◌, ◌≡◌, ◌≤◌, add-one, arith, drop, get_or, length, List, None, refl}
-use Rattle.std.proofs.{Common.{Some, suc, take, true, zero, ℕ}, lemmas.Bool.{eq-eqb, Decides.nat_tests}}
-use Rattle.std.{proofs.lemmas.List.{length-take-le, take_all, take_rest}, specs.Prelude.{◌==◌, if◌then◌else◌, nat_le}}
-use Rattle.std.specs.Str.{all_ascii_digits, Parse.digits_value}
-use Rattle.bac_text.{specs.{number_before_dot, short_number, Inner.{digit, IsLeading}}, proofs.Lanes.position_is}
-use Rattle.bac_text.proofs.NumberLemmas.{digit_in, digits_next, others_are, value_next}
+use Rattle.std.proofs.Common.{Some, suc, take, true, zero, ℕ}
+use Rattle.std.proofs.lemmas.{Bool.{eq-eqb, Decides.nat_tests}, List.{length-take-le, take_all, take_rest}}
+use Rattle.std.specs.{Prelude.{◌==◌, if◌then◌else◌, nat_le}, Str.{all_ascii_digits, Parse.digits_value}}
+use Rattle.bac_text.specs.{number_before_dot, short_number, Inner.{digit, IsLeading}}
+use Rattle.bac_text.proofs.{Lanes.position_is, NumberLemmas.{digit_in, digits_next, others_are, value_next}}
 
 -- The greatest number of so many digits.
 abbrev pub most_with : ℕ → ℕ

@@ -1,9 +1,9 @@
 -- Numbers that are read digit by digit.
 use Rattle.std.proofs.Common.{[], ◌*◌, ◌+◌, ◌-◌, ◌<◌, ◌^◌, ◌∙◌, ◌∷◌, ◌≡◌, ◌≤◌, ap, arith, false, get_or, length, List}
-use Rattle.std.{proofs.{Common.{None, refl, Some, take, true, ℕ}, lemmas.Bool.Decides.nat_tests}, specs.List.list_all}
-use Rattle.std.proofs.lemmas.{Int.Digits.digits_value_more, List.{get_or-take, length-take-le, take_all}}
-use Rattle.std.proofs.lemmas.{List.Folds.{list_all_at, list_all_more}, Str.Parse.digits_value-take-le}
-use Rattle.std.specs.{Char.is_ascii_digit, Prelude.◌&&◌, Str.{all_ascii_digits, Parse.digits_value}}
+use Rattle.std.proofs.Common.{None, refl, Some, take, true, ℕ}
+use Rattle.std.proofs.lemmas.{Bool.Decides.nat_tests, Int.Digits.digits_value_more, List.{get_or-take, length-take-le}}
+use Rattle.std.proofs.lemmas.{List.{take_all, Folds.{list_all_at, list_all_more}}, Str.Parse.digits_value-take-le}
+use Rattle.std.specs.{Char.is_ascii_digit, List.list_all, Prelude.◌&&◌, Str.{all_ascii_digits, Parse.digits_value}}
 use Rattle.bac_text.specs.{number_up_to}
 
 all_tested : (word : List ℕ) → all_ascii_digits word ≡ list_all is_ascii_digit word

@@ -1,9 +1,8 @@
 -- What the words of a property's value order, in the standard's words.
-use Rattle.std.specs.Prelude.{◌≡◌, ℕ, List, Option, Some, Ok}
-use Rattle.bac_wire.specs.{Datum.{Datum, Spells}, Front.{IsShortest, SpellsAll}, Identifier.Identifier}
-use Rattle.bac_wire.specs.DatumReading.{values_of}
-use Rattle.bac_pdu.specs.Property.{IsWriteBody}
-use Rattle.bac_text.specs.Pairs.{values_in, order_of}
+use Rattle.std.specs.Prelude.{◌≡◌, List, Ok, Option, Some, ℕ}
+use Rattle.bac_wire.specs.Datum.{Datum, Spells}
+use Rattle.bac_wire.specs.{DatumReading.values_of, Front.{IsShortest, SpellsAll}, Identifier.Identifier}
+use Rattle.{bac_pdu.specs.Property.IsWriteBody, bac_text.specs.Pairs.{order_of, values_in}}
 
 module _ (object : Identifier) (property : ℕ) (index priority : Option ℕ) (words : List (List ℕ)) where
   -- A body orders that the property has a region as its value, in the fewest octets. The region is the spellings of the

@@ -1,42 +1,32 @@
 -- Two runs of the program with the same words are alike.
-use Rattle.std.proofs.Common.{◌≡◌, ◌≢◌, ◌∷◌, ◌++◌, ℕ, inl, inr, List, [], Option, Some, None, Result, Ok}
-use Rattle.std.proofs.Common.{Err, refl, sym, ap, ◌∙◌, subst, arith, ◌⊎◌, IsErrAnd, IsTrue, is_some, option_and_then}
+use Rattle.std.proofs.Common.{[], ◌++◌, ◌∙◌, ◌∷◌, ◌≡◌, ◌≢◌, ◌⊎◌, ap, arith, Err, inl, inr, is_some, IsErrAnd, IsTrue}
+use Rattle.std.proofs.Common.{List, None, Ok, Option, option_and_then, refl, Result, Some, subst, sym, ℕ}
 use Rattle.std.specs.Result.{result_ok}
-use Rattle.clap.specs.Words.{Text, fault_of}
-use Rattle.bac_text.specs.declared.jobs.Call.{Call}
-use Rattle.bac_print.specs.{Checked.{fresh, octets_of}, declared.checked.Checked.Checked}
-use Rattle.bac_script.proofs.Functions.{traces_alike, traces_front}
-use Rattle.bac_links.{
-  proofs.{Alike.calls_so_far, SearchesAlike.searches_so_far, ServingsAlike.servings_so_far},
-  specs.{Answered.{answers_of, GoOnAlike, OneText, Printed}, Call.Tells},
-  specs.{History.{Account, Entry}, declared.{exit.Exit.Exit, ending.Purpose.{Purpose, TheVariants.{Reading, Writing}}}},
-  specs.declared.{fault.ToolFault.{ToolFault, TheVariants.WriteFailed}, socket.NoSocket.NoSocket},
+use Rattle.{
+  clap.specs.Words.{fault_of, Text},
+  bac_text.specs.declared.jobs.Call.Call,
+  bac_print.specs.{Checked.{fresh, octets_of}, declared.checked.Checked.Checked},
+  bac_script.specs.{Alike.GaveSame, declared.tracing.TraceEnd.TraceEnd},
+  bac_script.proofs.Functions.{traces_alike, traces_front},
+  bac_links.specs.{Answered.{answers_of, GoOnAlike, OneText, Printed}, Call.Tells},
+  bac_links.specs.declared.{ending.Purpose.{Purpose, TheVariants.{Reading, Writing}}, exit.Exit.Exit},
+  bac_links.specs.declared.{fault.ToolFault.{ToolFault, TheVariants.WriteFailed}, socket.NoSocket.NoSocket},
+  bac_links.specs.History.{Account, Entry},
+  bac_links.proofs.{Alike.calls_so_far, SearchesAlike.searches_so_far, ServingsAlike.servings_so_far},
+  bac_words.specs.{Command.bactool, declared.faults.UsageFault.{UsageFault, TheVariants.{Help, Memory, Words}}},
+  bac_words.specs.declared.job.{Batch.Batch, Job.{Job, TheVariants.{Over, Run, Trace}}},
+  bac_words.specs.{declared.job.Tool.{Tool, TheVariants.{Device, Read, WhoIs, Write}}, Line.{Answers, IsRefusal}},
+  bac_words.{specs.Marks.marked_words, proofs.OneAnswer.one_answer},
+  bac_run.specs.declared.{fault.RunFault.{RunFault, TheVariants.{Link, Script}}, session.Session.Session},
+  bac_run.specs.{Fault.write_failed, Run.{journal_of, Runs as Requested}},
+  bac_run.proofs.{GoOn.{IsCutShort as IsBatchCut, IsTaken, one_text as one_journal, runs_on, taken}, Standing.Meets},
+  bac_tools.specs.Alike.{AreAlike, AreGivenAlike, EndAlike, Gained, is_socket, IsCutOff, IsCutShort, IsPrinted},
+  bac_tools.specs.Alike.{PrintAlike, ProgramRun},
+  bac_tools.specs.{Binding.asked_by, declared.{report.Report.Report, running.Binding.Binding}, Outside.Outside},
+  bac_tools.specs.{Program.{IsGiven, RunsAsRead}, Report.{report_of, run_report, tool_report}},
+  bac_tools.{specs.Runs.{Runs, RunsBatch, RunsOver, RunsScript, ToolRuns}, proofs.Sessions.one_session},
 }
-use Rattle.bac_words.specs.{Command.bactool, declared.faults.UsageFault.{UsageFault, TheVariants.{Help, Memory, Words}}}
-use Rattle.bac_words.{
-  specs.declared.job.{Job.{Job, TheVariants.{Over, Run, Trace}}, Tool.{Tool, TheVariants.{Read, Write, WhoIs, Device}}},
-  specs.declared.job.Batch.{Batch},
-  specs.{Line.{Answers, IsRefusal}, Marks.marked_words},
-  proofs.OneAnswer.one_answer,
-}
-use Rattle.bac_tools.{
-  specs.{Program.{RunsAsRead, IsGiven}, Binding.asked_by, declared.{running.Binding.Binding, report.Report.Report}},
-  specs.{Outside.Outside, Report.{report_of, run_report, tool_report}},
-  specs.Runs.{Runs, RunsBatch, RunsOver, RunsScript, ToolRuns},
-  specs.Alike.{AreAlike, AreGivenAlike, EndAlike, Gained, IsCutOff, IsCutShort, IsPrinted, PrintAlike, ProgramRun},
-  specs.Alike.{is_socket},
-}
-use Rattle.bac_script.specs.Alike.{GaveSame}
-use Rattle.bac_script.specs.declared.tracing.TraceEnd.{TraceEnd}
 use Rattle.bac_script.specs.declared.tracing.TraceFault.TheVariants as stops
-use Rattle.bac_run.specs.declared.fault.RunFault.{RunFault}
-use Rattle.bac_run.specs.declared.fault.RunFault.TheVariants.{Link, Script}
-use Rattle.bac_run.specs.Fault.{write_failed}
-use Rattle.bac_run.specs.Run.{Runs as Requested, journal_of}
-use Rattle.bac_run.proofs.GoOn.{IsCutShort as IsBatchCut, IsTaken, one_text as one_journal, runs_on, taken}
-use Rattle.bac_run.proofs.Standing.{Meets}
-use Rattle.bac_tools.proofs.Sessions.{one_session}
-use Rattle.bac_run.specs.declared.session.Session.{Session}
 use Rattle.bac_tools.specs.declared.report.Fault.TheVariants as faults
 
 -- ---- how runs go on

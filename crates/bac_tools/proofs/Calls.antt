@@ -1,22 +1,21 @@
 -- A run over a socket is the calls of the system for it.
-use Rattle.std.proofs.Common.{◌≡◌, ◌⊎◌, ℕ, Bool, ap, refl, inl, inr, List, [], Option, Some, None, IfNone}
-use Rattle.std.{proofs.Common.{Result, Ok, Err, arith, subst, IsErrAnd, option_and_then}, specs.Result.result_ok}
-use Rattle.std.specs.declared.io.ErrorKind.{ErrorKind}
-use Rattle.clap.specs.Words.{Text}
-use Rattle.bac_print.specs.declared.checked.Checked.{Checked}
-use Rattle.bac_script.specs.declared.tracing.{TraceEnd.TraceEnd, TraceFault.TraceFault}
-use Rattle.bac_links.specs.{History.Account, SystemCall.SystemCall}
-use Rattle.bac_links.specs.declared.{exit.Exit.Exit, fault.ToolFault.ToolFault, socket.NoSocket.NoSocket}
-use Rattle.bac_run.specs.declared.fault.RunFault.{RunFault}
-use Rattle.bac_words.specs.{Called.words_called, Line.{Answers, IsRefusal}}
-use Rattle.bac_words.specs.declared.faults.UsageFault.{UsageFault, TheVariants.Memory}
-use Rattle.bac_words.specs.declared.job.{Batch.Batch, Job.{Job, TheVariants.{Over, Run, Trace}}, Tool.Tool}
-use Rattle.bac_tools.{
-  specs.Calls.{AsksAtMostOnce, GiveNoJob, GivesSockets, JobCalled, RunsAsCalls, RunsUnasked, RunsWithout},
-  specs.Program.{Only, RunsAsRead, IsGiven, IsRun},
-  specs.{declared.{running.Binding.Binding, report.Report.Report, program.Ran.Ran}, Binding.{asked_by}},
-  specs.{Outside.Outside, Report.{run_report, tool_report, trace_report}},
-  specs.{Runs.{BatchRuns, Runs, ToolRuns}, Telling.{IsTold, on_output, once_given}},
+use Rattle.std.proofs.Common.{[], ◌≡◌, ◌⊎◌, ap, arith, Bool, Err, IfNone, inl, inr, IsErrAnd, List, None, Ok, Option}
+use Rattle.std.proofs.Common.{option_and_then, refl, Result, Some, subst, ℕ}
+use Rattle.std.specs.{declared.io.ErrorKind.ErrorKind, Result.result_ok}
+use Rattle.{
+  clap.specs.Words.Text,
+  bac_print.specs.declared.checked.Checked.Checked,
+  bac_script.specs.declared.tracing.{TraceEnd.TraceEnd, TraceFault.TraceFault},
+  bac_links.specs.{declared.{exit.Exit.Exit, fault.ToolFault.ToolFault, socket.NoSocket.NoSocket}, History.Account},
+  bac_links.specs.SystemCall.SystemCall,
+  bac_run.specs.declared.fault.RunFault.RunFault,
+  bac_words.specs.{Called.words_called, declared.{faults.UsageFault.{UsageFault, TheVariants.Memory}, job.Batch.Batch}},
+  bac_words.specs.{declared.job.{Job.{Job, TheVariants.{Over, Run, Trace}}, Tool.Tool}, Line.{Answers, IsRefusal}},
+  bac_tools.specs.Binding.asked_by,
+  bac_tools.specs.Calls.{AsksAtMostOnce, GiveNoJob, GivesSockets, JobCalled, RunsAsCalls, RunsUnasked, RunsWithout},
+  bac_tools.specs.{declared.{program.Ran.Ran, report.Report.Report, running.Binding.Binding}, Outside.Outside},
+  bac_tools.specs.{Program.{IsGiven, IsRun, Only, RunsAsRead}, Report.{run_report, tool_report, trace_report}},
+  bac_tools.specs.{Runs.{BatchRuns, Runs, ToolRuns}, Telling.{IsTold, on_output, once_given}},
 }
 
 -- What a job leaves of a link was made of the same.

@@ -1,36 +1,21 @@
 -- A call of the program runs the words that it was called with.
-use Rattle.std.proofs.Common.{◌≡◌, ◌⊎◌, inl, inr, ℕ, List, [], Option, Some, None, Result, Ok, Err, refl, ap, arith}
-use Rattle.std.proofs.Common.{option_and_then}
-use Rattle.std.specs.Result.{result_ok}
-use Rattle.clap.specs.Words.{Text}
-use Rattle.bac_text.specs.declared.jobs.Call.{Call}
-use Rattle.bac_text.specs.declared.jobs.Search.{Search}
-use Rattle.bac_print.specs.Checked.{fresh}
-use Rattle.bac_print.specs.declared.checked.Checked.{Checked}
-use Rattle.bac_links.specs.Call.{Tells}
-use Rattle.bac_links.specs.History.{Account, Entry, GainsAll}
-use Rattle.bac_links.specs.Search.{Searched}
-use Rattle.bac_links.specs.declared.ending.Purpose.{Purpose}
-use Rattle.bac_links.specs.declared.ending.Purpose.TheVariants.{Reading, Writing}
-use Rattle.bac_links.specs.declared.exit.Exit.{Exit}
-use Rattle.bac_links.specs.declared.fault.ToolFault.{ToolFault}
-use Rattle.bac_links.specs.declared.fault.ToolFault.TheVariants.{SendFailed, ReceiveFailed, TurnsSpent, WriteFailed}
-use Rattle.bac_links.specs.declared.socket.NoSocket.{NoSocket}
-use Rattle.bac_words.specs.declared.faults.UsageFault.{UsageFault}
-use Rattle.bac_words.specs.declared.job.Job.{Job}
-use Rattle.bac_words.specs.declared.job.Job.TheVariants.{Over, Run, Trace}
-use Rattle.bac_words.specs.declared.job.Tool.{Tool}
-use Rattle.bac_words.specs.declared.job.Tool.TheVariants.{Read, Write, WhoIs, Device}
-use Rattle.bac_tools.specs.Alike.{Gained, ProgramRun}
-use Rattle.bac_tools.specs.Binding.{asked_by}
-use Rattle.bac_tools.specs.Outside.{Outside}
-use Rattle.bac_words.specs.Called.{words_called}
-use Rattle.bac_words.specs.declared.faults.UsageFault.TheVariants.{Memory}
-use Rattle.bac_tools.specs.Report.{report_of}
-use Rattle.bac_tools.specs.Program.{IsCalled, IsGiven, IsRun, Only, Program, RunsAsRead}
-use Rattle.bac_tools.specs.Runs.{RunsBatch, RunsOpened, RunsOver, ToolRuns}
-use Rattle.bac_tools.specs.declared.program.Ran.{Ran}
-use Rattle.bac_tools.specs.declared.running.Binding.{Binding}
+use Rattle.std.proofs.Common.{[], ◌≡◌, ◌⊎◌, ap, arith, Err, inl, inr, List, None, Ok, Option, option_and_then, refl}
+use Rattle.std.{proofs.Common.{Result, Some, ℕ}, specs.Result.result_ok}
+use Rattle.{
+  clap.specs.Words.Text,
+  bac_text.specs.declared.jobs.{Call.Call, Search.Search},
+  bac_print.specs.{Checked.fresh, declared.checked.Checked.Checked},
+  bac_links.specs.{Call.Tells, declared.{ending.Purpose.{Purpose, TheVariants.{Reading, Writing}}, exit.Exit.Exit}},
+  bac_links.specs.declared.fault.ToolFault.ToolFault,
+  bac_links.specs.declared.fault.ToolFault.TheVariants.{ReceiveFailed, SendFailed, TurnsSpent, WriteFailed},
+  bac_links.specs.{declared.socket.NoSocket.NoSocket, History.{Account, Entry, GainsAll}, Search.Searched},
+  bac_words.specs.{Called.words_called, declared.faults.UsageFault.{UsageFault, TheVariants.Memory}},
+  bac_words.specs.declared.job.Job.{Job, TheVariants.{Over, Run, Trace}},
+  bac_words.specs.declared.job.Tool.{Tool, TheVariants.{Device, Read, WhoIs, Write}},
+  bac_tools.specs.{Alike.{Gained, ProgramRun}, Binding.asked_by, declared.{program.Ran.Ran, running.Binding.Binding}},
+  bac_tools.specs.{Outside.Outside, Program.{IsCalled, IsGiven, IsRun, Only, Program, RunsAsRead}, Report.report_of},
+  bac_tools.specs.Runs.{RunsBatch, RunsOpened, RunsOver, ToolRuns},
+}
 use Rattle.bac_tools.specs.declared.report.Fault.TheVariants as faults
 
 -- What the history of a link gained.
@@ -123,25 +108,18 @@ module _ {N Origin L R W E : Type 0} (gives : N → Binding → Result L NoSocke
     called_so (inr lacks) = inr lacks
     called_so (inl program) =
         let (gained, gains) = program_gains gives out network _ _ _ _ there program in
-        inl (
-          record {
-            network = network;
-            reader = reader;
-            reader' = reader';
-            writer = writer;
-            writer' = run.unhelped;
-            ran = there;
-            program = program;
-            gained = gained;
-            gains = gains;
-          },
-          refl,
-          refl,
-          refl,
-          refl,
-          refl,
-          refl,
-        )
+        let words : ProgramRun gives out (words_called typed) = record {
+          network = network;
+          reader = reader;
+          reader' = reader';
+          writer = writer;
+          writer' = run.unhelped;
+          ran = there;
+          program = program;
+          gained = gained;
+          gains = gains;
+        } in
+        inl (words, refl, refl, refl, refl, refl, refl)
 
     -- The words that were typed are run, or there is no memory for them.
     pub runs_typed : Ends

@@ -1,11 +1,10 @@
 -- What the standard streams are given, by the fault of a report.
-use Rattle.std.specs.Prelude.{◌≡◌, ℕ, Bool, true, List, [], ◌++◌, Option, Some, None, Err, codes, ⊤}
-use Rattle.bac_print.specs.{Page.Writes, declared.checked.Checked.Checked}
-use Rattle.bac_script.specs.Tracing.{trace_fault_text}
-use Rattle.bac_links.specs.{Fault.{link_fault_text, tool_fault_text}, declared.fault.ToolFault.TheVariants.WriteFailed}
+use Rattle.std.specs.Prelude.{[], ◌++◌, ◌≡◌, Bool, codes, Err, List, None, Option, Some, true, ℕ, ⊤}
+use Rattle.{bac_print.specs.{declared.checked.Checked.Checked, Page.Writes}, bac_script.specs.Tracing.trace_fault_text}
+use Rattle.bac_links.specs.{declared.fault.ToolFault.TheVariants.WriteFailed, Fault.{link_fault_text, tool_fault_text}}
 use Rattle.bac_run.specs.Fault.{run_fault_text}
-use Rattle.bac_words.specs.{Fault.usage_told, Telling.{Told, Text, Line}, declared.faults.UsageFault.TheVariants.Help}
-use Rattle.bac_tools.specs.{Report.tool_report, declared.report.{Fault.Fault, Report.Report}}
+use Rattle.bac_words.specs.{declared.faults.UsageFault.TheVariants.Help, Fault.usage_told, Telling.{Line, Text, Told}}
+use Rattle.bac_tools.specs.{declared.report.{Fault.Fault, Report.Report}, Report.tool_report}
 use Rattle.bac_tools.specs.declared.report.Fault.TheVariants as faults
 
 -- What is told of a fault.

@@ -1,17 +1,17 @@
 //! What holds of the definitions that the contracts cite, and of the public types: the clause of a function with an
 //! empty body is the law.
 ghost use Rattle.std.specs.{Prelude.{◌≡◌, ◌⊎◌, List, Some, None, Result, Ok, Err}, declared.io.ErrorKind.ErrorKind};
-ghost use Rattle.clap.specs.Words.{Text};
-ghost use Rattle.bac_wire.specs.Copies.{MakesCopies};
-ghost use Rattle.bac_print.specs.{Checked.{fresh, has_failed}, declared.checked.Checked.Checked};
-ghost use Rattle.bac_links.specs.{History.Entry, SystemCall.SystemCall, declared.socket.NoSocket.NoSocket};
-ghost use Rattle.bac_words.specs.Called.{words_called};
-ghost use Rattle.bac_tools.specs.Alike.{ProgramRun, CalledRun, AreGivenAlike, AreAlike};
-ghost use Rattle.bac_tools.specs.Calls.{AsksAtMostOnce, GivesSockets, RunsAsCalls, RunsUnasked, RunsWithout};
-ghost use Rattle.bac_tools.specs.Program.{IsRun, Only, Program};
-ghost use Rattle.bac_tools.specs.{Report.{IsStatusOf, report_of}, declared.program.Ran.Ran};
-ghost use Rattle.bac_words.specs.declared.faults.UsageFault.TheVariants.{Memory};
-ghost use Rattle.bac_tools.specs.declared.report.Fault.TheVariants.{Usage};
+ghost use Rattle.{
+  clap.specs.Words.Text,
+  bac_wire.specs.Copies.MakesCopies,
+  bac_print.specs.{Checked.{fresh, has_failed}, declared.checked.Checked.Checked},
+  bac_links.specs.{declared.socket.NoSocket.NoSocket, History.Entry, SystemCall.SystemCall},
+  bac_words.specs.{Called.words_called, declared.faults.UsageFault.TheVariants.Memory},
+  bac_tools.specs.Alike.{AreAlike, AreGivenAlike, CalledRun, ProgramRun},
+  bac_tools.specs.Calls.{AsksAtMostOnce, GivesSockets, RunsAsCalls, RunsUnasked, RunsWithout},
+  bac_tools.specs.{declared.{program.Ran.Ran, report.Fault.TheVariants.Usage}, Program.{IsRun, Only, Program}},
+  bac_tools.specs.Report.{IsStatusOf, report_of},
+};
 
 use crate::program::Network;
 use crate::running::Binding;

@@ -1,12 +1,11 @@
 //! The program, from its words to its report.
 ghost use Rattle.std.specs.Prelude.{◌≡◌, false, map, None, Some, Ok, IfOk, IfErr, MatchResult, Result};
 ghost use Rattle.std.specs.{IoError.error_kind, String.string_bytes, declared.io.ErrorKind.TheVariants.OutOfMemory};
-ghost use Rattle.clap.specs.Walk.{texts};
-ghost use Rattle.bac_print.specs.Checked.{fresh, has_failed};
+ghost use Rattle.{clap.specs.Walk.texts, bac_print.specs.Checked.{fresh, has_failed}};
 ghost use Rattle.bac_links.specs.declared.socket.NoSocket.{NoSocket};
-ghost use Rattle.bac_words.specs.{Job.CanOpen, declared.job.Job.TheVariants.{Run}};
-ghost use Rattle.bac_tools.specs.{Inner.Program.RunsJob, Program.{IsCalled, IsRun, Program, texts_of}};
-ghost use Rattle.bac_tools.specs.declared.running.Binding.{Binding};
+ghost use Rattle.bac_words.specs.{declared.job.Job.TheVariants.Run, Job.CanOpen};
+ghost use Rattle.bac_tools.specs.{declared.running.Binding.Binding, Inner.Program.RunsJob};
+ghost use Rattle.bac_tools.specs.Program.{IsCalled, IsRun, Program, texts_of};
 
 use crate::report::{Fault, Report, tell};
 use crate::running::{Binding, binding_for, client_at, run_batch, run_tool};

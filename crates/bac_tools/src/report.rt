@@ -1,10 +1,8 @@
 //! How the program ends, and what it tells then.
 ghost use Rattle.std.specs.Prelude.{◌≡◌, option_map};
 ghost use Rattle.bac_words.specs.Telling.{told_by};
-ghost use Rattle.bac_tools.{
-  specs.Report.{report_of, run_report, tool_report, trace_report, unread_report},
-  specs.Telling.{fault_told, on_error, on_output, once_given, IsTold},
-};
+ghost use Rattle.bac_tools.specs.Report.{report_of, run_report, tool_report, trace_report, unread_report};
+ghost use Rattle.bac_tools.specs.Telling.{fault_told, IsTold, on_error, on_output, once_given};
 
 use crate::statuses::{run_status, status, trace_status};
 use crate::telling::print_telling;

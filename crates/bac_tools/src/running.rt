@@ -1,9 +1,7 @@
 //! A tool: the socket that it asks for, and its run over that and its writer.
 ghost use Rattle.std.specs.Prelude.{◌≡◌, ◌≢◌, ◌↔◌, false, true, Err};
-ghost use Rattle.bac_print.specs.Checked.{has_failed};
-ghost use Rattle.bac_links.specs.Fault.{is_link_fault, is_write_fault};
-ghost use Rattle.bac_run.specs.Fault.{is_of_link, write_failed};
-ghost use Rattle.bac_words.specs.Job.{CanOpen, IsReady};
+ghost use Rattle.{bac_print.specs.Checked.has_failed, bac_links.specs.Fault.{is_link_fault, is_write_fault}};
+ghost use Rattle.{bac_run.specs.Fault.{is_of_link, write_failed}, bac_words.specs.Job.{CanOpen, IsReady}};
 ghost use Rattle.bac_tools.specs.Binding.{binding_of, client_at};
 ghost use Rattle.bac_tools.specs.Runs.{BatchRuns, DevicePlays, IsSessionOf, ToolRuns};
 

@@ -1,7 +1,6 @@
 //! What is told, printed on a page.
 ghost use Rattle.std.specs.Prelude.{◌++◌, ℕ, List, codes};
-ghost use Rattle.bac_print.specs.{Message.message_text, Page.Prints};
-ghost use Rattle.bac_words.specs.Telling.{told_by};
+ghost use Rattle.{bac_print.specs.{Message.message_text, Page.Prints}, bac_words.specs.Telling.told_by};
 ghost use Rattle.bac_tools.specs.Telling.{AreOctetsOf};
 
 use arrayvec::ArrayVec;

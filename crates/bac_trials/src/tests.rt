@@ -42,11 +42,11 @@ const READ_PROPERTY: u8 = 12;
 /// The body that asks for the present value of analog-input 5.
 const BODY: [u8; 7] = [0x0c, 0x00, 0x00, 0x00, 0x05, 0x19, 0x55];
 
-/// What the client sends for it under this number.
-fn request(number: u8) -> [u8; 17] {
+/// What the client sends for it under this invoke id.
+fn request(invoke_id: u8) -> [u8; 17] {
     [
-        0x81, 0x0a, 0x00, 0x11, 0x01, 0x04, 0x00, 0x05, number, 0x0c, 0x0c, 0x00, 0x00, 0x00, 0x05,
-        0x19, 0x55,
+        0x81, 0x0a, 0x00, 0x11, 0x01, 0x04, 0x00, 0x05, invoke_id, 0x0c, 0x0c, 0x00, 0x00, 0x00,
+        0x05, 0x19, 0x55,
     ]
 }
 
@@ -67,7 +67,7 @@ const USUAL: Config = Config {
     retries: 3,
 };
 
-/// A client that has asked the controller, under the ticket 0 and the number 1.
+/// A client that has asked the controller, under the ticket 0 and the invoke id 1.
 fn asking() -> Client {
     let mut client = Client::new(USUAL, 0);
     let _ = client.submit(CONTROLLER, READ_PROPERTY, &BODY);

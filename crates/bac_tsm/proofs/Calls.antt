@@ -9,8 +9,8 @@ use Rattle.bac_pdu.specs.{Apdu.longest_body, Peer.Station}
 use Rattle.bac_tsm.specs.{Answer, answer_in_datagram, client_rules, datagram, deliver, due_answer, DueEntry}
 use Rattle.bac_tsm.specs.{is_answer_to, keeping, kept, next_invoke_id, opened, Outcome, outcome_of, refusal_of, Request}
 use Rattle.bac_tsm.specs.{request_of, Rules, rules_of, State, submit, SubmitFault, table_size, TakesStep, tick}
-use Rattle.bac_tsm.specs.{Client.Client, Machine.Waiting, Inner.{IsTimely, number_in, ticket_in}}
-use Rattle.bac_tsm.proofs.{AnswersInWords.by_number, CallNotes.kept_of_all}
+use Rattle.bac_tsm.specs.{Client.Client, Machine.Waiting, Inner.{invoke_id_in, IsTimely, ticket_in}}
+use Rattle.bac_tsm.proofs.{AnswersInWords.by_invoke_id, CallNotes.kept_of_all}
 
 -- ---- a tick, and what a client keeps through each call
 
@@ -19,7 +19,7 @@ abbrev seen_as : ℕ → ℕ → ℕ → ℕ → ℕ → List Waiting → Client
 seen_as timeout retries clock last next ws = record {
   timeout = timeout;
   retries = retries;
-  state = record { clock = clock; last_number = last; next_ticket = next; waiting = ws };
+  state = record { clock = clock; last_invoke_id = last; next_ticket = next; waiting = ws };
 }
 
 pub ticked : (timeout retries clock last next : ℕ) (ws : List Waiting) (now later : ℕ) → later ≡ max now clock
@@ -113,10 +113,10 @@ module _ (timeout retries clock last next : ℕ) (ws : List Waiting) (peer : Sta
 -- The machine opens a request under the next ticket and the next invoke id.
 opened_next : (rules : Rules) (state : State) (peer : Station) (service : ℕ) (body : List ℕ)
     → length body ≤ longest_body → length state.waiting < rules.most_open → state.next_ticket < 2 ^ 64 - 1
-    → list_any (nat_eq ((state.last_number + 1) % 256)) (map number_in state.waiting) ≡ false
+    → list_any (nat_eq ((state.last_invoke_id + 1) % 256)) (map invoke_id_in state.waiting) ≡ false
     → submit rules state peer service body ≡ record {
       answer = Ok state.next_ticket;
-      after = opened state (request_of rules state.next_ticket peer service body ((state.last_number + 1) % 256));
+      after = opened state (request_of rules state.next_ticket peer service body ((state.last_invoke_id + 1) % 256));
     }
 unfolding next_invoke_id refusal_of
 opened_next = grind (arith, nat_tests)
@@ -127,11 +127,11 @@ pub opens : {known client after : Client} {answer : Result ℕ SubmitFault}
     (peer : Station) (service : ℕ) (body : List ℕ) → client ≡ known
     → TakesStep client (submit (rules_of client) client.state peer service body) answer after
     → length body ≤ longest_body → length known.state.waiting < table_size → known.state.next_ticket < 2 ^ 64 - 1
-    → list_any (nat_eq ((known.state.last_number + 1) % 256)) (map number_in known.state.waiting) ≡ false
+    → list_any (nat_eq ((known.state.last_invoke_id + 1) % 256)) (map invoke_id_in known.state.waiting) ≡ false
     → TakesStep known (record {
       answer = Ok known.state.next_ticket;
       after = opened known.state (request_of (rules_of known) known.state.next_ticket peer service body
-          ((known.state.last_number + 1) % 256));
+          ((known.state.last_invoke_id + 1) % 256));
     }) answer after
 opens {known} _ _ _ is done short room left free =
     let now = rw is at done in
@@ -140,7 +140,7 @@ opens {known} _ _ _ is done short room left free =
 -- No two of these requests have one invoke id.
 abbrev pub AreApart : List Waiting → Type 0
 AreApart [] = ⊤
-AreApart (w ∷ ws) = (list_any (nat_eq w.request.invoke_id) (map number_in ws) ≡ false) × AreApart ws
+AreApart (w ∷ ws) = (list_any (nat_eq w.request.invoke_id) (map invoke_id_in ws) ≡ false) × AreApart ws
 
 module _ (f : Request → Option Outcome)
     (by : (a b : Request) → IsSome (f a) → IsSome (f b) → a.invoke_id ≡ b.invoke_id) (g : Waiting → List DueEntry) where
@@ -148,7 +148,7 @@ module _ (f : Request → Option Outcome)
   unless_answered w = option_map_or (λ _. []) (f w.request) (g w)
 
   none_answered : (a : Request) → IsSome (f a) → (ws : List Waiting)
-      → list_any (nat_eq a.invoke_id) (map number_in ws) ≡ false → flat_map g ws ≡ flat_map unless_answered ws
+      → list_any (nat_eq a.invoke_id) (map invoke_id_in ws) ≡ false → flat_map g ws ≡ flat_map unless_answered ws
   none_answered a _ [] _ = refl
   none_answered a some (w ∷ ws) free = grind (arith, by a w.request some, none_answered a some ws)
 
@@ -164,4 +164,4 @@ pub told_unless_answered : {known client after : Client} {told : List DueEntry}
     → told ≡ flat_map (λ w. option_map_or (λ _. []) (outcome_of w.request from heard)
     (due_answer (rules_of known) (max now known.state.clock) w)) known.state.waiting
 told_unless_answered {known} _ _ _ is apart heard_so ticked =
-    rw is at (rw heard_so at ticked) ∙ others _ (λ a b. by_number known.timeout known.retries a b _ _) _ _ apart
+    rw is at (rw heard_so at ticked) ∙ others _ (λ a b. by_invoke_id known.timeout known.retries a b _ _) _ _ apart

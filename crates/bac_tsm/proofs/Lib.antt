@@ -1,8 +1,8 @@
 mod AnswersInWords
 mod CallNotes
 mod Calls
+mod InvokeIdReuse
 pub mod Laws
-mod NumberReuse
 mod OpenRequests
 mod Placed
 pub mod Progress

@@ -9,7 +9,7 @@ use Rattle.std.{
 }
 use Rattle.bac_tsm.specs.{AreBySend, AreNamed, held_at, IsTable, Names, nothing, open_slots, table_size, times}
 use Rattle.bac_tsm.specs.{times_of_slot, declared.request.Asked.Asked, Machine.Waiting}
-use Rattle.bac_tsm.specs.Inner.{begun, IsTakenOut, Leaves, number_at, number_in, waiting_in}
+use Rattle.bac_tsm.specs.Inner.{begun, invoke_id_at, invoke_id_in, IsTakenOut, Leaves, waiting_in}
 use Rattle.bac_tsm.proofs.TableReads.{count, few, found_at, held-push, held-set, held_got, here, itself, map-remove}
 use Rattle.bac_tsm.proofs.TableReads.{rank_within, read_listed, same_turn, ticket_got, times-append, times-remove}
 use Rattle.bac_tsm.proofs.TableReads.{times_got, times_one, times_other, times_split, turn_opened}
@@ -84,30 +84,30 @@ empty_queue = grind arith
 
 -- ---- the table
 
--- An entry says what it said where as many requests have the number, and the slot that it names still holds one.
-names_as : (slots : List Waiting) (order : List ℕ) (changed : List Waiting) (after : List ℕ) (number : ℕ)
-    (entry : Option ℕ) → times number_in number (held_at changed after) ≡ times number_in number (held_at slots order) →
-    ((slot : ℕ) → 0 < times_of_slot slot order → number_at slots slot ≡ number → (0 < times_of_slot slot after)
-    × (number_at changed slot ≡ number)) → Names slots order number entry → Names changed after number entry
+-- An entry says what it said where as many requests have the invoke id, and the slot that it names still holds one.
+names_as : (slots : List Waiting) (order : List ℕ) (changed : List Waiting) (after : List ℕ) (id : ℕ)
+    (entry : Option ℕ) → times invoke_id_in id (held_at changed after) ≡ times invoke_id_in id (held_at slots order) →
+    ((slot : ℕ) → 0 < times_of_slot slot order → invoke_id_at slots slot ≡ id → (0 < times_of_slot slot after)
+    × (invoke_id_at changed slot ≡ id)) → Names slots order id entry → Names changed after id entry
 names_as = grind arith
 
 -- One entry changes.
-named_set : (slots : List Waiting) (numbers : List (Option ℕ)) (order : List ℕ) (changed : List Waiting)
-    (after : List ℕ) (index : ℕ) (entry : Option ℕ) →
-    AreNamed slots numbers order → Names changed after index entry → times number_in index (held_at changed after) ≤ 1 →
-    ((number : ℕ) → (number ≡ index → ⊥)
-    → times number_in number (held_at changed after) ≡ times number_in number (held_at slots order)) →
-    ((number slot : ℕ) → (number ≡ index → ⊥) → 0 < times_of_slot slot order → number_at slots slot ≡ number →
-    (0 < times_of_slot slot after) × (number_at changed slot ≡ number)) →
-    AreNamed changed (set numbers index entry) after
+named_set : (slots : List Waiting) (invoke_ids : List (Option ℕ)) (order : List ℕ) (changed : List Waiting)
+    (after : List ℕ) (index : ℕ) (entry : Option ℕ) → AreNamed slots invoke_ids order →
+    Names changed after index entry → times invoke_id_in index (held_at changed after) ≤ 1 →
+    ((id : ℕ) → (id ≡ index → ⊥)
+    → times invoke_id_in id (held_at changed after) ≡ times invoke_id_in id (held_at slots order)) →
+    ((id slot : ℕ) → (id ≡ index → ⊥) → 0 < times_of_slot slot order → invoke_id_at slots slot ≡ id →
+    (0 < times_of_slot slot after) × (invoke_id_at changed slot ≡ id)) →
+    AreNamed changed (set invoke_ids index entry) after
 named_set = grind (arith, length-set, get_or-set_same, get_or-set_other)
 
--- Requests that have the same numbers are counted the same.
-same_times : (number : ℕ) (f g : ℕ → Waiting) (order : List ℕ)
+-- Requests that have the same invoke ids are counted the same.
+same_times : (id : ℕ) (f g : ℕ → Waiting) (order : List ℕ)
     → ((slot : ℕ) → (f slot).request.invoke_id ≡ (g slot).request.invoke_id) →
-    times number_in number (map f order) ≡ times number_in number (map g order)
+    times invoke_id_in id (map f order) ≡ times invoke_id_in id (map g order)
 same_times _ f g [] _ = refl
-same_times number f g (q ∷ qs) same = grind (arith, same_times number f g qs same)
+same_times id f g (q ∷ qs) same = grind (arith, same_times id f g qs same)
 
 -- One is taken out among the first ones, and another put behind all.
 take_removed : (xs ys : List ℕ) (i n : ℕ) → i ≤ n → suc n ≤ length xs
@@ -115,8 +115,8 @@ take_removed : (xs ys : List ℕ) (i n : ℕ) → i ≤ n → suc n ≤ length x
 take_removed xs ys i n le lt =
     grind (arith, take-append-drop (suc n) xs, remove-append_left, append_assoc, take_at, length-take, length-remove)
 
-module _ {slots : List Waiting} {numbers : List (Option ℕ)} {order tickets : List ℕ}
-    (t : IsTable slots numbers order tickets)
+module _ {slots : List Waiting} {invoke_ids : List (Option ℕ)} {order tickets : List ℕ}
+    (t : IsTable slots invoke_ids order tickets)
     (ws : List Waiting) (view : waiting_in slots order tickets ≡ ws) where
   abbrev opens : List ℕ
   opens = open_slots order tickets
@@ -124,7 +124,7 @@ module _ {slots : List Waiting} {numbers : List (Option ℕ)} {order tickets : L
   -- The request at this rank changes, and not what it asks.
   pub changed_by : (i : ℕ) → i < length ws → (slot : ℕ) → get_or order i 0 ≡ slot → (w : Waiting)
       → w.request ≡ (get_or slots slot nothing).request →
-      (waiting_in (set slots slot w) order tickets ≡ set ws i w) × IsTable (set slots slot w) numbers order tickets
+      (waiting_in (set slots slot w) order tickets ≡ set ws i w) × IsTable (set slots slot w) invoke_ids order tickets
   changed_by i lt slot is w same = (
     cc changed_view,
     record {
@@ -132,7 +132,7 @@ module _ {slots : List Waiting} {numbers : List (Option ℕ)} {order tickets : L
       all_ranks = t.all_ranks;
       within = t.within;
       once = t.once;
-      numbered = grind (arith, still, names_as, same_number);
+      names = grind (arith, still, names_as, same_invoke_id);
       ticketed = map-map _ _ _ ∙ ap (λ f. map f opens) (λ j other. (same_request other j).ticket)
           ∙ sym (map-map _ _ _) ∙ t.ticketed;
       rise = t.rise;
@@ -151,16 +151,16 @@ module _ {slots : List Waiting} {numbers : List (Option ℕ)} {order tickets : L
       same_request other =
           grind (arith, get_or-set_same _ _ w nothing listed, get_or-set_other slots slot other w nothing)
 
-      same_number : (other : ℕ) → number_at (set slots slot w) other ≡ number_at slots other
-      same_number other = cc (same_request _)
+      same_invoke_id : (other : ℕ) → invoke_id_at (set slots slot w) other ≡ invoke_id_at slots other
+      same_invoke_id other = cc (same_request _)
 
-      still : (number : ℕ)
-          → times number_in number (held_at (set slots slot w) opens) ≡ times number_in number (held_at slots opens)
-      still number = same_times _ _ _ _ same_number
+      still : (id : ℕ)
+          → times invoke_id_in id (held_at (set slots slot w) opens) ≡ times invoke_id_in id (held_at slots opens)
+      still id = same_times _ _ _ _ same_invoke_id
 
-  -- The first free slot is opened, under a number that no open request has, and the greatest ticket.
+  -- The first free slot is opened, under an invoke id that no open request has, and the greatest ticket.
   module _ (items : List ℕ) (are : items ≡ order) (n : ℕ) (long : n ≡ length tickets) (asked : Asked) (body : List ℕ)
-      (few_open : length ws < table_size) (unused : times number_in asked.invoke_id ws ≡ 0)
+      (few_open : length ws < table_size) (unused : times invoke_id_in asked.invoke_id ws ≡ 0)
       (latest : All (λ v. v.request.ticket < asked.ticket) ws) where
     abbrev slot : ℕ
     slot = get_or items n 0
@@ -186,26 +186,22 @@ module _ {slots : List Waiting} {numbers : List (Option ℕ)} {order tickets : L
     opened_view : held_at (set slots slot w) (opens ++ slot ∷ []) ≡ held_at slots opens ++ w ∷ []
     opened_view = held-push _ _ w _ there closed
 
-    opened : IsTable (set slots slot w) (set numbers w.request.invoke_id (Some slot)) order
+    opened : IsTable (set slots slot w) (set invoke_ids w.request.invoke_id (Some slot)) order
         (tickets ++ w.request.ticket ∷ [])
     opened = record {
       all_slots = length-set _ _ w ∙ t.all_slots;
       all_ranks = t.all_ranks;
       within = t.within;
       once = t.once;
-      numbered =
-          rw grown (named_set _ _ _ _ _ _ _ t.numbered (
+      names =
+          rw grown (named_set _ _ _ _ _ _ _ t.names (
             more _ (omega (arith, times_one itself slot slot refl)),
-            ap number_in (get_or-set_same _ _ w _ there),
-          ) (omega (
-            arith,
-            held w.request.invoke_id,
-            times_one number_in _ w refl,
-            ap (times number_in w.request.invoke_id) view,
-          )) (λ number other. omega (arith, held number, times_other number_in _ w (λ q. other (sym q))))
-          (λ number q other some has. (
+            ap invoke_id_in (get_or-set_same _ _ w _ there),
+          ) (grind (arith, held w.request.invoke_id, times_one invoke_id_in _ w refl, view))
+          (λ id other. omega (arith, held id, times_other invoke_id_in _ w (λ q. other (sym q))))
+          (λ id q other some has. (
             more q (omega arith),
-            ap number_in (get_or-set_other slots _ q w _ (elsewhere q some)) ∙ has,
+            ap invoke_id_in (get_or-set_other slots _ q w _ (elsewhere q some)) ∙ has,
           )));
       ticketed = grind (arith, grown, opened_view, map-append);
       rise = all_pairs_push (λ early late. early < late) _ _ t.rise
@@ -214,9 +210,9 @@ module _ {slots : List Waiting} {numbers : List (Option ℕ)} {order tickets : L
           omega arith);
     }
       where
-        held : (number : ℕ) → times number_in number (held_at (set slots slot w) (opens ++ slot ∷ []))
-            ≡ times number_in number (held_at slots opens) + times number_in number (w ∷ [])
-        held number = cc (opened_view, times-append _ number _ _)
+        held : (id : ℕ) → times invoke_id_in id (held_at (set slots slot w) (opens ++ slot ∷ []))
+            ≡ times invoke_id_in id (held_at slots opens) + times invoke_id_in id (w ∷ [])
+        held id = cc (opened_view, times-append _ id _ _)
 
         more : (q : ℕ) → 0 < times_of_slot q opens + times_of_slot q (slot ∷ [])
             → 0 < times_of_slot q (opens ++ slot ∷ [])
@@ -235,8 +231,8 @@ module _ {slots : List Waiting} {numbers : List (Option ℕ)} {order tickets : L
     -- As the code makes it.
     pub opened_by : {sends : List ℕ} → AreBySend slots opens sends → All (λ v. v.base ≤ asked.clock) ws →
         {index : ℕ} {changed : List Waiting} {after sent : List ℕ} → index ≡ asked.invoke_id
-        → changed ≡ set slots slot w → after ≡ tickets ++ asked.ticket ∷ [] → sent ≡ sends ++ slot ∷ [] →
-        Leaves (waiting_in changed order after ≡ ws ++ w ∷ []) changed (set numbers index (Some slot)) order after sent
+        → changed ≡ set slots slot w → after ≡ tickets ++ asked.ticket ∷ [] → sent ≡ sends ++ slot ∷ [] → Leaves
+        (waiting_in changed order after ≡ ws ++ w ∷ []) changed (set invoke_ids index (Some slot)) order after sent
     opened_by q past has made to too =
         rw (has, made, to, too) (record {
           told = ap (held_at _) grown ∙ opened_view ∙ ap (λ vs. vs ++ w ∷ []) view;
@@ -269,39 +265,27 @@ module _ {slots : List Waiting} {numbers : List (Option ℕ)} {order tickets : L
 
     moved : (q : ℕ) → times_of_slot q (remove order i ++ slot ∷ []) ≡ times_of_slot q order
     moved q =
-        omega (
-          arith,
-          times-append itself q (remove order i) (slot ∷ []),
-          times-remove itself q _ i 0 within_order,
-          ap (λ (k : ℕ). times_of_slot q (k ∷ [])) is,
-        )
+        grind (arith, times-append itself q (remove order i) (slot ∷ []), times-remove itself q _ i 0 within_order, is)
 
     gone : (q : ℕ) → times_of_slot q (remove opens i) + times_of_slot q (slot ∷ []) ≡ times_of_slot q opens
     gone q = grind (arith, times-remove itself q opens i 0, rank, at_rank)
 
-    left : (n : ℕ) → times number_in n (held_at slots (remove opens i))
-        + times number_in n (get_or slots slot nothing ∷ []) ≡ times number_in n (held_at slots opens)
+    left : (n : ℕ) → times invoke_id_in n (held_at slots (remove opens i))
+        + times invoke_id_in n (get_or slots slot nothing ∷ []) ≡ times invoke_id_in n (held_at slots opens)
     left n =
-        grind (
-          arith,
-          length-map,
-          rank,
-          at_rank,
-          map-remove,
-          held_got,
-          times-remove number_in n (held_at slots opens) i nothing,
-        )
+        let parts = times-remove invoke_id_in n (held_at slots opens) i nothing in
+        grind (arith, length-map, rank, at_rank, map-remove, held_got)
 
-    ended : (number : ℕ) → number ≡ number_at slots slot
-        → IsTable slots (set numbers number None) (remove order i ++ slot ∷ []) (remove tickets i)
-    ended number has = record {
+    ended : (id : ℕ) → id ≡ invoke_id_at slots slot
+        → IsTable slots (set invoke_ids id None) (remove order i ++ slot ∷ []) (remove tickets i)
+    ended id has = record {
       all_slots = t.all_slots;
       all_ranks = grind (arith, length-append, length-remove, within_order);
       within = λ q le. moved q ∙ t.within q le;
       once = grind (arith, moved);
-      numbered =
-          rw shrunk (named_set _ _ _ _ _ _ _ t.numbered (grind (arith, left, get_or))
-          (let e = left number in omega arith) (grind (arith, left, get_or))
+      names =
+          rw shrunk (named_set _ _ _ _ _ _ _ t.names (grind (arith, left, get_or))
+          (let e = left id in omega arith) (grind (arith, left, get_or))
           (λ n q other some its. (grind (arith, gone), its)));
       ticketed = grind (arith, shrunk, map-remove);
       rise = all_pairs_remove (λ early late. early < late) _ i within_tickets t.rise;
@@ -318,11 +302,11 @@ module _ {slots : List Waiting} {numbers : List (Option ℕ)} {order tickets : L
     sent_slot = grind (arith, at_rank, rank, times_got itself opens i 0)
 
     -- As the code makes it.
-    pub ended_by : {index number : ℕ} {removed after rest sends left : List ℕ} {w : Waiting} →
-        w ≡ get_or slots slot nothing → number ≡ w.request.invoke_id → index ≡ number →
+    pub ended_by : {index id : ℕ} {removed after rest sends left : List ℕ} {w : Waiting} →
+        w ≡ get_or slots slot nothing → id ≡ w.request.invoke_id → index ≡ id →
         removed ≡ remove order i → after ≡ removed ++ slot ∷ [] → rest ≡ remove tickets i →
         AreBySend slots opens sends → IsTakenOut slot sends left →
-        Leaves (waiting_in slots after rest ≡ remove ws i) slots (set numbers index None) after rest left
+        Leaves (waiting_in slots after rest ≡ remove ws i) slots (set invoke_ids index None) after rest left
     ended_by reads has same gone to from q out =
         rw (from, to, gone) (record {
           told = ended_view;
@@ -336,19 +320,19 @@ pub record IsUpTo (n : ℕ) (slots : List ℕ) : Type 0 where
   pub once : (slot : ℕ) → times_of_slot slot slots ≤ 1
 
 -- No slot is open at first.
-pub empty_table : (slots : List Waiting) (numbers : List (Option ℕ)) (order tickets : List ℕ) → tickets ≡ []
-    → length slots ≡ table_size → numbers ≡ replicate 256 None → length order ≡ table_size
+pub empty_table : (slots : List Waiting) (invoke_ids : List (Option ℕ)) (order tickets : List ℕ) → tickets ≡ []
+    → length slots ≡ table_size → invoke_ids ≡ replicate 256 None → length order ≡ table_size
     → ((slot : ℕ) → table_size ≤ slot → times_of_slot slot order ≡ 0) → ((slot : ℕ) → times_of_slot slot order ≤ 1) →
-    IsTable slots numbers order tickets
+    IsTable slots invoke_ids order tickets
 empty_table _ _ _ _ none all_slots blank whole within once = rw none (record {
   all_slots = all_slots;
   all_ranks = whole;
   within = within;
   once = once;
-  numbered = record {
-    all_numbers = cc;
-    apart = λ number. omega arith;
-    named = λ number lt. rw (ap (λ xs. get_or xs number None) blank ∙ get_or-replicate {A = Option ℕ} 256 _ _ _ lt);
+  names = record {
+    all_invoke_ids = cc;
+    apart = λ id. omega arith;
+    named = λ id lt. rw (ap (λ xs. get_or xs id None) blank ∙ get_or-replicate {A = Option ℕ} 256 _ _ _ lt);
   };
   ticketed = refl;
   rise = omega arith;

@@ -4,17 +4,16 @@ use Rattle.std.{
   proofs.Common.{false, get_or, get_or-set_other, get_or-set_same, get_or-take, if◌then◌else◌, length, length-append},
   proofs.Common.{length-take, List, lt-ltb, ltb-false, map, MatchResult, nat_eq, nat_lt, ne_eqb, None, not, Ok, Option},
   proofs.Common.{refl, remove, Result, set, Some, subst, suc, sym, take, take-append-drop, true, unwrap_or, zero, ℕ},
-  proofs.lemmas.{Bool.Decides.nat_tests, Grind.common_steps, List.{Elements.filter-append, Sorted.searched}},
-  proofs.lemmas.List.{drop-map, get_or-map, get_or_default, length-map, map-append, take-map},
+  proofs.lemmas.{Bool.Decides.nat_tests, Grind.common_steps, List.{drop-map, get_or-map, get_or_default, length-map}},
+  proofs.lemmas.List.{map-append, take-map, Elements.filter-append, Sorted.searched},
   proofs.lemmas.{List.Sums.{length-filter, sum_by-remove}, Option.{get_or_from_slice_get, slice_get_within}},
-  specs.{List.{filter, find, list_any, position_or_len, slice_get, Sorted.IsBinarySearchResult}, Option.is_some},
-  specs.{Ordering.nat_cmp, Result.result_ok},
+  specs.List.{filter, find, list_any, position_or_len, slice_get, Sorted.IsBinarySearchResult},
+  specs.{Option.is_some, Ordering.nat_cmp, Result.result_ok},
 }
 use Rattle.bac_tsm.specs.{Answer, first_within, held_at, is_answer_to, IsTable, Names, next_invoke_id, nothing}
-use Rattle.bac_tsm.specs.{open_slots, table_size, times, times_of_slot, Machine.Waiting}
-use Rattle.bac_tsm.{specs.Inner.{IsRankOf, number_in, ticket_in, waiting_in}, proofs.OpenRequests.{a_step, is_free}}
-use Rattle.bac_tsm.proofs.CallNotes.{by_ticket, pairs_tail, TicketsRise}
-use Rattle.bac_tsm.proofs.RequestLife.{first_at, first_from, NotBefore}
+use Rattle.bac_tsm.specs.{open_slots, table_size, times, times_of_slot, Inner.{invoke_id_in, IsRankOf, ticket_in}}
+use Rattle.bac_tsm.{specs.{Inner.waiting_in, Machine.Waiting}, proofs.CallNotes.{by_ticket, pairs_tail, TicketsRise}}
+use Rattle.bac_tsm.proofs.{OpenRequests.{a_step, is_free}, RequestLife.{first_at, first_from, NotBefore}}
 
 -- ---- the requests at the slots of a list, where a slot or the list changes
 
@@ -84,11 +83,11 @@ held_got _ _ i _ lt is = cc (get_or-map _ _ i 0 _ lt, is)
 pub same_turn : (order : List ℕ) (i slot : ℕ) → i < length order → slot ≡ get_or order i slot → slot ≡ get_or order i 0
 same_turn _ i _ lt is = is ∙ get_or_default _ i _ 0 lt
 
--- A number is found among these where one of them has it.
-pub any_number : (number : ℕ) (ws : List Waiting)
-    → list_any (λ w. nat_eq number w.request.invoke_id) ws ≡ nat_lt 0 (times number_in number ws)
-any_number _ [] = refl
-any_number number (w ∷ ws) = grind (arith, any_number number ws)
+-- An invoke id is found among these where one of them has it.
+pub any_invoke_id : (id : ℕ) (ws : List Waiting)
+    → list_any (λ w. nat_eq id w.request.invoke_id) ws ≡ nat_lt 0 (times invoke_id_in id ws)
+any_invoke_id _ [] = refl
+any_invoke_id id (w ∷ ws) = grind (arith, any_invoke_id id ws)
 
 -- The first rank at which a slot stands: where it is among these, it stands there.
 abbrev pub rank_of_slot : ℕ → List ℕ → ℕ
@@ -109,8 +108,8 @@ find_rank t (w ∷ ws) (suc i) rise lt is =
     rw (ne_eqb w.request.ticket t (λ q. omega arith))
     (find_rank t ws i (pairs_tail (λ v w. v.request.ticket < w.request.ticket) w ws rise) (omega arith) is)
 
-module _ {slots : List Waiting} {numbers : List (Option ℕ)} {order tickets : List ℕ}
-    (t : IsTable slots numbers order tickets) where
+module _ {slots : List Waiting} {invoke_ids : List (Option ℕ)} {order tickets : List ℕ}
+    (t : IsTable slots invoke_ids order tickets) where
   abbrev opened : List ℕ
   opened = open_slots order tickets
 
@@ -213,28 +212,28 @@ module _ {slots : List Waiting} {numbers : List (Option ℕ)} {order tickets : L
     pub open_read : get_or slots slot nothing ≡ get_or ws rank nothing
     open_read = read_held ws view _ _ turn_lt stands
 
-  -- The entry of a number.
-  module _ (number : ℕ) (fits : number < 256) where
-    -- The slot that the entry names is open, and the request there has the number.
-    named : (slot : ℕ) → get_or numbers number None ≡ Some slot → Names slots opened number (Some slot)
+  -- The entry of an invoke id.
+  module _ (id : ℕ) (fits : id < 256) where
+    -- The slot that the entry names is open, and the request there has the invoke id.
+    named : (slot : ℕ) → get_or invoke_ids id None ≡ Some slot → Names slots opened id (Some slot)
     named = grind arith
 
-    pub taken : (index : ℕ) → index ≡ number → (ws : List Waiting) → waiting_in slots order tickets ≡ ws →
-        is_some (get_or numbers index None) ≡ list_any (λ w. nat_eq number w.request.invoke_id) ws
+    pub taken : (index : ℕ) → index ≡ id → (ws : List Waiting) → waiting_in slots order tickets ≡ ws →
+        is_some (get_or invoke_ids index None) ≡ list_any (λ w. nat_eq id w.request.invoke_id) ws
     taken _ is ws view = rw (is, ← view) (by _ refl)
       where
-        by : (entry : Option ℕ) → get_or numbers number None ≡ entry
-            → is_some entry ≡ list_any (λ w. nat_eq number w.request.invoke_id) (waiting_in slots order tickets)
-        by None is = sym (any_number number _ ∙ ap (nat_lt 0) (rw is at (t.numbered.named number fits)))
+        by : (entry : Option ℕ) → get_or invoke_ids id None ≡ entry
+            → is_some entry ≡ list_any (λ w. nat_eq id w.request.invoke_id) (waiting_in slots order tickets)
+        by None is = sym (any_invoke_id id _ ∙ ap (nat_lt 0) (rw is at (t.names.named id fits)))
         by (Some slot) is =
             let (among, its) = named slot is in
             let (within, stands) = found_at slot opened among in
-            let has = ap number_in (held_got slots opened _ slot within stands) ∙ its in
-            let some = times_got number_in (held_at slots opened) (rank_of_slot slot opened) nothing in
-            grind (arith, any_number, lt-ltb, length-map)
+            let has = ap invoke_id_in (held_got slots opened _ slot within stands) ∙ its in
+            let some = times_got invoke_id_in (held_at slots opened) (rank_of_slot slot opened) nothing in
+            grind (arith, any_invoke_id, lt-ltb, length-map)
 
   -- What an answer ends.
-  module _ (answer : Answer) (number : ℕ) (its : number ≡ answer.invoke_id) (fits : number < 256) (ws : List Waiting)
+  module _ (answer : Answer) (id : ℕ) (its : id ≡ answer.invoke_id) (fits : id < 256) (ws : List Waiting)
       (view : waiting_in slots order tickets ≡ ws) where
     abbrev ends : Waiting → Bool
     ends w = is_answer_to w.request answer
@@ -244,17 +243,17 @@ module _ {slots : List Waiting} {numbers : List (Option ℕ)} {order tickets : L
       pub told : gone ≡ map ticket_in (filter ends ws)
       pub others : after ≡ filter (λ w. not (ends w)) ws
 
-    says : (w : Waiting) → ends w ≡ true → w.request.invoke_id ≡ number
+    says : (w : Waiting) → ends w ≡ true → w.request.invoke_id ≡ id
     unfolding is_answer_to
     says = grind (arith, eqb-true)
 
-    pub closed_none : get_or numbers number None ≡ None → Closes [] ws
+    pub closed_none : get_or invoke_ids id None ≡ None → Closes [] ws
     closed_none is =
         let (none, all) =
-        none_passes _ _ _ says ws (rw view at (subst (Names slots _ _) is (t.numbered.named _ fits))) in
+        none_passes _ _ _ says ws (rw view at (subst (Names slots _ _) is (t.names.named _ fits))) in
         record { told = cc none; others = sym all }
 
-    module _ (slot : ℕ) (is : get_or numbers number None ≡ Some slot) where
+    module _ (slot : ℕ) (is : get_or invoke_ids id None ≡ Some slot) where
       some : 0 < times_of_slot slot opened
       some = let (among, _) = named _ fits _ is in among
 
@@ -273,7 +272,7 @@ module _ {slots : List Waiting} {numbers : List (Option ℕ)} {order tickets : L
         found =
             let (_, its) = named _ fits _ is in
             rw read (one_passes _ _ _ says ws i _ (turn_lt ws view slot some) (cc (open_read ws view slot some, its))
-            (rw (← view) (t.numbered.apart _)))
+            (rw (← view) (t.names.apart _)))
 
         pub closed_not : ends w ≡ false → Closes [] ws
         closed_not = grind (arith, found)
@@ -286,7 +285,7 @@ module _ {slots : List Waiting} {numbers : List (Option ℕ)} {order tickets : L
               → after ≡ remove ws j → Closes (ticket ∷ []) after
           closed_that = grind (arith, found, one_turn, turn_lt, read)
 
--- ---- the look for a free number, one step at a time
+-- ---- the look for a free invoke id, one step at a time
 
 list_any-map : {A : Type 0} (f : A → ℕ) (p : ℕ → Bool) (xs : List A)
     → list_any p (map f xs) ≡ list_any (λ x. p (f x)) xs
@@ -298,9 +297,9 @@ module _ (last : ℕ) (ws : List Waiting) where
   is_taken d = list_any (λ w. nat_eq ((last + d) % 256) w.request.invoke_id) ws
 
   abbrev first : Option ℕ
-  first = first_within (is_free last (map number_in ws)) 1 256
+  first = first_within (is_free last (map invoke_id_in ws)) 1 256
 
-  -- The numbers after the last one are taken, up to the d-th.
+  -- The invoke ids after the last one are taken, up to the d-th.
   abbrev pub TakenBefore : ℕ → Type 0
   TakenBefore d = (k : ℕ) → k < d → 1 ≤ k → is_taken k ≡ true
 
@@ -310,30 +309,30 @@ module _ (last : ℕ) (ws : List Waiting) where
   not_before : (d : ℕ) → TakenBefore d → NotBefore d first
   not_before d before j e =
       let found = first_from (is_free last _) 1 256 j e in
-      grind (arith, list_any-map number_in (nat_eq ((last + j) % 256)) ws, before j)
+      grind (arith, list_any-map invoke_id_in (nat_eq ((last + j) % 256)) ws, before j)
 
   pub free_is : (d : ℕ) → TakenBefore d → 1 ≤ d → d < 257 → is_taken d ≡ false
-      → (last + d) % 256 ≡ next_invoke_id last (map number_in ws)
+      → (last + d) % 256 ≡ next_invoke_id last (map invoke_id_in ws)
   unfolding next_invoke_id
   free_is d before low high free =
       rw (first_at (is_free last _) 1 256 d low high (rw (list_any-map _ _ ws, free) refl) (not_before d before))
 
   -- Where all others are taken, the last one is given again.
-  pub last_is : last < 256 → TakenBefore 256 → last ≡ next_invoke_id last (map number_in ws)
+  pub last_is : last < 256 → TakenBefore 256 → last ≡ next_invoke_id last (map invoke_id_in ws)
   unfolding next_invoke_id
   last_is fits before = go _ refl
     where
       go : (o : Option ℕ) → first ≡ o → last ≡ (last + unwrap_or o 0) % 256
       go None e = omega arith
       go (Some j) e =
-          let (_, _, below) = first_from (is_free last (map number_in ws)) 1 256 j e in
+          let (_, _, below) = first_from (is_free last (map invoke_id_in ws)) 1 256 j e in
           omega (arith, not_before 256 before j e, below)
 
--- No open request has the next number.
-pub number_unused : (last number : ℕ) (ws : List Waiting) → number ≡ next_invoke_id last (map number_in ws)
-    → length ws < 256 → times number_in number ws ≡ 0
-number_unused last _ ws is few =
+-- No open request has the next invoke id.
+pub invoke_id_unused : (last id : ℕ) (ws : List Waiting) → id ≡ next_invoke_id last (map invoke_id_in ws)
+    → length ws < 256 → times invoke_id_in id ws ≡ 0
+invoke_id_unused last _ ws is few =
     let (_, step) = a_step last _ (rw length-map few) in
     let n = _ % 256 in
-    let none = ltb-false 0 _ (sym (any_number n ws) ∙ sym (list_any-map _ _ ws) ∙ step.free) in
+    let none = ltb-false 0 _ (sym (any_invoke_id n ws) ∙ sym (list_any-map _ _ ws) ∙ step.free) in
     rw (is, step.next) (omega arith)

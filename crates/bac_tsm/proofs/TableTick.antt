@@ -1,20 +1,21 @@
 -- The loop over the open requests that are due at a tick.
-use Rattle.std.proofs.Common.{[], ◌++◌, ◌+◌, ◌-◌, ◌<◌, ◌∙◌, ◌∷◌, ◌≡◌, ◌≤◌, add-one, All, ap, append-nil, append_assoc}
-use Rattle.std.proofs.Common.{arith, Bool, drop, false, get_or, if◌then◌else◌, length, length-append, List, map, nat_le}
-use Rattle.std.proofs.Common.{nat_lt, None, Option, refl, remove, set, Some, suc, sym, take, take-append-drop, take_all}
-use Rattle.std.proofs.{Common.{true, zero, ℕ}, lemmas.{Bool.false≢true, Grind.{common_steps, flat_map-append}}}
-use Rattle.std.proofs.lemmas.List.{drop_all, drop_more, get_or_default, length-map, same_lists, set_split}
-use Rattle.std.proofs.lemmas.List.{Elements.{All-append, All-drop, All-take, Contains-get_or}, Kept.AllPairs-filter}
-use Rattle.std.proofs.lemmas.{List.Folds.{list_any_at, list_any_none}, Option.{get_or_from_slice_get, slice_get_within}}
-use Rattle.std.proofs.lemmas.List.Sorted.{Contains-permutation, IsPermutation-append_right, IsPermutation-middle}
-use Rattle.std.proofs.lemmas.List.Sorted.{IsPermutation-trans, length_permutation, sum_by-IsPermutation}
-use Rattle.std.proofs.lemmas.List.Sums.{count_by-le-length, length-filter, sum_by-cons}
-use Rattle.std.specs.List.{AllPairs, count_by, filter, flat_map, list_any, refill, slice_get}
-use Rattle.std.specs.List.Sorted.{IsNonDecreasingBy, IsPermutation}
+use Rattle.std.{
+  proofs.Common.{[], ◌++◌, ◌+◌, ◌-◌, ◌<◌, ◌∙◌, ◌∷◌, ◌≡◌, ◌≤◌, add-one, All, ap, append-nil, append_assoc, arith, Bool},
+  proofs.Common.{drop, false, get_or, if◌then◌else◌, length, length-append, List, map, nat_le, nat_lt, None, Option},
+  proofs.Common.{refl, remove, set, Some, suc, sym, take, take-append-drop, take_all, true, zero, ℕ},
+  proofs.lemmas.{Bool.false≢true, Grind.{common_steps, flat_map-append}, List.{drop_all, drop_more, get_or_default}},
+  proofs.lemmas.List.{length-map, same_lists, set_split, Elements.{All-append, All-drop, All-take, Contains-get_or}},
+  proofs.lemmas.List.{Folds.{list_any_at, list_any_none}, Kept.AllPairs-filter, Sorted.Contains-permutation},
+  proofs.lemmas.List.Sorted.{IsPermutation-append_right, IsPermutation-middle, IsPermutation-trans, length_permutation},
+  proofs.lemmas.List.{Sorted.sum_by-IsPermutation, Sums.{count_by-le-length, length-filter, sum_by-cons}},
+  proofs.lemmas.Option.{get_or_from_slice_get, slice_get_within},
+  specs.List.{AllPairs, count_by, filter, flat_map, list_any, refill, slice_get, Sorted.IsNonDecreasingBy},
+  specs.List.Sorted.IsPermutation,
+}
 use Rattle.bac_tsm.{
   specs.{AreBySend, due_answer, due_entry, DueEntry, held_at, is_due, IsTable, IsWhole, kept, nothing, open_slots},
   specs.{Resend, Rules, table_size, times_of_slot, declared.due.DueEntry.TheVariants.TimedOut as Expired},
-  specs.{Machine.Waiting, Inner.{IsPassed, IsRankOf, Leaves, sent_at, ticket_of, waiting_in}},
+  specs.{Inner.{IsPassed, IsRankOf, Leaves, sent_at, ticket_of, waiting_in}, Machine.Waiting},
   proofs.{CallNotes.{kept_of_one, pairs_map, TicketsRise}, TableEdits.{all_opened, changed_by, queue-again}},
   proofs.TableReads.{held_got, itself, one_turn, open_below, open_read, rank_of_slot, stands, times_got, times_split},
   proofs.TableReads.turn_lt,
@@ -26,28 +27,18 @@ use Rattle.bac_tsm.{
 module _ {A : Type 0} (p : A → Bool) (d : A) where
   at_least : (xs : List A) (n : ℕ) → n ≤ length xs → ((i : ℕ) → i < n → p (get_or xs i d) ≡ true) → n ≤ count_by p xs
   at_least (x ∷ xs) (suc n) le all =
-      grind (
-        arith,
-        sum_by-cons (λ y. if p y then 1 else 0) x xs,
-        all 0 (omega arith),
-        at_least xs n (omega arith) (λ i lt. all (suc i) (omega arith)),
-      )
+      let more = at_least xs n (omega arith) (λ i lt. all (suc i) (omega arith)) in
+      grind (arith, sum_by-cons (λ y. if p y then 1 else 0) x xs, all 0 (omega arith))
   at_least _ _ le all = grind arith
 
   at_most : (xs : List A) (n : ℕ) → ((i : ℕ) → n ≤ i → i < length xs → p (get_or xs i d) ≡ false) → count_by p xs ≤ n
   at_most [] n _ = omega arith
   at_most (x ∷ xs) zero none =
-      grind (
-        arith,
-        none 0 (omega arith) (omega arith),
-        at_most xs zero (λ i le lt. none (suc i) (omega arith) (omega arith)),
-      )
+      let fewer = at_most xs zero (λ i le lt. none (suc i) (omega arith) (omega arith)) in
+      grind (arith, none 0 (omega arith) (omega arith))
   at_most (x ∷ xs) (suc n) none =
-      grind (
-        arith,
-        sum_by-cons (λ y. if p y then 1 else 0) x xs,
-        at_most xs n (λ i le lt. none (suc i) (omega arith) (omega arith)),
-      )
+      let fewer = at_most xs n (λ i le lt. none (suc i) (omega arith) (omega arith)) in
+      grind (arith, sum_by-cons (λ y. if p y then 1 else 0) x xs)
 
 module _ {A : Type 0} (key : A → ℕ) where
   abbrev Rise : List A → Type 0
@@ -174,8 +165,8 @@ younger : (timeout clock early late : ℕ) → nat_le timeout (clock - early) �
 younger = grind arith
 
 -- Where some request is due, some was sent.
-pub some_sent : {slots : List Waiting} {numbers : List (Option ℕ)} {order tickets sends : List ℕ}
-    → IsWhole slots numbers order tickets sends → (ws : List Waiting) → waiting_in slots order tickets ≡ ws
+pub some_sent : {slots : List Waiting} {invoke_ids : List (Option ℕ)} {order tickets sends : List ℕ}
+    → IsWhole slots invoke_ids order tickets sends → (ws : List Waiting) → waiting_in slots order tickets ≡ ws
     → (rules : Rules) (clock : ℕ) → list_any (is_due rules clock) ws ≡ true → 0 < length sends
 some_sent = grind arith
 
@@ -187,10 +178,10 @@ module _ (rules : Rules) (clock : ℕ) (w : Waiting) where
       × (w.request.ticket ≡ ticket)
   is_over = grind arith
 
-module _ {slots : List Waiting} {numbers : List (Option ℕ)} {order tickets sends : List ℕ}
-    (whole : IsWhole slots numbers order tickets sends) (ws : List Waiting)
+module _ {slots : List Waiting} {invoke_ids : List (Option ℕ)} {order tickets sends : List ℕ}
+    (whole : IsWhole slots invoke_ids order tickets sends) (ws : List Waiting)
     (view : waiting_in slots order tickets ≡ ws) (slot : ℕ) (front : Some slot ≡ slice_get sends 0) where
-  abbrev t : IsTable slots numbers order tickets
+  abbrev t : IsTable slots invoke_ids order tickets
   t = whole.table
 
   abbrev q : AreBySend slots (open_slots order tickets) sends
@@ -246,20 +237,14 @@ module _ {slots : List Waiting} {numbers : List (Option ℕ)} {order tickets sen
           changed ≡ set slots slot (sent_at clock (get_or slots slot nothing)) → rest ≡ remove sends 0
           → after ≡ rest ++ slot ∷ []
           → Leaves (IsPassed rules clock ws (due_entry rules w) (waiting_in changed order tickets))
-          changed numbers order tickets after
+          changed invoke_ids order tickets after
       sent_again past _ again _ rest _ is out back =
           let v = sent_at clock (get_or slots slot _) in
           let (changed, table) = changed_by t ws view i lt slot (stands t ws view slot some) v refl in
           let kept_now : v ∷ [] ≡ kept rules clock (get_or ws i nothing) =
           grind (arith, due_there, nat_lt, read, is_again, some) in
           rw (is, back) (record {
-            told = (
-              i,
-              lt,
-              due_there,
-              ap (due_entry rules) read,
-              changed ∙ set_split ws i v lt ∙ ap (λ vs. take i ws ++ (vs ++ drop (suc i) ws)) kept_now,
-            );
+            told = (i, lt, due_there, grind (arith, read), grind (arith, changed, set_split ws i v lt, kept_now));
             whole = record {
               table = table;
               queue = queue-again q slot rest (record { rank = 0; within = sent; stood = first; left = out }) v

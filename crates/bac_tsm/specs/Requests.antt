@@ -26,12 +26,12 @@ outcome_of_event rules request (Some (Data peer bytes)) = rules.outcome_of reque
 outcome_of_event rules request _ = None
 
 -- The invoke id of the last of these requests, 0 if there is none.
-abbrev pub last_number : List Accepted → ℕ
-last_number requests = fold (λ last a. a.request.invoke_id) 0 requests
+abbrev pub last_invoke_id : List Accepted → ℕ
+last_invoke_id requests = fold (λ last a. a.request.invoke_id) 0 requests
 
 -- The invoke ids of these requests.
-abbrev pub numbers_of : List Accepted → List ℕ
-numbers_of requests = map (λ a. a.request.invoke_id) requests
+abbrev pub invoke_ids_of : List Accepted → List ℕ
+invoke_ids_of requests = map (λ a. a.request.invoke_id) requests
 
 -- The request, where there is no reason to refuse it.
 abbrev pub unless_refused : Option SubmitFault → Accepted → Result Accepted SubmitFault

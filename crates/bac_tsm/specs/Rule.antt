@@ -1,6 +1,6 @@
 -- What the look-ahead keeps to, whatever the events are.
 use Rattle.std.specs.{Prelude.{◌≡◌, ◌≢◌, ℕ, ◌+◌, ◌≤◌, List, length, filter}, List.{All, AllPairs}}
-use Rattle.bac_tsm.specs.{Events.{Event, Rules}, Laws.NumbersComeBackLate, Watching.{is_send_of, is_end_of}}
+use Rattle.bac_tsm.specs.{Events.{Event, Rules}, Laws.InvokeIdsComeBackLate, Watching.{is_send_of, is_end_of}}
 use Rattle.bac_tsm.specs.Lookahead.{Accepted, accepted, open_at, sends, send_notes, end, end_notes, output}
 
 -- What holds of the look-ahead, for every list of events.
@@ -19,4 +19,4 @@ pub record FollowsTheRule (rules : Rules) (first_ticket : ℕ) (events : List Ev
   pub ended_where_placed : (i : ℕ) → All (λ a. filter (is_end_of a.request.ticket) (output rules first_ticket events i)
       ≡ end_notes i a.request (end rules events a)) (accepted rules first_ticket events (length events))
   -- Between two accepted requests with one invoke id stand at least 256 others, less as many as may be open at once.
-  pub reuse : NumbersComeBackLate rules.most_open (accepted rules first_ticket events (length events))
+  pub reuse : InvokeIdsComeBackLate rules.most_open (accepted rules first_ticket events (length events))

@@ -21,24 +21,24 @@ open_slots order tickets = take (length tickets) order
 
 -- The entry of an invoke id: none where no open request has it, else the slot of the one that has it.
 abbrev pub Names : List Waiting → List ℕ → ℕ → Option ℕ → Type 0
-Names slots order number None = times (λ w. w.request.invoke_id) number (held_at slots order) ≡ 0
-Names slots order number (Some slot) = (0 < times_of_slot slot order)
-    × ((get_or slots slot nothing).request.invoke_id ≡ number)
+Names slots order invoke_id None = times (λ w. w.request.invoke_id) invoke_id (held_at slots order) ≡ 0
+Names slots order invoke_id (Some slot) = (0 < times_of_slot slot order)
+    × ((get_or slots slot nothing).request.invoke_id ≡ invoke_id)
 
 -- No two open requests have one invoke id, and each invoke id has an entry that says so.
-pub record AreNamed (slots : List Waiting) (numbers : List (Option ℕ)) (order : List ℕ) : Type 0 where
-  pub all_numbers : length numbers ≡ 256
-  pub apart : (number : ℕ) → times (λ w. w.request.invoke_id) number (held_at slots order) ≤ 1
-  pub named : (number : ℕ) → number < 256 → Names slots order number (get_or numbers number None)
+pub record AreNamed (slots : List Waiting) (invoke_ids : List (Option ℕ)) (order : List ℕ) : Type 0 where
+  pub all_invoke_ids : length invoke_ids ≡ 256
+  pub apart : (invoke_id : ℕ) → times (λ w. w.request.invoke_id) invoke_id (held_at slots order) ≤ 1
+  pub named : (invoke_id : ℕ) → invoke_id < 256 → Names slots order invoke_id (get_or invoke_ids invoke_id None)
 
 -- The parts of the table fit each other: each slot stands in the order once, and the tickets are those of the open
 -- requests and rise.
-pub record IsTable (slots : List Waiting) (numbers : List (Option ℕ)) (order tickets : List ℕ) : Type 0 where
+pub record IsTable (slots : List Waiting) (invoke_ids : List (Option ℕ)) (order tickets : List ℕ) : Type 0 where
   pub all_slots : length slots ≡ table_size
   pub all_ranks : length order ≡ table_size
   pub within : (slot : ℕ) → table_size ≤ slot → times_of_slot slot order ≡ 0
   pub once : (slot : ℕ) → times_of_slot slot order ≤ 1
-  pub numbered : AreNamed slots numbers (open_slots order tickets)
+  pub names : AreNamed slots invoke_ids (open_slots order tickets)
   pub ticketed : map (λ w. w.request.ticket) (held_at slots (open_slots order tickets)) ≡ tickets
   pub rise : AllPairs (λ early late. early < late) tickets
 
@@ -49,6 +49,6 @@ pub record AreBySend (slots : List Waiting) (opened sends : List ℕ) : Type 0 w
   pub by_send : AllPairs (λ early late. early.base ≤ late.base) (held_at slots sends)
 
 -- The table is whole: its parts fit each other, and so do its sends.
-pub record IsWhole (slots : List Waiting) (numbers : List (Option ℕ)) (order tickets sends : List ℕ) : Type 0 where
-  pub table : IsTable slots numbers order tickets
+pub record IsWhole (slots : List Waiting) (invoke_ids : List (Option ℕ)) (order tickets sends : List ℕ) : Type 0 where
+  pub table : IsTable slots invoke_ids order tickets
   pub queue : AreBySend slots (open_slots order tickets) sends

@@ -34,7 +34,7 @@ pub enum SubmitFault {
 pub struct Client {
     config: Config,
     clock: u64,
-    last_number: u8,
+    last_invoke_id: u8,
     next_ticket: u64,
     table: Table,
 }
@@ -47,7 +47,7 @@ impl Model for Client {
 
     ghost view = { λ c. client_of c.config (record {
       clock = c.clock;
-      last_number = c.last_number;
+      last_invoke_id = c.last_invoke_id;
       next_ticket = c.next_ticket;
       waiting = c.table;
     }) };
@@ -65,7 +65,7 @@ impl Client {
         Client {
             config,
             clock: 0,
-            last_number: 0,
+            last_invoke_id: 0,
             next_ticket: first_ticket,
             table: Table::new(),
         }
@@ -77,7 +77,7 @@ impl Client {
     ///
     /// A request that is refused leaves the client as it was. The first fault in the order of [`SubmitFault`] is
     /// answered.
-    #[tactic(auto, using(crate::proofs::TableReads::number_unused), unfolding(crate::specs::Lookahead::refusal_of))]
+    #[tactic(auto, using(crate::proofs::TableReads::invoke_id_unused), unfolding(crate::specs::Lookahead::refusal_of))]
     pub fn submit(&mut self, peer: Peer, service: u8, body: &[u8]) -> Result<u64, SubmitFault>
         ensures { TakesStep self.old
             (submit (rules_of self.old) self.old.state (station peer) service body.now) result self.new }
@@ -86,16 +86,16 @@ impl Client {
             return Err(fault);
         }
         let ticket = self.next_ticket;
-        let number = self.table.free_number(self.last_number);
+        let invoke_id = self.table.free_invoke_id(self.last_invoke_id);
         let asked = Asked {
             ticket,
             peer,
             service,
-            invoke_id: number,
+            invoke_id,
             clock: self.clock,
         };
         self.table.open(asked, body);
-        self.last_number = number;
+        self.last_invoke_id = invoke_id;
         self.next_ticket = ticket + 1;
         Ok(ticket)
     }

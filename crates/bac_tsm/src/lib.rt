@@ -58,7 +58,7 @@ pub use limits::PLACES;
 pub use outcome::{Ended, Outcome};
 pub use running::{Watcher, run};
 pub use theorems::{
-    answers_are_by_number, answers_in_words, client_is_lookahead, no_request_waits_for_ever,
-    numbers_come_back_late, output_looks_back, passed_numbers_are_held, run_is_lookahead,
+    answers_are_by_invoke_id, answers_in_words, client_is_lookahead, invoke_ids_come_back_late,
+    no_request_waits_for_ever, output_looks_back, passed_invoke_ids_are_held, run_is_lookahead,
     stations_are_compared_whole, table_is_bounded,
 };

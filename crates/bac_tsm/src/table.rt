@@ -7,7 +7,7 @@ ghost use Rattle.std.specs.Prelude.{remove, replicate, set, slice_get, Some, tru
 ghost use Rattle.bac_pdu.specs.Apdu.{longest_body};
 ghost use Rattle.bac_tsm.specs.{client_rules, due_answer, is_answer_to, is_due, kept, next_invoke_id, nothing};
 ghost use Rattle.bac_tsm.specs.{table_size, times, times_of_slot, Inner.{ticket_in, ticket_of}};
-ghost use Rattle.bac_tsm.specs.Inner.{answer_seen, begun, IsPassed, IsRankOf, IsTakenOut, number_in, sent_at};
+ghost use Rattle.bac_tsm.specs.Inner.{answer_seen, begun, invoke_id_in, IsPassed, IsRankOf, IsTakenOut, sent_at};
 
 use crate::answer::Answer;
 use crate::config::Config;
@@ -28,7 +28,7 @@ use std::marker::Model;
 #[derive(Drop)]
 pub(crate) struct Table {
     slots: [OpenRequest; PLACES],
-    numbers: [Option<u8>; 256],
+    invoke_ids: [Option<u8>; 256],
     order: ArrayVec<u8, PLACES>,
     tickets: ArrayVec<u64, PLACES>,
     sends: ArrayVec<u8, PLACES>,
@@ -43,7 +43,7 @@ impl Model for Table {
 
     ghost view = { λ t. held_at t.slots (open_slots t.order.items t.tickets.items) };
 
-    ghost invariant = { λ t. IsWhole t.slots t.numbers t.order.items t.tickets.items t.sends.items };
+    ghost invariant = { λ t. IsWhole t.slots t.invoke_ids t.order.items t.tickets.items t.sends.items };
 }
 
 impl Table {
@@ -53,7 +53,7 @@ impl Table {
     {
         Table {
             slots: no_requests(),
-            numbers: no_numbers(),
+            invoke_ids: no_invoke_ids(),
             order: every_slot(),
             tickets: ArrayVec::new(),
             sends: ArrayVec::new(),
@@ -79,13 +79,13 @@ impl Table {
 
     /// The first invoke id of the cycle after the last one that no open request has.
     #[tactic(auto, using(crate::proofs::TableReads::free_is, crate::proofs::TableReads::taken_on, crate::proofs::TableReads::last_is))]
-    pub(crate) fn free_number(&self, last: u8) -> u8
+    pub(crate) fn free_invoke_id(&self, last: u8) -> u8
         ensures { result ≡ next_invoke_id last (map (λ w. w.request.invoke_id) self.now) }
     {
         for step in 1..=u8::MAX {
-            let number = last.wrapping_add(step);
-            if !self.is_taken(number) {
-                return number;
+            let invoke_id = last.wrapping_add(step);
+            if !self.is_taken(invoke_id) {
+                return invoke_id;
             }
         }
         last
@@ -94,14 +94,14 @@ impl Table {
     /// Opens a request with this body, at a slot that is free.
     pub(crate) fn open(&mut self, asked: Asked, body: &[u8])
         requires room { length self.old < table_size }
-        requires number { times number_in asked.invoke_id self.old ≡ 0 }
+        requires unused { times invoke_id_in asked.invoke_id self.old ≡ 0 }
         requires latest { All (λ w. w.request.ticket < asked.ticket) self.old }
         requires past { All (λ w. w.base ≤ asked.clock) self.old }
         requires short { length body.now ≤ longest_body }
         ensures { self.new ≡ self.old ++ begun asked body.now ∷ [] }
     {
         let slot = self.order[self.tickets.len()];
-        self.numbers[usize::from(asked.invoke_id)] = Some(slot);
+        self.invoke_ids[usize::from(asked.invoke_id)] = Some(slot);
         begin_at(&mut self.slots, slot, asked, body, &mut self.draft);
         self.tickets.push(asked.ticket);
         put_last(&mut self.sends, slot);
@@ -114,7 +114,7 @@ impl Table {
             ≡ map ticket_in (filter (λ w. is_answer_to w.request (answer_seen answer.now)) self.old) }
         ensures others { self.new ≡ filter (λ w. not (is_answer_to w.request (answer_seen answer.now))) self.old }
     {
-        let slot = self.numbers[usize::from(answer.invoke_id)]?;
+        let slot = self.invoke_ids[usize::from(answer.invoke_id)]?;
         let request = held(&self.slots, slot);
         if !is_answered_by(request, answer) {
             return None;
@@ -169,10 +169,10 @@ impl Table {
     }
 
     // Some open request has this invoke id.
-    fn is_taken(&self, number: u8) -> bool
-        ensures { result ≡ list_any (λ w. nat_eq number w.request.invoke_id) self.now }
+    fn is_taken(&self, invoke_id: u8) -> bool
+        ensures { result ≡ list_any (λ w. nat_eq invoke_id w.request.invoke_id) self.now }
     {
-        self.numbers[usize::from(number)].is_some()
+        self.invoke_ids[usize::from(invoke_id)].is_some()
     }
 
     // Brings the request that was sent longest ago to this clock, and answers what becomes of it.
@@ -218,8 +218,8 @@ impl Table {
         ensures { self.new ≡ remove self.old rank }
     {
         let slot = self.order.remove(rank);
-        let number = held(&self.slots, slot).invoke_id();
-        self.numbers[usize::from(number)] = None;
+        let invoke_id = held(&self.slots, slot).invoke_id();
+        self.invoke_ids[usize::from(invoke_id)] = None;
         self.order.push(slot);
         self.tickets.remove(rank);
         take_out(&mut self.sends, slot, rank);
@@ -234,7 +234,7 @@ fn no_requests() -> [OpenRequest; PLACES]
 }
 
 // A table in which no invoke id is taken.
-fn no_numbers() -> [Option<u8>; 256]
+fn no_invoke_ids() -> [Option<u8>; 256]
     ensures { result ≡ replicate 256 None }
 {
     [None; 256]

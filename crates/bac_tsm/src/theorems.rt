@@ -3,15 +3,15 @@
 ghost use Rattle.std.specs.{List.AllPairs, Prelude.ℕ};
 ghost use Rattle.std.specs.Prelude.{◌++◌, ◌+◌, ◌<◌, ◌↔◌, ◌∷◌, ◌≡◌, ◌≢◌, ◌≤◌, IsSomeAnd, length, List, suc, take, true};
 ghost use Rattle.bac_pdu.specs.Peer.{Station};
-ghost use Rattle.bac_tsm.specs.{Accepted, accepted, AnswersByNumber, client_rules, due, end, Event, IsAnsweredBy};
-ghost use Rattle.bac_tsm.specs.{last_of, MachineIsLookahead, NumbersComeBackLate, open_among, open_at, Outcome};
+ghost use Rattle.bac_tsm.specs.{Accepted, accepted, AnswersByInvokeId, client_rules, due, end, Event, IsAnsweredBy};
+ghost use Rattle.bac_tsm.specs.{InvokeIdsComeBackLate, last_of, MachineIsLookahead, open_among, open_at, Outcome};
 ghost use Rattle.bac_tsm.specs.{outcome_of, output, PassedAreHeld, Request, Rules, same_station, sends, TimeoutsPass};
 
 /// The machine tells, at each position, the notes that the look-ahead gives there, and keeps what it says is open: for
 /// any rules by which at most 255 requests may be open, and those that one datagram answers have the same invoke id.
 pub fn run_is_lookahead()
     ensures { (rules : Rules) (first_ticket : ℕ) (events : List Event) →
-        AnswersByNumber rules → rules.most_open ≤ 255 → MachineIsLookahead rules first_ticket events }
+        AnswersByInvokeId rules → rules.most_open ≤ 255 → MachineIsLookahead rules first_ticket events }
 {}
 
 /// The same of the rules that a client goes by.
@@ -21,8 +21,8 @@ pub fn client_is_lookahead()
 {}
 
 /// The requests that one datagram answers have the same invoke id.
-pub fn answers_are_by_number()
-    ensures { (timeout retries : ℕ) → AnswersByNumber (client_rules timeout retries) }
+pub fn answers_are_by_invoke_id()
+    ensures { (timeout retries : ℕ) → AnswersByInvokeId (client_rules timeout retries) }
 {}
 
 /// The table of answers takes two stations for the same exactly where address, port and route are.
@@ -39,7 +39,7 @@ pub fn answers_in_words()
 
 /// At each position at most as many requests are open as may be, under different invoke ids and in the order of their
 /// tickets; each is sent at most once more than the retries.
-#[tactic(auto, using(crate::proofs::OpenRequests::roomy, crate::proofs::OpenRequests::tickets_rise, crate::proofs::NumberReuse::few_sends))]
+#[tactic(auto, using(crate::proofs::OpenRequests::roomy, crate::proofs::OpenRequests::tickets_rise, crate::proofs::InvokeIdReuse::few_sends))]
 pub fn table_is_bounded()
     ensures few { (rules : Rules) (first_ticket : ℕ) (events : List Event) (n : ℕ) →
         rules.most_open ≤ 255 → length (open_at rules first_ticket events n) ≤ rules.most_open }
@@ -60,15 +60,15 @@ pub fn output_looks_back()
 {}
 
 /// Between two requests with the same invoke id, at least 256 others are accepted, less as many as may be open at once.
-#[tactic(auto, using(crate::proofs::NumberReuse::back_late))]
-pub fn numbers_come_back_late()
+#[tactic(auto, using(crate::proofs::InvokeIdReuse::back_late))]
+pub fn invoke_ids_come_back_late()
     ensures { (rules : Rules) (first_ticket : ℕ) (events : List Event) (n : ℕ) →
-        rules.most_open ≤ 255 → NumbersComeBackLate rules.most_open (accepted rules first_ticket events n) }
+        rules.most_open ≤ 255 → InvokeIdsComeBackLate rules.most_open (accepted rules first_ticket events n) }
 {}
 
 /// Each invoke id that was passed since a request was accepted, given or skipped, is its own, or that of a request open
 /// then or accepted since.
-pub fn passed_numbers_are_held()
+pub fn passed_invoke_ids_are_held()
     ensures { (rules : Rules) (first_ticket : ℕ) (events : List Event) (n : ℕ) → rules.most_open ≤ 255 →
         (before since : List Accepted) (a : Accepted) → accepted rules first_ticket events n ≡ before ++ a ∷ since →
         PassedAreHeld a (open_among rules events a.position before) since }

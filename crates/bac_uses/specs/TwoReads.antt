@@ -12,7 +12,7 @@ usual = client_rules 3000 3
 abbrev pub asking : ℕ → List ℕ
 asking property = 0x0c ∷ 0 ∷ 0 ∷ 0 ∷ 5 ∷ 0x19 ∷ property ∷ []
 
--- The request for it under this ticket, whose number is one more.
+-- The request for it under this ticket, whose invoke id is one more.
 abbrev pub read_of : Station → ℕ → ℕ → Request
 read_of device ticket property = request_of usual ticket device 12 (asking property) (ticket + 1)
 

@@ -1,5 +1,5 @@
 -- What the reader of tags takes is spelled so, what is spelled so is taken, and the plain spelling is the shortest.
-use Rattle.std.proofs.Common.{[], ◌++◌, ◌<◌, ◌∷◌, ◌≡◌, ◌≤◌, ap, append_assoc, arith, cond, eqb, inl, inr, length, List}
+use Rattle.std.proofs.Common.{[], ◌++◌, ◌<◌, ◌∷◌, ◌≡◌, ◌≤◌, append_assoc, arith, cond, eqb, inl, inr, length, List}
 use Rattle.std.proofs.{Common.{ltb, None, Option, refl, Some, subst, suc, ℕ}, lemmas.List.length-append}
 use Rattle.std.proofs.lemmas.Bool.{eqb-true, ltb-false, ltb-true}
 use Rattle.bac_wire.specs.{◌>>=◌, App, AreOctets, count_of, extended_number, four_at, IsShortest, IsTag, length_at}
@@ -172,13 +172,7 @@ tag_least _ tag fit s =
     let number = number_least _ _ _ s.number in
     let later : AreOctets s.length_octets = behind (s.initial ∷ s.number_octets) _ (subst AreOctets s.whole fit) in
     let shape = shape_least _ _ _ later s.shape in
-    omega (
-      arith,
-      shape,
-      ap length s.whole,
-      length-append s.number_octets s.length_octets,
-      length-append (plain_number tag.number) (plain_length (count_of tag.shape)),
-    )
+    grind (arith, shape, s.whole, length-append)
 
 pub plain_tag_shortest : (tag : Tag) → IsTag tag → IsShortest SpellsTag (plain_tag tag) tag
 plain_tag_shortest _ fits = grind (arith, plain_tag_spells, tag_least)

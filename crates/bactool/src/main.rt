@@ -2,8 +2,7 @@
 #![tactic(auto)]
 
 ghost use Rattle.std.specs.{Prelude.{◌≡◌}, Process.exit_status};
-ghost use Rattle.bac_print.specs.Checked.{fresh};
-ghost use Rattle.bac_tools.specs.Program.{IsRun, texts_of};
+ghost use Rattle.{bac_print.specs.Checked.fresh, bac_tools.specs.Program.{IsRun, texts_of}};
 
 mod laws;
 mod sockets;

@@ -83,14 +83,7 @@ at_row_pass : (c : List Rule) (id : Text) (change : Row → List Row) (missing :
     → (rows : List Row) → RowsPass c rows → RowsPass c (at_row id change missing rows)
 at_row_pass c id _ _ _ added [] h = added
 at_row_pass c id change _ changed added (r ∷ rs) (passes, others) =
-    grind (
-      arith,
-      at_row_pass c _ _ _ changed added rs others,
-      changed r,
-      append_pass c (change r) rs,
-      passes,
-      others,
-    )
+    grind (arith, at_row_pass c _ _ _ changed added rs others, changed r, append_pass c (change r) rs, passes)
 
 with_values_pass : (c : List Rule) (a : Rule) (vs : List Text) (rows : List Row) → arg_by_id c a.id ≡ Some a
     → values_pass a vs ≡ true → 0 < length vs

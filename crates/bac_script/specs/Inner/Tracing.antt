@@ -1,8 +1,8 @@
 -- A script whose text is still on its way to the writer.
-use Rattle.std.specs.Prelude.{List, ℕ, Option, Result}
-use Rattle.bac_print.specs.{declared.{checked.Checked.Checked, page.Page.Page}, Page.{writer_of, Prints}}
-use Rattle.bac_script.specs.declared.{input.Reading.Reading, tracing.TraceEnd.TraceEnd}
-use Rattle.bac_script.specs.{declared.tracing.TraceFault.TraceFault, Script.Runs, Tracing.{HasRead, IsToldFirst}}
+use Rattle.std.specs.Prelude.{List, Option, Result, ℕ}
+use Rattle.bac_print.specs.{declared.{checked.Checked.Checked, page.Page.Page}, Page.{Prints, writer_of}}
+use Rattle.bac_script.specs.declared.{input.Reading.Reading, tracing.{TraceEnd.TraceEnd, TraceFault.TraceFault}}
+use Rattle.bac_script.specs.{Script.Runs, Tracing.{HasRead, IsToldFirst}}
 
 -- What `Traces` says, while some of the text may still be on the page: the text that was printed is that of the script,
 -- or, where the writer failed, a front of it.

@@ -1,10 +1,9 @@
 -- A job of the program, once its words are read.
-use Rattle.std.specs.Prelude.{◌≡◌, Option, Some, IfNone, Result}
-use Rattle.bac_print.specs.declared.checked.Checked.{Checked}
-use Rattle.bac_links.specs.declared.socket.NoSocket.{NoSocket}
+use Rattle.std.specs.Prelude.{◌≡◌, IfNone, Option, Result, Some}
+use Rattle.{bac_print.specs.declared.checked.Checked.Checked, bac_links.specs.declared.socket.NoSocket.NoSocket}
 use Rattle.bac_words.specs.declared.job.Job.{Job}
-use Rattle.bac_tools.specs.{Binding.asked_by, Outside.Outside, Program.IsGiven, Runs.Runs}
-use Rattle.bac_tools.specs.declared.{program.Ran.Ran, running.Binding.Binding}
+use Rattle.bac_tools.specs.{Binding.asked_by, declared.{program.Ran.Ran, running.Binding.Binding}, Outside.Outside}
+use Rattle.bac_tools.specs.{Program.IsGiven, Runs.Runs}
 
 -- A job is run over the socket that it asks for. Where it asks for none, the network is handed back.
 pub record RunsJob {N Origin L R W : Type 0} (gives : N → Binding → Result L NoSocket → Type 0)

@@ -5,18 +5,18 @@ use Rattle.bac_tsm.specs.{Events.Rules, declared.due.DueEntry.DueEntry, Machine.
 use Rattle.bac_tsm.specs.{Waiting.nothing, Table.{held_at, open_slots, IsWhole}}
 
 -- The invoke id of the request at this slot.
-abbrev pub number_at : List Waiting → ℕ → ℕ
-number_at slots slot = (get_or slots slot nothing).request.invoke_id
+abbrev pub invoke_id_at : List Waiting → ℕ → ℕ
+invoke_id_at slots slot = (get_or slots slot nothing).request.invoke_id
 
 -- The open requests.
 abbrev pub waiting_in : List Waiting → List ℕ → List ℕ → List Waiting
 waiting_in slots order tickets = held_at slots (open_slots order tickets)
 
 -- A whole table, and what was told of it.
-pub record Leaves (Told : Type 0) (slots : List Waiting) (numbers : List (Option ℕ)) (order tickets sends : List ℕ)
+pub record Leaves (Told : Type 0) (slots : List Waiting) (invoke_ids : List (Option ℕ)) (order tickets sends : List ℕ)
     : Type 0 where
   pub told : Told
-  pub whole : IsWhole slots numbers order tickets sends
+  pub whole : IsWhole slots invoke_ids order tickets sends
 
 -- The rank at which the request with this ticket stands, if one has it.
 abbrev pub IsRankOf : ℕ → List Waiting → Option ℕ → Type 0

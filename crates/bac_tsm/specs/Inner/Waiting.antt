@@ -8,8 +8,8 @@ abbrev pub ticket_in : Waiting → ℕ
 ticket_in w = w.request.ticket
 
 -- Its invoke id.
-abbrev pub number_in : Waiting → ℕ
-number_in w = w.request.invoke_id
+abbrev pub invoke_id_in : Waiting → ℕ
+invoke_id_in w = w.request.invoke_id
 
 -- A new request with this body, as it waits for an answer.
 abbrev pub begun : Asked → List ℕ → Waiting

@@ -1,10 +1,8 @@
 -- Each datagram may write, and no write changes a point.
-use Rattle.std.proofs.Common.{arith}
-use Rattle.std.proofs.Common.{◌≡◌, List, [], ◌∷◌, Option, Some, None, map, refl, ◌∙◌}
-use Rattle.std.proofs.lemmas.Bool.{cases_Bool}
-use Rattle.bac_device.specs.{Places.{Write, Standing, put}}
-use Rattle.bac_device.specs.{Device.{DeviceState, points_of}, Reply.{write_in_datagram, with_write}, Turns.Arrival}
-use Rattle.bac_links.specs.Serve.{device_next, device_behind}
+use Rattle.std.proofs.{Common.{[], ◌∙◌, ◌∷◌, ◌≡◌, arith, List, map, None, Option, refl, Some}, lemmas.Bool.cases_Bool}
+use Rattle.bac_device.specs.Device.{DeviceState, points_of}
+use Rattle.bac_device.specs.{Places.{put, Standing, Write}, Reply.{with_write, write_in_datagram}, Turns.Arrival}
+use Rattle.bac_links.specs.Serve.{device_behind, device_next}
 use Rattle.bac_links.proofs.laws.a_server_keeps_its_points.Goals as goal
 
 record Keeps (before after : DeviceState) : Type 0 where

@@ -12,20 +12,13 @@ returns-in_err-region-clause-found c =
 pub returns-in_err-rest-clause-found : goal.returns-in_err-rest-clause-found
 unfolding enclosed_at
 returns-in_err-rest-clause-found c =
-    rw (
-      c.from_residual-in_err-rest.ensures,
-      ← c.in_ok-inside.ensures.found,
-      region_found 3 _ _ _ _ c.split_at.ensures.front
-          c.split_at.ensures.back (rw c.in_ok-region.was at c.region.ensures.found),
-      ← c.in_err-rest.ensures,
-    ) refl
+    let region = rw c.in_ok-region.was at c.region.ensures.found in
+    let found = region_found 3 _ _ _ _ c.split_at.ensures.front c.split_at.ensures.back region in
+    rw (c.from_residual-in_err-rest.ensures, ← c.in_ok-inside.ensures.found, found, ← c.in_err-rest.ensures) refl
 
 pub returns-clause-found : goal.returns-clause-found
 unfolding enclosed_at
 returns-clause-found c =
-    rw (
-      ← c.in_ok-inside.ensures.found,
-      region_found 3 _ _ _ _ c.split_at.ensures.front c.split_at.ensures.back
-          (rw c.in_ok-region.was at c.region.ensures.found),
-      ← c.in_ok-rest.ensures,
-    ) refl
+    let region = rw c.in_ok-region.was at c.region.ensures.found in
+    let found = region_found 3 _ _ _ _ c.split_at.ensures.front c.split_at.ensures.back region in
+    rw (← c.in_ok-inside.ensures.found, found, ← c.in_ok-rest.ensures) refl

@@ -1,8 +1,8 @@
 -- A line is refused for the first of its faults.
 use Rattle.std.proofs.{Common.{◌≡◌, ap, arith, None, ok_or, Option, option_map, refl, Some}, lemmas.Grind.common_steps}
 use Rattle.bac_wire.specs.Steps.{result_seen}
-use Rattle.bac_script.specs.{line_seen, LineFault, said_by, said_in, declared.line.Line.Line}
-use Rattle.bac_script.specs.declared.line.LineFault.TheVariants.{Bad}
+use Rattle.bac_script.specs.{line_seen, LineFault, said_in}
+use Rattle.bac_script.specs.declared.line.{Line.Line, LineFault.TheVariants.Bad}
 use Rattle.bac_script.proofs.line.read_line.Goals as goal
 
 pub returns-then-not-is_text : goal.returns-then-not-is_text
@@ -14,10 +14,5 @@ seen-ok_or None _ = refl
 seen-ok_or (Some _) _ = refl
 
 pub returns : goal.returns
-returns c = grind (
-  arith,
-  common_steps,
-  ap (said_in c.args.is_first) c.in_ok-text.ensures,
-  seen-ok_or c.read_words.result Bad,
-  ap (said_by c.args.is_first) c.new.ensures,
-)
+returns c =
+    grind (arith, common_steps, ap (said_in c.args.is_first) c.in_ok-text.ensures, seen-ok_or c.read_words.result Bad)

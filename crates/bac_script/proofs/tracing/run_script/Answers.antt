@@ -75,12 +75,5 @@ loop-next-preserved g c =
           (ap (said c.loop-next.is_first) (sym c.front.ensures) ∙ sym c.read_line.ensures
           ∙ ap (result_seen line_seen) c.in-Ok.is) first (c.run_line.ensures.stage s.stage s.kept)
           (c.run_line.ensures.text s.stage s.kept);
-      room = omega (
-        arith,
-        c.loop-next.invariant.room,
-        c.next_line.ensures.room,
-        n.within,
-        length-drop c.in_ok-next.next.length c.next_line.new.self,
-        c.if-next-eq0.false,
-      );
+      room = omega (arith, n.within, length-drop c.in_ok-next.next.length c.next_line.new.self, c.if-next-eq0.false);
     })

@@ -55,12 +55,12 @@ fn the_longest_body_and_datagram(rt: HostRuntime) {
     assert!(&rt; longest(CONTROLLER) == Some(486) && longest(far) == Some(497));
 }
 
-/// Whether the request with this ticket is open under the number behind it, as it was sent.
+/// Whether the request with this ticket is open under the invoke id behind it, as it was sent.
 fn is_open(client: &Client, ticket: u8) -> bool {
-    let number = ticket.wrapping_add(1);
-    let sent = request(number);
+    let invoke_id = ticket.wrapping_add(1);
+    let sent = request(invoke_id);
     client.to_send(u64::from(ticket)) == Some((CONTROLLER, sent.as_slice()))
-        && client.number_of(u64::from(ticket)) == Some(number)
+        && client.number_of(u64::from(ticket)) == Some(invoke_id)
 }
 
 #[test]

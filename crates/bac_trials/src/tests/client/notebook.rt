@@ -1,9 +1,7 @@
 //! A watcher that compares each note with the one that is wanted there, as long as it has room.
 
-ghost use Rattle.std.specs.Prelude.{◌≡◌, ◌+◌, length};
-ghost use Rattle.std.proofs.Common.{sym, ap, ◌∙◌};
-ghost use Rattle.std.proofs.Math.Nat.{add_assoc, add-zero};
-ghost use Rattle.std.proofs.lemmas.List.{length-append};
+ghost use Rattle.std.proofs.{Common.{◌∙◌, ap, sym}, lemmas.List.length-append, Math.Nat.{add-zero, add_assoc}};
+ghost use Rattle.std.specs.Prelude.{◌+◌, ◌≡◌, length};
 
 use bac_tsm::{Note, Watcher};
 

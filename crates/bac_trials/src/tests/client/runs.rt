@@ -80,7 +80,7 @@ fn a_leap_of_the_clock(rt: HostRuntime) {
     assert!(&rt; run_watched(16, (0, &events), &notes, (0, 66000)).is_some());
 }
 
-/// Whether the client takes a read, under the ticket 1 and the number 2.
+/// Whether the client takes a read, under the ticket 1 and the invoke id 2.
 fn takes_another(client: Option<Client>) -> bool {
     let Some(mut client) = client else {
         return false;
@@ -107,7 +107,7 @@ fn two_are_due_at_one_tick(rt: HostRuntime) {
     assert!(&rt; run_watched(16, (7, &events), &notes, (2, 6000)).is_some());
 }
 
-/// Whether the client has the younger request open, and gives the next one the next ticket and number.
+/// Whether the client has the younger request open, and gives the next one the next ticket and invoke id.
 fn goes_on(client: Option<Client>) -> bool {
     let Some(mut client) = client else {
         return false;

@@ -4,7 +4,7 @@ use Rattle.bac_pdu.specs.{ApduReading.{apdu_of, parts_at}, Datagram.wrapped}
 use Rattle.bac_pdu.specs.DatagramReading.{address_at, carried, header_at, link_at}
 use Rattle.bac_tsm.specs.{Accepted, answer_in_datagram, is_answer_to, next_invoke_id, PassedAreHeld, refusal_of}
 use Rattle.bac_tsm.{specs.{same_station, Inner.{device, under}}, proofs.WholeRun.is_lookahead}
-use Rattle.bac_tsm.proofs.AnswersInWords.{answered, answers, by_number, few_open}
+use Rattle.bac_tsm.proofs.AnswersInWords.{answered, answers, by_invoke_id, few_open}
 use Rattle.bac_tsm.proofs.examples.examples_of_laws.Goals as goal
 
 -- between two of these three requests that have one invoke id stands another
@@ -40,9 +40,9 @@ returns c = record {
   early = λ h. let more = h [] (under 2 ∷ []) [] (under 1) (under 1) refl refl in grind arith;
   held = passed_two;
   passed_over = λ h. let is = h 1 (grind arith) (grind arith) in grind arith;
-  by_number = by_number 3000 3;
+  by_invoke_id = by_invoke_id 3000 3;
   by_none = λ h. let e = h (under 1).request (under 2).request device [] refl refl in grind arith;
-  machine = is_lookahead _ _ _ (by_number 3000 3) few_open;
+  machine = is_lookahead _ _ _ (by_invoke_id 3000 3) few_open;
   other_machine = λ h. let e = h.notes in grind arith;
   answers = answers _ _ _ _ refl;
   from_another = λ h. let e = answered _ _ _ _ h in grind arith;

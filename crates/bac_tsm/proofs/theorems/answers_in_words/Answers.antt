@@ -4,4 +4,4 @@ use Rattle.bac_tsm.proofs.theorems.answers_in_words.Goals as goal
 
 pub returns : goal.returns
 returns c request from datagram outcome =
-    (answers request from datagram outcome, answered request from datagram outcome)
+    (answers _ _ _ _, answered _ _ _ _)

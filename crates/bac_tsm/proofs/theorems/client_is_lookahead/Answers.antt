@@ -1,6 +1,6 @@
 -- The law of any rules, whose two premises hold of a client.
-use Rattle.bac_tsm.proofs.{AnswersInWords.{by_number, few_open}, WholeRun.is_lookahead}
+use Rattle.bac_tsm.proofs.{AnswersInWords.{by_invoke_id, few_open}, WholeRun.is_lookahead}
 use Rattle.bac_tsm.proofs.theorems.client_is_lookahead.Goals as goal
 
 pub returns : goal.returns
-returns c timeout retries first_ticket events = is_lookahead _ _ _ (by_number timeout retries) few_open
+returns c timeout retries first_ticket events = is_lookahead _ _ _ (by_invoke_id timeout retries) few_open

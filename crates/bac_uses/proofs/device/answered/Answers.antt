@@ -1,7 +1,6 @@
 -- The valve is present as it was written, since the device holds this one write.
-use Rattle.std.proofs.Common.{[], ◌∷◌, refl, sym, ◌∙◌}
-use Rattle.bac_device.proofs.{StateLaws.present_now, Answering.next_after}
-use Rattle.bac_uses.specs.Heating.{heating, valve}
+use Rattle.std.proofs.Common.{[], ◌∙◌, ◌∷◌, refl, sym}
+use Rattle.{bac_device.proofs.{Answering.next_after, StateLaws.present_now}, bac_uses.specs.Heating.{heating, valve}}
 use Rattle.bac_uses.proofs.device.answered.Goals as goal
 
 pub unwrap-valve-requires : goal.unwrap-valve-requires

@@ -1,20 +1,12 @@
 -- A run that ended well was printed whole.
-use Rattle.std.proofs.Common.{◌≡◌, ◌∙◌, ℕ, false, List, [], ◌++◌, Option, Result, Ok, Err, inl, inr, refl}
-use Rattle.std.proofs.Common.{IfOk, length, map, subst, sym, ap, arith, rules}
-use Rattle.std.proofs.lemmas.Bool.{cases_Bool}
-use Rattle.std.proofs.lemmas.List.{append-nil}
+use Rattle.std.proofs.Common.{[], ◌++◌, ◌∙◌, ◌≡◌, ap, arith, Err, false, IfOk, inl, inr, length, List, map, Ok, Option}
+use Rattle.std.proofs.{Common.{refl, Result, rules, subst, sym, ℕ}, lemmas.{Bool.cases_Bool, List.append-nil}}
 use Rattle.std.specs.List.{concat, flat_map}
 use Rattle.bac_tsm.specs.{Client.client_rules, Events.Event, Laws.outputs}
-use Rattle.bac_print.specs.Checked.{Gave, Took, has_failed}
-use Rattle.bac_print.specs.Page.{Writes}
-use Rattle.bac_print.specs.declared.checked.Checked.{Checked}
-use Rattle.bac_script.specs.declared.tracing.TraceEnd.{TraceEnd}
-use Rattle.bac_links.specs.History.{Account, Entry, GainsAll}
-use Rattle.bac_run.specs.Input.{AllDone}
-use Rattle.bac_run.specs.Journal.{events_of, new_client, notes_of}
-use Rattle.bac_run.specs.Replay.{AreSent, posted_in, sent_in}
-use Rattle.bac_run.specs.Run.{journal_of}
-use Rattle.bac_run.specs.declared.fault.RunFault.{RunFault}
+use Rattle.bac_print.specs.{Checked.{Gave, has_failed, Took}, declared.checked.Checked.Checked, Page.Writes}
+use Rattle.{bac_script.specs.declared.tracing.TraceEnd.TraceEnd, bac_links.specs.History.{Account, Entry, GainsAll}}
+use Rattle.bac_run.specs.{declared.fault.RunFault.RunFault, Input.AllDone, Journal.{events_of, new_client, notes_of}}
+use Rattle.bac_run.specs.{Replay.{AreSent, posted_in, sent_in}, Run.journal_of}
 use Rattle.bac_uses.proofs.run.requested.Goals as goal
 
 -- What holds where there is no fault.

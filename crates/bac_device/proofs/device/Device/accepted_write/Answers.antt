@@ -1,7 +1,6 @@
 -- The code looks for the point first, and the definition for the property.
 use Rattle.std.proofs.Common.{◌≡◌, arith, Err, if◌then◌else◌, is_some, Ok, refl, Some, sym}
-use Rattle.bac_pdu.specs.Property.{Order, order}
-use Rattle.bac_wire.specs.Datum.{Datum}
+use Rattle.{bac_pdu.specs.Property.{Order, order}, bac_wire.specs.Datum.Datum}
 use Rattle.bac_device.specs.{accepted_write, commanded_point, DeviceState, ordered_write, property_of, single, Standing}
 use Rattle.bac_device.specs.declared.failure.Failure.TheVariants.{NotAnArray}
 use Rattle.bac_device.proofs.device.Device.accepted_write.Goals as goal
@@ -17,16 +16,12 @@ accepted_at _ o standing value found property = grind arith
 -- An index of a present value, which is no array.
 pub returns-then-is_some-2 : goal.returns-then-is_some-2
 returns-then-is_some-2 c =
-    rw (
-      accepted_at c.args.self.now (order c.args.request.now) c.in-Some.point.now _ (sym c.in-Some.ensures.point)
-          c.in-Some.ensures.property,
-      ← c.if-is_some-2.ensures,
-    ) refl
+    let at = accepted_at c.args.self.now (order c.args.request.now) c.in-Some.point.now _
+    (sym c.in-Some.ensures.point) c.in-Some.ensures.property in
+    rw (at, ← c.if-is_some-2.ensures) refl
 
 pub returns : goal.returns
 returns c =
-    rw (
-      accepted_at c.args.self.now (order c.args.request.now) c.in-Some.point.now _ (sym c.in-Some.ensures.point)
-          c.in-Some.ensures.property,
-      ← c.if-is_some-2.ensures,
-    ) c.ordered_write.ensures
+    let at = accepted_at c.args.self.now (order c.args.request.now) c.in-Some.point.now _
+    (sym c.in-Some.ensures.point) c.in-Some.ensures.property in
+    rw (at, ← c.if-is_some-2.ensures) c.ordered_write.ensures

@@ -12,10 +12,9 @@ returns-in_err-begin_ack-clause-full c =
 
 pub returns-in_err-append_region-clause-full : goal.returns-in_err-append_region-clause-full
 returns-in_err-append_region-clause-full c =
-    grind (
-      arith,
-      length_ack (acknowledged c.args.self.now (reference c.args.request.now) (property_seen c.args.property.now)),
-    )
+    let all = length_ack
+    (acknowledged c.args.self.now (reference c.args.request.now) (property_seen c.args.property.now)) in
+    grind arith
 
 pub returns-clause-ok : goal.returns-clause-ok
 returns-clause-ok c =
@@ -24,8 +23,6 @@ returns-clause-ok c =
 
 pub returns-clause-full : goal.returns-clause-full
 returns-clause-full c =
-    grind (
-      arith,
-      common_steps,
-      length_ack (acknowledged c.args.self.now (reference c.args.request.now) (property_seen c.args.property.now)),
-    )
+    let all = length_ack
+    (acknowledged c.args.self.now (reference c.args.request.now) (property_seen c.args.property.now)) in
+    grind (arith, common_steps)

@@ -12,11 +12,11 @@ take_out-requires = grind (arith, sent_slot)
 pub invariant_of-self : goal.invariant_of-self
 invariant_of-self c =
     (ended_by c.self.invariant.table _ c.self.view_is c.args.rank _ c.requires c.remove-slot.ensures.value
-    c.held.ensures c.invoke_id-number.ensures c.from.ensures c.remove-slot.ensures.items c.push.ensures.items
+    c.held.ensures c.invoke_id-invoke_id.ensures c.from.ensures c.remove-slot.ensures.items c.push.ensures.items
     c.remove.ensures.items c.self.invariant.queue c.take_out.ensures).whole
 
 pub returns : goal.returns
 returns c =
     (ended_by c.self.invariant.table _ c.self.view_is c.args.rank _ c.requires c.remove-slot.ensures.value
-    c.held.ensures c.invoke_id-number.ensures c.from.ensures c.remove-slot.ensures.items c.push.ensures.items
+    c.held.ensures c.invoke_id-invoke_id.ensures c.from.ensures c.remove-slot.ensures.items c.push.ensures.items
     c.remove.ensures.items c.self.invariant.queue c.take_out.ensures).told

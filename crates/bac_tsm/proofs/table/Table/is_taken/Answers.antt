@@ -5,4 +5,4 @@ use Rattle.bac_tsm.proofs.table.Table.is_taken.Goals as goal
 
 pub returns : goal.returns
 returns c = c.is_some.ensures
-    ∙ taken c.self.invariant.table c.args.number c.ranges.number.fits _ c.from.ensures _ c.self.view_is
+    ∙ taken c.self.invariant.table c.args.invoke_id c.ranges.invoke_id.fits _ c.from.ensures _ c.self.view_is

@@ -12,11 +12,11 @@ put_last-requires = grind (arith, as_many, count)
 pub invariant_of-self : goal.invariant_of-self
 invariant_of-self c =
     (opened_by c.self.invariant.table _ c.self.view_is _ c.deref.ensures.0 _ c.len.ensures.value c.args.asked
-    c.args.body.now c.requires.room c.requires.number c.requires.latest c.self.invariant.queue c.requires.past
+    c.args.body.now c.requires.room c.requires.unused c.requires.latest c.self.invariant.queue c.requires.past
     c.from.ensures c.begin_at.ensures c.push.ensures.items c.put_last.ensures).whole
 
 pub returns : goal.returns
 returns c =
     (opened_by c.self.invariant.table _ c.self.view_is _ c.deref.ensures.0 _ c.len.ensures.value c.args.asked
-    c.args.body.now c.requires.room c.requires.number c.requires.latest c.self.invariant.queue c.requires.past
+    c.args.body.now c.requires.room c.requires.unused c.requires.latest c.self.invariant.queue c.requires.past
     c.from.ensures c.begin_at.ensures c.push.ensures.items c.put_last.ensures).told

@@ -1,6 +1,6 @@
 -- The induction over the accepted requests says more; this is a part of it.
-use Rattle.bac_tsm.proofs.NumberReuse.{passed}
-use Rattle.bac_tsm.proofs.theorems.passed_numbers_are_held.Goals as goal
+use Rattle.bac_tsm.proofs.InvokeIdReuse.{passed}
+use Rattle.bac_tsm.proofs.theorems.passed_invoke_ids_are_held.Goals as goal
 
 pub returns : goal.returns
 returns c rules first_ticket events n small before since a e =
