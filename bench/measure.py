@@ -19,7 +19,7 @@ import tempfile
 import time
 
 sys.path.insert(0, os.path.dirname(__file__) + "/../tests")
-from tree import PROGRAM, TOP, all_crates, device, left_out, processors, resident, text_of, write
+from tree import PROGRAM, TOP, all_crates, device, left_out, processors, ran, resident, text_of, write
 
 ROUNDS = int(os.environ.get("ROUNDS", 15))
 REPLIES, MANY_REPLIES, RUNS, LINES = 20000, 60000, 200, 10000000
@@ -145,14 +145,12 @@ def counted(said):
 
 
 def of_a_run(*words, given=""):
-    how = {"input": given, "capture_output": True, "text": True}
-    return counted(subprocess.run([*CALLGRIND, *words], check=True, **how).stderr)
+    return counted(ran(*CALLGRIND, *words, input=given, stdin=None).stdout)
 
 
 def of_replies(count):
     """Of a device that answers so many requests, one after another."""
-    how = {"program": CALLGRIND, "stderr": subprocess.PIPE, "text": True}
-    with device("--count", str(count), **how) as (process, port):
+    with device("--count", str(count), program=CALLGRIND, stderr=subprocess.PIPE, text=True) as (process, port):
         load(port, 1, count)
         return counted(process.communicate()[1])
 

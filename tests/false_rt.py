@@ -1,7 +1,7 @@
 #!/usr/bin/env python3
 """Tries build.py, parts.py and .ci/run in trees of two crates, where rt, make's scripts and the script of the wrong
 bodies are false and fail as the rows of false_rt.txt have it: what comes of it has to be said, and to be the status.
-And tries what make says where there is no rt. Usage: tests/false_rt.py
+And tries what make says where there is no rt. Usage: tests/false_rt.py [COMMAND], to try no rows of others.
 """
 import os
 import re
@@ -39,10 +39,10 @@ documents:
 """
 
 
-def rows():
+def rows(only):
     """A command, the rule of what is false, the status, and what has to be said."""
     for command, lines in sections_of("tests/false_rt.txt"):
-        for rule, status, wanted in (line.split(" || ") for line in lines):
+        for rule, status, wanted in (line.split(" || ") for line in lines if only in command):
             yield command.split(), rule, int(status), wanted
 
 
@@ -111,8 +111,8 @@ def without_kit():
                 yield f"{' '.join(words)}, without rt: status {ended.returncode}: {ended.stdout}"
 
 
-def main():
-    every, told_to_end = list(rows()), (["./build.py"], ["tests/parts.py", "test"])
+def main(only):
+    every, told_to_end = list(rows(only)), (["./build.py"], ["tests/parts.py", "test"])
     with ThreadPoolExecutor(4) as pool:
         wrong = [it for it in (*pool.map(lambda row: tried(*row), every), *pool.map(stopped, told_to_end)) if it]
     wrong += without_kit()
@@ -120,4 +120,4 @@ def main():
     return status_of(wrong, runs, f"{runs} runs of build.py and parts.py, {len(wrong)} not as they are to be")
 
 
-sys.exit(main())
+sys.exit(main(" ".join(sys.argv[1:])))

@@ -136,8 +136,7 @@ def put_tools(program, room):
 
 def left_out(*tools):
     """Whether one of these tools is not installed, which is said."""
-    missing = [tool for tool in tools if not shutil.which(tool)]
-    if missing:
+    if missing := [tool for tool in tools if not shutil.which(tool)]:
         print(f"{SCRIPT}: {', '.join(missing)}: not installed, left out")
     return bool(missing)
 

@@ -105,7 +105,7 @@ def scripts_are_run(section):
 
 def targets():
     """A section of targets.txt has what a target runs, or a whole file. The program is made of all sources."""
-    made = lambda *words: ran("make", "-sB", "--old-file=kit", *words, env={"PATH": os.environ["PATH"]}).stdout
+    made = lambda *words: ran("make", "-rsB", "--old-file=kit", *words, env={"PATH": os.environ["PATH"]}).stdout
     for name, wanted in sections_of("tests/documents/targets.txt"):
         runs = (text_of(name) if os.path.isfile(name) else made("-n", name)).splitlines()
         if runs != wanted:
@@ -118,8 +118,9 @@ def what_tries_nothing():
     """What is no test beside the tests is called; each fault of planted.diff has its place; Python reads its files."""
     for place, pattern in BESIDE_TESTS.items():
         texts = "".join(map(text_of, files(place)))
+        words = re.findall(r"\w+", texts)
         for name in re.findall(pattern, texts):
-            if len(re.findall(rf"\b{name}\b", texts)) == 1:
+            if words.count(name) == 1:
                 yield f"{place}: {name} is no test, and nothing calls it"
     for path, _, old, _ in planted.faults():
         if not os.path.isfile(path) or text_of(path).count(old) != 1:

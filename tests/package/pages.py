@@ -3,7 +3,7 @@
 help, faults with the code's texts, and with help and documents what has to be said twice. What they say in numbers is
 measured, and read back there by the sentences of facts.txt. Then mandoc reads the pages, and Wireshark, which has the
 standard's numbers from another hand, is asked what it calls those of site/bacsite/numbers.txt.
-Usage: tests/package/pages.py PROGRAM
+Usage: tests/package/pages.py PROGRAM [PART ..], where a part is a function that `main` names.
 """
 import datetime
 import os
@@ -176,7 +176,7 @@ def wireshark():
     """The names of numbers. Units have no field: Wireshark is shown a property 117 that has each number."""
     if left_out("tshark", "text2pcap"):
         return
-    fields = shown("sh", "-c", "tshark -G values 2>/dev/null")
+    fields = shown("sh", "-c", "tshark -G values 2>/dev/null | grep -a bacapp")
     theirs = {title: re.findall(rf"(?m)^V\tbacapp\.{name}\t(\d+)\t(.*)$", fields) for title, name in FIELDS.items()}
     octets = (f"0000 81 0a 00 14 01 00 30 01 0c 0c 00 00 00 05 19 75 3e 91 {it:02x} 3f\n" for it in range(255))
     command = "text2pcap -q -u 47808,47808 - - | tshark -r - -V"
@@ -300,10 +300,12 @@ def facts():
     table_of_the_guide(measured)
 
 
-def main():
-    for part in (words_and_options, bacsite, statuses, what_is_said_twice, faults, versions, facts, mandoc, wireshark):
-        part()
+def main(names):
+    every = words_and_options, bacsite, statuses, what_is_said_twice, faults, versions, facts, mandoc, wireshark
+    parts = {it.__name__: it for it in every}
+    for name in names or parts:
+        parts[name]()
     return verdict("texts of pages and documents say what is so")
 
 
-sys.exit(main())
+sys.exit(main(sys.argv[2:]))

@@ -5,9 +5,9 @@ status 3 and the line of its fault, after a front of what it prints otherwise. B
 silence, it goes on as if nothing had come, and where the clock fails later, as if no time had passed; a device goes on
 where it can't send a reply, too. Each run makes the calls that are wanted (RUNS, SERVED), and no others.
 
-Usage: tests/program/failing.py PROGRAM [tried]; it needs cc. Of a program that `rt try` has made (`tried`) no request
-for memory is refused, since it has its memory from elsewhere. But there it shows whether what was searched of a line is
-searched again at each read: a program that LLVM makes searches so fast that its reads hide it.
+Usage: tests/program/failing.py PROGRAM [tried|calls]; it needs cc. By `calls` only calls of the system fail, and so
+they do of a program that `rt try` has made (`tried`), which has its memory from elsewhere. But there it shows whether
+what was searched of a line is searched again at each read: one that LLVM makes searches so fast that reads hide it.
 """
 import errno
 import itertools
@@ -29,9 +29,8 @@ SILENCE = ["EINTR", "EAGAIN", "ETIMEDOUT"]
 ERRORS = FAULTS + REFUSALS + SILENCE
 # What standard error has behind `bactool: ` once a call of this kind has failed.
 LINES = {it: "bind failed" for it in ("socket", "bind", "fcntl", "clock_gettime")}
-LINES["memory"] = "out of memory"
-LINES.update({"setsockopt": "receiving failed", "recvfrom": "receiving failed", "sendto": "sending failed"})
-LINES.update({"read": "reading failed", "write": "writing failed"})
+LINES.update(memory="out of memory", setsockopt="receiving failed", recvfrom="receiving failed")
+LINES.update(sendto="sending failed", read="reading failed", write="writing failed")
 SCRIPT = "read 127.0.0.1:47808 0 5 85\ntick 3000\ntick 6000\ntick 9000\ntick 12000\n"
 NO_LINE_FEED = "read 127.0.0.1:47808 0 5 85\ntick 3000"
 PORT = str(free_port())
@@ -181,5 +180,6 @@ def searching():
 
 
 if failing_library(ROOM.name):
-    searching() if sys.argv[2:] == ["tried"] else memory()
+    if sys.argv[2:] != ["calls"]:
+        searching() if sys.argv[2:] == ["tried"] else memory()
     calls_of_the_system()
