@@ -155,8 +155,8 @@ def test(_):
     if not all(os.path.isdir(f"crates/{it}/out/incremental") for it in crates_below()["bactool"]):
         yield [[Part("build", ["./build.py"], tried=r"^ *\d+ of \d+ +\w+ +proved")]]
     trials = Part("trials", ["./build.py", "--tests"], tried=r"(\d+) tests passed")
-    wrong = Part("wrong bodies", [*GENTLY, "tests/bodies/wrong_bodies.py", "--sample"])
-    yield beside([target("examples"), wrong], [trials, target("lint")])
+    yield beside([trials], [Part("wrong bodies", [*GENTLY, "tests/bodies/wrong_bodies.py", "--sample"])])
+    yield beside([target("examples")], [target("lint")])  # which have ports that the trials have, too
 
 
 def gate(room):

@@ -38,7 +38,7 @@ from tree import all_crates, copy_crate, crates_below, end_by_signals, files, fr
 KINDS = ["clause", "safety", "step", "PROVED", "bad"]
 CHECK_MEMORY = 3000000000  # what a check takes of the machine's memory, in octets
 SAMPLE = 5
-LARGEST = 120  # bodies of a round
+LARGEST = 200  # bodies of a round
 BY_VALUES, BY_PROOF, BY_TWIN = SHOWN = ["by values", "by a proof", "by a twin"]
 HOLE, REFUSED_ONLY = "holes", "refused and not shown"
 METHOD = re.compile(r"\bimpl(?:<[^<>]*>)? (\w+) for (\w+).*?\bfn (\w+)")  # that an edit of types brings

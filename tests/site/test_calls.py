@@ -221,19 +221,17 @@ class Calls(harness.SiteTest):
         os.mkdir(folder)
         full = {"before": lambda: resource.setrlimit(resource.RLIMIT_FSIZE, (150, 150))}
         path = self.names["DEV"].replace(":", "_")
-        for number, (words, status, shown) in enumerate(
-            (
-                ("read DEV 0 5 85", 3, "72.3\n"),
-                ("check DEV 0 5 85", 3, "BACNET OK - 72.3 | value=72.3;~:;~:\n"),
-                ("check -c 80: DEV 0 5 85", 2, "BACNET CRITICAL - 72.3 | value=72.3;~:;80:\n"),
-                ("read DEV 0 5 9999", 3, "error 2 32\n"),
-                ("survey 1000@DEV --list", 3, ""),
-            ),
-            1,
+        for words, status, shown in (
+            ("read DEV 0 5 85", 3, "72.3\n"),
+            ("check DEV 0 5 85", 3, "BACNET OK - 72.3 | value=72.3;~:;~:\n"),
+            ("check -c 80: DEV 0 5 85", 2, "BACNET CRITICAL - 72.3 | value=72.3;~:;80:\n"),
+            ("read DEV 0 5 9999", 3, "error 2 32\n"),
+            ("survey 1000@DEV --list", 3, ""),
         ):
             with self.subTest(words=words):
                 found = self.run_site(*words.split(), "--journal", folder, **full)
-                name = "%s/%s-%d.trace" % (folder, path, number)
+                # where somebody had the port of a bacrun there is an empty one of it, too
+                name = "%s/%s-%d.trace" % (folder, path, len(os.listdir(folder)))
                 told = "bacsite: cannot write %s: File too large\n" % name
                 out = shown or found[1]
                 self.assertEqual((found, os.path.getsize(name)), ((status, out, told), 150))
