@@ -1,39 +1,53 @@
 //! The parameters of a service body: context tags, and items between brackets.
 
-ghost use Rattle.std.specs.Prelude.{◌*◌, ◌+◌, ◌<◌, ◌^◌, ◌≡◌, ◌≤◌, IfSome, length, option_map};
+ghost use Rattle.std.specs.Prelude.{◌*◌, ◌+◌, ◌<◌, ◌^◌, ◌≡◌, ◌≤◌, IfSome, length, OnOk, option_map};
+ghost use Rattle.std.specs.List.{AllByRecursion};
 ghost use Rattle.bac_wire.specs.{DatumReading.number_within, Identifier.{identifier, IsIdentifier}, Tag.plain_tag};
-ghost use Rattle.bac_wire.specs.{ItemReading.behind_closing, Region.{closing_tag, opening_tag}, Writing.Appends};
+ghost use Rattle.bac_wire.specs.{Region.{closing_tag, opening_tag}, Steps.result_seen, Writing.Appends};
 ghost use Rattle.bac_wire.specs.Parameter.{context_octets, enclosed_octets, number_octets, object_octets};
 ghost use Rattle.bac_wire.specs.ParameterReading.{behind_opening, context_at, enclosed_at, number_at, object_at};
-ghost use Rattle.bac_wire.specs.Inner.Writing.{AppendsFront};
-ghost use Rattle.bac_pdu.specs.{optional_at, Inner.optional_octets};
+ghost use Rattle.bac_wire.specs.{ItemReading.behind_closing, Inner.Writing.AppendsFront};
+ghost use Rattle.bac_pdu.specs.{IsParameter, named, optional_at, read_octets, reference_at, reference_parameters};
+ghost use Rattle.bac_pdu.specs.Inner.{optional_octets};
 
+use crate::reject::RejectReason;
 use arrayvec::ArrayVec;
 use bac_wire::{Frame, Full, ObjectId, Shape, Work, octet_count, region, tag_and_rest};
 use byteorder::{BigEndian, ByteOrder};
 
 // The numbers of the parameters of ReadProperty and WriteProperty.
-pub(crate) const OBJECT: u8 = 0;
+const OBJECT: u8 = 0;
 
-pub(crate) const PROPERTY: u8 = 1;
+const PROPERTY: u8 = 1;
 
-pub(crate) const INDEX: u8 = 2;
+const INDEX: u8 = 2;
 
 const VALUE: u8 = 3;
 
 pub(crate) const PRIORITY: u8 = 4;
 
-/// The object's identifier under a context tag of this number.
-#[tactic(auto, unfolding(bac_wire::specs::ParameterReading::object_at))]
-pub(crate) fn object_and_rest(number: u8, octets: &[u8]) -> Option<(ObjectId, &[u8])>
-    ensures { option_map (λ x. (identifier x.0, x.1.now)) result ≡ object_at number octets.now }
+/// The object, the property and the index at the front of a body, which name a property or an element of it, and the
+/// octets behind.
+#[tactic(auto, unfolding(crate::specs::PropertyReading::reference_at))]
+pub(crate) fn reference_and_rest(
+    body: &[u8],
+) -> Result<(ObjectId, u32, Option<u32>, &[u8]), RejectReason>
+    ensures { result_seen (λ x. (named x.0 x.1 x.2, x.3.now)) result ≡ reference_at body.now }
 {
-    let (contents, rest) = context_and_rest(number, octets)?;
-    if contents.len() != 4 {
-        return None;
+    if body.is_empty() {
+        return Err(RejectReason::MissingParameter);
     }
-    let object = ObjectId::of_number(BigEndian::read_u32(contents));
-    Some((object, rest))
+    let Some((object, rest)) = object_and_rest(OBJECT, body) else {
+        return Err(RejectReason::InvalidTag);
+    };
+    if rest.is_empty() {
+        return Err(RejectReason::MissingParameter);
+    }
+    let Some((property, rest)) = number_and_rest(PROPERTY, rest) else {
+        return Err(RejectReason::InvalidTag);
+    };
+    let (index, rest) = optional_and_rest(INDEX, rest);
+    Ok((object, property, index, rest))
 }
 
 /// A number under a context tag of this number, where there is one.
@@ -70,15 +84,21 @@ pub(crate) fn enclosed_and_rest<'a>(
     Some((items, rest))
 }
 
-/// Appends an object's identifier. Where there is no room, nothing is appended.
-pub(crate) fn append_object(body: &mut Frame, number: u8, id: ObjectId) -> Result<(), Full>
-    requires { number < 15 }
-    ensures appended { Appends body.old (object_octets number (identifier id)) body.new result }
-    ensures known { IsIdentifier (identifier id) }
+/// Appends the parameters that name a property. Where there is no room, a front of them may stay.
+#[tactic(auto, using(bac_wire::proofs::Writing::in_parts, crate::proofs::ShortestLaws::optional_plain), unfolding(crate::specs::Parameter::plain_parameter))]
+#[inline(always)]
+pub(crate) fn append_reference(
+    body: &mut Frame,
+    object: ObjectId,
+    property: u32,
+    index: Option<u32>,
+) -> Result<(), Full>
+    ensures appended { AppendsFront body.old (read_octets (named object property index)) body.new result }
+    ensures known { OnOk result (AllByRecursion IsParameter (reference_parameters (named object property index))) }
 {
-    let mut contents = [0; 4];
-    BigEndian::write_u32(&mut contents, id.number());
-    append_four(body, number, &contents)
+    append_object(body, OBJECT, object)?;
+    append_number(body, PROPERTY, property)?;
+    append_optional(body, INDEX, index)
 }
 
 /// Appends a number in its fewest octets, where there is one. Where there is no room, nothing is appended.
@@ -135,6 +155,19 @@ pub(crate) fn append_closing(body: &mut Frame) -> Result<(), Full>
     body.append(&[16 * VALUE + 15])
 }
 
+// The object's identifier under a context tag of this number.
+#[tactic(auto, unfolding(bac_wire::specs::ParameterReading::object_at))]
+fn object_and_rest(number: u8, octets: &[u8]) -> Option<(ObjectId, &[u8])>
+    ensures { option_map (λ x. (identifier x.0, x.1.now)) result ≡ object_at number octets.now }
+{
+    let (contents, rest) = context_and_rest(number, octets)?;
+    if contents.len() != 4 {
+        return None;
+    }
+    let object = ObjectId::of_number(BigEndian::read_u32(contents));
+    Some((object, rest))
+}
+
 // The contents under a context tag of this number.
 #[tactic(auto, unfolding(bac_wire::specs::ParameterReading::context_at))]
 #[inline(always)]
@@ -180,6 +213,17 @@ fn rest_behind_closing(octets: &[u8]) -> Option<&[u8]>
         Shape::Closing if tag.number == VALUE => Some(rest),
         _ => None,
     }
+}
+
+// Appends an object's identifier. Where there is no room, nothing is appended.
+fn append_object(body: &mut Frame, number: u8, id: ObjectId) -> Result<(), Full>
+    requires { number < 15 }
+    ensures appended { Appends body.old (object_octets number (identifier id)) body.new result }
+    ensures known { IsIdentifier (identifier id) }
+{
+    let mut contents = [0; 4];
+    BigEndian::write_u32(&mut contents, id.number());
+    append_four(body, number, &contents)
 }
 
 // Appends a tag of one octet, and the four octets that it counts. Where there is no room, nothing is appended.

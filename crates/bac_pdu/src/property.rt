@@ -4,13 +4,12 @@ ghost use Rattle.std.specs.{List.AllByRecursion, Prelude.{◌*◌, ◌+◌, ◌�
 ghost use Rattle.bac_wire.specs.{Front.IsShortest, Limits.deepest, Region.IsRegion, Steps.result_seen, Writing.Appends};
 ghost use Rattle.bac_wire.specs.Inner.Writing.{AppendsFront};
 ghost use Rattle.bac_pdu.specs.{ack_end, ack_front, ack_octets, ack_of, ack_seen, IsAckBody, IsParameter, IsPriority};
-ghost use Rattle.bac_pdu.specs.{IsReadBody, IsWriteBody, order, read_octets, read_of, reference, reference_at};
+ghost use Rattle.bac_pdu.specs.{IsReadBody, IsWriteBody, order, read_octets, read_of, reference};
 ghost use Rattle.bac_pdu.specs.{reference_parameters, write_octets, write_of};
 
 use crate::parameter::{
-    INDEX, OBJECT, PRIORITY, PROPERTY, append_closing, append_enclosed, append_number,
-    append_object, append_opening, append_optional, enclosed_and_rest, number_and_rest,
-    object_and_rest, optional_and_rest,
+    PRIORITY, append_closing, append_enclosed, append_opening, append_optional, append_reference,
+    enclosed_and_rest, optional_and_rest, reference_and_rest,
 };
 use crate::reject::RejectReason;
 use crate::writing::whole_or_nothing;
@@ -63,7 +62,11 @@ pub fn read_read(body: &[u8]) -> Result<ReadRequest, RejectReason>
     ensures value { result_seen reference result ≡ read_of body.now }
 {
     match reference_and_rest(body)? {
-        (request, []) => Ok(request),
+        (object, property, index, []) => Ok(ReadRequest {
+            object,
+            property,
+            index,
+        }),
         _ => Err(RejectReason::TooMany),
     }
 }
@@ -80,7 +83,7 @@ pub fn read_write<'a>(body: &'a [u8], work: &mut Work) -> Result<WriteRequest<'a
     ensures value { result_seen order result ≡ write_of body.now }
     ensures walked_once { work.new.tags ≤ work.old.tags + 2 * length body.now }
 {
-    let (request, rest) = reference_and_rest(body)?;
+    let (object, property, index, rest) = reference_and_rest(body)?;
     if rest.is_empty() {
         return Err(RejectReason::MissingParameter);
     }
@@ -97,9 +100,9 @@ pub fn read_write<'a>(body: &'a [u8], work: &mut Work) -> Result<WriteRequest<'a
         Some(_) => return Err(RejectReason::OutOfRange),
     };
     Ok(WriteRequest {
-        object: request.object,
-        property: request.property,
-        index: request.index,
+        object,
+        property,
+        index,
         value,
         priority,
     })
@@ -112,16 +115,16 @@ pub fn read_ack<'a>(body: &'a [u8], work: &mut Work) -> Option<Ack<'a>>
     ensures value { option_map ack_seen result ≡ ack_of body.now }
     ensures walked_once { work.new.tags ≤ work.old.tags + 2 * length body.now }
 {
-    let Ok((request, rest)) = reference_and_rest(body) else {
+    let Ok((object, property, index, rest)) = reference_and_rest(body) else {
         return None;
     };
     let (value, []) = enclosed_and_rest(rest, work)? else {
         return None;
     };
     Some(Ack {
-        object: request.object,
-        property: request.property,
-        index: request.index,
+        object,
+        property,
+        index,
         value,
     })
 }
@@ -135,7 +138,7 @@ pub fn write_read(frame: &mut Frame, request: &ReadRequest) -> Result<(), Full>
     ensures read_back { OnOk result (read_of (read_octets (reference request.now)) ≡ Ok (reference request.now)) }
 {
     let start = frame.len();
-    let appended = append_reference(frame, request);
+    let appended = append_reference(frame, request.object, request.property, request.index);
     whole_or_nothing(frame, start, appended)
 }
 
@@ -185,43 +188,12 @@ pub fn end_ack(frame: &mut Frame) -> Result<(), Full>
     append_closing(frame)
 }
 
-// The property that the front of the body names.
-#[tactic(auto, unfolding(crate::specs::PropertyReading::reference_at))]
-fn reference_and_rest(body: &[u8]) -> Result<(ReadRequest, &[u8]), RejectReason>
-    ensures { result_seen (λ x. (reference x.0, x.1.now)) result ≡ reference_at body.now }
-{
-    if body.is_empty() {
-        return Err(RejectReason::MissingParameter);
-    }
-    let Some((object, rest)) = object_and_rest(OBJECT, body) else {
-        return Err(RejectReason::InvalidTag);
-    };
-    if rest.is_empty() {
-        return Err(RejectReason::MissingParameter);
-    }
-    let Some((property, rest)) = number_and_rest(PROPERTY, rest) else {
-        return Err(RejectReason::InvalidTag);
-    };
-    let (index, rest) = optional_and_rest(INDEX, rest);
-    let request = ReadRequest {
-        object,
-        property,
-        index,
-    };
-    Ok((request, rest))
-}
-
 // Appends the body of a WriteProperty. Where there is no room, a front of it may stay.
 fn append_order(frame: &mut Frame, request: &WriteRequest<'_>) -> Result<(), Full>
     ensures appended { AppendsFront frame.old (write_octets (order request.now)) frame.new result }
     ensures known { OnOk result (AllByRecursion IsParameter (reference_parameters (order request.now).reference)) }
 {
-    let reference = ReadRequest {
-        object: request.object,
-        property: request.property,
-        index: request.index,
-    };
-    append_reference(frame, &reference)?;
+    append_reference(frame, request.object, request.property, request.index)?;
     append_enclosed(frame, request.value)?;
     append_optional(frame, PRIORITY, request.priority.map(u32::from))
 }
@@ -231,12 +203,7 @@ fn append_ack(frame: &mut Frame, ack: &Ack<'_>) -> Result<(), Full>
     ensures appended { AppendsFront frame.old (ack_octets (ack_seen ack.now)) frame.new result }
     ensures known { OnOk result (AllByRecursion IsParameter (reference_parameters (ack_seen ack.now).reference)) }
 {
-    let request = ReadRequest {
-        object: ack.object,
-        property: ack.property,
-        index: ack.index,
-    };
-    append_reference(frame, &request)?;
+    append_reference(frame, ack.object, ack.property, ack.index)?;
     append_enclosed(frame, ack.value)
 }
 
@@ -245,18 +212,6 @@ fn append_ack(frame: &mut Frame, ack: &Ack<'_>) -> Result<(), Full>
 fn append_ack_front(frame: &mut Frame, request: &ReadRequest) -> Result<(), Full>
     ensures { AppendsFront frame.old (ack_front (reference request.now)) frame.new result }
 {
-    append_reference(frame, request)?;
+    append_reference(frame, request.object, request.property, request.index)?;
     append_opening(frame)
-}
-
-// Appends the parameters that name a property. Where there is no room, a front of them may stay.
-#[tactic(auto, using(bac_wire::proofs::Writing::in_parts, crate::proofs::ShortestLaws::optional_plain), unfolding(crate::specs::Parameter::plain_parameter))]
-#[inline(always)]
-fn append_reference(frame: &mut Frame, request: &ReadRequest) -> Result<(), Full>
-    ensures appended { AppendsFront frame.old (read_octets (reference request.now)) frame.new result }
-    ensures known { OnOk result (AllByRecursion IsParameter (reference_parameters (reference request.now))) }
-{
-    append_object(frame, OBJECT, request.object)?;
-    append_number(frame, PROPERTY, request.property)?;
-    append_optional(frame, INDEX, request.index)
 }

@@ -57,10 +57,6 @@ written_known = grind (arith, append-nil)
 pub Gave-none : {R : Type 0} {remaining : R → Option (List ℕ)} (a : Checked R) → Gave remaining a a []
 Gave-none = grind (arith, append-nil)
 
-pub Gave-more : {R : Type 0} {remaining : R → Option (List ℕ)} {a b c : Checked R} {xs ys : List ℕ}
-    → Gave remaining a b xs → Gave remaining b c ys → Gave remaining a c (xs ++ ys)
-Gave-more = grind (arith, append_assoc)
-
 pub unread_more : {W : Type 0} (a b c : Checked W) → HasNotRead a b → HasNotRead b c → HasNotRead a c
 unread_more = grind arith
 

@@ -10,9 +10,9 @@ use Rattle.bac_pdu.specs.Peer.{Station}
 use Rattle.bac_tsm.specs.declared.client.SubmitFault.TheVariants.{TooLong}
 use Rattle.bac_tsm.specs.declared.due.DueEntry.{DueEntry}
 use Rattle.bac_tsm.specs.Lookahead.{refusal_of}
-use Rattle.bac_tsm.specs.Client.{Client, rules_of}
-use Rattle.bac_tsm.specs.Events.{Ask, Outcome, Refused, Note}
-use Rattle.bac_tsm.specs.Machine.{State, Waiting, datagram_notes, due_notes, tick}
+use Rattle.bac_tsm.specs.Client.{Client}
+use Rattle.bac_tsm.specs.Events.{Ask, Outcome, Refused}
+use Rattle.bac_tsm.specs.Machine.{State, datagram_notes, due_notes}
 use Rattle.bac_links.specs.declared.fault.ToolFault.TheVariants.{SendFailed}
 use Rattle.bac_links.specs.History.{Entry, Account}
 use Rattle.bac_run.specs.declared.fault.RunFault.{RunFault}
@@ -43,9 +43,6 @@ history-append client (x ∷ xs) ys = grind (arith, append_assoc, history-append
 
 pub inputs-append : (xs ys : List Act) → inputs_in (xs ++ ys) ≡ inputs_in xs ++ inputs_in ys
 inputs-append = grind (arith, flat_map-append)
-
-pub posts-append : (xs ys : List Note) → posts (xs ++ ys) ≡ posts xs ++ posts ys
-posts-append = grind (arith, flat_map-append)
 
 -- All was done.
 abbrev pub done : Result (Unit {0}) RunFault
@@ -274,15 +271,6 @@ pub quiet_within : (window : ℕ) (client : Client) (acts : List Act) {inputs : 
     → AllByRecursion IsQuiet inputs → IsWithin window client acts
 quiet_within window client acts is quiet =
     quiet_acts window client acts (subst (λ (xs : List Act). AllByRecursion IsQuiet xs) (sym is) quiet)
-
-none_kept : (f : Waiting → List Waiting) (ws : List Waiting) → length ws ≡ 0 → length (flat_map f ws) ≡ 0
-none_kept f [] none = refl
-none_kept f (w ∷ ws) none = absurd (omega (arith, none))
-
--- Where no request is open, none is after the time was told.
-pub tick_none : (client : Client) (time : ℕ) → length client.state.waiting ≡ 0
-    → length (tick (rules_of client) client.state time).after.waiting ≡ 0
-tick_none client time none = none_kept _ client.state.waiting none
 
 pub fit_append : (xs ys : List Act) → AllByRecursion FitsLine xs → AllByRecursion FitsLine ys
     → AllByRecursion FitsLine (xs ++ ys)

@@ -48,9 +48,6 @@ pub data ReadAlike (given given' : List ℕ) (reading reading' : Reading) (resul
       → ReadAlike given given' reading reading' result other
 
 module _ (session : Session) where
-  abbrev timeout_of : ℕ
-  timeout_of = session.config.timeout
-
   abbrev client_of : Client
   client_of = new_client session.config.timeout session.config.retries
 

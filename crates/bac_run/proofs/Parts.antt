@@ -247,23 +247,6 @@ module _ {Origin W : Type 0} {contents : W → Option (List ℕ)} where
     fit = went.fit;
   }
 
-  -- It began with another count of datagrams.
-  pub went_before : {A I : Type 0} {result : Result A RunFault} {b c d : Run} {p q : Page W} {s t : Account Origin}
-      {from to : I → Stage} {xs : List Act} → c.session ≡ b.session → c.client ≡ b.client
-      → Went contents c d p q s t from to result xs → Went contents b d p q s t from to result xs
-  went_before same client went = record {
-    acts = went.acts;
-    of_input = went.of_input;
-    same = went.same ∙ same;
-    goes = λ i. rw (sym same) (went.goes i);
-    comes = λ i. rw (sym same) (went.comes i);
-    client_is = rw (sym client) went.client_is;
-    prints = rw (sym client) went.prints;
-    out = rw (sym client) went.out;
-    asks = rw (sym client) went.asks;
-    fit = went.fit;
-  }
-
   -- One act.
   pub went_one : {A I : Type 0} {result : Result A RunFault} {c d : Run} {p q : Page W} {s t : Account Origin}
       {from to : I → Stage} (act : Act) → FitsLine act → d.session ≡ c.session → d.client ≡ (turn_at c.client act).after

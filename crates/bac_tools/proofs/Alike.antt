@@ -22,7 +22,7 @@ use Rattle.{
   bac_run.proofs.{GoOn.{IsCutShort as IsBatchCut, IsTaken, one_text as one_journal, runs_on, taken}, Standing.Meets},
   bac_tools.specs.Alike.{AreAlike, AreGivenAlike, EndAlike, Gained, is_socket, IsCutOff, IsCutShort, IsPrinted},
   bac_tools.specs.Alike.{PrintAlike, ProgramRun},
-  bac_tools.specs.{Binding.asked_by, declared.{report.Report.Report, running.Binding.Binding}, Outside.Outside},
+  bac_tools.specs.{Binding.asked_by, declared.{report.Report.Report, program.Binding.Binding}, Outside.Outside},
   bac_tools.specs.{Program.{IsGiven, RunsAsRead}, Report.{report_of, run_report, tool_report}},
   bac_tools.{specs.Runs.{Runs, RunsBatch, RunsOver, RunsScript, ToolRuns}, proofs.Sessions.one_session},
 }

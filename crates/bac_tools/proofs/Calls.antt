@@ -13,7 +13,7 @@ use Rattle.{
   bac_words.specs.{declared.job.{Job.{Job, TheVariants.{Over, Run, Trace}}, Tool.Tool}, Line.{Answers, IsRefusal}},
   bac_tools.specs.Binding.asked_by,
   bac_tools.specs.Calls.{AsksAtMostOnce, GiveNoJob, GivesSockets, JobCalled, RunsAsCalls, RunsUnasked, RunsWithout},
-  bac_tools.specs.{declared.{program.Ran.Ran, report.Report.Report, running.Binding.Binding}, Outside.Outside},
+  bac_tools.specs.{declared.{program.Ran.Ran, report.Report.Report, program.Binding.Binding}, Outside.Outside},
   bac_tools.specs.{Program.{IsGiven, IsRun, Only, RunsAsRead}, Report.{run_report, tool_report, trace_report}},
   bac_tools.specs.{Runs.{BatchRuns, Runs, ToolRuns}, Telling.{IsTold, on_output, once_given}},
 }

@@ -9,7 +9,7 @@ use Rattle.bac_words.specs.declared.{faults.UsageFault.UsageFault, job.Job.Job}
 use Rattle.bac_tools.{
   specs.{Outside.Outside, Program.{RunsAsRead, Program, IsCalled, IsRun}},
   specs.{Report.{IsStatusOf, run_report, tool_report, trace_report}, Telling.once_given},
-  specs.declared.{running.Binding.Binding, program.Ran.Ran, report.{Fault.Fault, Report.Report}},
+  specs.declared.{program.Binding.Binding, program.Ran.Ran, report.{Fault.Fault, Report.Report}},
 }
 
 -- The status of this report is that of its fault.

@@ -12,7 +12,7 @@ use Rattle.{
   bac_words.specs.{Called.words_called, declared.faults.UsageFault.{UsageFault, TheVariants.Memory}},
   bac_words.specs.declared.job.Job.{Job, TheVariants.{Over, Run, Trace}},
   bac_words.specs.declared.job.Tool.{Tool, TheVariants.{Device, Read, WhoIs, Write}},
-  bac_tools.specs.{Alike.{Gained, ProgramRun}, Binding.asked_by, declared.{program.Ran.Ran, running.Binding.Binding}},
+  bac_tools.specs.{Alike.{Gained, ProgramRun}, Binding.asked_by, declared.{program.Ran.Ran, program.Binding.Binding}},
   bac_tools.specs.{Outside.Outside, Program.{IsCalled, IsGiven, IsRun, Only, Program, RunsAsRead}, Report.report_of},
   bac_tools.specs.Runs.{RunsBatch, RunsOpened, RunsOver, ToolRuns},
 }

@@ -13,7 +13,7 @@ use Rattle.bac_words.specs.{Line.IsRefusal, declared.faults.UsageFault.TheVarian
 use Rattle.bac_words.specs.declared.{faults.UsageFault.UsageFault, job.Job.{Job, TheVariants.Run}}
 use Rattle.bac_run.specs.declared.fault.RunFault.TheVariants.{Script}
 use Rattle.bac_tools.specs.{Outside.Outside, Program.{IsRun, Program}}
-use Rattle.bac_tools.specs.declared.{running.Binding.Binding, program.Ran.Ran, report.{Fault.Fault, Report.Report}}
+use Rattle.bac_tools.specs.declared.{program.Binding.Binding, program.Ran.Ran, report.{Fault.Fault, Report.Report}}
 use Rattle.bac_tools.specs.declared.report.Fault.TheVariants as faults
 
 -- The network gave a socket.

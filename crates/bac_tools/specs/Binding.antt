@@ -4,7 +4,7 @@ use Rattle.bac_links.specs.declared.udp.OnRefusal.TheVariants.{Fails, IsLost}
 use Rattle.bac_words.specs.declared.{
   job.{Job.{Job, TheVariants.{Over, Run, Trace}}, Tool.{Tool, TheVariants.{Read, Write, WhoIs, Device}}},
 }
-use Rattle.bac_tools.specs.declared.running.Binding.{Binding}
+use Rattle.bac_tools.specs.declared.program.Binding.{Binding}
 
 -- A client's socket: it has every address of the machine, and a send that the system refuses fails.
 abbrev pub client_at : ℕ → Binding

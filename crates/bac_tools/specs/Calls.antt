@@ -17,7 +17,7 @@ use Rattle.bac_tools.specs.{
   Report.{report_of, run_report, tool_report, trace_report, unread_report},
   Runs.{BatchRuns, ToolRuns},
   Telling.{IsTold, on_error, on_output, once_given},
-  declared.{program.Ran.Ran, running.Binding.Binding, report.Report.Report},
+  declared.{program.Ran.Ran, program.Binding.Binding, report.Report.Report},
 }
 use Rattle.bac_tools.specs.declared.report.Fault.TheVariants as faults
 

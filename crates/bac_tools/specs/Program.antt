@@ -10,7 +10,7 @@ use Rattle.bac_links.specs.declared.socket.NoSocket.{NoSocket}
 use Rattle.bac_words.specs.{Called.words_called, Line.{Answers, IsRefusal}, declared.job.Job.Job}
 use Rattle.bac_words.specs.declared.faults.UsageFault.{UsageFault, TheVariants.Memory}
 use Rattle.bac_tools.{
-  specs.{declared.{program.Ran.Ran, report.Report.Report, running.Binding.Binding}, Report.{report_of, unread_report}},
+  specs.{declared.{program.Ran.Ran, report.Report.Report, program.Binding.Binding}, Report.{report_of, unread_report}},
   specs.{Telling.{IsTold, on_error, on_output, once_given}, Binding.asked_by, Runs.Runs, Outside.Outside},
 }
 use Rattle.bac_tools.specs.declared.report.Fault.TheVariants as faults

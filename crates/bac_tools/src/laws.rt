@@ -13,8 +13,7 @@ ghost use Rattle.{
   bac_tools.specs.Report.{IsStatusOf, report_of},
 };
 
-use crate::program::Network;
-use crate::running::Binding;
+use crate::program::{Binding, Network};
 use std::io::{Read, Write};
 
 /// The program is a function of its words, of what its socket answers and of what it reads. Take two runs with the same

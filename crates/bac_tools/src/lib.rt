@@ -17,7 +17,6 @@ pub mod laws;
 mod program;
 mod report;
 mod running;
-mod statuses;
 mod telling;
 
 pub use bac_links::{
@@ -29,7 +28,6 @@ pub use bac_run::{RunFault, Session, run_requests};
 pub use bac_script::{TraceEnd, TraceFault, trace};
 pub use bac_text::{Call, Search, read_peer};
 pub use bac_words::{Batch, Job, Serve, Telling, Tool, UsageFault, parse_words, words_of};
-pub use program::{Finished, Network, Ran, run_program, run_words};
-pub use report::{Fault, Report, tell};
-pub use running::{Binding, binding_for, run_batch, run_tool};
-pub use statuses::{run_status, status, trace_status, usage_status};
+pub use program::{Binding, Finished, Network, Ran, binding_for, run_program, run_words};
+pub use report::{Fault, Report, run_status, status, tell, trace_status, usage_status};
+pub use running::{run_batch, run_tool};

@@ -4,18 +4,29 @@ ghost use Rattle.std.specs.{IoError.error_kind, String.string_bytes, declared.io
 ghost use Rattle.{clap.specs.Walk.texts, bac_print.specs.Checked.{fresh, has_failed}};
 ghost use Rattle.bac_links.specs.declared.socket.NoSocket.{NoSocket};
 ghost use Rattle.bac_words.specs.{declared.job.Job.TheVariants.Run, Job.CanOpen};
-ghost use Rattle.bac_tools.specs.{declared.running.Binding.Binding, Inner.Program.RunsJob};
+ghost use Rattle.bac_tools.specs.{Binding.{binding_of, client_at}, declared.program.Binding.Binding};
+ghost use Rattle.bac_tools.specs.Inner.Program.{RunsJob};
 ghost use Rattle.bac_tools.specs.Program.{IsCalled, IsRun, Program, texts_of};
 
-use crate::report::{Fault, Report, tell};
-use crate::running::{Binding, binding_for, client_at, run_batch, run_tool};
-use bac_links::{Link, LinkFault, NoSocket};
+use crate::report::{Fault, Report};
+use crate::running::{run_batch, run_tool};
+use bac_links::{Link, LinkFault, NoSocket, OnRefusal};
+use bac_pdu::Peer;
 use bac_print::Checked;
 use bac_script::trace;
-use bac_words::{Batch, Job, UsageFault, parse_words, words_of};
+use bac_words::{Batch, Job, Tool, UsageFault, parse_words, words_of};
 use std::alloc::Global;
 use std::env;
 use std::io::{self, Read, Write};
+
+/// Where a socket is to be, and what becomes of a datagram that the system refuses to send from it.
+#[derive(Clone, Copy, Debug)]
+pub struct Binding {
+    /// The address and the port; the port 0 is any.
+    pub at: Peer,
+    /// What becomes of such a datagram.
+    pub refused: OnRefusal,
+}
 
 /// What a job gets its one socket from.
 pub trait Network {
@@ -74,9 +85,7 @@ pub fn run_program<N: Network + Drop, R: Read + Drop, W: Write + Drop, E: Write 
     let mut writer = Checked::new(writer);
     let mut errors = Checked::new(errors);
     let ran = run_called(alloc, typed, network, &mut reader, &mut writer);
-    tell(ran.report.on_output(), &mut writer);
-    let report = ran.report.after_output(writer.failed());
-    tell(report.on_error(), &mut errors);
+    let report = ran.report.told(&mut writer, &mut errors);
     Finished {
         ran: Ran {
             report,
@@ -127,6 +136,20 @@ pub fn run_words<N: Network + Drop, R: Read, W: Write>(
     }
 }
 
+/// The socket that a tool asks for.
+pub fn binding_for(tool: &Tool) -> Binding
+    ensures { result ≡ binding_of tool.now }
+{
+    match tool {
+        Tool::Read(call) | Tool::Write(call) => client_at(call.port),
+        Tool::WhoIs(search) => client_at(search.port),
+        Tool::Device(device) => Binding {
+            refused: OnRefusal::IsLost,
+            ..client_at(device.port)
+        },
+    }
+}
+
 // Makes many requests over the socket that they ask for, or reports that there is none.
 fn run_many<N: Network + Drop, R: Read, W: Write>(
     batch: &Batch,
@@ -152,6 +175,20 @@ fn run_many<N: Network + Drop, R: Read, W: Write>(
             socket: Some(Err(none)),
             unasked: None,
         },
+    }
+}
+
+// A client's socket: every address of this machine; the port 0 is any free one.
+fn client_at(port: u16) -> Binding
+    ensures { result ≡ client_at port }
+{
+    Binding {
+        at: Peer {
+            ip: 0,
+            port,
+            route: None,
+        },
+        refused: OnRefusal::Fails,
     }
 }
 

@@ -1,10 +1,10 @@
 //! How the program ends, and what it tells then.
 ghost use Rattle.std.specs.Prelude.{◌≡◌, option_map};
-ghost use Rattle.bac_words.specs.Telling.{told_by};
+ghost use Rattle.{bac_print.specs.Checked.has_failed, bac_words.specs.Telling.told_by};
 ghost use Rattle.bac_tools.specs.Report.{report_of, run_report, tool_report, trace_report, unread_report};
+ghost use Rattle.bac_tools.specs.Statuses.{fault_status, run_status_of, status_of, trace_status_of, usage_status_of};
 ghost use Rattle.bac_tools.specs.Telling.{fault_told, IsTold, on_error, on_output, once_given};
 
-use crate::statuses::{run_status, status, trace_status};
 use crate::telling::print_telling;
 use bac_links::{Exit, LinkFault, ToolFault};
 use bac_print::{Checked, Message, Page};
@@ -42,6 +42,20 @@ pub struct Report {
 }
 
 impl Fault {
+    /// The status with which the program ends where it tells of this.
+    pub fn status(&self) -> u8
+        ensures { result ≡ fault_status self.now }
+    {
+        match self {
+            Fault::NoText => 2,
+            Fault::Usage(fault) => usage_status(fault),
+            Fault::Link(_) => 3,
+            Fault::Tool(fault) => status(&Err(*fault)),
+            Fault::Trace(fault) => trace_status(&Err(*fault)),
+            Fault::Run(fault) => run_status(&Err(*fault)),
+        }
+    }
+
     /// What is told of it.
     pub fn telling(&self) -> Telling<'_>
         ensures { told_by result ≡ fault_told self.now }
@@ -78,6 +92,23 @@ impl Report {
         }
     }
 
+    // The report once standard output was given the help that was asked for, and standard error what there is to tell
+    // of any other fault.
+    pub(crate) fn told<W: Write, E: Write>(
+        self,
+        writer: &mut Checked<W>,
+        errors: &mut Checked<E>,
+    ) -> Report
+        ensures help { IsTold W.contents writer.old writer.new (on_output self.fault) }
+        ensures report { result ≡ once_given self.fault (has_failed writer.new) self }
+        ensures fault { IsTold E.contents errors.old errors.new (on_error result.fault) }
+    {
+        tell(self.on_output(), writer);
+        let report = self.after_output(writer.failed());
+        tell(report.on_error(), errors);
+        report
+    }
+
     /// The report once standard output was given this, and has failed or not: where it has, and was to take help, that
     /// is the fault.
     pub fn after_output(self, failed: bool) -> Report
@@ -100,6 +131,51 @@ pub fn tell<W: Write>(telling: Option<Telling<'_>>, writer: &mut Checked<W>)
         let mut page = Page::new(writer);
         print_telling(telling, &mut page);
         let _ = page.finish();
+    }
+}
+
+/// The status after a tool: 0 where it is good, 1 where it is not, 3 after a fault.
+pub fn status(answer: &Result<Exit, ToolFault>) -> u8
+    ensures { result ≡ status_of answer.now }
+{
+    match answer {
+        Ok(Exit::Good) => 0,
+        Ok(Exit::Bad) => 1,
+        Err(_) => 3,
+    }
+}
+
+/// The status after a script: 0 at its end, 2 after a line that is bad or too long, 3 where reading or writing failed.
+pub fn trace_status(answer: &Result<TraceEnd, TraceFault>) -> u8
+    ensures { result ≡ trace_status_of answer.now }
+{
+    match answer {
+        Ok(_) => 0,
+        Err(TraceFault::BadLine(_) | TraceFault::LineTooLong(_)) => 2,
+        Err(TraceFault::ReadFailed | TraceFault::WriteFailed) => 3,
+    }
+}
+
+/// The status after many requests: 0 at the end of the input, as after a script where it stopped at that, and 3 where
+/// the link failed.
+pub fn run_status(answer: &Result<TraceEnd, RunFault>) -> u8
+    ensures { result ≡ run_status_of answer.now }
+{
+    match answer {
+        Ok(_) => 0,
+        Err(RunFault::Script(fault)) => trace_status(&Err(*fault)),
+        Err(RunFault::Link(_)) => 3,
+    }
+}
+
+/// The status after words that give no job: 0 where help was asked for, 4 where there is no memory, and else 2.
+pub fn usage_status(fault: &UsageFault) -> u8
+    ensures { result ≡ usage_status_of fault.now }
+{
+    match fault {
+        UsageFault::Help(_) => 0,
+        UsageFault::Memory => 4,
+        _ => 2,
     }
 }
 

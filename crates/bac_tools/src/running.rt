@@ -1,42 +1,17 @@
-//! A tool: the socket that it asks for, and its run over that and its writer.
+//! The run of a tool, or of many requests, over the socket that it asked for.
 ghost use Rattle.std.specs.Prelude.{◌≡◌, ◌≢◌, ◌↔◌, false, true, Err};
 ghost use Rattle.{bac_print.specs.Checked.has_failed, bac_links.specs.Fault.{is_link_fault, is_write_fault}};
 ghost use Rattle.{bac_run.specs.Fault.{is_of_link, write_failed}, bac_words.specs.Job.{CanOpen, IsReady}};
-ghost use Rattle.bac_tools.specs.Binding.{binding_of, client_at};
 ghost use Rattle.bac_tools.specs.Runs.{BatchRuns, DevicePlays, IsSessionOf, ToolRuns};
 
 use bac_device::demo;
-use bac_links::{Exit, Link, OnRefusal, ToolFault, run_read, run_whois, run_write, serve};
-use bac_pdu::Peer;
+use bac_links::{Exit, Link, ToolFault, run_read, run_whois, run_write, serve};
 use bac_print::Checked;
 use bac_run::{RunFault, Session, run_requests};
 use bac_script::TraceEnd;
 use bac_tsm::Config;
 use bac_words::{Batch, Serve, Tool};
 use std::io::{Read, Write};
-
-/// Where a socket is to be, and what becomes of a datagram that the system refuses to send from it.
-#[derive(Clone, Copy, Debug)]
-pub struct Binding {
-    /// The address and the port; the port 0 is any.
-    pub at: Peer,
-    /// What becomes of such a datagram.
-    pub refused: OnRefusal,
-}
-
-/// The socket that a tool asks for.
-pub fn binding_for(tool: &Tool) -> Binding
-    ensures { result ≡ binding_of tool.now }
-{
-    match tool {
-        Tool::Read(call) | Tool::Write(call) => client_at(call.port),
-        Tool::WhoIs(search) => client_at(search.port),
-        Tool::Device(device) => Binding {
-            refused: OnRefusal::IsLost,
-            ..client_at(device.port)
-        },
-    }
-}
 
 /// Runs a tool over its link: what is printed, what is sent, and the answer are those that the definition of the tool
 /// gives for what the link gave.
@@ -90,20 +65,6 @@ fn session_of(batch: &Batch) -> Session
             retries: batch.retries,
         },
         window: batch.window as usize,
-    }
-}
-
-// A client's socket: every address of this machine; the port 0 is any free one.
-pub(crate) fn client_at(port: u16) -> Binding
-    ensures { result ≡ client_at port }
-{
-    Binding {
-        at: Peer {
-            ip: 0,
-            port,
-            route: None,
-        },
-        refused: OnRefusal::Fails,
     }
 }
 

@@ -23,7 +23,7 @@ use Rattle.bac_tools.specs.Outside.{Outside}
 use Rattle.bac_tools.specs.Report.{report_of, tool_report}
 use Rattle.bac_tools.specs.declared.program.Ran.{Ran}
 use Rattle.bac_tools.specs.declared.report.Report.{Report}
-use Rattle.bac_tools.specs.declared.running.Binding.{Binding}
+use Rattle.bac_tools.specs.declared.program.Binding.{Binding}
 use Rattle.bac_tools.specs.declared.report.Fault.TheVariants as faults
 
 -- A network that gives no socket.

@@ -2,7 +2,7 @@
 use Rattle.std.specs.Prelude.{◌≡◌, IfNone, Option, Result, Some}
 use Rattle.{bac_print.specs.declared.checked.Checked.Checked, bac_links.specs.declared.socket.NoSocket.NoSocket}
 use Rattle.bac_words.specs.declared.job.Job.{Job}
-use Rattle.bac_tools.specs.{Binding.asked_by, declared.{program.Ran.Ran, running.Binding.Binding}, Outside.Outside}
+use Rattle.bac_tools.specs.{Binding.asked_by, declared.{program.Ran.Ran, program.Binding.Binding}, Outside.Outside}
 use Rattle.bac_tools.specs.{Program.IsGiven, Runs.Runs}
 
 -- A job is run over the socket that it asks for. Where it asks for none, the network is handed back.

@@ -4,7 +4,7 @@ use Rattle.std.specs.Net.Addr.{IsIpv4OfBits}
 use Rattle.bac_links.specs.Socket.{Binds, BindsAtMost}
 use Rattle.bac_links.specs.SystemCall.{Bind}
 use Rattle.bac_links.specs.declared.udp.OnRefusal.TheVariants.{IsLost}
-use Rattle.bac_tools.specs.declared.running.Binding.{Binding}
+use Rattle.bac_tools.specs.declared.program.Binding.{Binding}
 use Rattle.bac_tools.specs.Inner.Examples.{any_at, one_bind}
 use Rattle.bac_tools.proofs.examples.examples_of_networks.Goals as goal
 

@@ -23,7 +23,7 @@ returns g c =
           c.run_called-ran.new.reader writer c.run_called-ran.new.writer c.run_called-ran.result
           (texts_of c.args.typed))
           c.new-writer.ensures c.run_called-ran.ensures);
-      help = rw c.on_output.ensures at c.tell.ensures;
-      reported = rw c.failed.ensures at c.after_output-report.ensures;
-      fault = rw (c.new-errors.ensures, c.on_error.ensures) at c.tell-2.ensures;
+      help = c.told-report.ensures.help;
+      reported = c.told-report.ensures.report;
+      fault = rw c.new-errors.ensures at c.told-report.ensures.fault;
     }
