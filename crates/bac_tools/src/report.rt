@@ -92,8 +92,8 @@ impl Report {
         }
     }
 
-    // The report once standard output was given the help that was asked for, and standard error what there is to tell
-    // of any other fault.
+    /// Gives standard output the help that was asked for, and standard error what there is to tell of any other fault:
+    /// also that the help could not be written, which the report that comes back says.
     pub(crate) fn told<W: Write, E: Write>(
         self,
         writer: &mut Checked<W>,
