@@ -48,12 +48,6 @@ inputs-append = grind (arith, flat_map-append)
 abbrev pub done : Result (Unit {0}) RunFault
 done = Ok tt
 
--- The same fault, of a result of another kind.
-abbrev pub AreSame : {A B : Type 0} → Result A RunFault → Result B RunFault → Type 0
-AreSame (Err fault) (Err other) = fault ≡ other
-AreSame (Ok x) (Ok y) = Unit {0}
-AreSame _ _ = ⊥
-
 gained_more : {A B : Type 0} (done : A) (result : Result B RunFault) (due gained more further : List Entry)
     → gained ≡ due → IsGained result more further → IsGained result (due ++ more) (gained ++ further)
 gained_more done (Ok x) due gained more further same is = grind arith
