@@ -261,7 +261,7 @@ class Edit:
             yield "it calls a function beside which it may not stand"
         if self.condition and not (self.functions and self.pairs[0].within and len(self.refuting()) == 1):
             yield "it has an `at:`, and not `in:` and one clause that it is to leave false"
-        if self.promised and not (self.is_wide or self.is_beside()):
+        if self.promised and not (self.is_wide or (self.is_beside() and not self.answers())):
             yield "it has a `clause:`, and its function has answers, or it may call that"
         if not set(self.promised) <= {*self.clauses(), INVARIANT}:
             yield "its `clause:` names what is not ensured"
@@ -304,10 +304,13 @@ class Edit:
         return [name for kind, name, _ in self.head() if kind == "ensures"]
 
     def is_beside(self):
-        """Whether it is tried beside its function. With answers, which name their place, only what needs none is."""
-        of = self.functions[0][1]
-        in_place = self.way_back or any(map(of.symbols.match, answered(self.crate)))
-        return bool(of.behind) and (self.is_apart or not in_place)
+        """Whether it is tried beside its function."""
+        return bool(self.functions[0][1].behind) and (self.is_apart or not self.way_back)
+
+    def answers(self):
+        """What its function has answers as, in parts, where it is tried with them; else none."""
+        found = () if self.is_apart else filter(self.functions[0][1].symbols.match, answered(self.crate))
+        return next((it.split("::")[1:] for it in found), [])
 
     def place(self):
         """Where a check has the law, or else the copy, by which this edit is judged, in parts."""

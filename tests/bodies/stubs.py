@@ -8,7 +8,7 @@ import os
 import re
 import secrets
 
-from edits import ANSWERS, functions_of, sources_of
+from edits import ANSWERS, ROOT, functions_of, sources_of, text_of
 from tree import write
 
 # Another name in each run: no wrong body, and no twin, can call what is there for the stubs alone.
@@ -29,8 +29,16 @@ pub(crate) fn never() -> ! {
 }
 """
 # An answer to a goal that there is none of. Beside it `rattle` does not look for the beginning of an answer to what is
-# left open of a function, which takes up to a third of a check and more.
-FAULT = f"use Rattle.{{}}.proofs.{{}}.Goals as goal\n\npub {PLACE} : goal.{PLACE}\n{PLACE} c = ?\n"
+# left open of a function, which takes up to a third of a check and more. And a hole for the invariant of a method's
+# type, whose search to the end may take as long, and which the fault hides.
+FAULT = f"""use Rattle.{{}}.proofs.{{}}.Goals as {PLACE}
+
+pub fault : {PLACE}.{PLACE}
+fault = ?
+
+pub invariant_of-self : {PLACE}.invariant_of-self
+invariant_of-self = ?
+"""
 LINKED = "//bazel/native:glibc"
 
 
@@ -61,6 +69,16 @@ def put_stubs(crate, home, texts, is_tried):
         for answers in set(files) & set(ANSWERS) if any(it.match(name) for it in gone) else ():
             os.remove(f"{place}/{answers}")
     write(f"{home}/src/{PLACE}.rt", NOWHERE)
+
+
+def put_answers(crate, home, answers, place):
+    """Gives what a check has at this place of the crate in this folder the answers, which name their place, of what it
+    has at another."""
+    named, own = (".".join([*parts, ""]) for parts in (answers, place))
+    for it in ANSWERS:
+        file = f"{ROOT}/crates/{crate}/proofs/{'/'.join(answers)}/{it}"
+        if os.path.exists(file):
+            write(f"{home}/proofs/{'/'.join(place)}/{it}", re.sub(rf"\b{re.escape(named)}", own, text_of(file)))
 
 
 def put_fault(crate, home, place):

@@ -3,10 +3,11 @@
 
 CONTRIBUTING.md (A wrong body) says how one is written, and what shows it to be wrong. Many bodies of a crate stand
 together in one copy of it, where other functions have stubs for bodies (stubs.py), over the libraries of the crates
-below. A body stands beside its function, as one more function with the same contract. What can't stand so is tried in
-its function's place, where a round has one of each function: a body of a function with answers, or of a method with a
-trait's contract. Edits of constants and types, which a law refuses, have rounds of their own. What is refused for
-nothing but a callee is tried again alone. What no edit touches must be proved. A body is refused by a
+below. A body stands beside its function, as one more function with the same contract, and the same answers where it
+needs them. What can't stand so is tried in its function's place, where a round has one of each function: a body of a
+method with a trait's contract, or one that may call back. Edits of constants and types, which a law refuses, have
+rounds of their own, but not their twins. What is refused for nothing but a callee is tried again alone. What no edit
+touches must be proved. A body is refused by a
 
     clause  of the function, or its type's invariant; false: there are values at which it does not hold; open: no proof
             is found; limit: none in time
@@ -32,13 +33,13 @@ sys.path.insert(0, os.path.dirname(__file__) + "/..")
 import twins
 from edits import CONTROL, EMPTIED, GHOST, GHOSTS, INVARIANT, NEVER, REFUTED, ROOT, TWIN, WRONG
 from edits import IMPL, Edit, entries_of, functions_of, module_of, sources_of, symbol_of
-from stubs import LINKED, PLACE, put_fault, put_stubs
+from stubs import LINKED, PLACE, put_answers, put_fault, put_stubs
 from tree import all_crates, copy_crate, crates_below, end_by_signals, files, free_memory, processors, ran
 
 KINDS = ["clause", "safety", "step", "PROVED", "bad"]
 CHECK_MEMORY = 3000000000  # what a check takes of the machine's memory, in octets
 SAMPLE = 5
-LARGEST = 200  # bodies of a round
+LARGEST = 320  # bodies of a round
 BY_VALUES, BY_PROOF, BY_TWIN = SHOWN = ["by values", "by a proof", "by a twin"]
 HOLE, REFUSED_ONLY = "holes", "refused and not shown"
 METHOD = re.compile(r"\bimpl(?:<[^<>]*>)? (\w+) for (\w+).*?\bfn (\w+)")  # that an edit of types brings
@@ -218,7 +219,8 @@ class Round:
         if edit.is_wide:
             keys = {(edit.by, it) for it in edit.promised or edit.clauses()} | {(it.path, it.old) for it in edit.pairs}
         texts = self.texts if edit.copy else edit.applied(self.texts)
-        kind = lambda it: (it.is_wide, it.part == GHOST)  # a ghost clause alone is not for a law to refuse
+        # a right text is no law's to refuse, nor is a ghost clause alone
+        kind = lambda it: (it.is_wide and it.part != TWIN, it.part == GHOST)
         is_like = all(kind(it) == kind(edit) for it in self.edits)
         most = 1 if edit.tries or any(it.tries for it in self.edits) else LARGEST
         if texts is None or not is_like or keys & self.keys or len(self.edits) >= most:
@@ -235,8 +237,11 @@ class Round:
         with tempfile.TemporaryDirectory(prefix="wrong-bodies-") as here:
             copy_crate(self.crate, here)
             put_stubs(self.crate, here, texts, lambda *function: any(it.stands_in(*function) for it in self.edits))
-            for place in (it.place() for it in self.edits if it.may_be_spoilt()):
-                put_fault(self.crate, here, place)
+            for it in self.edits:
+                if it.copy and (answers := it.answers()):
+                    put_answers(self.crate, here, answers, it.place())
+                if it.may_be_spoilt():
+                    put_fault(self.crate, here, it.place())
             names = sorted({name for it in self.edits for name in it.asked()})
             words = [*command(self.crate, over), *(f"--only={name}" for name in names)]
             return ran(*words, cwd=here).stdout, texts
