@@ -1,4 +1,3 @@
-pub mod PlaceLaws
 pub mod StateLaws
 pub mod Answering
 pub mod SizeLaws

@@ -1,13 +1,12 @@
 -- How long replies are: each to a confirmed request fits the announced size, or is the stated Abort.
-use Rattle.std.proofs.Common.{[], ◌∷◌, ◌≡◌, ◌≤◌, ◌⊎◌, arith, Bool, false, IfSome, if◌then◌else◌, leb-true, length, List}
-use Rattle.std.proofs.Common.{None, Option, refl, Some, subst, sym, true, ℕ}
-use Rattle.std.proofs.lemmas.{Bool.cond_both, Option.{none-some, some_pair_parts}}
-use Rattle.std.specs.{Option.{ForSome, option_and_then}, Prelude.option_map}
-use Rattle.bac_pdu.specs.Apdu.{announced_size, confirmed, IsLaidOut, laid_out, Message, unconfirmed}
-use Rattle.bac_pdu.specs.{Datagram.{Carries, Delivery, Takes, wrapped}, declared.discovery.WhoIs.WhoIs}
-use Rattle.bac_pdu.specs.{declared.peer.Peer.Peer, Discovery.asks, Peer.{IsRoutable, Station, station}}
-use Rattle.bac_pdu.proofs.{ApduLaws.{announced_most, apdu_is}, DatagramLaws.{carried_is, wrapped_short, wrapped_takes}}
+use Rattle.std.proofs.Common.{[], arith, Bool, false, IfSome, if◌then◌else◌, leb-true, length, List, None, Option}
+use Rattle.std.proofs.Common.{option_and_then, option_map, refl, Some, subst, sym, true, ℕ, ◌∷◌, ◌≡◌, ◌≤◌, ◌⊎◌}
+use Rattle.std.{proofs.lemmas.{Bool.cond_both, Option.{none-some, some_pair_parts}}, specs.Option.ForSome}
 use Rattle.bac_wire.specs.{Datum.plain, Steps.◌>>=◌, Tag.plain_tag}
+use Rattle.bac_pdu.proofs.DatagramLaws.{announced_most, apdu_is, carried_is, wrapped_short, wrapped_takes}
+use Rattle.bac_pdu.specs.{Apdu.{announced_size, confirmed, IsLaidOut, laid_out, Message, unconfirmed}, Datagram.Carries}
+use Rattle.bac_pdu.specs.{Datagram.{Delivery, Takes, wrapped}, declared.{discovery.WhoIs.WhoIs, peer.Peer.Peer}}
+use Rattle.bac_pdu.specs.{Discovery.asks, Peer.{IsRoutable, Station, station}}
 use Rattle.bac_device.specs.{Arrival, Description, device_after, DeviceState, FitsRequest, fitting, i_am, replies_to}
 use Rattle.bac_device.specs.{RepliesFit, reply_message, reply_of, ReplyFits, who_is_reply, Write, writes_after}
 use Rattle.bac_device.specs.Info.{Info}

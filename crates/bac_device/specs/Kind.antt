@@ -1,10 +1,10 @@
 -- The types of point, and the values of each (clause 12).
-use Rattle.std.specs.Prelude.{ℕ, ◌^◌, ◌==◌, nat_eq, nat_lt, nat_le, ◌&&◌, Bool, true, false, List, [], ◌∷◌, Option}
-use Rattle.std.specs.{Prelude.{Some, None}, Int.{w32, to_be_bytes, from_be_bytes}, Map.lookup, Option.option_map}
-use Rattle.bac_wire.specs.{Datum.{Datum, null, real, unsigned, enumerated}, DatumReading.value_at, Steps.◌>>=◌}
+use Rattle.std.specs.{Int.{from_be_bytes, to_be_bytes, w32}, Map.lookup, Option.option_map, Prelude.{[], Bool, false}}
+use Rattle.std.specs.Prelude.{List, nat_eq, nat_le, nat_lt, None, Option, Some, true, ℕ, ◌&&◌, ◌==◌, ◌^◌, ◌∷◌}
+use Rattle.bac_wire.specs.{Datum.{Datum, enumerated, null, real, unsigned}, DatumReading.value_at, Steps.◌>>=◌}
 use Rattle.bac_pdu.specs.PropertyReading.{whole_of}
-use Rattle.bac_device.specs.declared.kind.{Family.Family, Family.TheVariants.{Analog, Binary, MultiState}, Role.Role}
-use Rattle.bac_device.specs.declared.kind.Kind.{Kind}
+use Rattle.bac_device.specs.declared.kind.{Family.{Family, TheVariants.{Analog, Binary, MultiState}}, Kind.Kind}
+use Rattle.bac_device.specs.declared.kind.Role.{Role}
 use Rattle.bac_device.specs.declared.kind.Role.TheVariants as roles
 
 -- The kind of this family and role.

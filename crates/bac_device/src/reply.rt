@@ -99,7 +99,7 @@ impl Device {
 
     // Appends the reply to the octets of an APDU to an empty frame; an accepted write is made. None where there is no
     // reply.
-    #[tactic(auto, using(crate::proofs::StateLaws::request_write, bac_pdu::proofs::ApduLaws::confirmed_no_longer), unfolding(crate::specs::Inner::Reply::reply_apdu, crate::specs::Inner::Reply::write_in_apdu))]
+    #[tactic(auto, using(crate::proofs::StateLaws::request_write, bac_pdu::proofs::DatagramLaws::confirmed_no_longer), unfolding(crate::specs::Inner::Reply::reply_apdu, crate::specs::Inner::Reply::write_in_apdu))]
     fn reply(
         &mut self,
         broadcast: bool,

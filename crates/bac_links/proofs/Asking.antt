@@ -1,12 +1,24 @@
--- Who asks by his moves, and is answered alike, asks alike.
-use Rattle.std.proofs.Common.{◌≡◌, ℕ, ◌+◌, ◌<◌, ◌≤◌, List}
-use Rattle.std.proofs.Common.{[], ◌∷◌, ◌++◌, append_assoc, Option, Some, Result, Err, refl, sym, ap, ◌∙◌, subst, arith}
-use Rattle.std.{proofs.lemmas.{Bool.{lt-ltb, le-ltb}, List.{append_cancel_left, append-nil}}, specs.List.last_or}
-use Rattle.bac_links.{
-  specs.{History.{Entry, Waited, Timed, Posted, Unposted, Account}, Answered.{answer_of, answers_of, GoOnAlike}},
-  specs.Asking.{Move, Asks, Over, ForDatagram, question_of, next_move, Follows, Plays, waits_in, times_in, turn_after},
-  specs.{Limits.most_turns, declared.fault.ToolFault.{ToolFault, TheVariants.TurnsSpent}},
-}
+-- Histories that go on, and who asks by his moves: who is answered alike asks alike.
+use Rattle.std.proofs.Common.{[], ap, append-nil, append_assoc, arith, Err, List, Option, refl, Result, Some, subst}
+use Rattle.std.proofs.{Common.{sym, ℕ, ◌++◌, ◌+◌, ◌<◌, ◌∙◌, ◌∷◌, ◌≡◌, ◌≤◌}, lemmas.Bool.{le-ltb, lt-ltb}}
+use Rattle.std.{proofs.lemmas.List.append_cancel_left, specs.List.last_or}
+use Rattle.bac_links.specs.{Answered.{answer_of, answers_of, GoOnAlike}, Asking.{Asks, Follows, ForDatagram, Move}}
+use Rattle.bac_links.specs.Asking.{next_move, Over, Plays, question_of, times_in, turn_after, waits_in}
+use Rattle.bac_links.specs.{declared.fault.ToolFault.{ToolFault, TheVariants.TurnsSpent}, History.{Account, Entry}}
+use Rattle.bac_links.specs.{History.{GainsAll, Posted, Timed, Unposted, Waited}, Limits.most_turns}
+
+-- An account with this history.
+abbrev with_history : {Origin : Type 0} → Account Origin → List Entry → Account Origin
+with_history a entries = record a { history = entries }
+
+pub gains_both : {Origin : Type 0} (xs ys : List Entry) (a b c : Account Origin) → GainsAll xs a b → GainsAll ys b c
+    → GainsAll (xs ++ ys) a c
+gains_both = grind (arith, append_assoc)
+
+pub gains_none : {Origin : Type 0} (a : Account Origin) → GainsAll [] a a
+gains_none a = sym (ap (with_history a) (append-nil a.history))
+
+-- ---- who asks by his moves, and is answered alike, asks alike
 
 pub last_push : {A : Type 0} (o : Option A) (xs : List A) (x : A) → last_or o (xs ++ x ∷ []) ≡ Some x
 last_push o [] x = refl

@@ -1,19 +1,21 @@
--- A search, turn by turn.
-use Rattle.std.proofs.lemmas.{List.{append-nil, Concat.flat_map-append}, Bool.{le-leb, lt-leb, Decides.nat_tests}}
-use Rattle.std.proofs.{lemmas.Grind.common_steps, Common.{◌≡◌, ◌≢◌, ℕ, suc, ◌-◌, ◌<◌, ◌≤◌, max, List, [], ◌∷◌, ◌++◌}}
-use Rattle.std.proofs.Common.{Option, Some, Ok, Err, Bool, false, ◌||◌, if◌then◌else◌, refl, sym, ap, ◌∙◌, arith, subst}
+-- A search, turn by turn; and two that are answered alike.
+use Rattle.std.proofs.Common.{[], ap, append-nil, append_assoc, arith, Bool, Err, false, flat_map, if◌then◌else◌, inl}
+use Rattle.std.proofs.Common.{List, max, Ok, Option, refl, Result, Some, subst, suc, sym, ℕ, ◌++◌, ◌-◌, ◌<◌, ◌||◌, ◌∙◌}
+use Rattle.std.proofs.{Common.{◌∷◌, ◌≡◌, ◌≢◌, ◌≤◌, ◌⊎◌}, lemmas.Bool.{le-leb, lt-leb, Decides.nat_tests}}
+use Rattle.std.proofs.lemmas.{Grind.common_steps, List.{append_cancel_left, Concat.flat_map-append}}
 use Rattle.bac_pdu.specs.{Found.Found, Peer.station}
 use Rattle.bac_text.specs.declared.jobs.Search.{Search}
-use Rattle.bac_print.{specs.{declared.checked.Checked.Checked, Checked.Took}, proofs.Known.{Took-none, Took-more}}
-use Rattle.bac_links.{
-  specs.{Limits.most_turns, History.{Heard, Failure, Entry, Waited, Timed, Posted, Unposted, Account, GainsAll, Gains}},
-  specs.Asking.{Asks, Over, ForTime, Follows, next_move, waits_in, times_in, turn_after},
-  specs.Search.{found_by, found_line, greatest_of, passed_in, who_is_to},
-  specs.{Search.{found_in, behind_time, search_move, Searched}, declared.exit.Exit.{Exit, TheVariants.{Good, Bad}}},
-  specs.declared.fault.ToolFault.{ToolFault, TheVariants.{SendFailed, ReceiveFailed, TurnsSpent, WriteFailed}},
-  specs.Inner.SearchSteps.{search_wait, found_lines, has_found, Listens},
-  proofs.{Asking.{last_push, follows_push, waits_push, times_push, turn_begins, turns_over}, Histories.gains_both},
-}
+use Rattle.bac_print.{proofs.Printed.{Took-more, Took-none}, specs.Checked.{TakesFront, Took}}
+use Rattle.bac_print.specs.declared.checked.Checked.{Checked}
+use Rattle.bac_links.proofs.Asking.{follows_push, gains_both, last_push, played, same_so_far, so_far, times_push}
+use Rattle.bac_links.{proofs.Asking.{turn_begins, turns_over, waits_push}, specs.Answered.{AskAlike, OneText, Printed}}
+use Rattle.bac_links.specs.Asking.{Asks, Follows, ForTime, next_move, Over, question_of, times_in, turn_after, waits_in}
+use Rattle.bac_links.specs.declared.{exit.Exit.{Exit, TheVariants.{Bad, Good}}, fault.ToolFault.ToolFault}
+use Rattle.bac_links.specs.declared.fault.ToolFault.TheVariants.{ReceiveFailed, SendFailed, TurnsSpent, WriteFailed}
+use Rattle.bac_links.specs.History.{Account, Entry, Failure, Gains, GainsAll, Heard, Posted, Timed, Unposted, Waited}
+use Rattle.bac_links.specs.{Inner.SearchSteps.{found_lines, has_found, Listens, search_wait}, Limits.most_turns}
+use Rattle.bac_links.specs.Search.{behind_time, found_by, found_in, found_line, greatest_of, IsCutOff, passed_in}
+use Rattle.bac_links.specs.Search.{search_move, Searched, who_is_to}
 
 -- What a search begins with, and then this.
 abbrev pub searched : Search → ℕ → List Entry → List Entry
@@ -214,3 +216,75 @@ spent {search} {first} n all goes = record {
   };
   printed = goes.printed;
 }
+
+-- ---- two searches that are answered alike ask alike, end alike, and print one text
+
+module _ (search : Search) where
+  abbrev lines_in : List Entry → List ℕ
+  lines_in gained = flat_map found_line (found_in search gained)
+
+  lines-append : (xs ys : List Entry) → lines_in (xs ++ ys) ≡ lines_in xs ++ lines_in ys
+  lines-append xs ys = ap (flat_map found_line) (flat_map-append _ xs ys) ∙ flat_map-append found_line _ _
+
+  module _ {W : Type 0} (contents : W → Option (List ℕ)) (before after : Checked W) where
+    extended : (xs ys : List ℕ) → TakesFront contents before after xs → TakesFront contents before after (xs ++ ys)
+    extended xs ys (taken, rest, e, took) =
+        (taken, rest ++ ys, ap (λ (zs : List ℕ). zs ++ ys) e ∙ append_assoc _ rest ys, took)
+
+    -- It was cut off behind a wait.
+    pub record WasCut (result : Result Exit ToolFault) (gained : List Entry) : Type 0 where
+      pub failed : result ≡ Err WriteFailed
+      pub waited : 0 < waits_in gained
+      pub asks : next_move (search_move search) gained ≡ Asks ForTime
+
+    -- After these entries it is over, or it was cut off; and their lines were printed.
+    pub record Stops (result : Result Exit ToolFault) (gained : List Entry) : Type 0 where
+      pub follows : Follows (search_move search) [] gained
+      pub over : (next_move (search_move search) gained ≡ Over result) ⊎ WasCut result gained
+      pub printed : Printed contents before after (lines_in gained) result
+
+    -- Where more could have been asked it was cut off, and it printed a front of any lines more.
+    cut_off : (result : Result Exit ToolFault) (first more : List Entry) (x : Entry) → Stops result first
+        → next_move (search_move search) first ≡ Asks (question_of x)
+        → (result ≡ Err WriteFailed) × Printed contents before after (lines_in (first ++ more)) result
+    cut_off result first more x it asks =
+        grind (arith, it, lines-append first more, extended (lines_in first) (lines_in more))
+
+    module _ {Origin : Type 0} (seen left : Account Origin) where
+      cut : (it : IsCutOff search contents before after seen left)
+          → Stops (Err WriteFailed) (it.earlier ++ Waited it.wait it.heard ∷ [])
+      cut = grind (arith, behind_wait, lines-append, append-nil, append_assoc, waits_push)
+
+      pub stops : (result : Result Exit ToolFault) (gained : List Entry)
+          → Searched search contents before after seen left result → left.history ≡ seen.history ++ gained
+          → Stops result gained
+      stops (Err WriteFailed) _ it gains = grind (arith, append_cancel_left, cut)
+      stops result gained it gains =
+          rw (← played it.plays gains)
+          (record { follows = it.plays.follows; over = inl it.plays.over; printed = it.printed })
+
+-- Two searches that are answered alike.
+module _ {V W : Type 0} (contents : V → Option (List ℕ)) (contents' : W → Option (List ℕ)) (search : Search)
+    (before after : Checked V) (before' after' : Checked W) where
+  abbrev PrintAlike : Result Exit ToolFault → Result Exit ToolFault → Type 0
+  PrintAlike = OneText contents before after contents' before' after'
+
+  pub searches_so_far : {Origin Other : Type 0} → AskAlike Origin Other (Searched search contents before after)
+      (Searched search contents' before' after') (λ result. result ≡ Err WriteFailed)
+      (λ result other. result ≡ other) PrintAlike
+  searches_so_far seen left seen' left' result result' first rest first' rest' tells tells' gains gains' same =
+      let a = stops _ contents _ _ _ _ _ _ tells gains in
+      let b = stops _ contents' _ _ _ _ _ _ tells' gains' in
+      let one = same_so_far (search_move search) [] first first' rest rest' a.follows b.follows same in
+      let cut : rest ≡ [] → (x : Entry) → next_move (search_move search) first ≡ Asks (question_of x)
+      → (result ≡ Err WriteFailed) × PrintAlike result result' =
+      grind (arith, append-nil, a, b, one, cut_off search contents before after result first rest') in
+      let other_cut : rest' ≡ [] → (x : Entry) → next_move (search_move search) first ≡ Asks (question_of x)
+      → (result' ≡ Err WriteFailed) × PrintAlike result result' =
+      grind (arith, append-nil, a, b, one, cut_off search contents' before' after' result' first rest) in
+      let ends : rest ≡ [] → rest' ≡ [] → (result ≡ result') × PrintAlike result result' =
+      grind (arith, append-nil, a, b, one) in (
+        one,
+        so_far (search_move search) (λ r. r ≡ Err WriteFailed) (λ r s. r ≡ s) PrintAlike _ _ _ _ _
+            cut other_cut ends _ one a.follows b.follows,
+      )

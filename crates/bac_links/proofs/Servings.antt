@@ -1,18 +1,30 @@
--- A device that serves, wait by wait.
-use Rattle.std.proofs.Common.{◌≡◌, ◌≢◌, ℕ, suc, ◌+◌, ◌<◌, List, [], ◌∷◌, ◌++◌, length}
-use Rattle.std.proofs.Common.{length-append, Option, Some, None, Result, Ok, Err, refl, ap, ◌∙◌, arith, append_assoc}
-use Rattle.std.{proofs.lemmas.{List.{append-nil, Concat.flat_map-append}, Bool.lt-leb}, specs.List.last_or}
-use Rattle.bac_pdu.specs.Peer.{Station}
-use Rattle.bac_device.specs.{Device.DeviceState, Turns.Arrival, Reply.reply_of}
-use Rattle.bac_links.{
-  proofs.{Asking.{last_push, follows_push, waits_push, turn_begins, turns_over}, Histories.{gains_both, gains_none}},
-  specs.Asking.{Over, ToSend, question_of, Follows, next_move, waits_in, turn_after},
-  specs.History.{Heard, Silence, Arrived, Failure, Entry, Waited, Posted, Account, GainsAll},
-  specs.Inner.ServeSteps.{brought_by, sends_of, LeavesDevice, ServesTurn},
-  specs.{Limits.{most_turns, serve_wait}, Serve.{came_by, arrivals_in, device_next, device_behind}},
-  specs.{Serve.{replies_of, or_reply, serve_next, serve_move, Serves}, declared.exit.Exit.{Exit, TheVariants.Good}},
-  specs.declared.fault.ToolFault.{ToolFault, TheVariants.{SendFailed, ReceiveFailed, TurnsSpent}},
-}
+-- A device that serves, wait by wait; two that are answered alike; and what a device, a search and a call sent.
+use Rattle.std.proofs.Common.{[], ap, append-nil, append_assoc, arith, Err, false, flat_map, IfOk, if◌then◌else◌}
+use Rattle.std.proofs.Common.{length, length-append, List, map, None, Ok, Option, option_to_list, refl, Result, Some}
+use Rattle.std.proofs.Common.{suc, true, zero, ℕ, ◌++◌, ◌+◌, ◌-◌, ◌<◌, ◌∙◌, ◌∷◌, ◌≡◌, ◌≢◌, ◌≤◌, ◌⊎◌}
+use Rattle.std.proofs.lemmas.{Bool.{cases_Bool, lt-leb, Decides.nat_tests}, List.{length_push, map-append}}
+use Rattle.std.{proofs.lemmas.List.Concat.flat_map-append, specs.List.last_or}
+use Rattle.bac_pdu.specs.Peer.{Station, station}
+use Rattle.bac_tsm.{proofs.Laws.{quiet_unsent, sends_push, sent_unended}, specs.Events.{Data, Event, Tick}}
+use Rattle.bac_tsm.specs.Lookahead.{Accepted, due, sends, sends_within}
+use Rattle.bac_device.{proofs.Answering.next_after, specs.{Device.{device_after, DeviceState, Holds}, Info.Info}}
+use Rattle.bac_device.specs.{Places.Write, Point.Description, Reply.{reply_of, writes_after}, Turns.all_writes}
+use Rattle.bac_device.specs.Turns.{AreDefined, Arrival, replies_to}
+use Rattle.bac_text.specs.declared.jobs.{Call.Call, Search.Search}
+use Rattle.bac_print.specs.declared.checked.Checked.{Checked}
+use Rattle.bac_links.proofs.Asking.{followed, follows_push, gains_both, gains_none, last_push, plays_all, PlaysAll}
+use Rattle.bac_links.proofs.{Asking.{to_the_end, turn_begins, turns_over, waits_push}, CallTurns.handed_push}
+use Rattle.bac_links.{proofs.{CallTurns.slice_get-last, Searches.stops}, specs.{Answered.AskAlike, Asking.Asks}}
+use Rattle.bac_links.specs.Asking.{Follows, ForTime, Move, next_move, Over, question_of, ToSend, turn_after, waits_in}
+use Rattle.bac_links.specs.Call.{asked, Comes, end_in, events_of, is_sent_last, move, rules_for, Tells}
+use Rattle.bac_links.specs.declared.{ending.Purpose.Purpose, exit.Exit.{Exit, TheVariants.Good}}
+use Rattle.bac_links.specs.declared.fault.ToolFault.{ToolFault, TheVariants.{ReceiveFailed, SendFailed, TurnsSpent}}
+use Rattle.bac_links.specs.{declared.fault.ToolFault.TheVariants.WriteFailed, Handed.handed_of, History.Account}
+use Rattle.bac_links.specs.History.{Arrived, Entry, Failure, GainsAll, Heard, Posted, Silence, Timed, Unposted, Waited}
+use Rattle.bac_links.specs.{Inner.ServeSteps.{brought_by, LeavesDevice, sends_of, ServesTurn}, Limits.most_turns}
+use Rattle.bac_links.specs.{Limits.serve_wait, Search.{search_move, Searched, who_is_to}, Sent.{AllSent, sends_of_call}}
+use Rattle.bac_links.specs.{Sent.{sent_at, sent_behind, sent_in}, Serve.{arrivals_in, came_by, device_behind}}
+use Rattle.bac_links.specs.Serve.{device_next, or_reply, replies_of, serve_move, serve_next, Serves}
 
 abbrev Reply : Type 0
 Reply = Option (Station × List ℕ)
@@ -38,8 +50,7 @@ replies-append _ [] ys = refl
 replies-append device (x ∷ xs) ys =
     ap (λ (rs : List Reply). reply_of device x.from x.datagram ∷ rs) (replies-append (device_next _ x) xs ys)
 
-pub arrivals-push : (gained : List Entry) (x : Entry)
-    → arrivals_in (gained ++ x ∷ []) ≡ arrivals_in gained ++ came_by x
+pub arrivals-push : (gained : List Entry) (x : Entry) → arrivals_in (gained ++ x ∷ []) ≡ arrivals_in gained ++ came_by x
 arrivals-push = grind (arith, flat_map-append, append-nil)
 
 -- ---- the next move
@@ -134,8 +145,7 @@ module _ {Origin : Type 0} {before device : DeviceState} {seen mid : Account Ori
       device_is : after ≡ device_behind before (arrivals_in gained)
       device_is = grind (arith, behind-append)
 
-      on_with : {left : Account Origin} (brought : ℕ) → brought ≡ length (brought_by heard)
-          → GainsAll gained seen left
+      on_with : {left : Account Origin} (brought : ℕ) → brought ≡ length (brought_by heard) → GainsAll gained seen left
           → Follows (serve_move count before) [] gained
           → next_move (serve_move count before) gained ≡ serve_next count gained
           → ServeGoes before after seen left count (came + brought) (suc n)
@@ -198,3 +208,238 @@ module _ {Origin : Type 0} {before device : DeviceState} {seen mid : Account Ori
         (gains_one Failure failed.gains)
         (follows_waited Failure within fewer) (behind count before goes.gained (Waited serve_wait Failure))
     serve_fails _ one = absurd one
+
+-- ---- the replies of a device, one after another, are those of the definition
+
+module _ (info : Info) (points : List Description) where
+  replied_after : (writes : List Write) (arrivals : List Arrival)
+      → replies_of (device_after info points writes) arrivals ≡ replies_to info points writes arrivals
+  replied_after _ [] = refl
+  replied_after writes (came ∷ arrivals) =
+      grind (arith, next_after, replied_after (writes_after info points writes came.from came.datagram) arrivals)
+
+  left_after : (writes : List Write) (arrivals : List Arrival)
+      → device_behind (device_after info points writes) arrivals
+      ≡ device_after info points (all_writes info points writes arrivals)
+  left_after _ [] = refl
+  left_after writes (came ∷ arrivals) =
+      grind (arith, next_after, left_after (writes_after info points writes came.from came.datagram) arrivals)
+
+pub defined : (device : DeviceState) (writes : List Write) (arrivals : List Arrival) → Holds device writes
+    → AreDefined device writes arrivals (replies_of device arrivals) (device_behind device arrivals)
+defined = grind (arith, replied_after, left_after)
+
+-- ---- two servers that are answered alike, over devices in the same state, ask and send alike, and end alike
+
+module _ (count : ℕ) (before after after' : DeviceState) where
+  abbrev EndAlike : Result Exit ToolFault → Result Exit ToolFault → Type 0
+  EndAlike result result' = (result ≡ result') × (after ≡ after')
+
+  pub servings_so_far : {Origin Other : Type 0} → AskAlike Origin Other (Serves count before after)
+      (Serves count before after') (λ r. ⊥) EndAlike (λ result result'. Unit {0})
+  servings_so_far seen left seen' left' result result' first rest first' rest' serves serves' gains gains' same =
+      to_the_end EndAlike (λ r r'. Unit {0}) result result' serves.plays serves'.plays
+      (grind (arith, serves.device, serves'.device)) _ _ _ _ gains gains' same
+
+-- ---- what was sent is what was due: by a server, by a search, and by a call
+
+module _ {D A : Type 0} (told : List Entry → Station → List ℕ → D)
+    (move : List Entry → Option Entry → Move (Result A ToolFault)) (due : List Entry → List D) where
+  sent_push : (before xs : List Entry) (x : Entry) → sent_behind told before (xs ++ x ∷ [])
+      ≡ sent_behind told before xs ++ sent_behind told (before ++ xs) (x ∷ [])
+  sent_push before [] x = rw append-nil refl
+  sent_push before (y ∷ xs) x = grind (arith, append_assoc, sent_push (before ++ y ∷ []) xs x)
+
+  -- What a move gives to be sent.
+  abbrev pub sending : List Entry → Move (Result A ToolFault) → List D
+  sending before (Asks (ToSend to octets)) = told before to octets ∷ []
+  sending before _ = []
+
+  -- What was due was sent, or is to be sent next; where a send failed, all but that one.
+  abbrev IsSent : List Entry → Move (Result A ToolFault) → Type 0
+  IsSent xs (Over result) = AllSent (due xs) (sent_behind told [] xs) result
+  IsSent xs (Asks question) = due xs ≡ sent_behind told [] xs ++ sending xs (Asks question)
+
+  -- Behind a send that failed it is over with that fault, and behind nothing else.
+  abbrev FailsThere : Entry → Move (Result A ToolFault) → Type 0
+  FailsThere (Unposted to octets) next = next ≡ Over (Err SendFailed)
+  FailsThere _ next = next ≢ Over (Err SendFailed)
+
+  -- What is due grows by what is to be sent next.
+  pub record SendsDues : Type 0 where
+    pub first : IsSent [] (next_move move [])
+    pub grows : (xs : List Entry) (x : Entry) → Follows move [] xs → next_move move xs ≡ Asks (question_of x)
+        → due (xs ++ x ∷ []) ≡ due xs ++ sending (xs ++ x ∷ []) (move (xs ++ x ∷ []) (Some x))
+    pub fails : (xs : List Entry) (x : Entry) → FailsThere x (move xs (Some x))
+
+  module _ (dues : SendsDues) where
+    on : (xs : List Entry) (x : Entry) → Follows move [] xs → next_move move xs ≡ Asks (question_of x)
+        → IsSent xs (next_move move xs) → IsSent (xs ++ x ∷ []) (next_move move (xs ++ x ∷ []))
+    on xs (Unposted to octets) follows asks so =
+        rw (last_push, dues.fails (xs ++ Unposted to octets ∷ []) (Unposted to octets))
+        (told xs to octets, grind (arith, dues, sent_push, append-nil))
+    on xs x follows asks so = grind (arith, dues, last_push, sent_push, append-nil)
+
+    pub sent_so_far : (xs : List Entry) → Follows move [] xs → IsSent xs (next_move move xs)
+    sent_so_far = followed move (λ xs. IsSent xs (next_move move xs)) on dues.first
+
+    pub all_sent : {gained : List Entry} {result : Result A ToolFault} → PlaysAll move gained result
+        → AllSent (due gained) (sent_behind told [] gained) result
+    all_sent plays = rw plays.over at (sent_so_far _ plays.follows)
+
+-- What is told of a datagram alone.
+abbrev alone : List Entry → Station → List ℕ → Station × List ℕ
+alone before to octets = (to, octets)
+
+-- ---- a server
+
+module _ (count : ℕ) (device : DeviceState) where
+  -- The replies that are due.
+  abbrev replies_due : List Entry → List (Station × List ℕ)
+  replies_due xs = flat_map option_to_list (replies_of device (arrivals_in xs))
+
+  server_dues : SendsDues alone (serve_move count device) replies_due
+  server_dues = record {
+    first = grind (arith, nat_tests);
+    grows = grind (arith, arrivals-push, replies-append, flat_map-append, last_push, append-nil, nat_tests);
+    fails = grind (arith, nat_tests);
+  }
+
+  module _ {gained : List Entry} {result : Result Exit ToolFault}
+      (plays : PlaysAll (serve_move count device) gained result) where
+    pub server_sent : AllSent (replies_due gained) (sent_in gained) result
+    server_sent = all_sent alone (serve_move count device) replies_due server_dues plays
+
+    -- A server hears no more datagrams than it is to, and that many where it answers.
+    pub as_many : (length (arrivals_in gained) ≤ count) × IfOk result (λ answer. length (arrivals_in gained) ≡ count)
+    as_many =
+        let most = followed (serve_move count device) (λ xs. length (arrivals_in xs) ≤ count)
+        (grind (arith, arrivals-push, length-append, nat_tests)) (omega arith) gained plays.follows in
+        (most, grind (arith, nat_tests))
+
+-- ---- a search
+
+module _ (search : Search) where
+  -- The Who-Is is due behind the first entry.
+  abbrev who_is_due : List Entry → List (Station × List ℕ)
+  who_is_due [] = []
+  who_is_due (_ ∷ _) = (station search.to, who_is_to search) ∷ []
+
+  -- A search asks for the time first, and behind a wait.
+  timed : (xs : List Entry) → Follows (search_move search) [] xs → next_move (search_move search) xs ≡ Asks ForTime
+      → (xs ≡ []) ⊎ (0 < waits_in xs)
+  timed = followed (search_move search)
+      (λ xs. next_move (search_move search) xs ≡ Asks ForTime → (xs ≡ []) ⊎ (0 < waits_in xs))
+      (grind (arith, last_push, waits_push, nat_tests)) (grind arith)
+
+  search_dues : SendsDues alone (search_move search) who_is_due
+  search_dues = record {
+    first = refl;
+    grows = grind (arith, timed, waits_push, nat_tests);
+    fails = grind (arith, nat_tests);
+  }
+
+  module _ {Origin W : Type 0} (contents : W → Option (List ℕ)) (before after : Checked W)
+      (seen left : Account Origin) where
+    pub one_sent : (result : Result Exit ToolFault) (gained : List Entry)
+        → Searched search contents before after seen left result → left.history ≡ seen.history ++ gained
+        → AllSent ((station search.to, who_is_to search) ∷ []) (sent_in gained) result
+    one_sent result gained searched gains =
+        let it = stops search contents before after seen left result gained searched gains in
+        let so = sent_so_far alone (search_move search) who_is_due search_dues gained it.follows in
+        grind (arith, append-nil, it, so)
+
+-- ---- what a call sent is what the look-ahead sends of its request
+
+module _ (purpose : Purpose) (call : Call) where
+  abbrev a : Accepted
+  a = asked purpose call
+
+  abbrev place : ℕ → ℕ × Station × List ℕ
+  place i = (i, a.request.peer, a.request.octets)
+
+  abbrev at : List Event → List (ℕ × Station × List ℕ)
+  at events = map place (sends (rules_for call) events a)
+
+  abbrev evs : List Entry → List Event
+  evs = events_of purpose call
+
+  abbrev told : List Entry → Station → List ℕ → ℕ × Station × List ℕ
+  told before to octets = (length (evs before) - 1, to, octets)
+
+  evs_push : (time : ℕ) (more : List Entry) (x : Entry)
+      → evs (Timed time ∷ (more ++ x ∷ [])) ≡ evs (Timed time ∷ more) ++ handed_of x
+  evs_push = grind (arith, handed_push)
+
+  -- One entry more, of which the client is handed this event.
+  module _ (time : ℕ) (more : List Entry) (x : Entry) (event : Event) (one : handed_of x ≡ event ∷ []) where
+    abbrev before : List Event
+    before = evs (Timed time ∷ more)
+
+    abbrev after : List Event
+    after = evs (Timed time ∷ (more ++ x ∷ []))
+
+    pushed : after ≡ before ++ event ∷ []
+    pushed = rw (← one) (evs_push time more x)
+
+    at_push : at after ≡ at before ++ (if is_sent_last purpose call after then place (length after - 1) ∷ [] else [])
+    at_push =
+        let more = sends_push (rules_for call) before event a (omega arith) in
+        grind (arith, pushed, map-append, length_push, append-nil)
+
+    unended : is_sent_last purpose call after ≡ true → end_in purpose call after ≡ None
+    unended = grind (arith, pushed, sent_unended (rules_for call) before event a (omega arith), length_push)
+
+    data_unsent : (from : Station) (octets : List ℕ) → event ≡ Data from octets
+        → is_sent_last purpose call after ≡ false
+    data_unsent =
+        grind (arith, pushed, quiet_unsent (rules_for call) after a (length before), slice_get-last, length_push)
+
+  module _ (time : ℕ) where
+    abbrev first : List Event
+    first = evs (Timed time ∷ [])
+
+    due_none : (k : ℕ) → due (rules_for call) first 1 (suc k) ≡ None
+    due_none zero = refl
+    due_none (suc k) = grind (arith, due_none k)
+
+    sent_once : (k : ℕ) → sends_within (rules_for call) first a k ≡ 1 ∷ []
+    sent_once zero = refl
+    sent_once (suc k) = grind (arith, due_none, sent_once k)
+
+  -- The request is due from the first time on.
+  abbrev owed : List Entry → List (ℕ × Station × List ℕ)
+  owed [] = []
+  owed (x ∷ xs) = at (evs (x ∷ xs))
+
+  grows : (xs : List Entry) (x : Entry) → Follows (move purpose call) [] xs
+      → next_move (move purpose call) xs ≡ Asks (question_of x)
+      → owed (xs ++ x ∷ []) ≡ owed xs ++ sending told (move purpose call) owed (xs ++ x ∷ [])
+      (move purpose call (xs ++ x ∷ []) (Some x))
+  grows [] (Timed time) follows asks = grind (arith, sent_once, due_none)
+  grows (Timed time ∷ more) (Timed now) follows asks =
+      let x = Timed now in
+      grind (arith, at_push time more x (Tick now) refl, unended time more x (Tick now) refl, cases_Bool)
+  grows (Timed time ∷ more) (Waited wait (Arrived from octets)) follows asks =
+      let x = Waited wait (Arrived from octets) in
+      let event = Data from octets in
+      grind (arith, at_push time more x event refl, data_unsent time more x event refl from octets refl, append-nil)
+  grows (Timed time ∷ more) x follows asks = grind (arith, evs_push time more x, append-nil)
+  grows _ _ follows asks = cc
+
+  dues : SendsDues told (move purpose call) owed
+  dues = record { first = refl; grows = grows; fails = grind (arith, cases_Bool) }
+
+  call_sent : {gained : List Entry} {result : Comes} → PlaysAll (move purpose call) gained result
+      → AllSent (sends_of_call purpose call gained) (sent_at purpose call gained) result
+  call_sent {gained = []} plays = let no = plays.over in cc
+  call_sent {gained = x ∷ xs} plays = all_sent told (move purpose call) owed dues plays
+
+  module _ {Origin W : Type 0} (contents : W → Option (List ℕ)) (before after : Checked W)
+      (seen left : Account Origin) where
+    pub told_sent : (result : Result Exit ToolFault) (gained : List Entry)
+        → Tells purpose call contents before after seen left result → left.history ≡ seen.history ++ gained
+        → AllSent (sends_of_call purpose call gained) (sent_at purpose call gained) result
+    told_sent (Ok exit) gained tells gains = call_sent (plays_all tells.plays gains)
+    told_sent (Err WriteFailed) gained tells gains = call_sent (plays_all tells.plays gains)
+    told_sent (Err fault) gained tells gains = call_sent (plays_all tells.plays gains)

@@ -1,5 +1,5 @@
 -- What examples of whole runs have in common.
-use Rattle.std.proofs.Common.{[], ◌≡◌, ap, arith, List, Option, refl, subst, sym}
+use Rattle.std.proofs.Common.{[], ap, arith, List, Option, refl, subst, sym, ◌≡◌}
 use Rattle.bac_print.specs.{Checked.Took, Inner.Examples.{unasked, unknown}}
 use Rattle.bac_links.specs.{Asking.{Move, next_move, Over, Plays}, History.{Entry, GainsAll}, Inner.Examples.asked_so}
 

@@ -1,17 +1,16 @@
 -- A call: one request, what it asks of its link, and how it ends.
-use Rattle.std.specs.Prelude.{◌≡◌, ℕ, ◌-◌, nat_eq, Bool, if◌then◌else◌}
-use Rattle.std.specs.{Prelude.{List, [], ◌∷◌, length, Option, Some, None, Result, Ok, Err}, List.list_any}
+use Rattle.std.specs.{List.list_any, Prelude.{[], Bool, Err, if◌then◌else◌, length, List, nat_eq, None, Ok, Option}}
+use Rattle.std.specs.Prelude.{Result, Some, ℕ, ◌-◌, ◌∷◌, ◌≡◌}
 use Rattle.bac_pdu.specs.Peer.{station}
-use Rattle.bac_tsm.specs.Events.{Outcome, Event, Ask, Rules, request_of}
-use Rattle.bac_tsm.specs.{Lookahead.{Accepted, End, accepted, end, sends}, Client.client_rules}
+use Rattle.bac_tsm.specs.{Client.client_rules, Events.{Ask, Event, Outcome, request_of, Rules}, Lookahead.Accepted}
+use Rattle.bac_tsm.specs.Lookahead.{accepted, End, end, sends}
 use Rattle.bac_text.specs.declared.jobs.Call.{Call}
-use Rattle.bac_print.specs.{declared.checked.Checked.Checked, Checked.{Took, TakesFront}}
-use Rattle.bac_links.{
-  specs.{Limits.turn_wait, History.{Failure, Entry, Waited, Timed, Posted, Unposted, Account}},
-  specs.{Handed.handed, Asking.{Move, Asks, Over, ForTime, ToSend, Plays, waits_in, turn_after}},
-  specs.declared.{ending.Purpose.{Purpose, TheVariants.{Reading, Writing}}, exit.Exit.Exit, fault.ToolFault.ToolFault},
-  specs.{declared.fault.ToolFault.TheVariants.{SendFailed, ReceiveFailed, WriteFailed}, Ending.{exit_of, ending_line}},
-}
+use Rattle.bac_print.specs.{Checked.{TakesFront, Took}, declared.checked.Checked.Checked}
+use Rattle.bac_links.specs.Asking.{Asks, ForTime, Move, Over, Plays, ToSend, turn_after, waits_in}
+use Rattle.bac_links.specs.declared.{ending.Purpose.{Purpose, TheVariants.{Reading, Writing}}, exit.Exit.Exit}
+use Rattle.bac_links.specs.declared.fault.ToolFault.{ToolFault, TheVariants.{ReceiveFailed, SendFailed, WriteFailed}}
+use Rattle.bac_links.specs.{Ending.{ending_line, exit_of}, Handed.handed, History.{Account, Entry, Failure, Posted}}
+use Rattle.bac_links.specs.{History.{Timed, Unposted, Waited}, Limits.turn_wait}
 
 -- The service choices of ReadProperty and WriteProperty (clause 21, BACnetConfirmedServiceChoice).
 abbrev pub service_of : Purpose → ℕ

@@ -1,8 +1,7 @@
 -- Which faults are the link's, and which the writer's; and what is told of them.
-use Rattle.std.specs.Prelude.{ℕ, Bool, true, false, List, Result, Err, codes}
-use Rattle.bac_links.{
-  specs.declared.fault.ToolFault.{ToolFault, TheVariants.{SendFailed, ReceiveFailed, TurnsSpent, WriteFailed}},
-}
+use Rattle.std.specs.Prelude.{Bool, codes, Err, false, List, Result, true, ℕ}
+use Rattle.bac_links.specs.declared.fault.ToolFault.{ToolFault, TheVariants.{ReceiveFailed, SendFailed, TurnsSpent}}
+use Rattle.bac_links.specs.declared.fault.ToolFault.TheVariants.{WriteFailed}
 
 -- The fault is the link's, which has failed then.
 abbrev pub is_link_fault : {A : Type 0} → Result A ToolFault → Bool

@@ -1,8 +1,8 @@
 -- The calls that are noted of a socket.
-use Rattle.std.specs.Prelude.{length, take, is_ok}
-use Rattle.std.specs.{Result.{result_ok, result_map_both}, IoError.error_kind, Duration.as_nanos}
-use Rattle.bac_links.specs.SystemCall.{SystemCall, Bind, Limit, SendTo, Receive, Elapsed}
-use Rattle.bac_links.specs.declared.history.CallNote.{CallNote}
+use Rattle.std.specs.{Duration.as_nanos, IoError.error_kind, Prelude.{is_ok, length, take}, Result.result_map_both}
+use Rattle.std.specs.Result.{result_ok}
+use Rattle.bac_links.specs.{declared.history.CallNote.CallNote, SystemCall.{Bind, Elapsed, Limit, Receive, SendTo}}
+use Rattle.bac_links.specs.SystemCall.{SystemCall}
 use Rattle.bac_links.specs.declared.history.CallNote.TheVariants as note
 
 -- The call, with its answer, of which a note tells.

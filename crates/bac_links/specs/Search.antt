@@ -1,18 +1,16 @@
 -- A search for devices: what it asks of its link, which devices it finds, what it prints, and when it ends.
-use Rattle.std.{
-  specs.Prelude.{◌≡◌, ℕ, zero, suc, ◌-◌, nat_le, nat_lt, max, false, List, [], ◌∷◌, ◌++◌, length},
-  specs.{Prelude.{decimal, if◌then◌else◌, Option, Some, None, Result, Ok, Err}, Option.option_to_list, List.flat_map},
-}
-use Rattle.bac_pdu.specs.{Apdu.{laid_out, unconfirmed}, Datagram.wrapped, Discovery.who_is_octets}
-use Rattle.bac_pdu.specs.{Found.{Found, found_of}, Peer.station, declared.discovery.WhoIs.WhoIs}
+use Rattle.std.specs.{List.flat_map, Option.option_to_list, Prelude.{[], decimal, Err, false, if◌then◌else◌, length}}
+use Rattle.std.specs.Prelude.{List, max, nat_le, nat_lt, None, Ok, Option, Result, Some, suc, zero, ℕ, ◌++◌, ◌-◌, ◌∷◌}
+use Rattle.std.specs.Prelude.{◌≡◌}
+use Rattle.bac_pdu.specs.{Apdu.{laid_out, unconfirmed}, Datagram.wrapped, declared.discovery.WhoIs.WhoIs}
+use Rattle.bac_pdu.specs.{Discovery.who_is_octets, Found.{Found, found_of}, Peer.station}
 use Rattle.bac_text.specs.declared.jobs.Search.{Search}
-use Rattle.bac_print.specs.{declared.checked.Checked.Checked, Checked.Took, PeerTexts.peer_text}
-use Rattle.bac_links.{
-  specs.Asking.{Move, Asks, Over, ForTime, ToSend, Follows, Plays, waits_in, times_in, turn_after},
-  specs.History.{Heard, Arrived, Failure, Entry, Waited, Timed, Posted, Unposted, Account, GainsAll},
-  specs.{Limits.turn_wait, declared.exit.Exit.{Exit, TheVariants.{Good, Bad}}},
-  specs.declared.fault.ToolFault.{ToolFault, TheVariants.{SendFailed, ReceiveFailed, WriteFailed}},
-}
+use Rattle.bac_print.specs.{Checked.Took, declared.checked.Checked.Checked, PeerTexts.peer_text}
+use Rattle.bac_links.specs.Asking.{Asks, Follows, ForTime, Move, Over, Plays, times_in, ToSend, turn_after, waits_in}
+use Rattle.bac_links.specs.declared.{exit.Exit.{Exit, TheVariants.{Bad, Good}}, fault.ToolFault.ToolFault}
+use Rattle.bac_links.specs.declared.fault.ToolFault.TheVariants.{ReceiveFailed, SendFailed, WriteFailed}
+use Rattle.bac_links.specs.History.{Account, Arrived, Entry, Failure, GainsAll, Heard, Posted, Timed, Unposted, Waited}
+use Rattle.bac_links.specs.Limits.{turn_wait}
 
 -- The device that is found by an entry, if one is.
 abbrev pub found_by : WhoIs → Entry → List Found

@@ -1,18 +1,60 @@
--- What is read of a header or a datagram is what it carries, and what is written is carried back.
-use Rattle.std.proofs.Common.{[], ◌%◌, ◌&&◌, ◌++◌, ◌+◌, ◌/◌, ◌<◌, ◌||◌, ◌∙◌, ◌∷◌, ◌≡◌, ◌≤◌, ap, append_assoc, arith}
-use Rattle.std.proofs.Common.{Bool, cond, drop, eqb, false, inl, inr, length, List, None, Option, refl, slice_index_or}
-use Rattle.std.proofs.{Common.{Some, sym, true, ℕ}, lemmas.Bool.{and_parts, eq-eqb, eqb-true, ltb-false}}
-use Rattle.std.proofs.lemmas.List.{drop_at, length-append, length-take-le, nil_from_length, take-append-drop, take_at}
-use Rattle.std.proofs.lemmas.Option.{cond_some, none-some, some_pair_parts}
-use Rattle.std.specs.Prelude.{◌↔◌, IfSome, is_some, OnOk, Result}
-use Rattle.bac_wire.proofs.Readers.{chosen, found_at, IsReader, only_if, Took, took, took_as, unless}
-use Rattle.bac_wire.proofs.TagLaws.{bind_some}
+-- Peers, headers, datagrams and APDUs: what is read of one is what it carries, and what is written is read back.
+use Rattle.std.proofs.Common.{[], ap, append_assoc, arith, Bool, cond, drop, drop_at, eqb, false, IfSome, inl, inr}
+use Rattle.std.proofs.Common.{is_some, length, length-append, length-drop, length-take-le, List, None, OnOk, Option}
+use Rattle.std.proofs.Common.{option_map, refl, replicate, Result, slice_index_or, Some, sym, take, take-append-drop}
+use Rattle.std.proofs.Common.{take_at, true, ℕ, ◌%◌, ◌&&◌, ◌++◌, ◌+◌, ◌-◌, ◌/◌, ◌<◌, ◌||◌, ◌↔◌, ◌∙◌, ◌∷◌, ◌≡◌, ◌≤◌}
+use Rattle.std.proofs.lemmas.{Bool.{and_parts, eq-eqb, eqb-true, ltb-false}, Grind.common_steps, List.nil_from_length}
+use Rattle.std.proofs.lemmas.Option.{cond_some, none-some, same_Some, some_pair_parts}
+use Rattle.std.specs.{Cmp.Lexicographic.bytes_decides, Option.option_eq}
 use Rattle.byteorder.specs.{Endian.big_number, Numbers.big_number-reads_back}
-use Rattle.bac_pdu.specs.{address_at, address_octets, announced_at, behind_control, behind_hops, bit, broadcast}
-use Rattle.bac_pdu.specs.{carried, Carries, counted_at, Delivery, forwarded, forwarded_at, front_count, header_at}
-use Rattle.bac_pdu.specs.{is_answerable, is_for_all, is_routable, IsRoutable, link_at, NetworkAddress, NetworkHeader}
-use Rattle.bac_pdu.specs.{origin_at, plain_header, SpellsAddress, SpellsAnnounced, SpellsHeader, SpellsOrigin, Station}
-use Rattle.bac_pdu.specs.{Takes, unicast, wrapped, Inner.front_octets}
+use Rattle.bac_wire.proofs.TagLaws.{bind_some, chosen, found_at, only_if, Took, took, took_as, unless}
+use Rattle.bac_wire.specs.{Front.IsReader, Steps.◌>>=◌}
+use Rattle.bac_pdu.specs.{abort, address_at, address_octets, announced_at, announced_size, apdu_of, behind_control}
+use Rattle.bac_pdu.specs.{behind_hops, bit, broadcast, carried, Carries, complex_ack, complex_ack_of, confirmed}
+use Rattle.bac_pdu.specs.{confirmed_of, counted_at, Delivery, error, Flags, forwarded, forwarded_at, front_count}
+use Rattle.bac_pdu.specs.{header_at, is_answerable, is_for_all, is_routable, IsLaidOut, IsRoutable, IsWritable}
+use Rattle.bac_pdu.specs.{laid_out, link_at, Message, network_address, NetworkAddress, NetworkHeader, numbered_of}
+use Rattle.bac_pdu.specs.{origin_at, part_at, part_flags, part_octets, parts_at, plain_header, reject, segment_ack}
+use Rattle.bac_pdu.specs.{service_at, simple_ack, SpellsAddress, SpellsAnnounced, SpellsHeader, SpellsOrigin, Station}
+use Rattle.bac_pdu.specs.{station, Takes, unconfirmed, unicast, wrapped}
+use Rattle.bac_pdu.specs.contracts.peer.PeerPartialEq.TheImpl.{eq-value as peer_eq}
+use Rattle.bac_pdu.specs.{contracts.route.RoutePartialEq.TheImpl.eq-value as route_eq, declared.apdu.Part.Part}
+use Rattle.bac_pdu.specs.{declared.{peer.Peer.Peer, route.Route.Route}, Inner.front_octets}
+
+-- a route keeps its address in eight octets
+room : (r : Route) → length r.octets ≡ 8
+room = grind (arith, common_steps, length-drop)
+
+-- the octets of a route are the address, and zeros
+same_octets : (a b : Route) → network_address a ≡ network_address b → (a.count ≡ b.count) × (a.octets ≡ b.octets)
+same_octets a b e =
+    let address : take a.count a.octets ≡ take b.count b.octets = ap (λ (n : NetworkAddress). n.address) e in
+    let count : a.count ≡ b.count = grind (arith, ap length address, room, length-take-le) in
+    let behind : drop a.count a.octets ≡ drop b.count b.octets = a.unused ∙ ap (λ (n : ℕ). replicate (8 - n) 0) count
+    ∙ sym b.unused in
+    (count, cc (address, behind, take-append-drop a.count a.octets, take-append-drop b.count b.octets))
+
+-- routes are equal just where they lead to the same station
+pub route_decides : (a b : Route) → (route_eq.it a b ≡ true) ↔ (network_address a ≡ network_address b)
+route_decides a b = (
+  (λ e.
+      let (network, others) = and_parts _ _ e in
+      let (count, octets) = and_parts _ _ others in
+      let same = (bytes_decides a.octets b.octets).0 octets in
+      rw (eqb-true a.network b.network network, eqb-true a.count b.count count, same) refl),
+  (λ e.
+      let (count, octets) = same_octets a b e in
+      rw (eq-eqb _ b.network (ap (λ (n : NetworkAddress). n.network) e), eq-eqb a.count b.count count)
+      ((bytes_decides a.octets b.octets).1 octets)),
+)
+
+routes_decide : (a b : Option Route)
+    → (option_eq route_eq.it a b ≡ true) ↔ (option_map network_address a ≡ option_map network_address b)
+routes_decide = grind (arith, none-some, route_decides, same_Some)
+
+-- peers are equal just where they are the same station
+pub peer_decides : (p q : Peer) → (peer_eq.it p q ≡ true) ↔ (station p ≡ station q)
+peer_decides = grind (arith, routes_decide, eqb-true, eq-eqb)
 
 -- ---- the address of a station
 
@@ -356,3 +398,119 @@ one_taken to _ _ a b s t =
     let (_, apdus) = some_pair_parts _ _ a b (sym (header_reader.again _ _ a s.headed) ∙ ap header_at same
     ∙ header_reader.again _ _ b t.headed) in
     apdus
+
+-- ---- the part
+
+-- the octets of a part, under the flags that announce it
+abbrev SpellsPart : ℕ → List ℕ → Option Part → Type 0
+SpellsPart first octets part = Flags first part × (octets ≡ part_octets part)
+
+part_takes : (first : ℕ) (octets : List ℕ) (b : Bool) (part : Option Part) (rest : List ℕ) → bit 3 first ≡ b
+    → part_at first octets b ≡ found_at part rest → Took (SpellsPart first) octets part rest
+part_takes = grind arith
+
+part_again : (first : ℕ) (front : List ℕ) (part : Option Part) (rest : List ℕ) → SpellsPart first front part
+    → part_at first (front ++ rest) (bit 3 first) ≡ found_at part rest
+part_again = grind arith
+
+parts_takes : (first : ℕ) (octets : List ℕ) (x : Option Part × ℕ × List ℕ) → parts_at first octets ≡ Some x
+    → (let (part, service, body) = x in
+    (front : List ℕ) × SpellsPart first front part × (octets ≡ front ++ service ∷ body))
+unfolding parts_at
+parts_takes = grind (arith, bind_some, part_takes)
+
+parts_again : (first : ℕ) (front : List ℕ) (part : Option Part) (service : ℕ) (body : List ℕ)
+    → SpellsPart first front part → parts_at first (front ++ service ∷ body) ≡ Some (part, service, body)
+unfolding parts_at
+parts_again _ _ _ _ _ s = rw (part_again _ _ _ _ s) refl
+
+-- ---- each kind
+
+confirmed_takes : (first : ℕ) (octets : List ℕ) (m : Message) → first / 16 ≡ 0 → confirmed_of first octets ≡ Some m
+    → IsLaidOut (first ∷ octets) m
+confirmed_takes = grind (arith, parts_takes, same_Some, none-some)
+
+complex_takes : (first : ℕ) (octets : List ℕ) (m : Message) → first / 16 ≡ 3 → complex_ack_of first octets ≡ Some m
+    → IsLaidOut (first ∷ octets) m
+complex_takes = grind (arith, bind_some, parts_takes, same_Some)
+
+unconfirmed_takes : (first : ℕ) (octets : List ℕ) (m : Message) → first / 16 ≡ 1
+    → (service_at octets >>= (λ (service, body). Some (unconfirmed service body))) ≡ Some m
+    → IsLaidOut (first ∷ octets) m
+unconfirmed_takes = grind arith
+
+-- an invoke id and one octet more
+numbered_laid : (first : ℕ) (made : ℕ → ℕ → List ℕ → Message) (octets : List ℕ) (m : Message)
+    → numbered_of made octets ≡ Some m
+    → ((id octet : ℕ) (rest : List ℕ) → IsLaidOut (first ∷ id ∷ octet ∷ rest) (made id octet rest))
+    → IsLaidOut (first ∷ octets) m
+numbered_laid = grind arith
+
+-- the APDU of this kind, or of a later one
+this_kind : {T : Type 0} (first k : ℕ) {x y : Option Message} {m : Message} → (first / 16 ≡ k → x ≡ Some m → T)
+    → (y ≡ Some m → T) → cond (eqb (first / 16) k) x y ≡ Some m → T
+this_kind = grind (arith, chosen)
+
+apdu_takes : (octets : List ℕ) (m : Message) → apdu_of octets ≡ Some m → IsLaidOut octets m
+unfolding apdu_of
+apdu_takes [] m e = absurd (none-some m e)
+apdu_takes (first ∷ octets) m e =
+    this_kind _ 0 (confirmed_takes _ _ m) (
+    this_kind first 1 (unconfirmed_takes first _ m) (
+    this_kind first 2 (grind (arith, numbered_laid)) (
+    this_kind first 3 (complex_takes first _ m) (
+    this_kind first 4 (grind (arith, same_Some)) (
+    this_kind first 5 (grind (arith, numbered_laid)) (
+    this_kind first 6 (grind (arith, numbered_laid)) (
+    this_kind first 7 (grind (arith, numbered_laid)) (λ none. absurd (none-some m none))))))))) e
+
+apdu_again : (octets : List ℕ) (m : Message) → IsLaidOut octets m → apdu_of octets ≡ Some m
+unfolding apdu_of
+apdu_again = grind (arith, parts_again)
+
+pub apdu_is : (octets : List ℕ) (m : Message) → (apdu_of octets ≡ Some m) ↔ IsLaidOut octets m
+apdu_is _ m = (apdu_takes _ m, apdu_again _ m)
+
+pub confirmed_no_longer : (octets : List ℕ) (part : Option Part) (code id service : ℕ) (body : List ℕ)
+    → Some (confirmed part code id service body) ≡ apdu_of octets → length body ≤ length octets
+confirmed_no_longer octets part code id service body e =
+    let laid = apdu_takes octets (confirmed part code id service body) (sym e) in
+    grind (arith, length-append)
+
+-- ---- what is written
+
+-- the flags of a request
+request_part : (part : Option Part) → (part_flags part / 16 ≡ 0) × SpellsPart (part_flags part) (part_octets part) part
+request_part = grind arith
+
+-- the flags of an answer, under its type
+answer_part : (part : Option Part) → ((48 + part_flags part) / 16 ≡ 3)
+    × SpellsPart (48 + part_flags part) (part_octets part) part
+answer_part = grind arith
+
+laid_out_is : (m : Message) → IsWritable m → IsLaidOut (laid_out m) m
+laid_out_is (confirmed part code id service body) h = grind (arith, request_part)
+laid_out_is (unconfirmed service body) h = (16, refl, refl)
+laid_out_is (simple_ack id service) h = (32, [], refl, refl)
+laid_out_is (complex_ack part id service body) h = grind (arith, answer_part)
+laid_out_is segment_ack h = absurd h
+laid_out_is (error id service body) h = (80, refl, refl)
+laid_out_is (reject id reason) h = (96, [], refl, refl)
+laid_out_is (abort true id reason) h = (113, [], refl, refl, refl)
+laid_out_is (abort false id reason) h = (112, [], refl, refl, refl)
+
+pub apdu_back : (m : Message) → IsWritable m → apdu_of (laid_out m) ≡ Some m
+apdu_back m h = apdu_again _ _ (laid_out_is m h)
+
+-- ---- what a code announces
+
+-- the octets that these codes announce, and 50 for each other one
+pub announced_other : (k : ℕ) → (k ≡ 1 → ⊥) → (k ≡ 2 → ⊥) → (k ≡ 3 → ⊥) → (k ≡ 4 → ⊥) → (k ≡ 5 → ⊥)
+    → ◌≡◌ {A = ℕ} 50 (slice_index_or (50 ∷ 128 ∷ 206 ∷ 480 ∷ 1024 ∷ 1476 ∷ []) k 50)
+announced_other = grind arith
+
+most_announced : (k : ℕ) → slice_index_or (50 ∷ 128 ∷ 206 ∷ 480 ∷ 1024 ∷ 1476 ∷ []) k 50 ≤ 1476
+most_announced = grind arith
+
+pub announced_most : (code : ℕ) → announced_size code ≤ 1476
+announced_most _ = most_announced _

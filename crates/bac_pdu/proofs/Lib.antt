@@ -1,12 +1,4 @@
-pub mod PeerLaws
-pub mod SequenceLaws
 pub mod DatagramLaws
-pub mod ApduLaws
-pub mod ParameterLaws
-pub mod RejectLaws
-pub mod PropertyLaws
+pub mod BodyLaws
 pub mod DiscoveryLaws
 pub mod ShortestLaws
-pub mod LengthLaws
-pub mod AckLaws
-pub mod ShortTags

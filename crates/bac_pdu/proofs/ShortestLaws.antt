@@ -1,24 +1,74 @@
--- What is written of a body spells it, no other spelling has fewer octets, and it is read back.
-use Rattle.std.proofs.Common.{[], ◌++◌, ◌+◌, ◌<◌, ◌^◌, ◌∷◌, ◌≡◌, ◌≤◌, ap, append_assoc, arith, length, List, Ok, Option}
-use Rattle.std.proofs.{Common.{refl, Some, subst, sym, ℕ}, lemmas.List.{append-nil, length-append}}
-use Rattle.std.specs.{List.{AllByRecursion, flat_map}, Prelude.IfSome}
+-- Bodies that are written: each is spelled so, no spelling has fewer octets, and it is read back.
+use Rattle.std.proofs.Common.{[], ap, append-nil, append_assoc, arith, Err, flat_map, IfSome, length, length-append}
+use Rattle.std.proofs.Common.{List, Ok, Option, refl, Result, slice_index_or, Some, subst, sym, ℕ, ◌*◌, ◌++◌, ◌+◌, ◌<◌}
+use Rattle.std.{proofs.{Common.{◌^◌, ◌∙◌, ◌∷◌, ◌≡◌, ◌≤◌}, lemmas.Grind.common_steps}, specs.List.AllByRecursion}
 use Rattle.{
-  bac_wire.specs.{Datum.{Datum, enumerated, IsDatum, plain, Spells, unsigned}, Identifier.Identifier, Region.IsRegion},
-  bac_wire.specs.{Front.{AreOctets, IsShortest, SpellsAll, SpellsTo}, Parameter.{SpellsEnclosed, SpellsIn}},
-  bac_wire.specs.Parameter.{context_octets, context_tag, enclosed_octets, number_octets, object_octets, SpellsContext},
-  bac_wire.{specs.Tag.{plain_number, plain_tag}, proofs.ParameterLaws.{enclosed_spells, number_spells, object_spells}},
-  bac_wire.proofs.{PlainDatum.{ahead, octet_count_least, plain_spells}, TagLaws.{behind, tag_least}},
   byteorder.specs.{Endian.big_bytes, Numbers.big_from-lt},
-  bac_pdu.specs.{ack_octets, ack_of, ack_parameters, error_octets, error_of, i_am_octets, Introduction},
-  bac_pdu.specs.{introduction_of, introduction_values, IsAckBody, IsErrorBody, IsIAmBody, IsParameter, IsPriority},
-  bac_pdu.specs.{IsReadBody, IsWhoIsBody, IsWriteBody, numbered, Order, order_parameters, plain_parameter, read_octets},
-  bac_pdu.specs.{read_of, ReadAck, Reference, reference_parameters, SpellsParameter, who_is_octets, who_is_of, WhoIs},
-  bac_pdu.specs.{write_octets, write_of, Parameter.Parameter, Inner.{HasLimits, optional, optional_octets}},
-  bac_pdu.proofs.{DiscoveryLaws.{error_is, introduction_is, who_is_is}, PropertyLaws.{ack_is, read_again, write_again}},
-  bac_pdu.proofs.SequenceLaws.{all_spell, whole_spell},
+  bac_wire.proofs.{DatumLaws.{ahead, octet_count_least, plain_spells}, ItemLaws.{enclosed_spells, number_spells}},
+  bac_wire.{proofs.{ItemLaws.object_spells, TagLaws.{behind, tag_least}}, specs.Datum.{Datum, enumerated, IsDatum}},
+  bac_wire.specs.{Datum.{plain, Spells, unsigned}, Front.{AreOctets, IsShortest, SpellsAll, SpellsTo}},
+  bac_wire.specs.{Identifier.Identifier, Parameter.{context_octets, context_tag, enclosed_octets, number_octets}},
+  bac_wire.specs.{Parameter.{object_octets, SpellsContext, SpellsEnclosed, SpellsIn}, Region.{closing_tag, IsRegion}},
+  bac_wire.specs.{Region.opening_tag, Tag.{plain_number, plain_tag}, Writing.Appends},
+  bac_pdu.proofs.{BodyLaws.{ack_is, all_spell, read_again, whole_spell, write_again}, DiscoveryLaws.error_is},
+  bac_pdu.{proofs.DiscoveryLaws.{introduction_is, who_is_is}, specs.{ack_end, ack_front, ack_octets, ack_of}},
+  bac_pdu.specs.{ack_parameters, error_octets, error_of, i_am_octets, Introduction, introduction_of},
+  bac_pdu.specs.{introduction_values, IsAckBody, IsErrorBody, IsIAmBody, IsParameter, IsPriority, IsReadBody},
+  bac_pdu.specs.{IsWhoIsBody, IsWriteBody, numbered, Order, order_parameters, plain_parameter, read_octets, read_of},
+  bac_pdu.specs.{ReadAck, Reference, reference_parameters, SpellsParameter, who_is_octets, who_is_of, WhoIs},
+  bac_pdu.specs.{write_octets, write_of, Inner.{HasLimits, optional, optional_octets}, Parameter.Parameter},
 }
 use Rattle.bac_wire.specs.Datum as values
 use Rattle.bac_pdu.specs.declared.discovery.WhoIs.TheVariants as limits
+
+pub short_context : (number : ℕ) (contents : List ℕ) → number < 15 → length contents < 5
+    → context_octets number contents ≡ (16 * number + (8 + length contents)) ∷ contents
+unfolding plain_tag
+short_context = grind arith
+
+-- four octets
+pub four_context : (number : ℕ) (contents : List ℕ) → number < 15 → length contents ≡ 4
+    → (16 * number + 12) ∷ slice_index_or contents 0 0 ∷ slice_index_or contents 1 0 ∷ slice_index_or contents 2 0
+    ∷ slice_index_or contents 3 0 ∷ [] ≡ context_octets number contents
+four_context = grind (arith, common_steps, short_context)
+
+-- a number in one octet
+pub one_number : (number n : ℕ) → number < 15 → n < 256 → number_octets number n ≡ (16 * number + 9) ∷ n ∷ []
+one_number = grind (arith, short_context)
+
+pub opening_octet : (number : ℕ) → number < 15 → plain_tag (opening_tag number) ≡ (16 * number + 14) ∷ []
+unfolding plain_tag
+opening_octet = grind arith
+
+pub closing_octet : (number : ℕ) → number < 15 → plain_tag (closing_tag number) ≡ (16 * number + 15) ∷ []
+unfolding plain_tag
+closing_octet = grind arith
+
+-- ---- how long the body of a ReadProperty is at most
+
+tag_short : (number count : ℕ) → length (plain_tag (context_tag number count)) ≤ 7
+unfolding plain_tag
+tag_short = grind arith
+
+context_short : (number : ℕ) (contents : List ℕ) → length contents ≤ 8 → length (context_octets number contents) ≤ 15
+context_short = grind (arith, length-append, tag_short)
+
+number_short : (number n : ℕ) → length (number_octets number n) ≤ 15
+number_short _ n = context_short _ _ (search arith)
+
+index_short : (i : Option ℕ) → length (flat_map plain_parameter (optional (numbered 2) i)) ≤ 15
+unfolding plain_parameter
+index_short = grind (arith, length-append, number_short)
+
+pub read_octets_short : (r : Reference) → length (read_octets r) ≤ 45
+unfolding plain_parameter
+read_octets_short = grind (arith, length-append, context_short, index_short)
+
+-- What is appended to no octets is the body, since there is room for it.
+pub read_alone : {A E : Type 0} (result : Result A E) (before after : List ℕ) (r : Reference) → before ≡ []
+    → Appends before (read_octets r) after result → after ≡ read_octets r
+read_alone (Ok x) _ _ r none appended = appended.ok ∙ ap (λ (octets : List ℕ). octets ++ read_octets r) none
+read_alone (Err e) _ _ r none appended = grind (arith, read_octets_short)
 
 -- ---- the parameters of a body, in their order
 
@@ -85,8 +135,7 @@ parameter_shortest =
 -- things that are each written in the fewest octets
 module _ {A : Type 0} (Spells : List ℕ → A → Type 0) (plain : A → List ℕ) (Is : A → Type 0)
     (each : (x : A) → Is x → IsShortest Spells (plain x) x) where
-  all_least : (xs : List A) (octets rest : List ℕ) → AllByRecursion Is xs
-      → AreOctets octets
+  all_least : (xs : List A) (octets rest : List ℕ) → AllByRecursion Is xs → AreOctets octets
       → SpellsTo Spells octets xs rest
       → length (flat_map plain xs) + length rest ≤ length octets
   all_least [] _ _ h fit s = omega (arith, ap length s)
@@ -96,8 +145,7 @@ module _ {A : Type 0} (Spells : List ℕ → A → Type 0) (plain : A → List �
       let others = all_least xs _ _ are (behind _ _ fits) more in
       grind (arith, length-append)
 
-  all_shortest : (xs : List A) → AllByRecursion Is xs
-      → IsShortest (SpellsAll Spells) (flat_map plain xs) xs
+  all_shortest : (xs : List A) → AllByRecursion Is xs → IsShortest (SpellsAll Spells) (flat_map plain xs) xs
   all_shortest = grind (arith, whole_spell, all_least)
 
 parameters_shortest : (ps : List Parameter) → AllByRecursion IsParameter ps
@@ -119,8 +167,7 @@ read_shortest r h =
 pub read_back : (r : Reference) → AllByRecursion IsParameter (reference_parameters r) → read_of (read_octets r) ≡ Ok r
 read_back r h = read_again _ r (read_shortest r h).spelled
 
-pub ack_shortest : (a : ReadAck) → AllByRecursion IsParameter (ack_parameters a)
-    → IsShortest IsAckBody (ack_octets a) a
+pub ack_shortest : (a : ReadAck) → AllByRecursion IsParameter (ack_parameters a) → IsShortest IsAckBody (ack_octets a) a
 ack_shortest a h =
     let all = parameters_shortest (ack_parameters a) h in
     record { spelled = all.spelled; shortest = all.shortest }
@@ -218,3 +265,13 @@ order_known = grind (arith, all_append, urgent_is)
 pub order_is_written : (o : Order) → AllByRecursion IsParameter (reference_parameters o.reference) → IsRegion 32 o.value
     → IfSome o.priority IsPriority → IsShortest IsWriteBody (write_octets o) o
 order_is_written o named region urgent = grind (arith, write_shortest, order_known)
+
+-- ---- the body of a ReadProperty-ACK in its parts
+
+-- an answer is what stands before its value, the value, and what stands behind it
+pub ack_parts : (a : ReadAck) → ack_octets a ≡ (ack_front a.reference ++ a.value) ++ ack_end
+ack_parts = grind (arith, ack_written, append_assoc)
+
+pub length_ack : (a : ReadAck)
+    → length (ack_octets a) ≡ length (ack_front a.reference) + (length a.value + length ack_end)
+length_ack = grind (arith, ack_parts, length-append)

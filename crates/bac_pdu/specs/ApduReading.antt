@@ -1,8 +1,8 @@
 -- Reading an APDU from left to right.
-use Rattle.std.specs.Prelude.{ℕ, ◌/◌, ◌%◌, ◌==◌, Bool, true, false, if◌then◌else◌, List, [], ◌∷◌, Option, Some, None}
+use Rattle.std.specs.Prelude.{[], Bool, false, if◌then◌else◌, List, None, Option, Some, true, ℕ, ◌%◌, ◌/◌, ◌==◌, ◌∷◌}
 use Rattle.bac_wire.specs.Steps.{◌>>=◌}
-use Rattle.bac_pdu.specs.{declared.apdu.Part.Part, Bits.bit, Apdu.{Message, confirmed, unconfirmed, simple_ack}}
-use Rattle.bac_pdu.specs.Apdu.{complex_ack, segment_ack, error, reject, abort}
+use Rattle.bac_pdu.specs.Apdu.{abort, complex_ack, confirmed, error, Message, reject, segment_ack, simple_ack}
+use Rattle.bac_pdu.specs.{Apdu.unconfirmed, Bits.bit, declared.apdu.Part.Part}
 
 -- The part where the flag says that there is one, and the octets behind it.
 abbrev pub part_at : ℕ → List ℕ → Bool → Option (Option Part × List ℕ)

@@ -259,7 +259,7 @@ fn head_of(begin: &[u8], part: Option<Part>, service: u8) -> ArrayVec<u8, 6>
 }
 
 // Appends the head and the body. Where there is no room for both, nothing is appended.
-#[tactic(auto, using(bac_wire::proofs::Writing::in_parts))]
+#[tactic(auto, using(bac_wire::proofs::TagLaws::in_parts))]
 fn append_both(frame: &mut Frame, head: &[u8], body: &[u8]) -> Result<(), Full>
     ensures { Appends frame.old (head.now ++ body.now) frame.new result }
 {

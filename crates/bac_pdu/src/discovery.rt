@@ -131,7 +131,7 @@ fn append_limits(frame: &mut Frame, who: &WhoIs) -> Result<(), Full>
 }
 
 // Appends the body of an I-Am. Where there is no room, a front of it may stay.
-#[tactic(auto, using(bac_wire::proofs::Writing::in_parts))]
+#[tactic(auto, using(bac_wire::proofs::TagLaws::in_parts))]
 fn append_introduction(frame: &mut Frame, i_am: &IAm) -> Result<(), Full>
     requires { (identifier i_am.now.device).kind ≡ 8 }
     ensures appended { AppendsFront frame.old (i_am_octets (introduction i_am.now)) frame.new result }

@@ -21,7 +21,7 @@ pub fn read_error(body: &[u8]) -> Option<(u32, u32)>
 
 /// Appends the body of an Error, both numbers in their fewest octets. `Full`, with the frame unchanged, only where
 /// there is no room for it.
-#[tactic(auto, using(bac_wire::proofs::Writing::in_parts, crate::proofs::ShortestLaws::error_shortest))]
+#[tactic(auto, using(bac_wire::proofs::TagLaws::in_parts, crate::proofs::ShortestLaws::error_shortest))]
 pub fn write_error(frame: &mut Frame, class: u32, code: u32) -> Result<(), Full>
     ensures appended { Appends frame.old (error_octets class code) frame.new result }
     ensures shortest { OnOk result (IsShortest IsErrorBody (error_octets class code) (class, code)) }

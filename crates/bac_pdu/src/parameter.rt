@@ -85,7 +85,7 @@ pub(crate) fn enclosed_and_rest<'a>(
 }
 
 /// Appends the parameters that name a property. Where there is no room, a front of them may stay.
-#[tactic(auto, using(bac_wire::proofs::Writing::in_parts, crate::proofs::ShortestLaws::optional_plain), unfolding(crate::specs::Parameter::plain_parameter))]
+#[tactic(auto, using(bac_wire::proofs::TagLaws::in_parts, crate::proofs::ShortestLaws::optional_plain), unfolding(crate::specs::Parameter::plain_parameter))]
 #[inline(always)]
 pub(crate) fn append_reference(
     body: &mut Frame,
@@ -130,7 +130,7 @@ pub(crate) fn append_number(body: &mut Frame, number: u8, n: u32) -> Result<(), 
 }
 
 /// Appends whole items between an opening and a closing tag 3. Where there is no room, a front of that may stay.
-#[tactic(auto, using(bac_wire::proofs::Writing::in_parts))]
+#[tactic(auto, using(bac_wire::proofs::TagLaws::in_parts))]
 pub(crate) fn append_enclosed(body: &mut Frame, items: &[u8]) -> Result<(), Full>
     ensures { AppendsFront body.old (enclosed_octets 3 items.now) body.new result }
 {
@@ -140,7 +140,7 @@ pub(crate) fn append_enclosed(body: &mut Frame, items: &[u8]) -> Result<(), Full
 }
 
 /// Appends an opening tag 3. Where there is no room, nothing is appended.
-#[tactic(auto, using(crate::proofs::ShortTags::opening_octet))]
+#[tactic(auto, using(crate::proofs::ShortestLaws::opening_octet))]
 pub(crate) fn append_opening(body: &mut Frame) -> Result<(), Full>
     ensures { Appends body.old (plain_tag (opening_tag 3)) body.new result }
 {
@@ -148,7 +148,7 @@ pub(crate) fn append_opening(body: &mut Frame) -> Result<(), Full>
 }
 
 /// Appends a closing tag 3. Where there is no room, nothing is appended.
-#[tactic(auto, using(crate::proofs::ShortTags::closing_octet))]
+#[tactic(auto, using(crate::proofs::ShortestLaws::closing_octet))]
 pub(crate) fn append_closing(body: &mut Frame) -> Result<(), Full>
     ensures { Appends body.old (plain_tag (closing_tag 3)) body.new result }
 {
@@ -192,7 +192,7 @@ fn number_in(contents: &[u8]) -> Option<u32>
     }
 }
 
-#[tactic(auto, using(bac_wire::proofs::RegionReading::after_shorter), unfolding(bac_wire::specs::ParameterReading::behind_opening))]
+#[tactic(auto, using(bac_wire::proofs::ItemLaws::after_shorter), unfolding(bac_wire::specs::ParameterReading::behind_opening))]
 fn rest_behind_opening(octets: &[u8]) -> Option<&[u8]>
     ensures found { option_map (λ x. x.now) result ≡ behind_opening 3 octets.now }
     ensures shorter { IfSome result (λ x. length x.now < length octets.now) }
@@ -227,7 +227,7 @@ fn append_object(body: &mut Frame, number: u8, id: ObjectId) -> Result<(), Full>
 }
 
 // Appends a tag of one octet, and the four octets that it counts. Where there is no room, nothing is appended.
-#[tactic(auto, using(crate::proofs::ShortTags::four_context))]
+#[tactic(auto, using(crate::proofs::ShortestLaws::four_context))]
 fn append_four(body: &mut Frame, number: u8, contents: &[u8; 4]) -> Result<(), Full>
     requires { number < 15 }
     ensures { Appends body.old (context_octets number contents.now) body.new result }
@@ -237,7 +237,7 @@ fn append_four(body: &mut Frame, number: u8, contents: &[u8; 4]) -> Result<(), F
 }
 
 // Appends a number in one octet behind a tag of one octet. Where there is no room, nothing is appended.
-#[tactic(auto, using(crate::proofs::ShortTags::one_number))]
+#[tactic(auto, using(crate::proofs::ShortestLaws::one_number))]
 fn append_octet(body: &mut Frame, number: u8, n: u8) -> Result<(), Full>
     requires { number < 15 }
     ensures { Appends body.old (number_octets number n) body.new result }
@@ -247,7 +247,7 @@ fn append_octet(body: &mut Frame, number: u8, n: u8) -> Result<(), Full>
 
 // Appends a tag of one octet, and the contents that it counts, at most four octets. Where there is no room, nothing is
 // appended.
-#[tactic(auto, using(crate::proofs::ShortTags::short_context))]
+#[tactic(auto, using(crate::proofs::ShortestLaws::short_context))]
 fn append_context(body: &mut Frame, number: u8, contents: &[u8]) -> Result<(), Full>
     requires number { number < 15 }
     requires short { length contents.now ≤ 4 }

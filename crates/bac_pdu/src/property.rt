@@ -78,7 +78,7 @@ pub fn read_read(body: &[u8]) -> Result<ReadRequest, RejectReason>
 ///
 /// `OutOfRange` where it is whole but for a priority that is not 1 to 16, `TooMany` where a front of the body is whole,
 /// `MissingParameter` where it ends before the property or the value, else `InvalidTag`.
-#[tactic(auto, using(crate::proofs::PropertyLaws::reference_no_longer), unfolding(crate::specs::PropertyReading::write_of))]
+#[tactic(auto, using(crate::proofs::BodyLaws::reference_no_longer), unfolding(crate::specs::PropertyReading::write_of))]
 pub fn read_write<'a>(body: &'a [u8], work: &mut Work) -> Result<WriteRequest<'a>, RejectReason>
     ensures value { result_seen order result ≡ write_of body.now }
     ensures walked_once { work.new.tags ≤ work.old.tags + 2 * length body.now }
@@ -110,7 +110,7 @@ pub fn read_write<'a>(body: &'a [u8], work: &mut Work) -> Result<WriteRequest<'a
 
 /// What the body of a ReadProperty-ACK says: a property, and its value. None where the body is not whole, or where more
 /// follows. In the walk over the value at most two tags are read for each octet of the body.
-#[tactic(auto, using(crate::proofs::PropertyLaws::value_there, crate::proofs::PropertyLaws::reference_no_longer), unfolding(crate::specs::PropertyReading::ack_of))]
+#[tactic(auto, using(crate::proofs::BodyLaws::value_there, crate::proofs::BodyLaws::reference_no_longer), unfolding(crate::specs::PropertyReading::ack_of))]
 pub fn read_ack<'a>(body: &'a [u8], work: &mut Work) -> Option<Ack<'a>>
     ensures value { option_map ack_seen result ≡ ack_of body.now }
     ensures walked_once { work.new.tags ≤ work.old.tags + 2 * length body.now }

@@ -1,13 +1,166 @@
--- What several prints in a row come to.
-use Rattle.std.proofs.Common.{[], ◌++◌, ◌-◌, ◌∙◌, ◌∷◌, ◌≡◌, ap, append_assoc, arith, inl, inr, length, List, None}
-use Rattle.std.proofs.{Common.{Option, refl, Some, subst, sym, ℕ}, lemmas.Bool.{cases_Bool, false≢true}}
-use Rattle.std.proofs.lemmas.{Bool.Decides.nat_tests, List.{append-nil, take-append-drop}}
+-- What is printed in several pieces, folded or not; what is shown on a page of its own; and the texts of values.
+use Rattle.std.proofs.Common.{[], ap, append-nil, append_assoc, arith, Bool, codes, decimal, drop, Err, false, flat_map}
+use Rattle.std.proofs.Common.{get_or, IfSome, if◌then◌else◌, inl, inr, is_err, length, length-append, length-take, List}
+use Rattle.std.proofs.Common.{lit<, min, nat_lt, None, not, Ok, Option, option_map, pos, position, refl, Result, Some}
+use Rattle.std.proofs.Common.{subst, suc, sym, take, take-append-drop, true, unsigned_abs, unwrap_or, zero, ℕ, ℤ, ◌*◌}
+use Rattle.std.proofs.Common.{◌++◌, ◌+◌, ◌-◌, ◌<ℤ◌, ◌<◌, ◌==◌, ◌^◌, ◌||◌, ◌∙◌, ◌∷◌, ◌≡◌, ◌≢◌, ◌≤◌}
+use Rattle.std.proofs.lemmas.{Bool.{cases_Bool, false≢true, Decides.nat_tests}, Fmt.length-decimal-le}
+use Rattle.std.proofs.lemmas.{Grind.flat_map-append, Int.{ints, to_z-of_z}, List.{take_more, Sums.fold-append}}
+use Rattle.std.proofs.{lemmas.{List.Sums.prefix_len-le-length, Option.none-some}, Math.Seq.take-append-add}
+use Rattle.std.specs.{declared.io.Error.Error, Fmt.signed_decimal, Io.KnownBytes.{Appends, WriteAppends}}
+use Rattle.std.specs.{List.position_or_len, Option.option_map_or, Result.result_unwrap_or}
 use Rattle.hex.specs.Hex.{encode_lower, encode_with}
-use Rattle.bac_print.specs.{folded, folded_octet, has_failed, held, laid_out, left_after, left_behind, Prints}
-use Rattle.bac_print.specs.{room_after, room_of, writer_of, Writes, Wrote, declared.checked.Checked.Checked}
-use Rattle.bac_print.{specs.{declared.page.Page.Page, Inner.Holds}, proofs.Folding.{room_after-append, room_after-none}}
-use Rattle.bac_print.proofs.Folding.{folded-append, laid_out-append, laid_out-none, left_after-append}
-use Rattle.bac_print.proofs.Known.{Took-more}
+use Rattle.bac_wire.{proofs.DatumLaws.values-first, specs.{Datum.Datum, DatumReading.{value_at, values_of}}}
+use Rattle.bac_wire.specs.{DatumReading.values_within, Steps.result_seen}
+use Rattle.bac_print.specs.{bits_text, calls_of, datum_text, ends_of, FlushCall, folded, folded_octet, Gave, gone}
+use Rattle.bac_print.specs.{has_ended, has_failed, held, inner_of, laid_out, left_after, left_behind, meets_end}
+use Rattle.bac_print.specs.{octet_bits, octets_of, OnlyWrites, passes_none, Prints, ReadCall, region_text, room_after}
+use Rattle.bac_print.specs.{room_of, Took, TookOrFailed, values_text, WriteCall, writer_of, Writes, Wrote}
+use Rattle.bac_print.specs.{declared.{checked.Checked.Checked, page.Page.Page}, Inner.{HasNotRead, Holds, joined}}
+use Rattle.bac_print.specs.{Inner.separator, StreamCall.StreamCall}
+
+pub left_after-append : (left : ℕ) (xs ys : List ℕ) → left_after left (xs ++ ys) ≡ left_after (left_after left xs) ys
+left_after-append left [] ys = refl
+left_after-append left (x ∷ xs) ys = left_after-append (left_behind left x) xs ys
+
+pub folded-append : (left : ℕ) (xs ys : List ℕ)
+    → folded left (xs ++ ys) ≡ folded left xs ++ folded (left_after left xs) ys
+folded-append left [] ys = refl
+folded-append left (x ∷ xs) ys =
+    let behind = left_behind left x in
+    ap (λ (os : List ℕ). folded_octet left x ++ os) (folded-append behind xs ys)
+    ∙ sym (append_assoc (folded_octet left x) (folded behind xs) (folded (left_after behind xs) ys))
+
+pub room_after-append : (room : Option ℕ) (xs ys : List ℕ)
+    → room_after room (xs ++ ys) ≡ room_after (room_after room xs) ys
+unfolding room_after
+room_after-append None xs ys = refl
+room_after-append (Some left) xs ys = ap Some (left_after-append left xs ys)
+
+pub laid_out-append : (room : Option ℕ) (xs ys : List ℕ)
+    → laid_out room (xs ++ ys) ≡ laid_out room xs ++ laid_out (room_after room xs) ys
+unfolding laid_out room_after
+laid_out-append None xs ys = refl
+laid_out-append (Some left) xs ys = folded-append left xs ys
+
+pub laid_out-none : (room : Option ℕ) → laid_out room [] ≡ []
+unfolding laid_out
+laid_out-none None = refl
+laid_out-none (Some left) = refl
+
+pub room_after-none : (room : Option ℕ) → room_after room [] ≡ room
+unfolding room_after
+room_after-none None = refl
+room_after-none (Some left) = refl
+
+plain_before : (xs : List ℕ) (n left : ℕ) → n ≤ position_or_len (λ octet. octet == 10) xs → n ≤ left
+    → (folded left (take n xs) ≡ take n xs) × (left_after left (take n xs) ≡ left - n)
+plain_before xs zero left before room = (refl, omega arith)
+plain_before [] (suc n) left before room = absurd (omega (arith, before))
+plain_before (x ∷ xs) (suc n) left before room =
+    elim (cases_Bool (x == 10)) [
+      | inl feed ↦
+          let none : position_or_len (λ octet. octet == 10) (x ∷ xs) ≡ 0 = rw feed refl in
+          absurd (omega (arith, before, none))
+      | inr other ↦
+          let more : position_or_len (λ octet. octet == 10) (x ∷ xs) ≡ 1 + position_or_len (λ octet. octet == 10) xs =
+          rw other refl in
+          let some : nat_lt 0 left ≡ true = grind (arith, nat_tests, room) in
+          let (same, left_over) = plain_before xs n (left - 1) (omega (arith, before, more)) (omega (arith, room)) in
+          grind (arith, other, some, same, left_over)
+    ]
+
+-- The octets before a line feed, as far as there is room for them, stay as they are.
+pub plain_front : (text front : List ℕ) (room : ℕ)
+    → front ≡ take (min (unwrap_or (position (λ octet. octet == 10) text) (length text)) room) text →
+    (folded room front ≡ front) × (left_after room front ≡ room - length front)
+plain_front text front room is =
+    let place = position_or_len (λ octet. octet == 10) text in
+    let within = prefix_len-le-length (λ octet. not (octet == 10)) text in
+    let found : unwrap_or (position (λ octet. octet == 10) text) (length text) ≡ place = grind (arith, within) in
+    let front_is : front ≡ take (min place room) text = rw found at is in
+    let (same, left) = plain_before text (min place room) room (omega arith) (omega arith) in
+    let long : length front ≡ min place room = grind (arith, front_is, length-take, within) in
+    (rw front_is same, rw front_is left ∙ ap (λ (n : ℕ). room - n) (sym long))
+
+-- ---- one call more
+
+-- The call of a read that answered this and left these octets in its room.
+abbrev read_of : Result ℕ Error → List ℕ → StreamCall
+read_of result octets = ReadCall (length octets) (result_seen (λ count. take count octets) result)
+
+read_meets : (result : Result ℕ Error) (octets : List ℕ) → meets_end (read_of result octets) ≡ passes_none result octets
+read_meets (Ok zero) octets = refl
+read_meets (Ok (suc n)) [] = grind arith
+read_meets (Ok (suc n)) (x ∷ xs) = grind arith
+read_meets (Err e) octets = refl
+
+module _ {T : Type 0} (old new : Checked T) (result : Result ℕ Error) (octets : List ℕ)
+    (asked : calls_of new ≡ calls_of old ++ read_of result octets ∷ []) where
+  pub read_ends : has_ended new ≡ passes_none result octets
+  read_ends = grind (arith, fold-append, read_meets)
+
+  pub read_counted : ends_of new ≡ (if passes_none result octets then ends_of old + 1 else ends_of old)
+  read_counted = grind (arith, fold-append, read_meets)
+
+-- By these it is found what one call more changes.
+pub ruleset one_call = (fold-append, flat_map-append, append-nil)
+
+pub ruleset one_read = (read_ends, read_counted, one_call)
+
+-- ---- several in a row
+
+pub Took-none : {W : Type 0} {contents : W → Option (List ℕ)} (a : Checked W) → Took contents a a []
+Took-none = grind (arith, append-nil)
+
+OnlyWrites-more : (xs ys : List StreamCall) (a b c : Bool) → OnlyWrites a xs b → OnlyWrites b ys c
+    → OnlyWrites a (xs ++ ys) c
+OnlyWrites-more [] ys a b c p q = rw p at q
+OnlyWrites-more (WriteCall octets answer ∷ xs) ys a b c (sound, some, later) q =
+    (sound, some, OnlyWrites-more xs _ _ b c later q)
+OnlyWrites-more (ReadCall room given ∷ xs) ys a b c p q = absurd p
+OnlyWrites-more (FlushCall done ∷ xs) ys a b c p q = absurd p
+
+pub Took-more : {W : Type 0} {contents : W → Option (List ℕ)} {a b c : Checked W} {xs ys : List ℕ}
+    → Took contents a b xs → Took contents b c ys → Took contents a c (xs ++ ys)
+Took-more = grind (arith, append_assoc, OnlyWrites-more)
+
+written_known : {E : Type 0} (old new : Option (List ℕ)) (answer : Result ℕ E) (text : List ℕ)
+    → WriteAppends old new answer text → Appends old new (gone answer text)
+written_known = grind (arith, append-nil)
+
+pub Gave-none : {R : Type 0} {remaining : R → Option (List ℕ)} (a : Checked R) → Gave remaining a a []
+Gave-none = grind (arith, append-nil)
+
+pub unread_more : {W : Type 0} (a b c : Checked W) → HasNotRead a b → HasNotRead b c → HasNotRead a c
+unread_more = grind arith
+
+-- the writer took what of the text came before the rest
+pub record Sent {W : Type 0} (contents : W → Option (List ℕ)) (before now : Checked W) (text rest : List ℕ) : Type 0
+  where
+    pub sent : List ℕ
+    pub whole : text ≡ sent ++ rest
+    pub took : Took contents before now sent
+
+-- One write more, of all that was left.
+pub Sent_more : {W : Type 0} {contents : W → Option (List ℕ)} {before now : Checked W} {text rest : List ℕ}
+    (next : Checked W) (answer : Result ℕ Error) → Sent contents before now text rest → has_failed now ≡ false
+    → rest ≢ [] → calls_of next ≡ calls_of now ++ WriteCall rest answer ∷ []
+    → WriteAppends (contents (inner_of now)) (contents (inner_of next)) answer rest →
+    has_failed next ≡ (has_failed now || is_err answer || passes_none answer rest)
+    → octets_of next ≡ octets_of now ++ gone answer rest →
+    Sent contents before next text (drop (result_unwrap_or answer 0) rest)
+Sent_more = grind (arith, take-append-drop, append_assoc, Took-more, written_known)
+
+no_octets : (xs : List ℕ) → length xs ≡ 0 → xs ≡ []
+no_octets [] e = refl
+no_octets (x ∷ xs) e = absurd (omega arith)
+
+pub Sent_all : {W : Type 0} (contents : W → Option (List ℕ)) (before now : Checked W) (text rest : List ℕ)
+    → Sent contents before now text rest → length rest ≡ 0 → Took contents before now text
+Sent_all = grind (arith, no_octets, append-nil)
+
+-- ---- what several prints in a row come to
 
 pub encode_with-append : (t xs ys : List ℕ) → encode_with t (xs ++ ys) ≡ encode_with t xs ++ encode_with t ys
 unfolding encode_with
@@ -185,10 +338,10 @@ module _ {W : Type 0} {contents : W → Option (List ℕ)} where
       Prints contents next after last → text ++ (more ++ last) ≡ said → Prints contents before after said
   three_prints first second third = printed_as (first ⨾ second ⨾ third)
 
-  pub four_prints : {before middle next last after : Page W} {text more then rest said : List ℕ}
+  pub four_prints : {before middle next last after : Page W} {text more later rest said : List ℕ}
       → Prints contents before middle text →
       Prints contents middle next more →
-      Prints contents next last then → Prints contents last after rest → text ++ (more ++ (then ++ rest)) ≡ said
+      Prints contents next last later → Prints contents last after rest → text ++ (more ++ (later ++ rest)) ≡ said
       → Prints contents before after said
   four_prints first second third fourth = printed_as (first ⨾ second ⨾ third ⨾ fourth)
 
@@ -209,3 +362,182 @@ module _ {W : Type 0} {contents : W → Option (List ℕ)} where
 pub ruleset printing = (then_prints, three_prints, four_prints, no_print, nat_tests)
 
 pub ruleset printing_hex = (hex_none, hex_more, take-append-drop)
+
+-- ---- what is shown on a page of its own
+
+module _ {W : Type 0} {contents : W → Option (List ℕ)} where
+  -- What was printed on an empty page that was finished was written, as it was laid out there, as far as the writer
+  -- didn't fail.
+  finished_as : {writer after : Checked W} {first last : Page W} {text : List ℕ} → writer_of first ≡ writer
+      → held first ≡ [] →
+      Prints contents first last text → Writes contents (writer_of last) after (held last) [] []
+      → Writes contents writer after [] [] (laid_out (room_of first) text)
+  unfolding Wrote
+  finished_as {writer} {after} {first} {last} {text} same empty printed gone =
+      let said = laid_out (room_of first) text in
+      subst (λ (before : Checked W). Writes contents before after [] [] said) same
+      (subst (λ (xs : List ℕ). Writes contents (writer_of first) after xs [] said) empty
+      (subst (λ (xs : List ℕ). Writes contents (writer_of first) after (held first) [] xs) (append-nil _)
+      (writes_more printed.wrote.writes gone)))
+
+  -- The text itself, where the page's lines are not folded.
+  pub finished : {writer after : Checked W} {first last : Page W} {text : List ℕ} → writer_of first ≡ writer
+      → held first ≡ [] → room_of first ≡ None →
+      Prints contents first last text → Writes contents (writer_of last) after (held last) [] []
+      → Writes contents writer after [] [] text
+  unfolding laid_out
+  finished {writer} {after} {text = text} same empty whole printed gone =
+      subst (λ (xs : List ℕ). Writes contents writer after [] [] xs)
+      (ap (λ (room : Option ℕ). laid_out room text) whole) (finished_as same empty printed gone)
+
+  -- The folded text, where they are.
+  pub folded_out : {writer after : Checked W} {first last : Page W} {text : List ℕ} {left : ℕ}
+      → writer_of first ≡ writer → held first ≡ [] → room_of first ≡ Some left →
+      Prints contents first last text → Writes contents (writer_of last) after (held last) [] []
+      → Writes contents writer after [] [] (folded left text)
+  unfolding laid_out
+  folded_out {writer} {after} {text = text} same empty folds printed gone =
+      subst (λ (xs : List ℕ). Writes contents writer after [] [] xs)
+      (ap (λ (room : Option ℕ). laid_out room text) folds) (finished_as same empty printed gone)
+
+  -- All of it, where the writer didn't fail.
+  pub all_written : {before after : Checked W} {text : List ℕ} → Writes contents before after [] [] text
+      → has_failed after ≡ false →
+      Took contents before after text
+  all_written {before} {after} {text} p good = grind (arith, append-nil)
+
+  -- The text was written, or, where the writer failed, a front of it.
+  pub put : {A E : Type 0} {before after : Checked W} {text : List ℕ} (answer : Result A E)
+      → Writes contents before after [] [] text →
+      has_failed after ≡ is_err answer → TookOrFailed contents before after text answer
+  put (Ok done) written good = all_written written good
+  put (Err fault) written _ = (written.taken, written.rest, written.whole, written.took)
+
+  -- The same of a writer that was lent to a page, and is back.
+  pub shown : {A E : Type 0} {writer after : Checked W} {first last : Page W} {text : List ℕ} {back : Checked W}
+      (answer : Result A E) → after ≡ back →
+      writer_of first ≡ writer → held first ≡ [] → room_of first ≡ None → Prints contents first last text
+      → Writes contents (writer_of last) after (held last) [] [] →
+      has_failed after ≡ is_err answer → TookOrFailed contents writer back text answer
+  shown {writer} {text} answer given same empty whole printed gone failed = grind (arith, put, finished)
+
+-- ---- how many digits a number of one, two or eight octets has
+
+pub one_octet : (n : ℕ) → n < 256 → length (decimal n) ≤ 3
+one_octet = grind (arith, length-decimal-le)
+
+pub two_octets : (n : ℕ) → n < 65536 → length (decimal n) ≤ 5
+two_octets = grind (arith, length-decimal-le)
+
+pub eight_octets : (n : ℕ) → n < 2 ^ 64 → length (decimal n) ≤ 20
+eight_octets n fits = length-decimal-le 20 n (lit< tt) (omega arith) fits
+
+-- ---- the texts of values, and of what they are made of
+
+-- The text of one more octet.
+pub texts_more : (text : ℕ → List ℕ) (xs : List ℕ) (i : ℕ) → i < length xs →
+    flat_map text (take (i + 1) xs) ≡ flat_map text (take i xs) ++ text (get_or xs i 0)
+texts_more text xs i within =
+    ap (flat_map text) (take_more xs i 0 within) ∙ flat_map-append text _ _
+    ∙ ap (λ (one : List ℕ). flat_map text (take i xs) ++ one) (append-nil _)
+
+pub signed_negative : (z : ℤ) → z <ℤ pos 0 → 45 ∷ decimal (unsigned_abs z) ≡ signed_decimal z
+signed_negative = grind arith
+
+length_bits : (octets : List ℕ) → length (flat_map octet_bits octets) ≡ 8 * length octets
+length_bits [] = refl
+length_bits (x ∷ xs) = omega (arith, length_bits xs)
+
+-- The bits of octets, of which the last is known.
+pub bits_last : (others : List ℕ) (last unused : ℕ) →
+    flat_map octet_bits others ++ take (8 - unused) (octet_bits last) ≡ bits_text unused (others ++ last ∷ [])
+bits_last others last unused =
+    let front = flat_map octet_bits others in
+    let count : length front + (8 - unused) ≡ 8 * length (others ++ last ∷ []) - min unused 8 =
+    omega (arith, length_bits others, length-append others (last ∷ [])) in
+    sym (take-append-add _ _ _) ∙ ap (λ (n : ℕ). take n (front ++ octet_bits last)) count
+    ∙ ap (λ (bits : List ℕ). take (8 * length (others ++ last ∷ []) - min unused 8) bits)
+    (ap (λ (bits : List ℕ). front ++ bits) (sym (append-nil _)) ∙ sym (flat_map-append octet_bits _ _))
+
+-- One more value, and a comma where others follow.
+one_more : (first : Datum) (more : List Datum) (behind : List ℕ) → values_of behind ≡ Some more →
+    joined (first ∷ more) ≡ (datum_text first ++ separator behind) ++ joined more
+unfolding values_within
+one_more = grind (arith, append-nil, append_assoc)
+
+-- What stands behind the first of the values.
+behind_first : (value : Datum) (others : List Datum) (found : Option (List Datum))
+    → option_map (λ more. value ∷ more) found ≡ Some others →
+    (more : List Datum) × (found ≡ Some more) × (others ≡ value ∷ more)
+behind_first = grind arith
+
+nothing_left : (rest : List ℕ) (others : List Datum) → value_at rest ≡ None → values_of rest ≡ Some others → others ≡ []
+unfolding values_within
+nothing_left = grind arith
+
+-- If the region is values and nothing else, the texts of those before the rest were printed.
+pub record PrintsFront {W : Type 0} (contents : W → Option (List ℕ)) (before after : Page W)
+    (region rest : List ℕ) : Type 0 where
+  pub front : (values : List Datum) → values_of region ≡ Some values →
+      (text : List ℕ) × (others : List Datum) × (values_of rest ≡ Some others) × (joined values ≡ text ++ joined others)
+      × Prints contents before after text
+
+-- The values were printed, where the region is values.
+abbrev pub PrintsValues : {W : Type 0} → (W → Option (List ℕ)) → Page W → Page W → List ℕ → Type 0
+PrintsValues contents before after region =
+    IfSome (values_of region) (λ values. Prints contents before after (joined values))
+
+module _ {W : Type 0} {contents : W → Option (List ℕ)} where
+  pub front_none : (page : Page W) (region : List ℕ) → PrintsFront contents page page region region
+  front_none page _ = record { front = λ values e. ([], values, e, refl, prints_nothing _) }
+
+  pub front_more : {before middle next after : Page W} {region rest behind : List ℕ} {value : Datum} →
+      PrintsFront contents before middle region rest →
+      value_at rest ≡ Some (value, behind) → Prints contents middle next (datum_text value)
+      → Prints contents next after (separator behind) →
+      PrintsFront contents before after region behind
+  front_more {rest} {behind} {value} so_far found first second = record {
+    front = λ values e.
+        let (front, others, left, parts, printed) = so_far.front values e in
+        let (later, left, is) = behind_first value others _ (sym (values-first rest value _ found) ∙ left) in (
+          front ++ (datum_text value ++ separator behind),
+          later,
+          left,
+          parts ∙ ap (λ (all : List Datum). front ++ joined all) is
+              ∙ ap (λ (text : List ℕ). front ++ text) (one_more value _ behind left) ∙ sym (append_assoc front _ _),
+          printed ⨾ first ⨾ second,
+        );
+  }
+
+  pub front_whole : {before after : Page W} {region rest : List ℕ} → PrintsFront contents before after region rest
+      → value_at rest ≡ None →
+      PrintsValues contents before after region
+  front_whole = grind (arith, printed_as, nothing_left, append-nil)
+
+  -- None or several stand in braces.
+  pub printed_in_braces : {before first second after : Page W} (region : List ℕ) (count : ℕ)
+      → Some count ≡ option_map length (values_of region) →
+      (count == 1) ≡ false → Prints contents before first (123 ∷ []) → PrintsValues contents first second region
+      → Prints contents second after (125 ∷ []) →
+      Prints contents before after (region_text region)
+  printed_in_braces {before} {first} {second} {after} region count counted several opened printed closed =
+      go (values_of region) counted printed
+    where
+      go : (found : Option (List Datum)) → Some count ≡ option_map length found
+          → IfSome found (λ values. Prints contents first second (joined values)) →
+          Prints contents before after (option_map_or values_text found (codes "hex " ++ encode_lower region))
+      go None e p = absurd (none-some count (sym e))
+      go (Some values) e p =
+          let same : count ≡ length values = cc in
+          let other : (length values == 1) ≡ false = ap (λ (n : ℕ). n == 1) (sym same) ∙ several in
+          printed_as (opened ⨾ p ⨾ closed) (rw other refl)
+
+  -- What is no values is shown by its octets.
+  pub printed_octets : {before middle after : Page W} (region : List ℕ) → None ≡ option_map length (values_of region) →
+      Prints contents before middle (codes "hex ") → Prints contents middle after (encode_lower region) →
+      Prints contents before after (region_text region)
+  printed_octets _ none first second = printed_as (first ⨾ second) (grind arith)
+
+pub ruleset printing_values = (front_none, front_whole)
+
+pub ruleset printing_signed = (signed_negative, ints, to_z-of_z)

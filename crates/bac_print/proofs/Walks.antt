@@ -1,9 +1,9 @@
 -- What walks over a ghost list share, besides what `Walks` of bac_wire has: its struct has a mark of its type.
-use Rattle.bac_wire.proofs.Walks.{[], ◌$◌, ◌∷◌, fjoin, List, move, nothing, RattleType, refl, ‵}
+use Rattle.bac_wire.proofs.Walks.{[], fjoin, List, move, nothing, RattleType, refl, ‵, ◌$◌, ◌∷◌}
+use denote.{Laws.Is, RattleType.Valss, Steps.owned, Struct.{Laws.makes, Struct.{Shape, Struct, within}}}
+use mir.Val.{Val, vcons, vnil, vstruct}
 use seplogic.Ra.Ura.{Ura}
-use mir.Val.{Val, vstruct, vcons, vnil}
-use types.{Logic.Logic, Kit.{Goal, Step, step, Item, fpack, feq_i}}
-use denote.{RattleType.Valss, Laws.Is, Steps.owned, Struct.{Laws.makes, Struct.{Struct, Shape, within}}}
+use types.{Kit.{feq_i, fpack, Goal, Item, Step, step}, Logic.Logic}
 use Rattle.std.specs.contracts.marker.PhantomData as Mark
 
 abbrev pub marked : Val

@@ -50,7 +50,7 @@ impl<T> Checked<T> {
 
 impl<R: Read> Checked<R> {
     /// One read of the reader, into this room.
-    #[tactic(auto, using(crate::proofs::Known::one_read))]
+    #[tactic(auto, using(crate::proofs::Printed::one_read))]
     pub fn read(&mut self, buf: &mut [u8]) -> io::Result<usize>
         ensures bound { ReadsAtMost result buf.new }
         ensures asked { calls_of self.new ≡ calls_of self.old
@@ -76,7 +76,7 @@ impl<R: Read> Checked<R> {
 
 impl<W: Write> Checked<W> {
     /// One write to the writer, of these octets.
-    #[tactic(auto, using(crate::proofs::Known::one_call))]
+    #[tactic(auto, using(crate::proofs::Printed::one_call))]
     pub fn write(&mut self, buf: &[u8]) -> io::Result<usize>
         ensures bound { WritesAtMost result buf.now }
         ensures asked { calls_of self.new ≡ calls_of self.old ++ WriteCall buf.now result ∷ [] }
@@ -97,7 +97,7 @@ impl<W: Write> Checked<W> {
     }
 
     /// One flush of the writer.
-    #[tactic(auto, using(crate::proofs::Known::one_call))]
+    #[tactic(auto, using(crate::proofs::Printed::one_call))]
     pub fn flush(&mut self) -> io::Result<()>
         ensures asked { calls_of self.new ≡ calls_of self.old ++ FlushCall result ∷ [] }
         ensures passed { (octets_of self.new ≡ octets_of self.old) × (last_of self.new ≡ last_of self.old) }

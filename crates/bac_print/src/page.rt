@@ -180,7 +180,7 @@ impl<'w, W: Write> Page<'w, W> {
 
 impl<W: Write> Page<'_, W> {
     /// Prints the number in decimal digits.
-    #[tactic(auto, using(crate::proofs::NumberLengths::eight_octets))]
+    #[tactic(auto, using(crate::proofs::Printed::eight_octets))]
     pub fn print_number(&mut self, number: u64)
         ensures { Prints W.contents self.old self.new (decimal number) }
     {

@@ -37,7 +37,7 @@ impl<W: Write> Page<'_, W> {
 }
 
 // Writes an IP address in dotted decimal, a colon and a port at the end of the room, and says where they begin.
-#[tactic(auto, using(crate::proofs::NumberLengths::two_octets))]
+#[tactic(auto, using(crate::proofs::Printed::two_octets))]
 fn write_station(ip: u32, port: u16, room: &mut [u8; LONGEST_STATION]) -> usize
     ensures text { drop result room.new ≡ address_text ip ++ 58 ∷ decimal port }
     ensures within { result ≤ LONGEST_STATION }
@@ -52,7 +52,7 @@ fn write_station(ip: u32, port: u16, room: &mut [u8; LONGEST_STATION]) -> usize
 }
 
 // Writes the number of an octet and a mark before a position of the room, and says where they begin.
-#[tactic(auto, using(crate::proofs::NumberLengths::one_octet))]
+#[tactic(auto, using(crate::proofs::Printed::one_octet))]
 fn write_octet(octet: u8, mark: u8, room: &mut [u8], end: usize) -> usize
     requires within { end ≤ length room.old }
     requires fits { 4 ≤ end }

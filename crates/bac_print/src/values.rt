@@ -63,7 +63,7 @@ impl<W: Write> Page<'_, W> {
     }
 
     // Prints values one after another, joined by commas.
-    #[tactic(auto, using(crate::proofs::ValueTexts::printing_values))]
+    #[tactic(auto, using(crate::proofs::Printed::printing_values))]
     fn print_values(&mut self, region: &[u8])
         ensures { IfSome (values_of region.now) (λ values. Prints W.contents self.old self.new (joined values)) }
     {
@@ -116,7 +116,7 @@ impl<W: Write> Page<'_, W> {
         }
     }
 
-    #[tactic(auto, using(crate::proofs::Printed::printing, crate::proofs::ValueTexts::printing_signed))]
+    #[tactic(auto, using(crate::proofs::Printed::printing, crate::proofs::Printed::printing_signed))]
     fn print_signed(&mut self, number: i64)
         ensures { Prints W.contents self.old self.new (signed_decimal number) }
     {
@@ -165,7 +165,7 @@ impl<W: Write> Page<'_, W> {
         self.print(b"\"");
     }
 
-    #[tactic(auto, using(crate::proofs::Printed::printing, crate::proofs::ValueTexts::texts_more))]
+    #[tactic(auto, using(crate::proofs::Printed::printing, crate::proofs::Printed::texts_more))]
     fn print_quoted_octets(&mut self, text: &[u8])
         ensures { Prints W.contents self.old self.new (flat_map quoted_octet text.now) }
     {
@@ -198,7 +198,7 @@ impl<W: Write> Page<'_, W> {
     }
 
     // Prints the bits of the octets but for the last ones, which are unused.
-    #[tactic(auto, using(crate::proofs::Printed::printing, crate::proofs::ValueTexts::bits_last, std::proofs::lemmas::List::nil_from_length))]
+    #[tactic(auto, using(crate::proofs::Printed::printing, crate::proofs::Printed::bits_last, std::proofs::lemmas::List::nil_from_length))]
     fn print_used_bits(&mut self, unused: u8, octets: &[u8])
         ensures { Prints W.contents self.old self.new (bits_text unused octets.now) }
     {
@@ -210,7 +210,7 @@ impl<W: Write> Page<'_, W> {
     }
 
     // Prints all bits of the octets.
-    #[tactic(auto, using(crate::proofs::Printed::printing, crate::proofs::ValueTexts::texts_more))]
+    #[tactic(auto, using(crate::proofs::Printed::printing, crate::proofs::Printed::texts_more))]
     fn print_whole_octets(&mut self, octets: &[u8])
         ensures { Prints W.contents self.old self.new (flat_map octet_bits octets.now) }
     {
@@ -258,7 +258,7 @@ fn is_printable(octet: u8) -> bool
 }
 
 // How many values the region is, if it is nothing else.
-#[tactic(auto, using(bac_wire::proofs::ValueLists::counted))]
+#[tactic(auto, using(bac_wire::proofs::DatumLaws::counted))]
 fn count_values(region: &[u8]) -> Option<usize>
     ensures { result ≡ option_map length (values_of region.now) }
 {

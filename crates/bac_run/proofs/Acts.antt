@@ -1,30 +1,18 @@
 -- Acts one after another.
-use Rattle.std.specs.List.{AllByRecursion, flat_map}
-use Rattle.std.proofs.Common.{◌≡◌, ◌∙◌, ℕ, List, [], ◌∷◌, ◌++◌, Option, Result, Ok, Err, refl, subst, sym, ap, inl, inr}
-use Rattle.std.proofs.Common.{append_assoc, arith, None, Some, ◌<◌, ◌+◌, length, nat_lt, true, take, drop, get_or}
-use Rattle.std.proofs.lemmas.Bool.Decides.{nat_tests}
-use Rattle.std.proofs.lemmas.List.{append-nil, take_more, take-append-drop}
-use Rattle.std.proofs.lemmas.List.Concat.{flat_map-append}
-use Rattle.bac_pdu.specs.Apdu.{longest_body}
-use Rattle.bac_pdu.specs.Peer.{Station}
-use Rattle.bac_tsm.specs.declared.client.SubmitFault.TheVariants.{TooLong}
-use Rattle.bac_tsm.specs.declared.due.DueEntry.{DueEntry}
-use Rattle.bac_tsm.specs.Lookahead.{refusal_of}
-use Rattle.bac_tsm.specs.Client.{Client}
-use Rattle.bac_tsm.specs.Events.{Ask, Outcome, Refused}
-use Rattle.bac_tsm.specs.Machine.{State, datagram_notes, due_notes}
-use Rattle.bac_links.specs.declared.fault.ToolFault.TheVariants.{SendFailed}
-use Rattle.bac_links.specs.History.{Entry, Account}
-use Rattle.bac_run.specs.declared.fault.RunFault.{RunFault}
-use Rattle.bac_run.specs.declared.fault.RunFault.TheVariants.{Script, Link}
-use Rattle.bac_script.specs.declared.tracing.TraceFault.{TraceFault}
-use Rattle.bac_script.specs.declared.tracing.TraceFault.TheVariants.{WriteFailed}
-use Rattle.bac_run.specs.Inner.Went.{send_failed}
-use Rattle.bac_run.specs.Input.{inputs_in}
-use Rattle.bac_run.specs.Journal.{Act, FitsLine, Asked, Paused, Came, Passed, Told, Read, client_after, journal}
-use Rattle.bac_run.specs.Journal.{asked_by, history_of, turn_at, at_event, posts}
-use Rattle.bac_run.specs.Went.{HasAsked, IsAsked, IsCut, IsUnsent, IsWithin}
-use Rattle.bac_run.specs.Inner.Went.{GainsDue, IsGained}
+use Rattle.std.proofs.Common.{[], ap, append_assoc, arith, drop, Err, get_or, inl, inr, length, List, nat_lt, None, Ok}
+use Rattle.std.proofs.Common.{Option, refl, Result, Some, subst, sym, take, true, ℕ, ◌++◌, ◌+◌, ◌<◌, ◌∙◌, ◌∷◌, ◌≡◌}
+use Rattle.std.proofs.lemmas.{Bool.Decides.nat_tests, List.{append-nil, take-append-drop, take_more}}
+use Rattle.std.{proofs.lemmas.List.Concat.flat_map-append, specs.List.{AllByRecursion, flat_map}}
+use Rattle.bac_pdu.specs.{Apdu.longest_body, Peer.Station}
+use Rattle.bac_tsm.specs.{Client.Client, declared.{client.SubmitFault.TheVariants.TooLong, due.DueEntry.DueEntry}}
+use Rattle.bac_tsm.specs.{Events.{Ask, Outcome, Refused}, Lookahead.refusal_of, Machine.{datagram_notes, due_notes}}
+use Rattle.bac_tsm.specs.Machine.{State}
+use Rattle.bac_script.specs.declared.tracing.TraceFault.{TraceFault, TheVariants.WriteFailed}
+use Rattle.bac_links.specs.{declared.fault.ToolFault.TheVariants.SendFailed, History.{Account, Entry}}
+use Rattle.bac_run.specs.{declared.fault.RunFault.{RunFault, TheVariants.{Link, Script}}, Inner.Went.GainsDue}
+use Rattle.bac_run.specs.{Inner.Went.{IsGained, send_failed}, Input.inputs_in, Journal.{Act, Asked, asked_by, at_event}}
+use Rattle.bac_run.specs.Journal.{Came, client_after, FitsLine, history_of, journal, Passed, Paused, posts, Read, Told}
+use Rattle.bac_run.specs.{Journal.turn_at, Went.{HasAsked, IsAsked, IsCut, IsUnsent, IsWithin}}
 
 pub client_after-append : (client : Client) (xs ys : List Act)
     → client_after client (xs ++ ys) ≡ client_after (client_after client xs) ys

@@ -1,26 +1,19 @@
 -- Two runs that are answered alike do the same: which act is due is a function of what was done and answered.
+use Rattle.std.proofs.Common.{[], ap, Bool, Err, false, inl, inr, length, List, nat_lt, Ok, refl, Result, subst, suc}
+use Rattle.std.proofs.{Common.{sym, true, ℕ, ◌++◌, ◌-◌, ◌/◌, ◌==◌, ◌∙◌, ◌∷◌, ◌≡◌, ◌⊎◌}, lemmas.Bool.false≢true}
 use Rattle.std.specs.Prelude.{⊤}
-use Rattle.std.proofs.Common.{◌≡◌, ◌⊎◌, ◌∙◌, ◌-◌, ◌/◌, ◌==◌, ℕ, suc, nat_lt, Bool, false, true, List, [], ◌∷◌, ◌++◌}
-use Rattle.std.proofs.Common.{Result, Ok, Err, length, refl, sym, ap, subst, inl, inr}
-use Rattle.std.proofs.lemmas.Bool.{false≢true}
 use Rattle.bac_pdu.specs.Peer.{Station}
 use Rattle.bac_tsm.specs.Client.{Client}
-use Rattle.bac_links.specs.Answered.{Brings, answer_of, answers_of}
-use Rattle.bac_links.specs.Asking.{ForDatagram, question_of}
-use Rattle.bac_links.specs.History.{Entry, Heard, Arrived, Silence, Failure, Posted, Timed, Unposted, Waited}
-use Rattle.bac_links.specs.declared.fault.ToolFault.TheVariants.{SendFailed}
 use Rattle.bac_script.specs.declared.tracing.TraceFault.TheVariants.{WriteFailed}
-use Rattle.bac_run.specs.Course.{Aim, Does, Fresh, Goes, IsDue, Looked}
-use Rattle.bac_run.specs.Course.{Outside, Phase, Stage, Telling, Broken, DueIn, Turns, acted, freshened, heard_at}
-use Rattle.bac_run.specs.Course.{is_reached, left_of, longest_row, moved, moved_in, open_in, passed_at, settled}
-use Rattle.bac_run.specs.Course.{settled_in, IsPassed, telling}
-use Rattle.bac_run.specs.Journal.{Act, Asked, Came, Passed, Paused, Read, Told, asked_by, has_line}
-use Rattle.bac_run.specs.Journal.{history_of, posts, turn_at}
-use Rattle.bac_run.specs.Replay.{AskNext}
-use Rattle.bac_run.specs.Went.{IsAsked, IsCut, IsUnsent}
-use Rattle.bac_run.proofs.Acts.{unsent_cut}
-use Rattle.bac_run.specs.declared.fault.RunFault.{RunFault}
-use Rattle.bac_run.specs.declared.fault.RunFault.TheVariants.{Link, Script}
+use Rattle.bac_links.specs.{Answered.{answer_of, answers_of, Brings}, Asking.{ForDatagram, question_of}}
+use Rattle.bac_links.specs.{declared.fault.ToolFault.TheVariants.SendFailed, History.{Arrived, Entry, Failure, Heard}}
+use Rattle.bac_links.specs.History.{Posted, Silence, Timed, Unposted, Waited}
+use Rattle.bac_run.{proofs.Acts.unsent_cut, specs.Course.{acted, Aim, Broken, Does, DueIn, Fresh, freshened, Goes}}
+use Rattle.bac_run.specs.Course.{heard_at, is_reached, IsDue, IsPassed, left_of, longest_row, Looked, moved, moved_in}
+use Rattle.bac_run.specs.Course.{open_in, Outside, passed_at, Phase, settled, settled_in, Stage, Telling, telling}
+use Rattle.bac_run.specs.{Course.Turns, declared.fault.RunFault.{RunFault, TheVariants.{Link, Script}}, Journal.Act}
+use Rattle.bac_run.specs.Journal.{Asked, asked_by, Came, has_line, history_of, Passed, Paused, posts, Read, Told}
+use Rattle.bac_run.specs.{Journal.turn_at, Replay.AskNext, Went.{IsAsked, IsCut, IsUnsent}}
 
 -- ---- a stage that is about more
 

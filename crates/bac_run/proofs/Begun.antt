@@ -1,27 +1,16 @@
 -- What a run is about, by a front of its input, or where its reader failed.
-use Rattle.std.proofs.Common.{◌≡◌, ◌⊎◌, ◌∙◌, ℕ, ◌≤◌, ◌<◌, zero, suc, Bool, false, true, List, [], ◌∷◌, ◌++◌}
-use Rattle.std.proofs.Common.{Option, None, Some, Err, refl, sym, ap, subst, inl, inr, append_assoc}
-use Rattle.std.proofs.Common.{arith, length, is_some, length-append, nat_lt}
-use Rattle.std.proofs.lemmas.List.{append-nil}
-use Rattle.std.proofs.lemmas.Bool.Decides.{nat_tests}
+use Rattle.std.proofs.Common.{[], ap, append-nil, append_assoc, arith, Bool, Err, false, inl, inr, is_some, length}
+use Rattle.std.proofs.Common.{length-append, List, nat_lt, None, Option, refl, Some, subst, suc, sym, true, zero, ℕ}
+use Rattle.std.proofs.{Common.{◌++◌, ◌<◌, ◌∙◌, ◌∷◌, ◌≡◌, ◌≤◌, ◌⊎◌}, lemmas.Bool.Decides.nat_tests}
 use Rattle.bac_text.specs.Limits.{longest_line}
-use Rattle.bac_script.specs.declared.input.Reading.{Reading}
-use Rattle.bac_script.specs.declared.input.Reading.TheVariants.{Open, AtEnd, Failed}
-use Rattle.bac_script.specs.declared.tracing.TraceFault.{TraceFault}
-use Rattle.bac_script.specs.Input.{ReaderStands}
-use Rattle.bac_print.specs.Checked.{ends_of, fresh}
-use Rattle.bac_print.specs.declared.checked.Checked.{Checked}
-use Rattle.bac_script.specs.Feeds.{HasNoFeed}
-use Rattle.bac_script.specs.Line.{said}
-use Rattle.bac_script.specs.Script.{lines}
-use Rattle.bac_script.specs.declared.line.LineFault.TheVariants.{TooLong}
-use Rattle.bac_script.proofs.Fronts.{first_line, FirstLine}
-use Rattle.bac_script.proofs.Pieces.{ends_with_feed-none, lines-ended, next_long, pieces-open, said-long}
-use Rattle.bac_run.specs.Course.{Aim, aims_for, aims_in_room, aims_of_lines}
-use Rattle.bac_run.specs.Course.{room_for}
-use Rattle.bac_run.specs.Course.{last_aims}
+use Rattle.bac_print.specs.{Checked.{ends_of, fresh}, declared.checked.Checked.Checked}
+use Rattle.bac_script.proofs.Chunks.{ends_with_feed-none, lines-ended, next_long, pieces-open, said-long}
+use Rattle.bac_script.{proofs.Courses.{first_line, FirstLine}, specs.declared.input.Reading.Reading}
+use Rattle.bac_script.specs.declared.input.Reading.TheVariants.{AtEnd, Failed, Open}
+use Rattle.bac_script.specs.declared.{line.LineFault.TheVariants.TooLong, tracing.TraceFault.TraceFault}
+use Rattle.bac_script.specs.{Feeds.HasNoFeed, Input.ReaderStands, Line.said, Script.lines}
+use Rattle.bac_run.{proofs.Cut.unsaid, specs.Course.{Aim, aims_for, aims_in_room, aims_of_lines, last_aims, room_for}}
 use Rattle.bac_run.specs.Input.{acts_of_line, fault_in}
-use Rattle.bac_run.proofs.Cut.{unsaid}
 
 -- How often reading met the end.
 abbrev pub ends : Reading → ℕ
@@ -117,8 +106,7 @@ lines_begun zero window (x ∷ xs) more reading within = absurd (omega (arith, w
 lines_begun (suc n) window octets more reading within =
     after (first_line octets) (λ rest shorter. lines_begun n window rest more reading shorter)
   where
-    after : HasNoFeed octets ⊎ FirstLine octets
-        → ((rest : List ℕ) → length rest ≤ n
+    after : HasNoFeed octets ⊎ FirstLine octets → ((rest : List ℕ) → length rest ≤ n
         → IsBegun window (lines rest Open) (lines (rest ++ more) reading) reading)
         → IsBegun window (lines octets Open) (lines (octets ++ more) reading) reading
     after (inl none) others = open_begun window octets more reading none

@@ -1,29 +1,17 @@
 -- How lines are cut from what the reader gave, and how the reader stands then.
-use Rattle.std.proofs.Common.{◌≡◌, ◌≢◌, ◌⊎◌, ℕ, ◌+◌, false, List, [], ◌∷◌, ◌++◌, ◌==◌, ◌&&◌, length, take, drop}
-use Rattle.std.proofs.Common.{◌≤◌, Option, None, Result, Err, refl, subst, sym, ◌∙◌, ap, inl, inr}
-use Rattle.std.proofs.Common.{append_assoc, arith, take-append-drop}
-use Rattle.std.proofs.lemmas.Bool.{cases_Bool}
-use Rattle.std.proofs.lemmas.List.{append-nil}
-use Rattle.std.specs.Prelude.{option_and_then}
-use Rattle.std.specs.Result.{result_ok}
-use Rattle.std.specs.List.{AllByRecursion, concat}
-use Rattle.bac_print.specs.declared.checked.Checked.{Checked}
-use Rattle.bac_print.specs.Checked.{has_failed, Gave}
-use Rattle.bac_script.specs.Input.{ReaderStands, CanReadOn}
-use Rattle.bac_script.specs.Line.{Said, said}
-use Rattle.bac_script.specs.NextLine.{TakesAndKeeps, IsLineCut}
-use Rattle.bac_script.specs.Limits.{line_room}
-use Rattle.bac_script.specs.declared.line.LineFault.{LineFault}
-use Rattle.bac_script.specs.declared.input.Reading.{Reading}
-use Rattle.bac_script.specs.declared.input.Reading.TheVariants.{Open, AtEnd, Failed}
-use Rattle.bac_script.specs.declared.tracing.TraceFault.TheVariants.{LineTooLong}
+use Rattle.std.proofs.Common.{[], ap, append-nil, append_assoc, arith, drop, Err, false, inl, inr, length, List, None}
+use Rattle.std.proofs.Common.{Option, option_and_then, refl, Result, subst, sym, take, take-append-drop, ℕ, ◌&&◌, ◌++◌}
+use Rattle.std.proofs.{Common.{◌+◌, ◌==◌, ◌∙◌, ◌∷◌, ◌≡◌, ◌≢◌, ◌≤◌, ◌⊎◌}, lemmas.Bool.cases_Bool}
+use Rattle.std.specs.{List.{AllByRecursion, concat}, Result.result_ok}
 use Rattle.bac_text.specs.Limits.{longest_line}
-use Rattle.bac_script.specs.Script.{lines}
-use Rattle.bac_script.specs.declared.line.LineFault.TheVariants.{TooLong}
-use Rattle.bac_script.proofs.Pieces.{lines-ended, lines-last, lines-rest, next_long, said-whole_long}
-use Rattle.bac_run.specs.Journal.{ends_with_return}
-use Rattle.bac_run.specs.Input.{acts_of_line, acts_of_said, fault_of_line, fault_of_said}
-use Rattle.bac_run.specs.Input.{said_of, AreCut, EndsWithFeed, HasNoFeed, IsGood}
+use Rattle.bac_print.specs.{Checked.{Gave, has_failed}, declared.checked.Checked.Checked}
+use Rattle.bac_script.proofs.Chunks.{lines-ended, lines-last, lines-rest, next_long, said-whole_long}
+use Rattle.bac_script.specs.declared.input.Reading.{Reading, TheVariants.{AtEnd, Failed, Open}}
+use Rattle.bac_script.specs.declared.line.LineFault.{LineFault, TheVariants.TooLong}
+use Rattle.bac_script.specs.{declared.tracing.TraceFault.TheVariants.LineTooLong, Input.{CanReadOn, ReaderStands}}
+use Rattle.bac_script.specs.{Limits.line_room, Line.{Said, said}, NextLine.{IsLineCut, TakesAndKeeps}, Script.lines}
+use Rattle.bac_run.specs.Input.{acts_of_line, acts_of_said, AreCut, EndsWithFeed, fault_of_line, fault_of_said}
+use Rattle.bac_run.specs.{Input.{HasNoFeed, IsGood, said_of}, Journal.ends_with_return}
 
 -- ---- lines
 

@@ -1,24 +1,15 @@
 -- Where a run has ended nothing is due, and how it ended is said by the stage and by its input.
-use Rattle.std.proofs.Common.{◌≡◌, ◌≢◌, ◌⊎◌, ◌∙◌, ℕ, zero, suc, List, [], ◌∷◌, ◌++◌}
-use Rattle.std.proofs.Common.{Option, None, Some, Result, Ok, Err, refl, sym, ap, subst, inl, inr}
-use Rattle.std.proofs.Common.{length}
-use Rattle.std.proofs.lemmas.List.{append-nil}
-use Rattle.bac_links.specs.declared.fault.ToolFault.TheVariants.{SendFailed, ReceiveFailed, TurnsSpent}
+use Rattle.std.proofs.Common.{[], ap, Err, inl, inr, length, List, None, Ok, Option, refl, Result, Some, subst, suc}
+use Rattle.std.proofs.{Common.{sym, zero, ℕ, ◌++◌, ◌∙◌, ◌∷◌, ◌≡◌, ◌≢◌, ◌⊎◌}, lemmas.List.append-nil}
+use Rattle.bac_script.specs.declared.input.Reading.{Reading, TheVariants.{AtEnd, Failed, Open}}
+use Rattle.bac_script.specs.declared.tracing.{TraceEnd.TraceEnd, TraceFault.{TraceFault, TheVariants.BadLine}}
+use Rattle.bac_script.specs.declared.tracing.TraceFault.TheVariants.{LineTooLong, ReadFailed, WriteFailed}
+use Rattle.bac_links.specs.declared.fault.ToolFault.TheVariants.{ReceiveFailed, SendFailed, TurnsSpent}
 use Rattle.bac_links.specs.declared.fault.ToolFault.TheVariants.{WriteFailed as LinkNotWritten}
-use Rattle.bac_script.specs.declared.input.Reading.{Reading}
-use Rattle.bac_script.specs.declared.input.Reading.TheVariants.{Open, AtEnd, Failed}
-use Rattle.bac_script.specs.declared.tracing.TraceEnd.{TraceEnd}
-use Rattle.bac_script.specs.declared.tracing.TraceFault.{TraceFault}
-use Rattle.bac_script.specs.declared.tracing.TraceFault.TheVariants.{BadLine, LineTooLong, ReadFailed, WriteFailed}
-use Rattle.bac_run.specs.Course.{Aim, Goes, IsDue, Outside, Stage, moved}
-use Rattle.bac_run.specs.Course.{stage_after, Broken, Does, DueIn, Fresh, Looked, Phase, Telling, Turns}
-use Rattle.bac_run.specs.Input.{fault_in}
-use Rattle.bac_run.specs.Journal.{Act, Came, Passed, Read}
-use Rattle.bac_run.specs.Run.{EndsAt, IsAtRest}
-use Rattle.bac_run.specs.Went.{IsSpent}
-use Rattle.bac_run.specs.declared.fault.RunFault.{RunFault}
-use Rattle.bac_run.specs.declared.fault.RunFault.TheVariants.{Link, Script}
-use Rattle.bac_run.proofs.Alike.{IsWider, moved_wider, wider}
+use Rattle.bac_run.{proofs.Alike.{IsWider, moved_wider, wider}, specs.Course.{Aim, Broken, Does, DueIn, Fresh, Goes}}
+use Rattle.bac_run.specs.Course.{IsDue, Looked, moved, Outside, Phase, Stage, stage_after, Telling, Turns}
+use Rattle.bac_run.specs.{declared.fault.RunFault.{RunFault, TheVariants.{Link, Script}}, Input.fault_in, Journal.Act}
+use Rattle.bac_run.specs.{Journal.{Came, Passed, Read}, Run.{EndsAt, IsAtRest}, Went.IsSpent}
 
 -- ---- where a run has ended nothing is due
 

@@ -1,29 +1,18 @@
 -- The lines of a journal, folded.
-use Rattle.std.proofs.Common.{◌≡◌, ℕ, suc, ◌+◌, ◌-◌, ◌≤◌, ◌==◌, nat_lt, Bool, true, false, List, [], ◌∷◌, ◌++◌}
-use Rattle.std.proofs.Common.{length, take, Some, Result, Ok, Err, refl, subst, sym, ◌∙◌, ap, append_assoc, arith}
-use Rattle.std.proofs.Common.{length-append, inl, inr, ne_eqb}
-use Rattle.std.proofs.lemmas.Bool.{cases_Bool}
-use Rattle.std.proofs.lemmas.Bool.Decides.{nat_tests}
-use Rattle.std.proofs.lemmas.Grind.{common_steps}
-use Rattle.std.proofs.lemmas.Str.{IsUtf8-from_ascii, is_utf8-from_IsUtf8}
-use Rattle.std.proofs.lemmas.Str.Ascii.{IsAscii-nil, IsAscii-cons}
-use Rattle.std.specs.Prelude.{codes, filter, slice_index}
-use Rattle.std.specs.List.{onto_first, slice_split}
-use Rattle.std.specs.Str.{IsAscii, is_utf8}
-use Rattle.std.specs.Str.Lines.{strip_carriage_return}
+use Rattle.std.proofs.Common.{[], ap, append_assoc, arith, Bool, codes, Err, false, filter, inl, inr, length}
+use Rattle.std.proofs.Common.{length-append, List, nat_lt, ne_eqb, Ok, refl, Result, slice_index, Some, subst, suc, sym}
+use Rattle.std.proofs.{Common.{take, true, ℕ, ◌++◌, ◌+◌, ◌-◌, ◌==◌, ◌∙◌, ◌∷◌, ◌≡◌, ◌≤◌}, lemmas.Bool.cases_Bool}
+use Rattle.std.proofs.lemmas.{Bool.Decides.nat_tests, Grind.common_steps, Str.{is_utf8-from_IsUtf8, IsUtf8-from_ascii}}
+use Rattle.std.{proofs.lemmas.Str.Ascii.{IsAscii-cons, IsAscii-nil}, specs.List.{onto_first, slice_split}}
+use Rattle.std.specs.Str.{is_utf8, IsAscii, Lines.strip_carriage_return}
 use Rattle.bac_tsm.specs.Events.{Note}
+use Rattle.bac_text.specs.{Limits.longest_line, Words.is_blank}
 use Rattle.bac_print.specs.Page.{folded, folded_line}
-use Rattle.bac_text.specs.Limits.{longest_line}
-use Rattle.bac_text.specs.Words.{is_blank}
-use Rattle.bac_script.specs.Line.{Said, Nothing, said, said_by, said_in, text_of_line}
-use Rattle.bac_script.specs.declared.line.LineFault.{LineFault}
-use Rattle.bac_script.specs.declared.line.LineFault.TheVariants.{TooLong}
-use Rattle.bac_script.proofs.Pieces.{ends_with_feed-push}
-use Rattle.bac_run.specs.Input.{HasNoFeed}
-use Rattle.bac_run.specs.Journal.{remark, remarks}
-use Rattle.bac_run.specs.Replay.{IsLineOf}
-use Rattle.bac_run.proofs.Lines.{text_ended}
-use Rattle.bac_run.proofs.Plain.{IsPlain, IsPlainOctet, note_plain, plain_on, plain_take}
+use Rattle.bac_script.{proofs.Chunks.ends_with_feed-push, specs.declared.line.LineFault.LineFault}
+use Rattle.bac_script.specs.{declared.line.LineFault.TheVariants.TooLong, Line.{Nothing, Said, said, said_by, said_in}}
+use Rattle.bac_script.specs.Line.{text_of_line}
+use Rattle.bac_run.proofs.{Lines.text_ended, Plain.{IsPlain, IsPlainOctet, note_plain, plain_on, plain_take}}
+use Rattle.bac_run.specs.{Input.HasNoFeed, Journal.{remark, remarks}, Replay.IsLineOf}
 
 -- From the beginning of a line on.
 abbrev pub lay : List ℕ → List ℕ

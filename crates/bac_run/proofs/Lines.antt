@@ -1,18 +1,13 @@
 -- What is read of the lines of requests.
-use Rattle.std.proofs.Common.{◌≡◌, ◌≢◌, ℕ, ◌≤◌, ◌==◌, ◌&&◌, nat_lt, true, false, List, [], ◌∷◌, ◌++◌, length, Result}
-use Rattle.std.proofs.Common.{Ok, refl, sym, ◌∙◌, ap, append_assoc, arith, length-append, ◌⊎◌, inl, inr}
-use Rattle.std.proofs.lemmas.Bool.{cases_Bool, false≢true}
-use Rattle.std.proofs.lemmas.Bool.Decides.{nat_tests}
-use Rattle.std.proofs.lemmas.Grind.{common_steps}
+use Rattle.std.proofs.Common.{[], ap, append_assoc, arith, false, inl, inr, length, length-append, List, nat_lt, Ok}
+use Rattle.std.proofs.Common.{refl, Result, sym, true, ℕ, ◌&&◌, ◌++◌, ◌==◌, ◌∙◌, ◌∷◌, ◌≡◌, ◌≢◌, ◌≤◌, ◌⊎◌}
+use Rattle.std.proofs.lemmas.{Bool.{cases_Bool, false≢true, Decides.nat_tests}, Grind.common_steps}
 use Rattle.std.specs.Str.Lines.{strip_carriage_return}
 use Rattle.bac_text.specs.Limits.{longest_line}
-use Rattle.bac_script.specs.Line.{Said, Nothing, said, said_in, text_of_line}
-use Rattle.bac_script.specs.declared.line.LineFault.{LineFault}
-use Rattle.bac_script.proofs.Pieces.{ends_with_feed-none, ends_with_feed-push}
-use Rattle.bac_run.specs.Input.{EndsWithFeed, HasNoFeed, said_of}
-use Rattle.bac_run.specs.Journal.{ends_with_return, whole_line}
-use Rattle.bac_run.specs.Replay.{IsLineOf}
-use Rattle.bac_run.proofs.ReadBack.{line_so}
+use Rattle.bac_script.proofs.Chunks.{ends_with_feed-none, ends_with_feed-push}
+use Rattle.bac_script.specs.{declared.line.LineFault.LineFault, Line.{Nothing, Said, said, said_in, text_of_line}}
+use Rattle.bac_run.{proofs.ReadBack.line_so, specs.{Input.{EndsWithFeed, HasNoFeed, said_of}, Journal.ends_with_return}}
+use Rattle.bac_run.specs.{Journal.whole_line, Replay.IsLineOf}
 
 -- ---- the line of a request
 

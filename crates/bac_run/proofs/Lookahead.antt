@@ -1,16 +1,11 @@
 -- What a run tells is what the look-ahead gives.
-use Rattle.std.proofs.Common.{◌≡◌, ◌∙◌, ◌+◌, ◌*◌, ◌≤◌, ℕ, suc, List, [], ◌∷◌, ◌++◌, length, map, None, refl, sym, ap}
-use Rattle.std.proofs.Common.{arith}
-use Rattle.std.proofs.lemmas.List.{take_all}
-use Rattle.bac_tsm.specs.Client.{Client, client_rules, rules_of}
-use Rattle.bac_tsm.specs.Events.{Event, Note, Rules}
-use Rattle.bac_tsm.specs.Laws.{MachineIsLookahead, outputs, state_at}
-use Rattle.bac_tsm.specs.Lookahead.{Accepted, clock, end}
-use Rattle.bac_tsm.specs.Machine.{folded, initial}
-use Rattle.bac_tsm.proofs.Progress.{never_due, open_soon}
-use Rattle.bac_run.specs.Course.{AreSteady}
-use Rattle.bac_run.specs.Journal.{Act, Asked, Came, Passed, Paused, Read, Told, client_after, events_of, new_client}
-use Rattle.bac_run.specs.Journal.{notes_of, turn_at}
+use Rattle.std.proofs.Common.{[], ap, arith, length, List, map, None, refl, suc, sym, take_all, ℕ, ◌*◌, ◌++◌, ◌+◌, ◌∙◌}
+use Rattle.std.proofs.Common.{◌∷◌, ◌≡◌, ◌≤◌}
+use Rattle.bac_tsm.{proofs.Laws.{never_due, open_soon}, specs.Client.{Client, client_rules, rules_of}}
+use Rattle.bac_tsm.specs.{Events.{Event, Note, Rules}, Laws.{MachineIsLookahead, outputs, state_at}, Lookahead.Accepted}
+use Rattle.bac_tsm.specs.{Lookahead.{clock, end}, Machine.{folded, initial}}
+use Rattle.bac_run.specs.{Course.AreSteady, Journal.{Act, Asked, Came, client_after, events_of, new_client, notes_of}}
+use Rattle.bac_run.specs.Journal.{Passed, Paused, Read, Told, turn_at}
 
 -- ---- notes without their positions
 

@@ -1,20 +1,14 @@
 -- What is out before a wait.
-use Rattle.std.proofs.Common.{◌≡◌, ◌⊎◌, ◌∙◌, ℕ, false, List, [], ◌∷◌, ◌++◌, Option, Some, append_assoc, refl, sym, ap}
-use Rattle.std.proofs.Common.{subst, inl, inr}
-use Rattle.std.proofs.lemmas.List.{append-nil}
+use Rattle.std.proofs.Common.{[], ap, append-nil, append_assoc, false, inl, inr, List, Option, refl, Some, subst, sym}
+use Rattle.std.proofs.Common.{ℕ, ◌++◌, ◌∙◌, ◌∷◌, ◌≡◌, ◌⊎◌}
 use Rattle.bac_tsm.specs.Client.{Client}
-use Rattle.bac_print.specs.declared.checked.Checked.{Checked}
-use Rattle.bac_print.specs.declared.page.Page.{Page}
-use Rattle.bac_print.specs.Checked.{has_failed, octets_of}
-use Rattle.bac_print.specs.Page.{folded, folded_line, held, laid_out, left_after, room_of, writer_of}
-use Rattle.bac_print.specs.Page.{Prints, Writes, Wrote}
-use Rattle.bac_print.proofs.Folding.{folded-append, laid_out-append, laid_out-none}
+use Rattle.bac_print.{proofs.Printed.{folded-append, laid_out-append, laid_out-none}, specs.Checked.has_failed}
+use Rattle.bac_print.specs.{Checked.octets_of, declared.{checked.Checked.Checked, page.Page.Page}, Page.folded}
+use Rattle.bac_print.specs.Page.{folded_line, held, laid_out, left_after, Prints, room_of, writer_of, Writes, Wrote}
 use Rattle.bac_script.specs.Alike.{IsFrontOf}
+use Rattle.bac_run.{proofs.Acts.journal-append, specs.{declared.session.Session.Session, Inner.Went.HasPassed}}
+use Rattle.bac_run.specs.{Inner.Went.IsOutAt, Journal.{Act, client_after, journal, new_client, settings_line}}
 use Rattle.bac_run.specs.Run.{IsOut, IsWait, journal_lines, journal_of}
-use Rattle.bac_run.specs.declared.session.Session.{Session}
-use Rattle.bac_run.specs.Journal.{Act, client_after, journal, new_client, settings_line}
-use Rattle.bac_run.specs.Inner.Went.{HasPassed, IsOutAt}
-use Rattle.bac_run.proofs.Acts.{journal-append}
 
 pub fronts_join : (xs ys zs : List ℕ) → IsFrontOf xs ys → IsFrontOf ys zs → IsFrontOf xs zs
 fronts_join xs ys zs (rest, is) (more, is') =

@@ -1,44 +1,29 @@
 -- Parts of a run, one after another.
-use Rattle.std.specs.List.{AllByRecursion, flat_map}
-use Rattle.std.proofs.Common.{◌≡◌, ◌∙◌, ◌-◌, ◌<◌, ◌^◌, ℕ, zero, suc, false, true, List, [], ◌∷◌, ◌++◌, Option, Some}
-use Rattle.std.proofs.Common.{Result, Ok, Err, IfErr, refl, subst, sym, ap, arith, unwrap_or, length}
-use Rattle.std.proofs.lemmas.List.{append-nil}
-use Rattle.bac_pdu.specs.Apdu.{longest_body}
-use Rattle.bac_pdu.specs.Peer.{Station}
-use Rattle.bac_tsm.specs.declared.client.SubmitFault.TheVariants.{TooLong}
-use Rattle.bac_tsm.specs.declared.due.DueEntry.{DueEntry}
-use Rattle.bac_tsm.specs.Events.{Ask, Event, Outcome, Refused, Note}
-use Rattle.bac_tsm.specs.Client.{Client, rules_of, keeping}
-use Rattle.bac_tsm.specs.Machine.{datagram, datagram_notes, due_notes, tick}
-use Rattle.bac_print.specs.declared.page.Page.{Page}
-use Rattle.bac_print.specs.Checked.{has_failed}
-use Rattle.bac_print.specs.Page.{held, writer_of, Prints}
-use Rattle.bac_run.specs.Run.{IsWait}
-use Rattle.bac_run.proofs.Out.{out_behind, out_more, out_none, out_one, passed_here, printed_on}
-use Rattle.bac_print.proofs.Printed.{◌⨾◌, printed_as, prints_nothing}
-use Rattle.bac_links.specs.declared.fault.ToolFault.TheVariants.{SendFailed, ReceiveFailed, TurnsSpent}
-use Rattle.bac_links.specs.declared.fault.ToolFault.TheVariants.{WriteFailed as LinkNotWritten}
-use Rattle.bac_links.specs.History.{Account, Entry, Gains, Heard, Arrived, Waited, Timed}
-use Rattle.bac_script.specs.declared.tracing.TraceFault.{TraceFault}
-use Rattle.bac_script.specs.declared.tracing.TraceFault.TheVariants.{BadLine, LineTooLong, ReadFailed, WriteFailed}
-use Rattle.bac_run.specs.declared.fault.RunFault.{RunFault}
-use Rattle.bac_run.specs.declared.fault.RunFault.TheVariants.{Script, Link}
-use Rattle.bac_run.specs.declared.turns.Run.{Run}
-use Rattle.bac_run.specs.declared.turns.Until.{Until}
-use Rattle.bac_run.specs.declared.turns.Until.TheVariants.{FewOpen, TimeTold}
-use Rattle.bac_run.specs.Inner.Went.{send_failed}
-use Rattle.bac_run.specs.Inner.Went.{HasPassed, IsOfWait, Went, WentFor, Opened, begins_turn, outside, started}
-use Rattle.bac_run.specs.Course.{Aim, Does, Fresh, Goes, IsDue, Stage, Turns, aims_for, is_reached, moved, open_in}
-use Rattle.bac_run.specs.Course.{ready, stage_after}
-use Rattle.bac_run.specs.Input.{input_in}
-use Rattle.bac_run.specs.Journal.{Act, FitsLine, Turn, remark, Asked, Came, Passed, Told, Read, whole_line}
-use Rattle.bac_run.specs.Journal.{arrival_line, time_line, turn_at, remarks, posts, line_of, asked_by}
-use Rattle.bac_run.specs.Went.{ComesTo, IsSpent, IsWithin}
-use Rattle.bac_run.specs.Inner.Went.{GainsDue, IsGained}
-use Rattle.bac_run.proofs.Acts.{asked_err, asked_more, asked_nothing, asked_once, asked_stopped, done, failed}
-use Rattle.bac_run.proofs.Acts.{client_after-append, due_nothing, fit_append, inputs-append, journal-append}
-use Rattle.bac_run.proofs.Acts.{posts-answer, quiet_within}
-use Rattle.bac_run.proofs.Acts.{refused_long, within_more, IsQuiet}
+use Rattle.std.proofs.Common.{[], ap, append-nil, arith, Err, false, flat_map, IfErr, length, List, Ok, Option, refl}
+use Rattle.std.proofs.Common.{Result, Some, subst, suc, sym, true, unwrap_or, zero, ℕ, ◌++◌, ◌-◌, ◌<◌, ◌^◌, ◌∙◌, ◌∷◌}
+use Rattle.std.{proofs.Common.◌≡◌, specs.List.AllByRecursion}
+use Rattle.bac_pdu.specs.{Apdu.longest_body, Peer.Station}
+use Rattle.bac_tsm.specs.{Client.{Client, keeping, rules_of}, declared.client.SubmitFault.TheVariants.TooLong}
+use Rattle.bac_tsm.specs.{declared.due.DueEntry.DueEntry, Events.{Ask, Event, Note, Outcome, Refused}, Machine.datagram}
+use Rattle.bac_tsm.specs.Machine.{datagram_notes, due_notes, tick}
+use Rattle.bac_print.{proofs.Printed.{printed_as, prints_nothing, ◌⨾◌}, specs.Checked.has_failed}
+use Rattle.bac_print.specs.{declared.page.Page.Page, Page.{held, Prints, writer_of}}
+use Rattle.bac_script.specs.declared.tracing.TraceFault.{TraceFault, TheVariants.{BadLine, LineTooLong, ReadFailed}}
+use Rattle.bac_script.specs.declared.tracing.TraceFault.TheVariants.{WriteFailed}
+use Rattle.bac_links.specs.declared.fault.ToolFault.TheVariants.{ReceiveFailed, SendFailed, TurnsSpent}
+use Rattle.bac_links.specs.{declared.fault.ToolFault.TheVariants.WriteFailed as LinkNotWritten, History.Account}
+use Rattle.bac_links.specs.History.{Arrived, Entry, Gains, Heard, Timed, Waited}
+use Rattle.bac_run.proofs.Acts.{asked_err, asked_more, asked_nothing, asked_once, asked_stopped, client_after-append}
+use Rattle.bac_run.proofs.Acts.{done, due_nothing, failed, fit_append, inputs-append, IsQuiet, journal-append}
+use Rattle.bac_run.proofs.{Acts.{posts-answer, quiet_within, refused_long, within_more}, Out.{out_behind, out_more}}
+use Rattle.bac_run.{proofs.Out.{out_none, out_one, passed_here, printed_on}, specs.Course.{Aim, aims_for, Does, Fresh}}
+use Rattle.bac_run.specs.Course.{Goes, is_reached, IsDue, moved, open_in, ready, Stage, stage_after, Turns}
+use Rattle.bac_run.specs.declared.{fault.RunFault.{RunFault, TheVariants.{Link, Script}}, turns.{Run.Run, Until.Until}}
+use Rattle.bac_run.specs.{declared.turns.Until.TheVariants.{FewOpen, TimeTold}, Inner.Went.{begins_turn, GainsDue}}
+use Rattle.bac_run.specs.Inner.Went.{HasPassed, IsGained, IsOfWait, Opened, outside, send_failed, started, Went}
+use Rattle.bac_run.specs.{Inner.Went.WentFor, Input.input_in, Journal.{Act, arrival_line, Asked, asked_by, Came}}
+use Rattle.bac_run.specs.Journal.{FitsLine, line_of, Passed, posts, Read, remark, remarks, time_line, Told, Turn}
+use Rattle.bac_run.specs.{Journal.{turn_at, whole_line}, Run.IsWait, Went.{ComesTo, IsSpent, IsWithin}}
 
 -- ---- the course
 

@@ -1,29 +1,19 @@
 -- What the client tells is ASCII, and each note is one line.
-use Rattle.std.proofs.Common.{◌≡◌, ◌≢◌, ℕ, ◌+◌, ◌<◌, ◌≤◌, ◌/◌, ◌%◌, ◌==◌, ◌||◌, zero, suc, true, false, List, [], ◌∷◌}
-use Rattle.std.proofs.Common.{◌++◌, length, take, get_or, map, Option, Some, None, refl, append_assoc, arith, inl}
-use Rattle.std.proofs.Common.{inr}
-use Rattle.std.proofs.lemmas.Bool.{cases_Bool}
-use Rattle.std.proofs.lemmas.Bool.Decides.{nat_tests}
-use Rattle.std.specs.Prelude.{ℤ, pos, negsuc, codes, decimal}
-use Rattle.std.specs.Int.{bit_at, is_in_range, to_be_bytes, w32}
-use Rattle.std.specs.List.{AllByRecursion, flat_map, join_with_byte}
-use Rattle.std.specs.Fmt.{digit_glyph, digits, digits_onto, signed_decimal}
-use Rattle.std.specs.Option.{option_map_or}
+use Rattle.std.proofs.Common.{[], append_assoc, arith, false, get_or, inl, inr, length, List, map, None, Option, refl}
+use Rattle.std.proofs.Common.{Some, suc, take, true, zero, ℕ, ◌%◌, ◌++◌, ◌+◌, ◌/◌, ◌<◌, ◌==◌, ◌||◌, ◌∷◌, ◌≡◌, ◌≢◌, ◌≤◌}
+use Rattle.std.{proofs.lemmas.Bool.{cases_Bool, Decides.nat_tests}, specs.Fmt.{digit_glyph, digits, digits_onto}}
+use Rattle.std.specs.{Fmt.signed_decimal, Int.{bit_at, is_in_range, to_be_bytes, w32}, List.{AllByRecursion, flat_map}}
+use Rattle.std.specs.{List.join_with_byte, Option.option_map_or, Prelude.{codes, decimal, negsuc, pos, ℤ}}
 use Rattle.hex.specs.Hex.{encode_lower, encode_with, lower_digits}
-use Rattle.bac_wire.specs.Datum.{Datum, null, boolean, unsigned, signed, real, double, octet_string, char_string}
-use Rattle.bac_wire.specs.Datum.{bit_string, enumerated, date, time, object}
-use Rattle.bac_wire.specs.DatumReading.{values_of}
-use Rattle.bac_pdu.specs.Peer.{NetworkAddress, Station}
-use Rattle.bac_pdu.specs.Property.{ReadAck}
-use Rattle.bac_pdu.specs.PropertyReading.{ack_of}
-use Rattle.bac_tsm.specs.Events.{Aborted, BadError, Complex, Failed, Outcome, Rejected, Segmented, Simple, Done}
-use Rattle.bac_tsm.specs.Events.{Dropped, Note, Refused, Sent, TimedOut}
-use Rattle.bac_tsm.specs.declared.client.SubmitFault.{SubmitFault}
-use Rattle.bac_tsm.specs.declared.client.SubmitFault.TheVariants.{TooLong, TableFull, TicketsSpent}
-use Rattle.bac_print.specs.Outcomes.{outcome_text}
-use Rattle.bac_print.specs.PeerTexts.{address_text, peer_text, route_text}
-use Rattle.bac_print.specs.Values.{ack_text, bits_text, datum_text, lettered, octet_bits, quoted, quoted_octet}
-use Rattle.bac_print.specs.Values.{region_text, values_text}
+use Rattle.bac_wire.specs.Datum.{bit_string, boolean, char_string, date, Datum, double, enumerated, null, object}
+use Rattle.bac_wire.specs.{Datum.{octet_string, real, signed, time, unsigned}, DatumReading.values_of}
+use Rattle.bac_pdu.specs.{Peer.{NetworkAddress, Station}, Property.ReadAck, PropertyReading.ack_of}
+use Rattle.bac_tsm.specs.declared.client.SubmitFault.{SubmitFault, TheVariants.{TableFull, TicketsSpent, TooLong}}
+use Rattle.bac_tsm.specs.Events.{Aborted, BadError, Complex, Done, Dropped, Failed, Note, Outcome, Refused, Rejected}
+use Rattle.bac_tsm.specs.Events.{Segmented, Sent, Simple, TimedOut}
+use Rattle.bac_print.specs.{Outcomes.outcome_text, PeerTexts.{address_text, peer_text, route_text}, Values.ack_text}
+use Rattle.bac_print.specs.Values.{bits_text, datum_text, lettered, octet_bits, quoted, quoted_octet, region_text}
+use Rattle.bac_print.specs.Values.{values_text}
 use Rattle.bac_script.specs.Text.{note_text, refusal_text}
 use Rattle.bac_run.proofs.ReadBack.{IsShown, IsVisible, shown, visible_so}
 

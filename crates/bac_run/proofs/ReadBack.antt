@@ -1,36 +1,25 @@
 -- What is read of the lines that a run prints.
-use Rattle.std.proofs.Common.{◌≡◌, ◌≢◌, ℕ, ◌+◌, ◌-◌, ◌^◌, ◌<◌, ◌≤◌, Bool, true, false, List, [], ◌∷◌, ◌++◌, length}
-use Rattle.std.proofs.Common.{get_or, Option, Some, None, Result, Ok, refl, sym, ◌∙◌, ap, append_assoc, arith}
-use Rattle.std.proofs.Common.{length-append, take, nat_lt, nat_le, ◌==◌, ◌&&◌, lit<, drop, position, ◌*◌, ◌⊎◌, inl}
-use Rattle.std.proofs.Common.{inr, ne_eqb, option_map, lit≤, zero, suc, ◌/◌, ◌%◌, unwrap_or}
-use Rattle.std.proofs.lemmas.Bool.Decides.{nat_tests}
-use Rattle.std.proofs.lemmas.Grind.{common_steps}
-use Rattle.std.proofs.lemmas.List.Elements.{All-nil, All-cons}
-use Rattle.std.proofs.lemmas.List.{append-nil}
-use Rattle.std.proofs.lemmas.List.Splits.{slice_split_at, slice_split_none}
-use Rattle.std.proofs.lemmas.Str.{IsUtf8-from_ascii, is_utf8-from_IsUtf8}
-use Rattle.std.proofs.lemmas.Str.Ascii.{IsAscii-nil, IsAscii-cons}
-use Rattle.std.proofs.lemmas.Str.Parse.{tells_all_ascii_digits, numerals_by_value}
-use Rattle.std.proofs.lemmas.Fmt.{decimal_nonempty, digits_decimal, digits_value-decimal, length-decimal-le}
-use Rattle.std.specs.Prelude.{codes, decimal}
-use Rattle.std.specs.List.{All, AllByRecursion, list_all}
-use Rattle.std.specs.Str.{IsAscii, is_utf8, all_ascii_digits}
+use Rattle.std.proofs.Common.{[], All, ap, append-nil, append_assoc, arith, Bool, codes, decimal, drop, false, get_or}
+use Rattle.std.proofs.Common.{inl, inr, length, length-append, List, lit<, lit≤, nat_le, nat_lt, ne_eqb, None, Ok}
+use Rattle.std.proofs.Common.{Option, option_map, position, refl, Result, Some, suc, sym, take, true, unwrap_or, zero}
+use Rattle.std.proofs.Common.{ℕ, ◌%◌, ◌&&◌, ◌*◌, ◌++◌, ◌+◌, ◌-◌, ◌/◌, ◌<◌, ◌==◌, ◌^◌, ◌∙◌, ◌∷◌, ◌≡◌, ◌≢◌, ◌≤◌, ◌⊎◌}
+use Rattle.std.proofs.lemmas.{Bool.Decides.nat_tests, Fmt.{decimal_nonempty, digits_decimal, digits_value-decimal}}
+use Rattle.std.proofs.lemmas.{Fmt.length-decimal-le, Grind.common_steps, List.Elements.{All-cons, All-nil}}
+use Rattle.std.proofs.lemmas.{List.Splits.{slice_split_at, slice_split_none}, Nat.from_be_bytes-to_be_bytes_4}
+use Rattle.std.proofs.lemmas.Str.{is_utf8-from_IsUtf8, IsUtf8-from_ascii, Ascii.{IsAscii-cons, IsAscii-nil}}
+use Rattle.std.{proofs.lemmas.Str.Parse.{numerals_by_value, tells_all_ascii_digits}, specs.Int.is_in_range}
+use Rattle.std.specs.{Int.{to_be_bytes, w32}, List.{AllByRecursion, list_all}, Str.{all_ascii_digits, is_utf8, IsAscii}}
 use Rattle.std.specs.Str.Lines.{strip_carriage_return}
-use Rattle.std.specs.Int.{is_in_range, to_be_bytes, w32}
-use Rattle.std.proofs.lemmas.Nat.{from_be_bytes-to_be_bytes_4}
-use Rattle.hex.specs.Hex.{IsBytes, encode_lower, encode_with, lower_digits}
-use Rattle.hex.proofs.HexLemmas.{decode_of-encode_lower, length-encode_with}
+use Rattle.hex.{proofs.HexLemmas.{decode_of-encode_lower, length-encode_with}, specs.Hex.{encode_lower, encode_with}}
+use Rattle.hex.specs.Hex.{IsBytes, lower_digits}
 use Rattle.bac_pdu.specs.Peer.{Station}
-use Rattle.bac_print.specs.PeerTexts.{address_text, peer_text}
 use Rattle.bac_tsm.specs.Events.{Data, Tick}
 use Rattle.bac_text.specs.Address.{address_of, cut_at, number_before_dot, plain_peer_of, short_number, station_at}
-use Rattle.bac_text.specs.Limits.{longest_line}
-use Rattle.bac_text.specs.Words.{is_blank, number_up_to, octets_of, words_of}
-use Rattle.bac_script.specs.Line.{Said, Settings, Happens, said_by, said_in, text_of_line}
-use Rattle.bac_script.specs.declared.line.LineFault.{LineFault}
-use Rattle.bac_script.proofs.Pieces.{ends_with_feed-push}
-use Rattle.bac_run.specs.Journal.{arrival_line, settings_line, time_line}
-use Rattle.bac_run.specs.Replay.{IsLineOf}
+use Rattle.bac_text.specs.{Limits.longest_line, Words.{is_blank, number_up_to, octets_of, words_of}}
+use Rattle.bac_print.specs.PeerTexts.{address_text, peer_text}
+use Rattle.bac_script.{proofs.Chunks.ends_with_feed-push, specs.{declared.line.LineFault.LineFault, Line.Happens}}
+use Rattle.bac_script.specs.Line.{Said, said_by, said_in, Settings, text_of_line}
+use Rattle.bac_run.specs.{Journal.{arrival_line, settings_line, time_line}, Replay.IsLineOf}
 
 -- Octets that stand for themselves: those of a text in ASCII, from a space (32) on.
 abbrev pub IsShown : List ℕ → Type 0

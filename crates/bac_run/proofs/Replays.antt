@@ -1,24 +1,15 @@
 -- The journal, read as a script.
-use Rattle.std.proofs.Common.{◌≡◌, ℕ, ◌+◌, Bool, false, List, [], ◌∷◌, ◌++◌, None, refl, subst, sym, ◌∙◌, ap}
-use Rattle.std.proofs.Common.{append_assoc, arith}
-use Rattle.std.proofs.lemmas.List.Concat.{flat_map-append}
-use Rattle.std.specs.List.{AllByRecursion}
-use Rattle.bac_tsm.specs.Client.{Client}
-use Rattle.bac_tsm.specs.Events.{Event, Data, Tick, Note}
-use Rattle.bac_script.specs.Line.{Said, Nothing, Happens}
-use Rattle.bac_script.specs.Text.{notes_text}
-use Rattle.bac_script.specs.Inner.Running.{Stage, ran}
-use Rattle.bac_script.specs.Script.{lines, said_from, all_said, text, fault_from, first_fault}
-use Rattle.bac_script.specs.declared.input.Reading.TheVariants.{AtEnd}
-use Rattle.bac_script.proofs.Machine.{text_from, text_is}
-use Rattle.bac_script.proofs.Pieces.{lines-ended}
-use Rattle.bac_script.proofs.Settled.{settings_first}
-use Rattle.bac_run.specs.declared.session.Session.{Session}
-use Rattle.bac_run.specs.Journal.{Act, Asked, Paused, Came, Passed, Told, Read, turn_at, line_of, remarks, journal}
-use Rattle.bac_run.specs.Journal.{new_client, notes_of, settings_line}
-use Rattle.bac_run.specs.Run.{journal_of}
-use Rattle.bac_run.specs.Replay.{IsLineOf, IsReadBack, AreSettings}
-use Rattle.bac_run.proofs.Folded.{lay, line_laid, remarks_skipped}
+use Rattle.std.proofs.Common.{[], ap, append_assoc, arith, Bool, false, List, None, refl, subst, sym, ℕ, ◌++◌, ◌+◌, ◌∙◌}
+use Rattle.std.{proofs.{Common.{◌∷◌, ◌≡◌}, lemmas.List.Concat.flat_map-append}, specs.List.AllByRecursion}
+use Rattle.{
+  bac_tsm.specs.{Client.Client, Events.{Data, Event, Note, Tick}},
+  bac_script.proofs.{Chunks.lines-ended, Courses.{settings_first, text_from, text_is}},
+  bac_script.specs.{declared.input.Reading.TheVariants.AtEnd, Inner.Running.{ran, Stage}, Line.{Happens, Nothing}},
+  bac_script.specs.{Line.Said, Script.{all_said, fault_from, first_fault, lines, said_from, text}, Text.notes_text},
+  bac_run.{proofs.Folded.{lay, line_laid, remarks_skipped}, specs.{declared.session.Session.Session, Journal.Act}},
+  bac_run.specs.Journal.{Asked, Came, journal, line_of, new_client, notes_of, Passed, Paused, Read, remarks},
+  bac_run.specs.{Journal.{settings_line, Told, turn_at}, Replay.{AreSettings, IsLineOf, IsReadBack}, Run.journal_of},
+}
 
 -- A line that says this, and then the rest.
 line_then : {is_first : Bool} {line : List ℕ} {what : Said} (rest : List ℕ) → IsLineOf is_first line what

@@ -1,58 +1,33 @@
 -- A run so far, and where it stops.
-use Rattle.std.proofs.Common.{◌≡◌, ◌⊎◌, ℕ, ◌+◌, false, List, [], ◌∷◌, ◌++◌, length, take, drop, suc}
-use Rattle.std.proofs.Common.{Option, Some, None, Result, Ok, Err, refl, subst, sym, ◌∙◌, ap, inl, inr}
-use Rattle.std.proofs.Common.{append_assoc, arith, length-append, unwrap_or, is_some, IfErr, IfOk}
-use Rattle.std.proofs.lemmas.List.{append-nil}
-use Rattle.std.proofs.lemmas.List.Concat.{flat_map-append}
-use Rattle.std.specs.List.{AllByRecursion, concat, flat_map}
-use Rattle.bac_tsm.specs.Client.{Client}
-use Rattle.bac_print.specs.declared.checked.Checked.{Checked}
-use Rattle.bac_print.specs.declared.page.Page.{Page}
-use Rattle.bac_print.specs.Checked.{has_failed, octets_of}
-use Rattle.bac_print.specs.Page.{folded_line, held, room_of, writer_of, Prints, Writes}
-use Rattle.bac_print.proofs.Printed.{◌⨾◌}
-use Rattle.bac_print.proofs.Shown.{folded_out}
-use Rattle.bac_print.proofs.Known.{Gave-none}
-use Rattle.bac_script.specs.Input.{ReaderStands, CanReadOn}
-use Rattle.bac_script.specs.Line.{Said}
-use Rattle.bac_script.specs.NextLine.{TakesAndKeeps, IsLineCut}
-use Rattle.bac_script.specs.declared.line.LineFault.{LineFault}
-use Rattle.bac_script.specs.declared.input.Reading.{Reading}
-use Rattle.bac_script.specs.declared.input.Reading.TheVariants.{Open, AtEnd, Failed}
-use Rattle.bac_script.specs.declared.tracing.TraceEnd.{TraceEnd}
-use Rattle.bac_script.specs.declared.tracing.TraceFault.{TraceFault}
-use Rattle.bac_script.specs.declared.tracing.TraceFault.TheVariants.{BadLine, LineTooLong, ReadFailed, WriteFailed}
-use Rattle.bac_links.specs.History.{Account, Entry}
-use Rattle.bac_links.specs.declared.datagram.Datagram.{Datagram}
-use Rattle.bac_run.specs.declared.session.Session.{Session}
-use Rattle.bac_run.specs.declared.fault.RunFault.{RunFault}
-use Rattle.bac_run.specs.declared.fault.RunFault.TheVariants.{Script, Link}
-use Rattle.bac_run.specs.declared.turns.Run.{Run}
-use Rattle.bac_run.specs.Course.{Aim, Goes, Stage, Turns, aims_behind, aims_of, aims_for, aims_in_room, aims_of_lines}
-use Rattle.bac_run.specs.Course.{room_for, stage_after}
-use Rattle.bac_script.specs.Script.{lines}
-use Rattle.bac_script.specs.declared.line.LineFault.TheVariants.{Bad, TooLong}
-use Rattle.bac_run.specs.Journal.{Act, new_client, settings_line}
-use Rattle.bac_run.specs.Went.{ComesTo, IsAsked, IsOver, IsOverAt, IsWithin}
-use Rattle.bac_run.specs.Inner.Went.{IsNamed, IsOfWait, Went, WentFor, started, stopped}
-use Rattle.bac_run.specs.Replay.{AreSettings}
-use Rattle.bac_run.specs.Run.{EndsAt, IsAtRest, Runs, first_stage}
-use Rattle.bac_run.specs.Inner.Run.{RunsOn}
-use Rattle.bac_run.specs.Fault.{write_failed}
-use Rattle.bac_run.proofs.Acts.{done, failed}
-use Rattle.bac_run.proofs.Out.{out_behind, out_whole, passed_on}
-use Rattle.bac_run.proofs.Cut.{IsCut, all_push, concat_push, cut_all, cut_push, feed_so, gave_so, reading_on}
-use Rattle.bac_run.proofs.Cut.{reads_on, split_push}
-use Rattle.bac_run.proofs.Parts.{quiet_went, within_at, within_both, within_fault, within_from, within_turned}
-use Rattle.bac_run.proofs.Parts.{went_at, went_err, went_failed, went_fault, went_from, went_more, went_still}
-use Rattle.bac_run.proofs.Parts.{went_stopped, went_turned}
-use Rattle.bac_links.specs.Limits.{most_turns}
-use Rattle.bac_links.specs.declared.fault.ToolFault.TheVariants.{SendFailed, ReceiveFailed, TurnsSpent}
-use Rattle.bac_links.specs.declared.fault.ToolFault.TheVariants.{WriteFailed as LinkNotWritten}
-use Rattle.bac_run.specs.declared.turns.Until.TheVariants.{FewOpen}
-use Rattle.bac_script.proofs.Taken.{Takes-more, Takes-front}
-use Rattle.bac_run.specs.Input.{acts_of_line, acts_or_none, fault_in, fault_of_line}
-use Rattle.bac_run.specs.Input.{inputs_in, said_of, AllDone, EndsWithFeed, Takes, HasNoFeed, IsGood}
+use Rattle.std.proofs.Common.{[], ap, append-nil, append_assoc, arith, drop, Err, false, flat_map, IfErr, IfOk, inl}
+use Rattle.std.proofs.Common.{inr, is_some, length, length-append, List, None, Ok, Option, refl, Result, Some, subst}
+use Rattle.std.proofs.Common.{suc, sym, take, unwrap_or, ℕ, ◌++◌, ◌+◌, ◌∙◌, ◌∷◌, ◌≡◌, ◌⊎◌}
+use Rattle.std.{proofs.lemmas.List.Concat.flat_map-append, specs.List.{AllByRecursion, concat}}
+use Rattle.{
+  bac_tsm.specs.Client.Client,
+  bac_print.{proofs.Printed.{folded_out, Gave-none, ◌⨾◌}, specs.Checked.{has_failed, octets_of}},
+  bac_print.specs.{declared.{checked.Checked.Checked, page.Page.Page}, Page.{folded_line, held, Prints, room_of}},
+  bac_print.specs.Page.{writer_of, Writes},
+  bac_script.{proofs.Chunks.{Takes-front, Takes-more}, specs.declared.input.Reading.{Reading, TheVariants.AtEnd}},
+  bac_script.specs.declared.{input.Reading.TheVariants.{Failed, Open}, line.LineFault.{LineFault, TheVariants.Bad}},
+  bac_script.specs.declared.{line.LineFault.TheVariants.TooLong, tracing.{TraceEnd.TraceEnd, TraceFault.TraceFault}},
+  bac_script.specs.declared.tracing.TraceFault.TheVariants.{BadLine, LineTooLong, ReadFailed, WriteFailed},
+  bac_script.specs.{Input.{CanReadOn, ReaderStands}, Line.Said, NextLine.{IsLineCut, TakesAndKeeps}, Script.lines},
+  bac_links.specs.declared.{datagram.Datagram.Datagram, fault.ToolFault.TheVariants.{ReceiveFailed, SendFailed}},
+  bac_links.specs.{declared.fault.ToolFault.TheVariants.{TurnsSpent, WriteFailed as LinkNotWritten}, History.Account},
+  bac_links.specs.{History.Entry, Limits.most_turns},
+  bac_run.proofs.{Acts.{done, failed}, Cut.{all_push, concat_push, cut_all, cut_push, feed_so, gave_so, IsCut}},
+  bac_run.proofs.{Cut.{reading_on, reads_on, split_push}, Out.{out_behind, out_whole, passed_on}, Parts.quiet_went},
+  bac_run.proofs.Parts.{went_at, went_err, went_failed, went_fault, went_from, went_more, went_still, went_stopped},
+  bac_run.proofs.Parts.{went_turned, within_at, within_both, within_fault, within_from, within_turned},
+  bac_run.specs.Course.{Aim, aims_behind, aims_for, aims_in_room, aims_of, aims_of_lines, Goes, room_for, Stage},
+  bac_run.specs.{Course.{stage_after, Turns}, declared.fault.RunFault.{RunFault, TheVariants.{Link, Script}}},
+  bac_run.specs.{declared.{session.Session.Session, turns.{Run.Run, Until.TheVariants.FewOpen}}, Fault.write_failed},
+  bac_run.specs.{Inner.{Run.RunsOn, Went.{IsNamed, IsOfWait, started, stopped, Went, WentFor}}, Input.acts_of_line},
+  bac_run.specs.Input.{acts_or_none, AllDone, EndsWithFeed, fault_in, fault_of_line, HasNoFeed, inputs_in, IsGood},
+  bac_run.specs.{Input.{said_of, Takes}, Journal.{Act, new_client, settings_line}, Replay.AreSettings, Run.EndsAt},
+  bac_run.specs.{Run.{first_stage, IsAtRest, Runs}, Went.{ComesTo, IsAsked, IsOver, IsOverAt, IsWithin}},
+}
 
 -- What a run is about for lines that were taken.
 abbrev pub taken_aims : (window : ℕ) → List (List ℕ) → List Aim
@@ -82,8 +57,7 @@ pub record SoFar {Origin R W : Type 0} (remaining : R → Option (List ℕ)) (co
       (λ later. first_stage session (taken_aims session.window taken ++ later)) (λ later. started run later) done inputs
   pub cut : AllByRecursion EndsWithFeed taken
   pub good : AllByRecursion IsGood taken
-  pub split : (more : List ℕ) (reading : Reading)
-      → lines (concat taken ++ more) reading ≡ taken ++ lines more reading
+  pub split : (more : List ℕ) (reading : Reading) → lines (concat taken ++ more) reading ≡ taken ++ lines more reading
   pub gives : TakesAndKeeps remaining reader reader' [] held (concat taken)
   pub stands : CanReadOn reader reader'
   pub asked : inputs ≡ flat_map acts_or_none taken

@@ -1,25 +1,15 @@
 -- What was sent is what the notes say.
-use Rattle.std.proofs.Common.{◌≡◌, ℕ, List, [], ◌∷◌, ◌++◌, Option, Result, Ok, Err, refl, sym, ◌∙◌, ap, arith, inl, inr}
-use Rattle.std.proofs.lemmas.List.{append-nil, append_cancel_left}
-use Rattle.std.proofs.lemmas.List.Concat.{flat_map-append}
-use Rattle.std.specs.List.{flat_map}
+use Rattle.std.proofs.Common.{[], ap, arith, Err, inl, inr, List, Ok, Option, refl, Result, sym, ℕ, ◌++◌, ◌∙◌, ◌∷◌, ◌≡◌}
+use Rattle.std.{proofs.lemmas.List.{append-nil, append_cancel_left, Concat.flat_map-append}, specs.List.flat_map}
 use Rattle.bac_pdu.specs.Peer.{Station}
-use Rattle.bac_tsm.specs.Client.{Client}
-use Rattle.bac_tsm.specs.Events.{Note, Sent}
+use Rattle.bac_tsm.specs.{Client.Client, Events.{Note, Sent}}
 use Rattle.bac_print.specs.declared.checked.Checked.{Checked}
-use Rattle.bac_script.specs.declared.tracing.TraceEnd.{TraceEnd}
-use Rattle.bac_links.specs.History.{Entry, Account}
-use Rattle.bac_links.specs.declared.fault.ToolFault.TheVariants.{SendFailed}
-use Rattle.bac_script.specs.declared.tracing.TraceFault.TheVariants.{WriteFailed}
-use Rattle.bac_run.specs.declared.session.Session.{Session}
-use Rattle.bac_run.specs.declared.fault.RunFault.{RunFault}
-use Rattle.bac_run.specs.declared.fault.RunFault.TheVariants.{Script, Link}
-use Rattle.bac_run.specs.Journal.{Act, Asked, Paused, Came, Passed, Told, Read, asked_by, posts, history_of}
-use Rattle.bac_run.specs.Journal.{new_client, notes_of, turn_at}
-use Rattle.bac_run.specs.Replay.{AreSent, IsLost, posted_in, sent_in}
-use Rattle.bac_run.specs.Run.{Runs}
-use Rattle.bac_run.specs.Went.{IsAsked, IsCut, IsUnsent}
-use Rattle.bac_run.proofs.Acts.{unsent_cut}
+use Rattle.bac_script.specs.declared.tracing.{TraceEnd.TraceEnd, TraceFault.TheVariants.WriteFailed}
+use Rattle.bac_links.specs.{declared.fault.ToolFault.TheVariants.SendFailed, History.{Account, Entry}}
+use Rattle.bac_run.{proofs.Acts.unsent_cut, specs.declared.fault.RunFault.{RunFault, TheVariants.{Link, Script}}}
+use Rattle.bac_run.specs.{declared.session.Session.Session, Journal.{Act, Asked, asked_by, Came, history_of}}
+use Rattle.bac_run.specs.{Journal.{new_client, notes_of, Passed, Paused, posts, Read, Told, turn_at}, Replay.AreSent}
+use Rattle.bac_run.specs.{Replay.{IsLost, posted_in, sent_in}, Run.Runs, Went.{IsAsked, IsCut, IsUnsent}}
 
 posts_sent : (notes : List Note) → flat_map posted_in (posts notes) ≡ flat_map sent_in notes
 posts_sent [] = refl

@@ -1,27 +1,18 @@
 -- Two runs that stand at one stage: who was answered alike asked alike; and where one asked less, it was cut off.
-use Rattle.std.proofs.Common.{◌≡◌, ◌≢◌, ◌⊎◌, ◌∙◌, ℕ, List, [], ◌∷◌, ◌++◌}
-use Rattle.std.proofs.Common.{Result, Ok, Err, refl, sym, ap, subst, inl, inr, append_assoc}
-use Rattle.std.proofs.Common.{arith}
-use Rattle.std.proofs.lemmas.List.{append-nil, append_cancel_left}
+use Rattle.std.proofs.Common.{[], ap, append_assoc, arith, Err, inl, inr, List, Ok, refl, Result, subst, sym, ℕ, ◌++◌}
+use Rattle.std.proofs.{Common.{◌∙◌, ◌∷◌, ◌≡◌, ◌≢◌, ◌⊎◌}, lemmas.List.{append-nil, append_cancel_left}}
 use Rattle.bac_tsm.specs.Client.{Client}
-use Rattle.bac_links.specs.Answered.{answers_of, GoOnAlike}
+use Rattle.bac_script.specs.declared.tracing.{TraceEnd.TraceEnd, TraceFault.TheVariants.{BadLine, LineTooLong}}
+use Rattle.bac_script.specs.declared.tracing.TraceFault.TheVariants.{ReadFailed, WriteFailed}
+use Rattle.bac_links.specs.{Answered.{answers_of, GoOnAlike}, declared.fault.ToolFault.TheVariants.ReceiveFailed}
+use Rattle.bac_links.specs.declared.fault.ToolFault.TheVariants.{SendFailed, TurnsSpent, WriteFailed as LinkNotWritten}
 use Rattle.bac_links.specs.History.{Entry, Posted, Unposted}
-use Rattle.bac_links.specs.declared.fault.ToolFault.TheVariants.{SendFailed, ReceiveFailed, TurnsSpent}
-use Rattle.bac_links.specs.declared.fault.ToolFault.TheVariants.{WriteFailed as LinkNotWritten}
-use Rattle.bac_script.specs.declared.tracing.TraceEnd.{TraceEnd}
-use Rattle.bac_script.specs.declared.tracing.TraceFault.TheVariants.{BadLine, LineTooLong, ReadFailed, WriteFailed}
-use Rattle.bac_run.specs.Course.{Aim, Goes, IsDue, Stage, moved}
-use Rattle.bac_run.specs.Course.{stage_after}
-use Rattle.bac_run.specs.Journal.{Act, client_after, history_of}
-use Rattle.bac_run.specs.Replay.{AskNext}
-use Rattle.bac_run.specs.Went.{IsAsked, IsUnsent}
-use Rattle.bac_run.specs.declared.fault.RunFault.{RunFault}
-use Rattle.bac_run.specs.declared.fault.RunFault.TheVariants.{Link, Script}
-use Rattle.bac_run.proofs.Acts.{history-append, unsent_cut}
-use Rattle.bac_run.proofs.Alike.{Gets, aligned, gets_of, histories_cohere, moved_wider, wider}
-use Rattle.bac_run.proofs.Ends.{due_wider, more_none, wider_none}
-use Rattle.bac_run.proofs.Ahead.{Ahead, fronts}
+use Rattle.bac_run.proofs.{Acts.{history-append, unsent_cut}, Ahead.{Ahead, fronts}, Alike.{aligned, Gets, gets_of}}
+use Rattle.bac_run.proofs.{Alike.{histories_cohere, moved_wider, wider}, Ends.{due_wider, more_none, wider_none}}
 use Rattle.bac_run.proofs.Unsent.{cut_never, cut_short, history_sure, lost-append, lost_in, same_unsent, unsent_some}
+use Rattle.bac_run.specs.{Course.{Aim, Goes, IsDue, moved, Stage, stage_after}, declared.fault.RunFault.RunFault}
+use Rattle.bac_run.specs.{declared.fault.RunFault.TheVariants.{Link, Script}, Journal.{Act, client_after, history_of}}
+use Rattle.bac_run.specs.{Replay.AskNext, Went.{IsAsked, IsUnsent}}
 
 pub all_due : {A : Type 0} (result : Result A RunFault) (client : Client) (acts : List Act) (gained : List Entry)
     → result ≢ Err (Script WriteFailed) → result ≢ Err (Link SendFailed) → IsAsked result client acts gained
@@ -87,10 +78,8 @@ pub record Stood (timeout : ℕ) (stage : Stage) (acts : List Act) (result : Res
 -- Two runs did the same; or one was cut off, and the other did more.
 pub data Meets (acts others : List Act) (result other : Result TraceEnd RunFault) : Type 0 where
   Same : acts ≡ others → Meets acts others result other
-  Less : result ≡ Err (Script WriteFailed) → (more : List Act) → others ≡ acts ++ more
-      → Meets acts others result other
-  More : other ≡ Err (Script WriteFailed) → (more : List Act) → acts ≡ others ++ more
-      → Meets acts others result other
+  Less : result ≡ Err (Script WriteFailed) → (more : List Act) → others ≡ acts ++ more → Meets acts others result other
+  More : other ≡ Err (Script WriteFailed) → (more : List Act) → acts ≡ others ++ more → Meets acts others result other
 
 none_more : {A : Type 0} (xs ys : List A) → xs ≡ xs ++ ys → ys ≡ []
 none_more xs ys is = sym (append_cancel_left xs [] ys (append-nil xs ∙ is))

@@ -1,20 +1,12 @@
 -- Sends that failed: each is the last thing that a run asked, and in the last of its acts.
-use Rattle.std.proofs.Common.{◌≡◌, ◌∙◌, ℕ, ◌+◌, List, [], ◌∷◌, ◌++◌}
-use Rattle.std.proofs.Common.{refl, sym, ap, subst, inl, inr, append_assoc}
-use Rattle.std.proofs.Common.{arith}
-use Rattle.std.proofs.lemmas.List.{append-nil, append_cancel_left}
+use Rattle.std.proofs.Common.{[], ap, append_assoc, arith, inl, inr, List, refl, subst, sym, ℕ, ◌++◌, ◌+◌, ◌∙◌, ◌∷◌}
+use Rattle.std.proofs.{Common.◌≡◌, lemmas.List.{append-nil, append_cancel_left}}
 use Rattle.bac_pdu.specs.Peer.{Station}
-use Rattle.bac_tsm.specs.Client.{Client}
-use Rattle.bac_tsm.specs.Events.{Note}
-use Rattle.bac_links.specs.Answered.{answer_of}
-use Rattle.bac_links.specs.History.{Arrived, Entry, Posted, Timed, Unposted, Waited}
-use Rattle.bac_run.specs.Course.{Goes, IsDue, Stage, moved}
-use Rattle.bac_run.specs.Journal.{Act, Asked, Came, Passed, Paused, Read, Told, asked_by, client_after, history_of}
-use Rattle.bac_run.specs.Journal.{posts, turn_at}
-use Rattle.bac_run.specs.Went.{IsCut, IsUnsent}
-use Rattle.bac_run.proofs.Acts.{unsent_cut}
-use Rattle.bac_run.proofs.Alike.{SameDue, moved_client, same_due}
-use Rattle.bac_run.proofs.Ends.{wider_none}
+use Rattle.bac_tsm.specs.{Client.Client, Events.Note}
+use Rattle.bac_links.specs.{Answered.answer_of, History.{Arrived, Entry, Posted, Timed, Unposted, Waited}}
+use Rattle.bac_run.proofs.{Acts.unsent_cut, Alike.{moved_client, same_due, SameDue}, Ends.wider_none}
+use Rattle.bac_run.specs.{Course.{Goes, IsDue, moved, Stage}, Journal.{Act, Asked, asked_by, Came, client_after}}
+use Rattle.bac_run.specs.{Journal.{history_of, Passed, Paused, posts, Read, Told, turn_at}, Went.{IsCut, IsUnsent}}
 
 -- ---- sends that failed
 

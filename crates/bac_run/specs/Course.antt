@@ -1,19 +1,12 @@
 -- The course of a run: what it is about, and which act is due by all that was done before.
-use Rattle.std.specs.Prelude.{◌≡◌, ◌==◌, ℕ, suc, ◌+◌, ◌-◌, ◌<◌, ◌≤◌, ◌/◌, max, nat_lt, nat_le, Bool, false, true, ⊤}
-use Rattle.std.specs.Prelude.{List, [], ◌∷◌, ◌++◌, length, if◌then◌else◌, Option, is_some}
-use Rattle.std.specs.List.{flat_map}
-use Rattle.std.specs.Option.{option_map_or}
-use Rattle.bac_tsm.specs.Client.{Client}
-use Rattle.bac_tsm.specs.Events.{Event}
-use Rattle.bac_tsm.specs.Lookahead.{clock}
-use Rattle.bac_links.specs.Limits.{turn_wait, most_turns}
-use Rattle.bac_links.specs.History.{Heard, Silence, Arrived, Failure}
-use Rattle.bac_run.specs.declared.turns.Until.{Until}
-use Rattle.bac_run.specs.declared.turns.Until.TheVariants.{FewOpen, TimeTold}
-use Rattle.bac_script.specs.declared.input.Reading.{Reading}
-use Rattle.bac_script.specs.declared.input.Reading.TheVariants.{Open}
-use Rattle.bac_run.specs.Input.{acts_of_line}
-use Rattle.bac_run.specs.Journal.{Act, Asked, Paused, Came, Passed, Read, Told, has_line, turn_at}
+use Rattle.std.specs.{List.flat_map, Option.option_map_or, Prelude.{[], Bool, false, if◌then◌else◌, is_some, length}}
+use Rattle.std.specs.Prelude.{List, max, nat_le, nat_lt, Option, suc, true, ℕ, ⊤, ◌++◌, ◌+◌, ◌-◌, ◌/◌, ◌<◌, ◌==◌, ◌∷◌}
+use Rattle.std.specs.Prelude.{◌≡◌, ◌≤◌}
+use Rattle.bac_tsm.specs.{Client.Client, Events.Event, Lookahead.clock}
+use Rattle.bac_script.specs.declared.input.Reading.{Reading, TheVariants.Open}
+use Rattle.bac_links.specs.{History.{Arrived, Failure, Heard, Silence}, Limits.{most_turns, turn_wait}}
+use Rattle.bac_run.specs.{declared.turns.Until.{Until, TheVariants.{FewOpen, TimeTold}}, Input.acts_of_line}
+use Rattle.bac_run.specs.Journal.{Act, Asked, Came, has_line, Passed, Paused, Read, Told, turn_at}
 
 -- What a run is about: it takes turns until something is reached, so many at most; it reads the time for a request; it
 -- does what a line says.

@@ -1,10 +1,8 @@
 -- Why a run stopped, and what is told of that.
-use Rattle.std.specs.Prelude.{ℕ, Bool, false, List, Result, Err}
-use Rattle.bac_script.specs.declared.tracing.TraceFault.TheVariants.{WriteFailed}
-use Rattle.bac_script.specs.Tracing.{trace_fault_text}
+use Rattle.std.specs.Prelude.{Bool, Err, false, List, Result, ℕ}
+use Rattle.bac_script.specs.{declared.tracing.TraceFault.TheVariants.WriteFailed, Tracing.trace_fault_text}
 use Rattle.bac_links.specs.Fault.{is_link_fault, tool_fault_text}
-use Rattle.bac_run.specs.declared.fault.RunFault.{RunFault}
-use Rattle.bac_run.specs.declared.fault.RunFault.TheVariants.{Script, Link}
+use Rattle.bac_run.specs.declared.fault.RunFault.{RunFault, TheVariants.{Link, Script}}
 
 -- The writer failed.
 abbrev pub write_failed : RunFault

@@ -1,22 +1,14 @@
 -- The lines of the input, and what a run does of each.
-use Rattle.std.specs.Prelude.{◌≡◌, ◌≢◌, ℕ, Bool, false, ◌==◌, ◌||◌, List, [], ◌∷◌, ◌++◌, Option, Some, None}
-use Rattle.std.specs.Prelude.{unwrap_or, option_and_then, length, Result, Ok, Err, if◌then◌else◌, ◌⊎◌, suc, ◌&&◌}
-use Rattle.std.specs.Prelude.{is_some}
-use Rattle.std.specs.Result.{result_ok}
-use Rattle.bac_text.specs.Limits.{longest_line}
-use Rattle.std.specs.List.{AllByRecursion, concat, flat_map}
+use Rattle.std.specs.{List.{AllByRecursion, concat, flat_map}, Prelude.{[], Bool, Err, false, if◌then◌else◌, is_some}}
+use Rattle.std.specs.Prelude.{length, List, None, Ok, Option, option_and_then, Result, Some, suc, unwrap_or, ℕ, ◌&&◌}
+use Rattle.std.specs.{Prelude.{◌++◌, ◌==◌, ◌||◌, ◌∷◌, ◌≡◌, ◌≢◌, ◌⊎◌}, Result.result_ok}
 use Rattle.bac_tsm.specs.Events.{Ask}
-use Rattle.bac_print.specs.declared.checked.Checked.{Checked}
-use Rattle.bac_print.specs.Checked.{Gave}
-use Rattle.bac_script.specs.Line.{Said, Nothing, Happens, said}
-use Rattle.bac_script.specs.Script.{fault_at}
-use Rattle.bac_script.specs.declared.line.LineFault.{LineFault}
-use Rattle.bac_script.specs.declared.line.LineFault.TheVariants.{TooLong}
-use Rattle.bac_script.specs.declared.tracing.TraceEnd.{TraceEnd}
-use Rattle.bac_script.specs.declared.tracing.TraceFault.{TraceFault}
-use Rattle.bac_script.specs.declared.tracing.TraceFault.TheVariants.{BadLine}
-use Rattle.bac_run.specs.declared.fault.RunFault.{RunFault}
-use Rattle.bac_run.specs.Journal.{Act, Asked, Paused, ends_with_return}
+use Rattle.bac_text.specs.Limits.{longest_line}
+use Rattle.bac_print.specs.{Checked.Gave, declared.checked.Checked.Checked}
+use Rattle.bac_script.specs.declared.{line.LineFault.{LineFault, TheVariants.TooLong}, tracing.TraceEnd.TraceEnd}
+use Rattle.bac_script.specs.{declared.tracing.TraceFault.{TraceFault, TheVariants.BadLine}, Line.{Happens, Nothing}}
+use Rattle.bac_script.specs.{Line.{Said, said}, Script.fault_at}
+use Rattle.bac_run.specs.{declared.fault.RunFault.RunFault, Journal.{Act, Asked, ends_with_return, Paused}}
 
 -- The first octet of a line behind its blanks, spaces (32) and tabs (9), is # (35).
 abbrev pub is_remark : List ℕ → Bool

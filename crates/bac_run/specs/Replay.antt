@@ -1,17 +1,14 @@
 -- The journal as a script: what `bactrace` reads in its lines, and what it prints of them.
-use Rattle.std.specs.Prelude.{◌≡◌, ◌≢◌, ◌⊎◌, ℕ, Bool, true, false, List, [], ◌∷◌, ◌++◌, Result, Ok, Err, ⊤}
-use Rattle.std.specs.List.{AllByRecursion}
-use Rattle.bac_pdu.specs.Peer.{Station}
-use Rattle.bac_tsm.specs.Events.{Data, Tick, Note, Sent}
-use Rattle.bac_script.specs.Line.{Said, Nothing, Settings, Happens, said}
-use Rattle.bac_links.specs.Asking.{question_of}
-use Rattle.bac_links.specs.History.{Entry, Posted}
-use Rattle.bac_links.specs.declared.fault.ToolFault.TheVariants.{SendFailed}
-use Rattle.bac_run.specs.declared.session.Session.{Session}
-use Rattle.bac_run.specs.declared.fault.RunFault.{RunFault}
-use Rattle.bac_run.specs.declared.fault.RunFault.TheVariants.{Link, Script}
-use Rattle.bac_script.specs.declared.tracing.TraceFault.TheVariants.{WriteFailed}
-use Rattle.bac_run.specs.Journal.{Act, Asked, Paused, Came, Told, line_of, settings_line}
+use Rattle.std.specs.{List.AllByRecursion, Prelude.{[], Bool, Err, false, List, Ok, Result, true, ℕ, ⊤, ◌++◌, ◌∷◌, ◌≡◌}}
+use Rattle.std.specs.Prelude.{◌≢◌, ◌⊎◌}
+use Rattle.{
+  bac_pdu.specs.Peer.Station,
+  bac_tsm.specs.Events.{Data, Note, Sent, Tick},
+  bac_script.specs.{declared.tracing.TraceFault.TheVariants.WriteFailed, Line.{Happens, Nothing, Said, said, Settings}},
+  bac_links.specs.{Asking.question_of, declared.fault.ToolFault.TheVariants.SendFailed, History.{Entry, Posted}},
+  bac_run.specs.declared.{fault.RunFault.{RunFault, TheVariants.{Link, Script}}, session.Session.Session},
+  bac_run.specs.Journal.{Act, Asked, Came, line_of, Paused, settings_line, Told},
+}
 
 -- The text is one line, with its only line feed (10) at its end, and says this. The flag says whether it may be
 -- settings.

@@ -1,25 +1,16 @@
 -- A whole run: its journal, and what it asked of its link.
-use Rattle.std.specs.Prelude.{◌≡◌, ℕ, List, [], ◌∷◌, ◌++◌, length, Option, Some, None, Result, Ok, Err, ⊤}
-use Rattle.bac_print.specs.declared.checked.Checked.{Checked}
-use Rattle.bac_print.specs.Page.{folded, folded_line, Writes}
-use Rattle.bac_print.specs.Checked.{octets_of}
-use Rattle.bac_script.specs.Input.{ReaderStands}
-use Rattle.bac_script.specs.Script.{lines}
-use Rattle.bac_script.specs.declared.input.Reading.{Reading}
-use Rattle.bac_script.specs.declared.input.Reading.TheVariants.{AtEnd, Failed}
-use Rattle.bac_script.specs.declared.tracing.TraceEnd.{TraceEnd}
-use Rattle.bac_script.specs.declared.tracing.TraceFault.TheVariants.{ReadFailed, WriteFailed}
+use Rattle.std.specs.{List.AllByRecursion, Prelude.{[], Err, length, List, None, Ok, Option, Result, Some, ℕ, ⊤, ◌++◌}}
+use Rattle.std.specs.Prelude.{◌∷◌, ◌≡◌}
+use Rattle.bac_print.specs.{Checked.octets_of, declared.checked.Checked.Checked, Page.{folded, folded_line, Writes}}
+use Rattle.bac_script.specs.{Alike.IsFrontOf, declared.input.Reading.{Reading, TheVariants.{AtEnd, Failed}}}
+use Rattle.bac_script.specs.declared.tracing.{TraceEnd.TraceEnd, TraceFault.TheVariants.{ReadFailed, WriteFailed}}
+use Rattle.bac_script.specs.{Input.ReaderStands, Script.lines}
 use Rattle.bac_links.specs.History.{Account}
-use Rattle.bac_script.specs.Alike.{IsFrontOf}
-use Rattle.bac_run.specs.Journal.{Act, Came, FitsLine, Passed, client_after, new_client, settings_line, journal}
-use Rattle.bac_run.specs.Went.{ComesTo, HasAsked, IsOver, IsWithin}
-use Rattle.bac_run.specs.Course.{Aim, Goes, Outside, Stage, aims_of_lines, ready, stage_after}
-use Rattle.std.specs.List.{AllByRecursion}
-use Rattle.bac_run.specs.Input.{Takes, fault_in}
-use Rattle.bac_run.specs.Replay.{AreSettings}
-use Rattle.bac_run.specs.declared.session.Session.{Session}
-use Rattle.bac_run.specs.declared.fault.RunFault.{RunFault}
-use Rattle.bac_run.specs.declared.fault.RunFault.TheVariants.{Script, Link}
+use Rattle.bac_run.specs.Course.{Aim, aims_of_lines, Goes, Outside, ready, Stage, stage_after}
+use Rattle.bac_run.specs.declared.{fault.RunFault.{RunFault, TheVariants.{Link, Script}}, session.Session.Session}
+use Rattle.bac_run.specs.{Input.{fault_in, Takes}, Journal.{Act, Came, client_after, FitsLine, journal, new_client}}
+use Rattle.bac_run.specs.{Journal.{Passed, settings_line}, Replay.AreSettings, Went.{ComesTo, HasAsked, IsOver}}
+use Rattle.bac_run.specs.Went.{IsWithin}
 
 -- The lines of a session's journal: its settings, and what it does.
 abbrev pub journal_lines : Session → List Act → List ℕ

@@ -1,13 +1,13 @@
 -- What the worked examples compute with, and what those of a device do: who unfolds `computed` unfolds all of it.
 use Rattle.std.specs.{Fmt.digits, Str.{chars, is_utf8}}
-use Rattle.bac_device.specs.{Device.add_point, Kind.kind_of, Places.place_at, Point.description_of, Reply.who_is_reply}
-use Rattle.bac_device.{specs.Inner.Demo.with_row, proofs.Computed.computed as replies}
-use Rattle.bac_pdu.specs.{PropertyReading.ack_of, ValueReading.{introduction_of, who_is_of}}
-use Rattle.bac_text.specs.ValueWords.{value_under}
-use Rattle.bac_tsm.specs.Answers.{answer_in_datagram, is_answer_to, same_station}
-use Rattle.bac_tsm.specs.Lookahead.{next_invoke_id, refusal_of}
-use Rattle.bac_wire.specs.DatumReading.{values_within}
 use Rattle.hex.specs.Hex.{decode_pairs, encode_with}
+use Rattle.bac_wire.specs.DatumReading.{values_within}
+use Rattle.bac_pdu.specs.{PropertyReading.ack_of, ValueReading.{introduction_of, who_is_of}}
+use Rattle.bac_tsm.specs.{Answers.{answer_in_datagram, is_answer_to, same_station}, Lookahead.next_invoke_id}
+use Rattle.bac_tsm.specs.Lookahead.{refusal_of}
+use Rattle.bac_device.{proofs.Computed.computed as replies, specs.{Device.add_point, Inner.Demo.with_row, Kind.kind_of}}
+use Rattle.bac_device.specs.{Places.place_at, Point.description_of, Reply.who_is_reply}
+use Rattle.bac_text.specs.ValueWords.{value_under}
 use lib.Utf8.{encode}
 
 unfoldable pub computed : Unit {0}

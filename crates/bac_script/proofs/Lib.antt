@@ -1,10 +1,4 @@
-pub mod Taken
 pub mod Chunks
-pub mod Pieces
-pub mod Machine
-pub mod Settled
 pub mod Courses
 pub mod SoFar
-pub mod Fronts
-pub mod Functions
 pub mod Computed

@@ -1,22 +1,21 @@
 -- What holds between two lines of a script, and where it stops.
-use Rattle.std.proofs.Common.{[], ◌&&◌, ◌++◌, ◌+◌, ◌<◌, ◌∙◌, ◌∷◌, ◌≡◌, ◌≢◌, ◌≤◌, ◌⊎◌, ap, append-nil, append_assoc}
-use Rattle.std.proofs.Common.{arith, Bool, drop, Err, false, inl, inr, length, length-append, List, MatchOption, None}
-use Rattle.std.proofs.Common.{Ok, Option, refl, Result, Some, subst, sym, take, take-append-drop, true, ℕ}
+use Rattle.std.proofs.Common.{[], ap, append-nil, append_assoc, arith, Bool, drop, Err, false, inl, inr, length}
+use Rattle.std.proofs.Common.{length-append, List, MatchOption, None, Ok, Option, refl, Result, Some, subst, sym, take}
+use Rattle.std.proofs.Common.{take-append-drop, true, ℕ, ◌&&◌, ◌++◌, ◌+◌, ◌<◌, ◌∙◌, ◌∷◌, ◌≡◌, ◌≢◌, ◌≤◌, ◌⊎◌}
 use Rattle.std.proofs.lemmas.List.{append_cancel_right}
-use Rattle.bac_device.specs.Device.{DeviceState}
-use Rattle.bac_print.specs.{Checked.{has_failed, last_of, octets_of, reads_of}, declared.checked.Checked.Checked}
-use Rattle.bac_print.{specs.declared.page.Page.Page, proofs.{Known.Gave-none, Printed.{◌⨾◌, prints_nothing}}}
-use Rattle.bac_print.specs.Page.{held as on_page, laid_out, Prints, room_of, writer_of, Writes, Wrote}
-use Rattle.bac_print.proofs.Shown.{all_written, finished}
 use Rattle.bac_tsm.specs.Client.{Client}
-use Rattle.bac_script.specs.{AtEnd, empty_reads, EndsAs, Failed, fault_at, first_fault, HasNoFeed, is_nothing}
-use Rattle.bac_script.specs.{IsLineCut, IsToldFirst, LastIsNeeded, line_room, LineFault, lines, Open, ReaderStands}
-use Rattle.bac_script.specs.{ReadFailed, ReadForLine, Reading, ReadsNoMore, Runs, Said, said, TakesAndKeeps, text}
-use Rattle.bac_script.{specs.{TraceEnd, TraceFault, Traces, WriteFailed}, proofs.Courses.{runs_text, RunsWhole, whole}}
+use Rattle.bac_device.specs.Device.{DeviceState}
+use Rattle.bac_print.{proofs.Printed.{all_written, finished, Gave-none, prints_nothing, ◌⨾◌}, specs.Checked.has_failed}
+use Rattle.bac_print.specs.{Checked.{last_of, octets_of, reads_of}, declared.{checked.Checked.Checked, page.Page.Page}}
+use Rattle.bac_print.specs.Page.{held as on_page, laid_out, Prints, room_of, writer_of, Writes, Wrote}
+use Rattle.bac_script.proofs.Chunks.{further, lines-ended, lines-last, lines-rest, next_ended, next_last, next_long}
+use Rattle.bac_script.proofs.{Chunks.{NextLine, said-whole_long, Takes-front, Takes-more}, Courses.{and_on, behind}}
+use Rattle.bac_script.proofs.Courses.{behind_both, Course, course, course_on, fault_is, first_stage, runs_as, runs_text}
+use Rattle.bac_script.{proofs.Courses.{RunsWhole, whole}, specs.{AtEnd, empty_reads, EndsAs, Failed, fault_at}}
+use Rattle.bac_script.specs.{first_fault, HasNoFeed, is_nothing, IsLineCut, IsToldFirst, LastIsNeeded, line_room}
+use Rattle.bac_script.specs.{LineFault, lines, Open, ReaderStands, ReadFailed, ReadForLine, Reading, ReadsNoMore, Runs}
+use Rattle.bac_script.specs.{Said, said, TakesAndKeeps, text, TraceEnd, TraceFault, Traces, WriteFailed}
 use Rattle.bac_script.specs.Inner.{device_with, HasNotEnded, new_client, ran, RunsOn, Stage, Stands}
-use Rattle.bac_script.proofs.Courses.{and_on, behind, behind_both, Course, course, course_on, fault_is, runs_as}
-use Rattle.bac_script.proofs.{Machine.first_stage, Pieces.said-whole_long, Taken.{further, Takes-front, Takes-more}}
-use Rattle.bac_script.proofs.Pieces.{lines-ended, lines-last, lines-rest, next_ended, next_last, next_long, NextLine}
 
 -- What was printed on an empty page is out, or still held.
 out_so_far : {W : Type 0} {contents : W → Option (List ℕ)} {page between : Page W} {printed : List ℕ}

@@ -1,9 +1,9 @@
 -- What is taken from a reader through a chunk of octets that were read and not yet taken.
-use Rattle.std.specs.Prelude.{◌≡◌, ℕ, ◌+◌, ◌-◌, ◌^◌, ◌≤◌, max, false, true, List, [], Option, ◌⊎◌}
-use Rattle.std.specs.Io.KnownBytes.{IsAtEnd}
+use Rattle.std.specs.{Io.KnownBytes.IsAtEnd, Prelude.{[], false, List, max, Option, true, ℕ, ◌+◌, ◌-◌, ◌^◌, ◌≡◌, ◌≤◌}}
+use Rattle.std.specs.Prelude.{◌⊎◌}
+use Rattle.bac_print.specs.Checked.{ends_of, has_ended, has_failed, inner_of, reads_of}
 use Rattle.bac_print.specs.declared.checked.Checked.{Checked}
-use Rattle.bac_print.specs.Checked.{inner_of, has_failed, has_ended, ends_of, reads_of}
-use Rattle.bac_script.specs.declared.input.Reading.{Reading, TheVariants.{Open, AtEnd, Failed}}
+use Rattle.bac_script.specs.declared.input.Reading.{Reading, TheVariants.{AtEnd, Failed, Open}}
 
 -- The reads that a script may make.
 abbrev pub most_reads : ℕ

@@ -40,7 +40,7 @@ pub fn a_failed_read_has_a_cause<R: Read, W: Write>()
 {}
 
 /// Between two requests of a script with the same invoke id at least 192 others are accepted.
-#[tactic(auto, using(crate::proofs::Machine::requests_late))]
+#[tactic(auto, using(crate::proofs::Courses::requests_late))]
 pub fn invoke_ids_come_back_late()
     ensures { (octets : List ℕ) (reading : Reading)
         → InvokeIdsComeBackLate table_size (requests_in (all_said (lines octets reading))) }

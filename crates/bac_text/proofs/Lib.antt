@@ -1,13 +1,2 @@
-pub mod NumberLemmas
-pub mod WordLemmas
-pub mod HexText
-pub mod WordValues
-pub mod ValueRegions
-pub mod PairLemmas
-pub mod WriteBodies
-pub mod WordRanges
-pub mod BodiesInWords
-pub mod Lanes
-pub mod LeadingDigits
-pub mod HexLanes
-pub mod FirstNumbers
+pub mod DigitLaws
+pub mod WordLaws

@@ -1,12 +1,12 @@
 -- The value that two words write: the number of its application tag, and a word that is read by that number.
-use Rattle.std.specs.Prelude.{ℕ, ℤ, pos, neg_ℤ, ◌-◌, ◌*◌, ◌^◌, ◌==◌, ◌||◌, Bool, true, false, List, length, map, drop}
-use Rattle.std.specs.Prelude.{slice_index, bytes_eq, codes, Option, Some, None, option_map, if◌then◌else◌}
-use Rattle.std.specs.{Bool.then_some, Int.div_ceil, Int.Digits.number_from_digits, List.{list_all, range_with_len}}
+use Rattle.std.specs.{Bool.then_some, Int.{div_ceil, Digits.number_from_digits}, List.{list_all, range_with_len}}
+use Rattle.std.specs.Prelude.{Bool, bytes_eq, codes, drop, false, if◌then◌else◌, length, List, map, neg_ℤ, None, Option}
+use Rattle.std.specs.Prelude.{option_map, pos, slice_index, Some, true, ℕ, ℤ, ◌*◌, ◌-◌, ◌==◌, ◌^◌, ◌||◌}
 use Rattle.std.specs.{Result.result_ok, Str.Parse.starts_with_minus}
 use Rattle.hex.specs.Hex.{decode_of, decode_sized}
-use Rattle.bac_wire.specs.Datum.{Datum, null, boolean, unsigned, signed, real, double, octet_string, char_string}
-use Rattle.bac_wire.specs.{Datum.{bit_string, enumerated, date, time, object}, Identifier.Identifier, Steps.◌>>=◌}
-use Rattle.bac_text.specs.{Words.number_up_to, Address.cut_at}
+use Rattle.bac_wire.specs.Datum.{bit_string, boolean, char_string, date, Datum, double, enumerated, null, object}
+use Rattle.bac_wire.specs.{Datum.{octet_string, real, signed, time, unsigned}, Identifier.Identifier, Steps.◌>>=◌}
+use Rattle.bac_text.specs.{Address.cut_at, Words.number_up_to}
 
 -- The words true and 1, or false and 0.
 abbrev pub boolean_in : List ℕ → Option Bool

@@ -11,7 +11,7 @@ use crate::search::Delimiter;
 
 /// The body of a WriteProperty request gives the property the values that the words write, spelled one after another,
 /// and is read as these values.
-#[tactic(auto, using(crate::proofs::BodiesInWords::bodies_written))]
+#[tactic(auto, using(crate::proofs::WordLaws::bodies_written))]
 pub fn bodies_in_words()
     ensures { (object : Identifier) (property : ℕ) (index priority : Option ℕ) (words : List (List ℕ)) (body : List ℕ) →
         IsIdentifier object → property < 2 ^ 32 → IfSome index (λ n. n < 2 ^ 32) → IfSome priority IsPriority →

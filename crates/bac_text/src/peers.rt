@@ -120,7 +120,7 @@ fn read_route(text: &[u8]) -> Option<Route>
     route_to(network as u16, address)
 }
 
-#[tactic(auto, using(crate::proofs::HexText::routable_digits))]
+#[tactic(auto, using(crate::proofs::DigitLaws::routable_digits))]
 fn route_to(network: u16, address: HexDigits<'_>) -> Option<Route>
     ensures { option_map network_address result ≡
         routable (record { network = network; address = octets_in address.entry.digits.now }) }

@@ -1,33 +1,62 @@
--- Two runs of the program with the same words are alike.
-use Rattle.std.proofs.Common.{[], ◌++◌, ◌∙◌, ◌∷◌, ◌≡◌, ◌≢◌, ◌⊎◌, ap, arith, Err, inl, inr, is_some, IsErrAnd, IsTrue}
-use Rattle.std.proofs.Common.{List, None, Ok, Option, option_and_then, refl, Result, Some, subst, sym, ℕ}
+-- Two runs of the program with the same words, and their sessions, are alike.
+use Rattle.std.proofs.Common.{[], ap, arith, Err, inl, inr, is_some, IsErrAnd, IsTrue, List, None, Ok, Option}
+use Rattle.std.proofs.Common.{option_and_then, refl, Result, Some, subst, sym, ℕ, ◌++◌, ◌<◌, ◌∙◌, ◌∷◌, ◌≡◌, ◌≢◌, ◌⊎◌}
 use Rattle.std.specs.Result.{result_ok}
-use Rattle.{
-  clap.specs.Words.{fault_of, Text},
-  bac_text.specs.declared.jobs.Call.Call,
-  bac_print.specs.{Checked.{fresh, octets_of}, declared.checked.Checked.Checked},
-  bac_script.specs.{Alike.GaveSame, declared.tracing.TraceEnd.TraceEnd},
-  bac_script.proofs.Functions.{traces_alike, traces_front},
-  bac_links.specs.{Answered.{answers_of, GoOnAlike, OneText, Printed}, Call.Tells},
-  bac_links.specs.declared.{ending.Purpose.{Purpose, TheVariants.{Reading, Writing}}, exit.Exit.Exit},
-  bac_links.specs.declared.{fault.ToolFault.{ToolFault, TheVariants.WriteFailed}, socket.NoSocket.NoSocket},
-  bac_links.specs.History.{Account, Entry},
-  bac_links.proofs.{Alike.calls_so_far, SearchesAlike.searches_so_far, ServingsAlike.servings_so_far},
-  bac_words.specs.{Command.bactool, declared.faults.UsageFault.{UsageFault, TheVariants.{Help, Memory, Words}}},
-  bac_words.specs.declared.job.{Batch.Batch, Job.{Job, TheVariants.{Over, Run, Trace}}},
-  bac_words.specs.{declared.job.Tool.{Tool, TheVariants.{Device, Read, WhoIs, Write}}, Line.{Answers, IsRefusal}},
-  bac_words.{specs.Marks.marked_words, proofs.OneAnswer.one_answer},
-  bac_run.specs.declared.{fault.RunFault.{RunFault, TheVariants.{Link, Script}}, session.Session.Session},
-  bac_run.specs.{Fault.write_failed, Run.{journal_of, Runs as Requested}},
-  bac_run.proofs.{GoOn.{IsCutShort as IsBatchCut, IsTaken, one_text as one_journal, runs_on, taken}, Standing.Meets},
-  bac_tools.specs.Alike.{AreAlike, AreGivenAlike, EndAlike, Gained, is_socket, IsCutOff, IsCutShort, IsPrinted},
-  bac_tools.specs.Alike.{PrintAlike, ProgramRun},
-  bac_tools.specs.{Binding.asked_by, declared.{report.Report.Report, program.Binding.Binding}, Outside.Outside},
-  bac_tools.specs.{Program.{IsGiven, RunsAsRead}, Report.{report_of, run_report, tool_report}},
-  bac_tools.{specs.Runs.{Runs, RunsBatch, RunsOver, RunsScript, ToolRuns}, proofs.Sessions.one_session},
-}
+use Rattle.clap.specs.Words.{fault_of, Text}
+use Rattle.bac_tsm.specs.declared.config.Config.{Config}
+use Rattle.bac_text.specs.declared.jobs.Call.{Call}
+use Rattle.bac_print.specs.{Checked.{fresh, octets_of}, declared.checked.Checked.Checked}
+use Rattle.bac_script.{proofs.Courses.{traces_alike, traces_front}, specs.Alike.GaveSame}
+use Rattle.bac_script.specs.declared.tracing.TraceEnd.{TraceEnd}
+use Rattle.bac_links.proofs.{CallLaws.calls_so_far, Searches.searches_so_far, Servings.servings_so_far}
+use Rattle.bac_links.specs.{Answered.{answers_of, GoOnAlike, OneText, Printed}, Call.Tells}
+use Rattle.bac_links.specs.declared.{ending.Purpose.{Purpose, TheVariants.{Reading, Writing}}, exit.Exit.Exit}
+use Rattle.bac_links.specs.declared.{fault.ToolFault.{ToolFault, TheVariants.WriteFailed}, socket.NoSocket.NoSocket}
+use Rattle.bac_links.specs.History.{Account, Entry}
+use Rattle.bac_run.proofs.GoOn.{IsCutShort as IsBatchCut, IsTaken, one_text as one_journal, runs_on, taken}
+use Rattle.bac_run.{proofs.Standing.Meets, specs.declared.fault.RunFault.{RunFault, TheVariants.{Link, Script}}}
+use Rattle.bac_run.specs.{declared.session.Session.Session, Fault.write_failed, Run.{journal_of, Runs as Requested}}
+use Rattle.bac_words.{proofs.Tools.one_answer, specs.{Command.bactool, declared.faults.UsageFault.UsageFault}}
+use Rattle.bac_words.specs.declared.{faults.UsageFault.TheVariants.{Help, Memory, Words}, job.{Batch.Batch, Job.Job}}
+use Rattle.bac_words.specs.declared.job.{Job.TheVariants.{Over, Run, Trace}, Tool.{Tool, TheVariants.{Device, Read}}}
+use Rattle.bac_words.specs.{declared.job.Tool.TheVariants.{WhoIs, Write}, Line.{Answers, IsRefusal}, Marks.marked_words}
+use Rattle.bac_tools.specs.Alike.{AreAlike, AreGivenAlike, EndAlike, Gained, is_socket, IsCutOff, IsCutShort, IsPrinted}
+use Rattle.bac_tools.specs.{Alike.{PrintAlike, ProgramRun}, Binding.asked_by, declared.program.Binding.Binding}
+use Rattle.bac_tools.specs.{declared.report.Report.Report, Outside.Outside, Program.{IsGiven, RunsAsRead}}
+use Rattle.bac_tools.specs.{Report.{report_of, run_report, tool_report}, Runs.{IsSessionOf, Runs, RunsBatch, RunsOver}}
+use Rattle.bac_tools.specs.Runs.{RunsScript, ToolRuns}
+use denote.Struct.Props.{props}
 use Rattle.bac_script.specs.declared.tracing.TraceFault.TheVariants as stops
 use Rattle.bac_tools.specs.declared.report.Fault.TheVariants as faults
+
+-- Settings with the same numbers are the same.
+abbrev config_of : (timeout retries : ℕ) → 0 < timeout → Config
+config_of timeout retries positive = record { timeout = timeout; retries = retries; positive = positive }
+
+one_config : (config other : Config) → config.timeout ≡ other.timeout → config.retries ≡ other.retries → config ≡ other
+one_config config other is same =
+    subst (λ (n : ℕ). (more : 0 < n) → config ≡ config_of n other.retries more) is
+    (λ more. ap (λ (r : ℕ). config_of config.timeout r config.positive) same
+    ∙ ap (λ (p : 0 < config.timeout). config_of config.timeout other.retries p) (positive_prop config.positive more))
+    other.positive
+  where
+    positive_prop : IsProp (0 < config.timeout)
+    positive_prop = hlevel props
+
+abbrev session_of : Config → (window : ℕ) → 0 < window → Session
+session_of config window some = record { config = config; window = window; some = some }
+
+pub one_session : (batch : Batch) (session other : Session) → IsSessionOf batch session → IsSessionOf batch other
+    → session ≡ other
+one_session batch session other one two =
+    subst (λ (n : ℕ). (some : 0 < n) → session ≡ session_of other.config n some) (one.window ∙ sym two.window)
+    (λ some. ap (λ (c : Config). session_of c session.window session.some)
+    (one_config session.config other.config (one.timeout ∙ sym two.timeout) (one.retries ∙ sym two.retries))
+    ∙ ap (λ (p : 0 < session.window). session_of other.config session.window p) (some_prop session.some some))
+    other.some
+  where
+    some_prop : IsProp (0 < session.window)
+    some_prop = hlevel props
 
 -- ---- how runs go on
 

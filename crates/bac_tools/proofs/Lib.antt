@@ -1,6 +1,3 @@
-pub mod StatusLaws
-mod Alike
-pub mod Calls
-pub mod Sessions
-mod Typed
+pub mod RunLaws
+pub mod Alike
 mod Worked

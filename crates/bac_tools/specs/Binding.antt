@@ -1,9 +1,8 @@
 -- The socket that a job asks for.
-use Rattle.std.specs.Prelude.{ℕ, Option, Some, None}
+use Rattle.std.specs.Prelude.{None, Option, Some, ℕ}
 use Rattle.bac_links.specs.declared.udp.OnRefusal.TheVariants.{Fails, IsLost}
-use Rattle.bac_words.specs.declared.{
-  job.{Job.{Job, TheVariants.{Over, Run, Trace}}, Tool.{Tool, TheVariants.{Read, Write, WhoIs, Device}}},
-}
+use Rattle.bac_words.specs.declared.job.{Job.{Job, TheVariants.{Over, Run, Trace}}, Tool.{Tool, TheVariants.Device}}
+use Rattle.bac_words.specs.declared.job.Tool.TheVariants.{Read, WhoIs, Write}
 use Rattle.bac_tools.specs.declared.program.Binding.{Binding}
 
 -- A client's socket: it has every address of the machine, and a send that the system refuses fails.

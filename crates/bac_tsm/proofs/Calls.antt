@@ -1,16 +1,218 @@
--- Calls of a client one after another, for a caller that reads the machine: a request that is opened, and what a tick
--- tells once a datagram was heard.
-use Rattle.std.proofs.Common.{[], ◌%◌, ◌+◌, ◌-◌, ◌<◌, ◌^◌, ◌∙◌, ◌∷◌, ◌≡◌, ◌≤◌, ap, arith, Bool, false, if◌then◌else◌}
-use Rattle.std.proofs.Common.{IsSome, length, List, map, max, nat_eq, None, not, Ok, Option, refl, Result, Some, sym, ℕ}
-use Rattle.std.proofs.lemmas.{Bool.Decides.nat_tests, List.{nil_from_length, Elements.All-filter}}
-use Rattle.std.specs.{List.{filter, flat_map, list_any, slice_get}, Option.{option_map_or, option_to_list}}
-use Rattle.std.specs.Prelude.{option_map, ⊤}
-use Rattle.bac_pdu.specs.{Apdu.longest_body, Peer.Station}
-use Rattle.bac_tsm.specs.{Answer, answer_in_datagram, client_rules, datagram, deliver, due_answer, DueEntry}
-use Rattle.bac_tsm.specs.{is_answer_to, keeping, kept, next_invoke_id, opened, Outcome, outcome_of, refusal_of, Request}
-use Rattle.bac_tsm.specs.{request_of, Rules, rules_of, State, submit, SubmitFault, table_size, TakesStep, tick}
-use Rattle.bac_tsm.specs.{Client.Client, Machine.Waiting, Inner.{invoke_id_in, IsTimely, ticket_in}}
-use Rattle.bac_tsm.proofs.{AnswersInWords.by_invoke_id, CallNotes.kept_of_all}
+-- Calls of a client: what a datagram answers, what is told of a call, and calls one after another.
+use Rattle.std.proofs.Common.{[], All, AllPairs, ap, append-nil, arith, Bool, eq-eqb, eqb-true, false, filter, find}
+use Rattle.std.proofs.Common.{flat_map, if◌then◌else◌, is_some, IsSome, length, List, map, max, nat_eq, None, not, Ok}
+use Rattle.std.proofs.Common.{Option, option_and_then, option_map, option_to_list, refl, Result, slice_get, Some, suc}
+use Rattle.std.proofs.Common.{sym, true, zero, ℕ, ◌%◌, ◌++◌, ◌+◌, ◌-◌, ◌<◌, ◌==◌, ◌^◌, ◌∙◌, ◌∷◌, ◌≡◌, ◌≤◌}
+use Rattle.std.proofs.lemmas.{Bool.{false≢true, Decides.nat_tests}, Grind.flat_map-append, List.get_or-map}
+use Rattle.std.proofs.lemmas.List.{length-map, nil_from_length, Elements.{All-append, All-cons, All-filter, All-head}}
+use Rattle.std.proofs.lemmas.{List.Elements.{All-nil, All-tail, All-weaker}, Option.none-some}
+use Rattle.std.{proofs.lemmas.Slice.Eq.bytes_eq-Decides, specs.{List.list_any, Option.option_map_or, Prelude.⊤}}
+use Rattle.bac_wire.proofs.TagLaws.{bind_some}
+use Rattle.bac_pdu.{proofs.{DatagramLaws.{apdu_is, carried_is}, DiscoveryLaws.error_is}, specs.Apdu.abort}
+use Rattle.bac_pdu.specs.{Apdu.{complex_ack, error, longest_body, Message, reject, simple_ack}, Failure.IsErrorBody}
+use Rattle.bac_pdu.specs.{Peer.Station, ValueReading.error_of}
+use Rattle.bac_tsm.{proofs.RequestLife.{step_back, turn_notes}, specs.{aborted, acknowledged, Answer, answer_in_apdu}}
+use Rattle.bac_tsm.specs.{answer_in_datagram, AnswersByInvokeId, client_rules, datagram, deliver, due_answer, due_notes}
+use Rattle.bac_tsm.specs.{DueEntry, Ends, failed, failed_unreadably, is_answer_to, is_due, IsAnsweredBy, keeping, kept}
+use Rattle.bac_tsm.specs.{next_invoke_id, opened, Outcome, outcome_of, outcome_of_answer, refusal_of, rejected, Request}
+use Rattle.bac_tsm.specs.{request_of, returned, Rules, rules_of, same_station, segmented, Sent, sent, State, submit}
+use Rattle.bac_tsm.specs.{SubmitFault, table_size, TakesStep, tick, Client.Client, Inner.{error_outcome, invoke_id_in}}
+use Rattle.bac_tsm.specs.{Inner.{IsTimely, ticket_in}, Machine.Waiting}
+
+-- ---- a datagram answers only requests of one invoke id
+
+-- A request that is answered has the invoke id of the answer.
+invoke_id_is : (request : Request) (read : Option Answer)
+    → is_some (option_and_then (outcome_of_answer request) read) ≡ true →
+    request.invoke_id ≡ option_map_or (λ answer. answer.invoke_id) read 0
+unfolding is_answer_to
+invoke_id_is = grind (arith, false≢true)
+
+-- The rules that a client goes by have this.
+pub by_invoke_id : (timeout retries : ℕ) → AnswersByInvokeId (client_rules timeout retries)
+by_invoke_id _ _ a b peer bytes h k = cc (invoke_id_is a _ h, invoke_id_is b _ k)
+
+-- The slots are fewer than the invoke ids.
+pub few_open : table_size ≤ 255
+few_open = omega arith
+
+-- ---- the test of two stations is true exactly where they are one
+
+pub same_station_is : (a b : Station) → same_station a b ≡ true → a ≡ b
+unfolding same_station
+same_station_is = grind (arith, bytes_eq-Decides)
+
+pub same_station_refl : (a : Station) → same_station a a ≡ true
+unfolding same_station
+same_station_refl = grind (arith, bytes_eq-Decides)
+
+-- An answer that gives an outcome comes from the request's peer, to its invoke id, and names its service or none.
+record Agrees (request : Request) (answer : Answer) (outcome : Outcome) : Type 0 where
+  peer : answer.peer ≡ request.peer
+  invoke_id : answer.invoke_id ≡ request.invoke_id
+  service : option_map_or (λ service. request.service == service) answer.service true ≡ true
+  gives : answer.outcome ≡ outcome
+
+agrees : (request : Request) (answer : Answer) (outcome : Outcome) → outcome_of_answer request answer ≡ Some outcome
+    → Agrees request answer outcome
+unfolding is_answer_to
+agrees = grind (arith, same_station_is)
+
+-- The answer that names the request's service, or none, gives its outcome.
+is_to : (request : Request) (service : Option ℕ) (outcome : Outcome)
+    → option_map_or (λ service. request.service == service) service true ≡ true → outcome_of_answer request
+    (record { peer = request.peer; invoke_id = request.invoke_id; service = service; outcome = outcome }) ≡ Some outcome
+unfolding is_answer_to
+is_to = grind (arith, same_station_refl)
+
+-- How an Error ends a request.
+error_ends : (invoke_id service : ℕ) (body : List ℕ) (read : Option (ℕ × ℕ)) → error_of body ≡ read →
+    Ends invoke_id service (error invoke_id service body) (error_outcome read)
+error_ends _ _ _ None e =
+    failed_unreadably _ (λ class code h. none-some (class, code) (sym e ∙ (error_is _ _).1 h))
+error_ends _ _ _ (Some (class, code)) e = failed _ _ code ((error_is _ _).0 e)
+
+-- What the table gives is what the relation says.
+ends : (request : Request) (peer : Station) (message : Message) (outcome : Outcome) →
+    option_and_then (outcome_of_answer request) (answer_in_apdu peer message) ≡ Some outcome →
+    (peer ≡ request.peer) × Ends request.invoke_id request.service message outcome
+ends _ _ (simple_ack id service) _ h =
+    let a = agrees _ _ _ h in
+    (a.peer, rw (a.invoke_id, sym (eqb-true _ _ a.service), sym a.gives) acknowledged)
+ends _ _ (complex_ack None id service body) _ h =
+    let a = agrees _ _ _ h in (a.peer, rw (a.invoke_id, sym (eqb-true _ _ a.service), sym a.gives) (returned _))
+ends _ _ (complex_ack (Some part) id service body) _ h =
+    let a = agrees _ _ _ h in (a.peer, rw (a.invoke_id, sym (eqb-true _ _ a.service), sym a.gives) (segmented _ _))
+ends _ _ (error id service body) _ h = grind (arith, agrees, error_ends)
+ends _ _ (reject id reason) _ h = let a = agrees _ _ _ h in (a.peer, rw (a.invoke_id, sym a.gives) (rejected _))
+ends _ _ (abort true id reason) _ h = let a = agrees _ _ _ h in (a.peer, rw (a.invoke_id, sym a.gives) (aborted _))
+ends _ _ _ _ h = cc
+
+-- The request's own service is named.
+own : (request : Request) → (request.service == request.service) ≡ true
+own _ = eq-eqb _ _ refl
+
+-- An Error that no class and code begin.
+none_read : (body : List ℕ) → ((class code : ℕ) → IsErrorBody body (class, code) → ⊥) → (read : Option (ℕ × ℕ))
+    → error_of body ≡ read → read ≡ None
+none_read _ _ None e = refl
+none_read _ unread (Some (class, code)) e = absurd (unread _ code ((error_is _ _).0 e))
+
+-- What the relation says is what the table gives.
+ended : (request : Request) (message : Message) (outcome : Outcome)
+    → Ends request.invoke_id request.service message outcome →
+    option_and_then (outcome_of_answer request) (answer_in_apdu request.peer message) ≡ Some outcome
+ended request _ _ (failed body class code h) = grind (arith, error_is body (class, code), is_to)
+ended request _ _ (failed_unreadably body unread) = rw (none_read _ unread _ refl) (is_to _ _ _ (own request))
+ended _ _ _ (rejected reason) = is_to _ _ _ refl
+ended _ _ _ (aborted reason) = is_to _ _ _ refl
+ended request _ _ _ = is_to _ _ _ (own request)
+
+-- The outcome of a datagram is an answer in the standard's words.
+pub answers : (request : Request) (from : Station) (datagram : List ℕ) (outcome : Outcome) →
+    outcome_of request from datagram ≡ Some outcome → IsAnsweredBy request from datagram outcome
+unfolding answer_in_datagram
+answers _ _ _ _ h =
+    let (_, answered, gives) = step_back _ _ _ h in
+    let (delivery, delivered, more) = bind_some _ _ _ answered in
+    let (message, read, table) = bind_some _ _ _ more in
+    let (peer_is, ended_so) = ends _ _ _ _ (ap (option_and_then _) table ∙ gives) in
+    record {
+      delivery = delivery;
+      message = message;
+      carried = (carried_is _ _ _).0 delivered;
+      laid_out = (apdu_is _ _).0 read;
+      peer = peer_is;
+      ends = ended_so;
+    }
+
+pub answered : (request : Request) (from : Station) (datagram : List ℕ) (outcome : Outcome) →
+    IsAnsweredBy request from datagram outcome → outcome_of request from datagram ≡ Some outcome
+unfolding answer_in_datagram
+answered _ _ _ _ a = rw ((carried_is _ _ _).1 a.carried, (apdu_is _ _).1 a.laid_out, a.peer) (ended _ _ _ a.ends)
+
+-- ---- what the calls answer, turned into notes: each send is that of the open request with the ticket
+
+pub pairs_head : {A : Type 0} (R : A → A → Type 0) (x : A) (xs : List A) → AllPairs R (x ∷ xs) → All (R x) xs
+pairs_head R x xs h k d lt = h zero (suc k) d (omega arith) (omega arith)
+
+pub pairs_tail : {A : Type 0} (R : A → A → Type 0) (x : A) (xs : List A) → AllPairs R (x ∷ xs) → AllPairs R xs
+pairs_tail R x xs h i j d lt below = h (suc i) (suc j) d (omega arith) (omega arith)
+
+pub pairs_map : {A B : Type 0} (R : B → B → Type 0) (f : A → B) (xs : List A) → AllPairs (λ x y. R (f x) (f y)) xs →
+    AllPairs R (map f xs)
+pairs_map R f [] h = λ i j d lt below. absurd (omega arith)
+pairs_map R f (x ∷ xs) h = λ i j d lt below. grind (arith, get_or-map, length-map, h i j x)
+
+-- Each has a greater ticket than those before it.
+abbrev pub TicketsRise : List Waiting → Type 0
+TicketsRise ws = AllPairs (λ v w. v.request.ticket < w.request.ticket) ws
+
+-- The tickets of these differ from t.
+abbrev NotTicket : ℕ → Waiting → Type 0
+NotTicket t w = w.request.ticket ≡ t → ⊥
+
+abbrev pub by_ticket : ℕ → Waiting → Bool
+by_ticket t w = nat_eq w.request.ticket t
+
+find_past : (t : ℕ) (xs ys : List Waiting) → All (NotTicket t) xs
+    → find (by_ticket t) (xs ++ ys) ≡ find (by_ticket t) ys
+find_past t [] ys h = refl
+find_past t (x ∷ xs) ys h = grind (arith, All-head, find_past t xs ys (All-tail (NotTicket t) x xs h))
+
+pub find_none : (t : ℕ) (ws : List Waiting) → All (NotTicket t) ws → find (by_ticket t) ws ≡ None
+find_none t ws h = cc (append-nil ws, find_past t ws [] h)
+
+flat_each : {A B C : Type 0} (h : B → List C) (f : A → List B) (k : A → List C) (xs : List A) →
+    All (λ x. flat_map h (f x) ≡ k x) xs → flat_map h (flat_map f xs) ≡ flat_map k xs
+flat_each h f k [] _ = refl
+flat_each {A} h f k (x ∷ xs) each =
+    let P = λ (x : A). flat_map h (f x) ≡ k x in
+    grind (arith, flat_map-append, All-head P x xs, flat_each h f k xs (All-tail P x xs each))
+
+module _ (rules : Rules) where
+  -- What is true of what is kept of a request, and of each.
+  pub kept_of_one : (P : Waiting → Type 0) (now : ℕ) (w : Waiting) → (is_due rules now w ≡ false → P w)
+      → P (record { request = w.request; base = now; count = suc w.count }) → All P (kept rules now w)
+  kept_of_one = grind arith
+
+  pub kept_of_all : (P : Waiting → Type 0) (now : ℕ)
+      → ((w : Waiting) → P w → P (record { request = w.request; base = now; count = suc w.count })) →
+      (ws : List Waiting) → All P ws → All P (flat_map (kept rules now) ws)
+  kept_of_all P _ _ [] h = All-nil P
+  kept_of_all P now again (w ∷ ws) h =
+      let first = All-head P w ws h in
+      All-append P _ _ (kept_of_one P now w (λ f. first) (again w first))
+      (kept_of_all P now again ws (All-tail P w ws h))
+
+  -- A search among those that are kept finds what is kept of the one with the ticket.
+  abbrev FoundAmong : ℕ → List Waiting → Waiting → Type 0
+  FoundAmong now ws w =
+      find (by_ticket w.request.ticket) (flat_map (kept rules now) ws)
+      ≡ find (by_ticket w.request.ticket) (kept rules now w)
+
+  found_each : (now : ℕ) (ws : List Waiting) → TicketsRise ws → All (FoundAmong now ws) ws
+  found_each _ [] _ = All-nil _
+  found_each now (w ∷ ws) rise =
+      let R = λ (v w : Waiting). v.request.ticket < w.request.ticket in
+      let above = pairs_head R w ws rise in
+      let others = kept_of_all (NotTicket _) now (λ v h. h) ws
+      (All-weaker (R w) (NotTicket w.request.ticket) (λ v lt q. omega arith) ws above) in
+      All-cons (FoundAmong now (w ∷ ws)) w ws (grind (arith, find_none)) (λ k d lt.
+      find_past _ _ _ (kept_of_one (NotTicket _) now w (λ f q. omega arith) (λ q. omega arith))
+      ∙ found_each now ws (pairs_tail R w ws rise) k d lt)
+
+  -- The notes on a tick are those of each request's turn.
+  pub tick_told : (now : ℕ) (after : State) (ws : List Waiting) → after.waiting ≡ flat_map (kept rules now) ws
+      → TicketsRise ws →
+      flat_map (due_notes after) (flat_map (due_answer rules now) ws) ≡ flat_map (turn_notes rules now) ws
+  tick_told = grind (arith, flat_each, found_each)
+
+  -- The note on a submit is the send of the new request.
+  pub submit_told : (after : State) (ws : List Waiting) (w : Waiting) → after.waiting ≡ ws ++ w ∷ [] →
+      All (λ v. v.request.ticket < w.request.ticket) ws →
+      sent after w.request.ticket ≡ Sent w.request.ticket w.request.peer (w.request.octets) ∷ []
+  submit_told = grind (arith, find_past)
 
 -- ---- a tick, and what a client keeps through each call
 

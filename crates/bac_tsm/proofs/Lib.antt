@@ -1,13 +1,6 @@
-mod AnswersInWords
-mod CallNotes
 mod Calls
-mod InvokeIdReuse
-pub mod Laws
-mod OpenRequests
-mod Placed
-pub mod Progress
 mod RequestLife
-mod TableEdits
-mod TableReads
-mod TableTick
+pub mod Laws
 mod WholeRun
+mod TableLaws
+mod TableTick

@@ -1,25 +1,22 @@
 -- The loop over the open requests that are due at a tick.
-use Rattle.std.{
-  proofs.Common.{[], ◌++◌, ◌+◌, ◌-◌, ◌<◌, ◌∙◌, ◌∷◌, ◌≡◌, ◌≤◌, add-one, All, ap, append-nil, append_assoc, arith, Bool},
-  proofs.Common.{drop, false, get_or, if◌then◌else◌, length, length-append, List, map, nat_le, nat_lt, None, Option},
-  proofs.Common.{refl, remove, set, Some, suc, sym, take, take-append-drop, take_all, true, zero, ℕ},
-  proofs.lemmas.{Bool.false≢true, Grind.{common_steps, flat_map-append}, List.{drop_all, drop_more, get_or_default}},
-  proofs.lemmas.List.{length-map, same_lists, set_split, Elements.{All-append, All-drop, All-take, Contains-get_or}},
-  proofs.lemmas.List.{Folds.{list_any_at, list_any_none}, Kept.AllPairs-filter, Sorted.Contains-permutation},
-  proofs.lemmas.List.Sorted.{IsPermutation-append_right, IsPermutation-middle, IsPermutation-trans, length_permutation},
-  proofs.lemmas.List.{Sorted.sum_by-IsPermutation, Sums.{count_by-le-length, length-filter, sum_by-cons}},
-  proofs.lemmas.Option.{get_or_from_slice_get, slice_get_within},
-  specs.List.{AllPairs, count_by, filter, flat_map, list_any, refill, slice_get, Sorted.IsNonDecreasingBy},
-  specs.List.Sorted.IsPermutation,
-}
-use Rattle.bac_tsm.{
-  specs.{AreBySend, due_answer, due_entry, DueEntry, held_at, is_due, IsTable, IsWhole, kept, nothing, open_slots},
-  specs.{Resend, Rules, table_size, times_of_slot, declared.due.DueEntry.TheVariants.TimedOut as Expired},
-  specs.{Inner.{IsPassed, IsRankOf, Leaves, sent_at, ticket_of, waiting_in}, Machine.Waiting},
-  proofs.{CallNotes.{kept_of_one, pairs_map, TicketsRise}, TableEdits.{all_opened, changed_by, queue-again}},
-  proofs.TableReads.{held_got, itself, one_turn, open_below, open_read, rank_of_slot, stands, times_got, times_split},
-  proofs.TableReads.turn_lt,
-}
+use Rattle.std.proofs.Common.{[], add-one, All, AllPairs, ap, append-nil, append_assoc, arith, Bool, count_by, drop}
+use Rattle.std.proofs.Common.{false, filter, flat_map, get_or, if◌then◌else◌, length, length-append, List, map, nat_le}
+use Rattle.std.proofs.Common.{nat_lt, None, Option, refl, remove, set, slice_get, Some, suc, sym, take}
+use Rattle.std.proofs.Common.{take-append-drop, take_all, true, zero, ℕ, ◌++◌, ◌+◌, ◌-◌, ◌<◌, ◌∙◌, ◌∷◌, ◌≡◌, ◌≤◌}
+use Rattle.std.proofs.lemmas.{Bool.false≢true, Grind.{common_steps, flat_map-append}, List.{drop_all, drop_more}}
+use Rattle.std.proofs.lemmas.List.{get_or_default, length-map, same_lists, set_split, Elements.{All-append, All-drop}}
+use Rattle.std.proofs.lemmas.List.{Elements.{All-take, Contains-get_or}, Folds.{list_any_at, list_any_none}}
+use Rattle.std.proofs.lemmas.List.{Kept.AllPairs-filter, Sorted.{Contains-permutation, IsPermutation-append_right}}
+use Rattle.std.proofs.lemmas.List.Sorted.{IsPermutation-middle, IsPermutation-trans, length_permutation}
+use Rattle.std.proofs.lemmas.List.{Sorted.sum_by-IsPermutation, Sums.{count_by-le-length, length-filter, sum_by-cons}}
+use Rattle.std.{proofs.lemmas.Option.{get_or_from_slice_get, slice_get_within}, specs.List.{list_any, refill}}
+use Rattle.std.specs.List.Sorted.{IsNonDecreasingBy, IsPermutation}
+use Rattle.bac_tsm.proofs.{Calls.{kept_of_one, pairs_map, TicketsRise}, TableLaws.{all_opened, changed_by, held_got}}
+use Rattle.bac_tsm.proofs.TableLaws.{itself, one_turn, open_below, open_read, queue-again, rank_of_slot, stands}
+use Rattle.bac_tsm.{proofs.TableLaws.{times_got, times_split, turn_lt}, specs.{AreBySend, due_answer, due_entry}}
+use Rattle.bac_tsm.specs.{DueEntry, held_at, is_due, IsTable, IsWhole, kept, nothing, open_slots, Resend, Rules}
+use Rattle.bac_tsm.specs.{table_size, times_of_slot, declared.due.DueEntry.TheVariants.TimedOut as Expired}
+use Rattle.bac_tsm.specs.{Inner.{IsPassed, IsRankOf, Leaves, sent_at, ticket_of, waiting_in}, Machine.Waiting}
 
 -- ---- a list whose keys rise is what any sort by the key makes of its elements
 

@@ -77,7 +77,7 @@ impl Client {
     ///
     /// A request that is refused leaves the client as it was. The first fault in the order of [`SubmitFault`] is
     /// answered.
-    #[tactic(auto, using(crate::proofs::TableReads::invoke_id_unused), unfolding(crate::specs::Lookahead::refusal_of))]
+    #[tactic(auto, using(crate::proofs::TableLaws::invoke_id_unused), unfolding(crate::specs::Lookahead::refusal_of))]
     pub fn submit(&mut self, peer: Peer, service: u8, body: &[u8]) -> Result<u64, SubmitFault>
         ensures { TakesStep self.old
             (submit (rules_of self.old) self.old.state (station peer) service body.now) result self.new }

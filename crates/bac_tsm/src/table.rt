@@ -78,7 +78,7 @@ impl Table {
     }
 
     /// The first invoke id of the cycle after the last one that no open request has.
-    #[tactic(auto, using(crate::proofs::TableReads::free_is, crate::proofs::TableReads::taken_on, crate::proofs::TableReads::last_is))]
+    #[tactic(auto, using(crate::proofs::TableLaws::free_is, crate::proofs::TableLaws::taken_on, crate::proofs::TableLaws::last_is))]
     pub(crate) fn free_invoke_id(&self, last: u8) -> u8
         ensures { result ≡ next_invoke_id last (map (λ w. w.request.invoke_id) self.now) }
     {
@@ -160,7 +160,7 @@ impl Table {
     }
 
     // The request at this rank.
-    #[tactic(auto, using(crate::proofs::TableReads::read_within, crate::proofs::TableReads::read_held, crate::proofs::TableReads::rank_within))]
+    #[tactic(auto, using(crate::proofs::TableLaws::read_within, crate::proofs::TableLaws::read_held, crate::proofs::TableLaws::rank_within))]
     fn at(&self, rank: usize) -> &OpenRequest
         requires { rank < length self.now }
         ensures { result.now ≡ get_or self.now rank nothing }
@@ -285,7 +285,7 @@ fn held(slots: &[OpenRequest; PLACES], slot: u8) -> &OpenRequest
 }
 
 // The answer is to the request.
-#[tactic(auto, using(bac_pdu::proofs::PeerLaws::peer_decides, crate::proofs::AnswersInWords::same_station_is, crate::proofs::AnswersInWords::same_station_refl), unfolding(crate::specs::Answers::is_answer_to))]
+#[tactic(auto, using(bac_pdu::proofs::DatagramLaws::peer_decides, crate::proofs::Calls::same_station_is, crate::proofs::Calls::same_station_refl), unfolding(crate::specs::Answers::is_answer_to))]
 fn is_answered_by(request: &OpenRequest, answer: &Answer<'_>) -> bool
     ensures { result ≡ is_answer_to request.now.request (answer_seen answer.now) }
 {

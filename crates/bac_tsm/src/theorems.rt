@@ -26,7 +26,7 @@ pub fn answers_are_by_invoke_id()
 {}
 
 /// The table of answers takes two stations for the same exactly where address, port and route are.
-#[tactic(auto, using(crate::proofs::AnswersInWords::same_station_is, crate::proofs::AnswersInWords::same_station_refl))]
+#[tactic(auto, using(crate::proofs::Calls::same_station_is, crate::proofs::Calls::same_station_refl))]
 pub fn stations_are_compared_whole()
     ensures { (a b : Station) → (same_station a b ≡ true) ↔ (a ≡ b) }
 {}
@@ -39,7 +39,7 @@ pub fn answers_in_words()
 
 /// At each position at most as many requests are open as may be, under different invoke ids and in the order of their
 /// tickets; each is sent at most once more than the retries.
-#[tactic(auto, using(crate::proofs::OpenRequests::roomy, crate::proofs::OpenRequests::tickets_rise, crate::proofs::InvokeIdReuse::few_sends))]
+#[tactic(auto, using(crate::proofs::RequestLife::roomy, crate::proofs::RequestLife::tickets_rise, crate::proofs::RequestLife::few_sends))]
 pub fn table_is_bounded()
     ensures few { (rules : Rules) (first_ticket : ℕ) (events : List Event) (n : ℕ) →
         rules.most_open ≤ 255 → length (open_at rules first_ticket events n) ≤ rules.most_open }
@@ -60,7 +60,7 @@ pub fn output_looks_back()
 {}
 
 /// Between two requests with the same invoke id, at least 256 others are accepted, less as many as may be open at once.
-#[tactic(auto, using(crate::proofs::InvokeIdReuse::back_late))]
+#[tactic(auto, using(crate::proofs::RequestLife::back_late))]
 pub fn invoke_ids_come_back_late()
     ensures { (rules : Rules) (first_ticket : ℕ) (events : List Event) (n : ℕ) →
         rules.most_open ≤ 255 → InvokeIdsComeBackLate rules.most_open (accepted rules first_ticket events n) }

@@ -1,8 +1,8 @@
 -- Two reads of analog input 5, and what a tick says of each once a datagram was heard.
-use Rattle.std.specs.{Prelude.{ℕ, ◌+◌, List, [], ◌∷◌}, Option.option_map_or}
+use Rattle.std.specs.{Option.option_map_or, Prelude.{[], List, ℕ, ◌+◌, ◌∷◌}}
 use Rattle.bac_pdu.specs.Peer.{Station}
-use Rattle.bac_tsm.specs.{Answers.outcome_of, Client.client_rules}
-use Rattle.bac_tsm.specs.{Events.{Request, Rules, request_of}, declared.due.DueEntry.{DueEntry, TheVariants.Resend}}
+use Rattle.bac_tsm.specs.{Answers.outcome_of, Client.client_rules, declared.due.DueEntry.{DueEntry, TheVariants.Resend}}
+use Rattle.bac_tsm.specs.Events.{Request, request_of, Rules}
 
 -- A timeout of three seconds, and three retries.
 abbrev pub usual : Rules

@@ -1,13 +1,4 @@
-pub mod Readers
-pub mod Spelled
-pub mod Writing
 pub mod TagLaws
 pub mod DatumLaws
-pub mod PlainDatum
-pub mod RegionReading
-pub mod ValueLists
-pub mod Pieces
 pub mod ItemLaws
-pub mod ParameterLaws
-pub mod ReadBack
 pub mod Walks

@@ -1,10 +1,10 @@
 -- What walks by hand over ghost data share. The prover writes no proof that picks ghost data, so whoever makes a struct
 -- of it has a `Proof.antt`, step by step: the arguments are taken, the struct is made, and the ghost data is named at
 -- the return. Their form is that of the toolchain's own crates that keep such a list, `serde_json` and `http_server`.
-use seplogic.Ra.Ura.{Ura}
-use mir.Val.{Val, vstruct, vnil}
-use types.{Logic.Logic, Kit.{Goal, Step, step, Item, fpack, feq_i}}
 use denote.Struct.Struct.{Struct}
+use mir.Val.{Val, vnil, vstruct}
+use seplogic.Ra.Ura.{Ura}
+use types.{Kit.{feq_i, fpack, Goal, Item, Step, step}, Logic.Logic}
 pub use Rattle.std.proofs.Common.{List, [], ◌∷◌, ◌++◌, refl}
 pub use Rattle.std.proofs.raw_atomic.Walks.{proved}
 pub use types.Kit.{‵, raw, ◌⊛◌, ◌$◌, ◌∵◌, !, qed, done, move, keep, drop, split, fjoin, suffices}

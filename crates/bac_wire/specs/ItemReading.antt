@@ -1,8 +1,8 @@
 -- Reading items from left to right: the octets behind them. `LeavesRest` and `SpellsClosed` say what that means.
-use Rattle.std.specs.Prelude.{ℕ, zero, suc, ◌-◌, nat_lt, ◌==◌, if◌then◌else◌, List, [], ◌∷◌, length, take, drop, Option}
-use Rattle.std.specs.Prelude.{Some, None}
-use Rattle.bac_wire.specs.declared.tag.{Shape.Shape, Shape.TheVariants.{App, Context, Opening, Closing}, Tag.Tag}
-use Rattle.bac_wire.specs.{Steps.◌>>=◌, Limits.deepest, TagReading.tag_at}
+use Rattle.std.specs.Prelude.{[], drop, if◌then◌else◌, length, List, nat_lt, None, Option, Some, suc, take, zero, ℕ}
+use Rattle.std.specs.Prelude.{◌-◌, ◌==◌, ◌∷◌}
+use Rattle.bac_wire.specs.declared.tag.{Shape.{Shape, TheVariants.{App, Closing, Context, Opening}}, Tag.Tag}
+use Rattle.bac_wire.specs.{Limits.deepest, Steps.◌>>=◌, TagReading.tag_at}
 
 -- What is left behind this many octets.
 abbrev pub behind_count : ℕ → List ℕ → Option (List ℕ)

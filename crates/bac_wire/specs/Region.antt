@@ -1,9 +1,9 @@
 -- Items, and regions: lists of whole items, as a parameter of any type holds them (ANSI/ASHRAE 135, 20.2.1.3.2,
 -- 20.2.19).
-use Rattle.std.specs.Prelude.{◌≡◌, ℕ, zero, suc, ◌≤◌, ◌⊎◌, ◌==◌, if◌then◌else◌, List, [], ◌++◌, length, take, Option}
-use Rattle.std.specs.Prelude.{Some, IfSome}
-use Rattle.bac_wire.specs.declared.tag.{Shape.Shape, Shape.TheVariants.{App, Context, Opening, Closing}, Tag.Tag}
-use Rattle.bac_wire.specs.{Limits.deepest, Front.Begins, Tag.SpellsTag}
+use Rattle.std.specs.Prelude.{[], IfSome, if◌then◌else◌, length, List, Option, Some, suc, take, zero, ℕ, ◌++◌, ◌==◌}
+use Rattle.std.specs.Prelude.{◌≡◌, ◌≤◌, ◌⊎◌}
+use Rattle.bac_wire.specs.declared.tag.{Shape.{Shape, TheVariants.{App, Closing, Context, Opening}}, Tag.Tag}
+use Rattle.bac_wire.specs.{Front.Begins, Limits.deepest, Tag.SpellsTag}
 
 -- The opening tag of this number, which begins constructed data.
 abbrev pub opening_tag : ℕ → Tag

@@ -1,8 +1,8 @@
 -- The spellings of a tag: an initial octet, perhaps a number octet, perhaps length octets (ANSI/ASHRAE 135, 20.2.1).
-use Rattle.std.specs.Prelude.{◌≡◌, ℕ, ◌+◌, ◌-◌, ◌*◌, ◌^◌, ◌/◌, ◌%◌, ◌<◌, ◌≤◌, min, nat_lt, if◌then◌else◌, List, [], ◌∷◌}
-use Rattle.std.specs.Prelude.{◌++◌}
-use Rattle.byteorder.specs.Endian.{big_number, big_bytes}
-use Rattle.bac_wire.specs.declared.tag.{Shape.Shape, Shape.TheVariants.{App, Context, Opening, Closing}, Tag.Tag}
+use Rattle.std.specs.Prelude.{[], if◌then◌else◌, List, min, nat_lt, ℕ, ◌%◌, ◌*◌, ◌++◌, ◌+◌, ◌-◌, ◌/◌, ◌<◌, ◌^◌, ◌∷◌}
+use Rattle.std.specs.Prelude.{◌≡◌, ◌≤◌}
+use Rattle.byteorder.specs.Endian.{big_bytes, big_number}
+use Rattle.bac_wire.specs.declared.tag.{Shape.{Shape, TheVariants.{App, Closing, Context, Opening}}, Tag.Tag}
 
 -- The number (20.2.1.2): up to 14 it is the high half of the initial octet; 15 there says that the next octet is it, up
 -- to 254.

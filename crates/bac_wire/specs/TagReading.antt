@@ -1,7 +1,7 @@
 -- Reading a tag from left to right: what was read, and the octets behind it. `SpellsTag` says what that means.
-use Rattle.std.specs.Prelude.{ℕ, ◌-◌, ◌/◌, ◌%◌, nat_lt, ◌==◌, if◌then◌else◌, List, [], ◌∷◌, Option, Some, None}
+use Rattle.std.specs.Prelude.{[], if◌then◌else◌, List, nat_lt, None, Option, Some, ℕ, ◌%◌, ◌-◌, ◌/◌, ◌==◌, ◌∷◌}
 use Rattle.byteorder.specs.Endian.{big_number}
-use Rattle.bac_wire.specs.declared.tag.{Shape.Shape, Shape.TheVariants.{App, Context, Opening, Closing}, Tag.Tag}
+use Rattle.bac_wire.specs.declared.tag.{Shape.{Shape, TheVariants.{App, Closing, Context, Opening}}, Tag.Tag}
 use Rattle.bac_wire.specs.Steps.{◌>>=◌}
 
 -- The tag's number in the octet behind the initial one, where it is less than 255.

@@ -96,7 +96,7 @@ fn behind_closing<'a>(octets: &'a [u8], number: u8, work: &mut Work) -> Option<&
 }
 
 // The tag that begins the octets, and those behind it, counted.
-#[tactic(auto, using(crate::proofs::RegionReading::after_shorter))]
+#[tactic(auto, using(crate::proofs::ItemLaws::after_shorter))]
 #[inline(always)]
 fn next_tag<'a>(octets: &'a [u8], work: &mut Work) -> Option<(Tag, &'a [u8])>
     ensures tag { option_map (λ x. (x.0, x.1.now)) result ≡ tag_at octets.now }

@@ -36,7 +36,7 @@ pub fn values()
 {}
 
 /// A region is read as the values whose spellings it is, one after another and nothing else (clause 20.2.1).
-#[tactic(auto, using(crate::proofs::ValueLists::are_spelled))]
+#[tactic(auto, using(crate::proofs::DatumLaws::are_spelled))]
 pub fn values_in_words()
     ensures { (region : List ℕ) (values : List Datum) →
         (values_of region ≡ Some values) ↔ SpellsAll Spells region values }

@@ -240,7 +240,7 @@ fn append_number(frame: &mut Frame, number: u8, n: u64) -> Result<(), Full>
 }
 
 // Appends a tag of one octet, and a number in one octet.
-#[tactic(auto, using(crate::proofs::PlainDatum::one_tagged))]
+#[tactic(auto, using(crate::proofs::DatumLaws::one_tagged))]
 fn append_octet(frame: &mut Frame, number: u8, n: u8) -> Result<(), Full>
     requires { number < 15 }
     ensures { Appends frame.old (tagged number (big_bytes (octet_count n) n)) frame.new result }
@@ -248,7 +248,7 @@ fn append_octet(frame: &mut Frame, number: u8, n: u8) -> Result<(), Full>
     frame.append(&[16 * number + 1, n])
 }
 
-#[tactic(auto, using(crate::proofs::PlainDatum::bytes_taken))]
+#[tactic(auto, using(crate::proofs::DatumLaws::bytes_taken))]
 fn append_signed(frame: &mut Frame, n: i64) -> Result<(), Full>
     ensures { Appends frame.old (tagged 3 (big_bytes (signed_count n) (low_bytes w64 (signed_count n) n)))
         frame.new result }
@@ -278,7 +278,7 @@ fn append_object(frame: &mut Frame, id: ObjectId) -> Result<(), Full>
 }
 
 // Appends a tag of one octet, and the four octets that it counts.
-#[tactic(auto, using(crate::proofs::PlainDatum::four_tagged))]
+#[tactic(auto, using(crate::proofs::DatumLaws::four_tagged))]
 #[inline(always)]
 fn append_four(frame: &mut Frame, number: u8, contents: &[u8; 4]) -> Result<(), Full>
     requires { number < 15 }

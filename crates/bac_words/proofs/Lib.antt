@@ -1,4 +1,1 @@
 pub mod Tools
-pub mod WordsLeft
-pub mod Given
-pub mod OneAnswer

@@ -1,13 +1,21 @@
--- Words that `clap` takes name one of the six tools, with matches that passed its rules.
-use Rattle.std.proofs.Common.{[], ◌∙◌, ◌∷◌, ◌≡◌, ◌⊎◌, Bool, codes, Err, false, inl, inr, IsErrAnd, IsSomeAnd, List, Ok}
-use Rattle.std.proofs.{Common.{refl, Result, Some, subst, sym, true}, lemmas.Bool.false≢true, Math.Bool.or-false}
-use Rattle.std.{proofs.lemmas.Slice.Eq.bytes_eq-Decides, specs.List.find}
-use Rattle.clap.specs.{declared.error.{Error.Error, kind.ErrorKind.ErrorKind}, Kinds.{HasKind, IsAmong}, Values.kind_of}
-use Rattle.clap.specs.{Faults.{fault_of, is_simple_and_free, level_fault}, Walk.{answers_to, nothing_held, Text}}
-use Rattle.clap.specs.Simple.{built, is_simple, label_of, rows_at, Shape, subcommand_of}
-use Rattle.clap_laws.{specs.Entering.asks_for_help, proofs.{Enters.enters, Rows.{level_taken, when_found}}}
-use Rattle.bac_words.specs.{bactool, IsRefusal, marked_words, declared.{faults.UsageFault.UsageFault, job.Job.Job}}
-use Rattle.bac_words.specs.Inner.{fault_by, fault_from, IsTool}
+-- From words that `clap` takes to the tool that they name, with its numbers and its peer.
+use Rattle.std.proofs.Common.{[], add-one, ap, arith, Bool, codes, drop, drop-cons, Err, false, find, get_or, IfSome}
+use Rattle.std.proofs.Common.{inl, inr, IsErrAnd, IsSomeAnd, length, length-drop, List, map, None, Ok, Option}
+use Rattle.std.proofs.Common.{option_map, refl, Result, Some, subst, sym, true, unwrap_or, ℕ, ◌+◌, ◌<◌, ◌∙◌, ◌∷◌, ◌≡◌}
+use Rattle.std.proofs.{Common.{◌≤◌, ◌⊎◌}, lemmas.{Bool.false≢true, List.{drop_all, length-map}, Option.same_Some}}
+use Rattle.std.{proofs.{lemmas.Slice.Eq.bytes_eq-Decides, Math.Bool.or-false}, specs.Borrow.Bor}
+use Rattle.clap.{proofs.WalkLemmas.first_value-rows, specs.declared.error.{Error.Error, kind.ErrorKind.ErrorKind}}
+use Rattle.clap.specs.{Faults.{fault_of, is_simple_and_free, level_fault}, Kinds.{HasKind, IsAmong}, Simple.built}
+use Rattle.clap.specs.{Simple.{is_simple, label_of, rows_at, Shape, subcommand_of}, Values.kind_of, Walk.answers_to}
+use Rattle.clap.specs.{Walk.{nothing_held, Row, Rule, Text, texts}, Words.Text}
+use Rattle.bac_wire.specs.Steps.{◌>>=◌}
+use Rattle.bac_pdu.specs.{declared.{peer.Peer.Peer, route.Route.Route}, Peer.{network_address, Station, station}}
+use Rattle.bac_text.specs.Address.{address_of, cut_at, plain_peer_of, short_number, station_at}
+use Rattle.clap_laws.{proofs.Parsed.{enters, level_taken, needed, when_found}, specs.Entering.asks_for_help}
+use Rattle.clap_laws.specs.{Inner.{Commands.rules_of, Numbers.{bounds_in, FitsWord, is_needed}}, Passes.IsTaken}
+use Rattle.bac_words.specs.{Answers, bacrp, bacrun, bactool, bacwi, bacwp, IsRefusal, marked_words, peer_in, unmarked}
+use Rattle.bac_words.specs.{declared.{faults.UsageFault.UsageFault, job.Job.Job}, Inner.{bounds, fault_by, fault_from}}
+use Rattle.bac_words.specs.Inner.{IsClient, IsGiven, IsNumberWord, IsRequest, IsSender, IsTool}
 use Rattle.clap.specs.declared.error.kind.ErrorKind.TheVariants as kind
 
 abbrev AllOf : (Shape → Type 0) → List Shape → Type 0
@@ -96,3 +104,99 @@ refused _ _ e (Ok x) _ h is = absurd is
 refused words _ e (Err f) same h is =
     subst (IsRefusal words) (sym is)
     (refusal words e (kind_of e) refl (subst (λ w. HasKind (fault_of bactool w) e) same h))
+
+-- ---- the numbers of an argument that several tools have, and the peer that a word names
+
+-- What the getters of words read.
+pub ruleset first_words = (first_value-rows)
+
+module _ (id : Text) (rows : List Row) where
+  pub of_tool : (rules : List Rule) → IsTaken rules rows → bounds_in rules id ≡ bounds id → FitsWord (bounds id)
+      → IsNumberWord id rows
+  of_tool rules taken bounded fits = record { rules = rules; taken = taken; bounded = bounded; fits = fits }
+
+  pub of_request : IsRequest rows → bounds_in (rules_of bacrp) id ≡ bounds id
+      → bounds_in (rules_of bacwp) id ≡ bounds id → FitsWord (bounds id) → IsNumberWord id rows
+  of_request taken reads writes fits =
+      elim taken [ inl read ↦ of_tool _ read reads fits | inr write ↦ of_tool _ write writes fits ]
+
+  pub of_sender : IsSender rows → bounds_in (rules_of bacrp) id ≡ bounds id → bounds_in (rules_of bacwp) id ≡ bounds id
+      → bounds_in (rules_of bacrun) id ≡ bounds id → FitsWord (bounds id) → IsNumberWord id rows
+  of_sender taken reads writes runs fits =
+      elim taken [ inl request ↦ of_request request reads writes fits | inr run ↦ of_tool _ run runs fits ]
+
+  pub of_client : IsClient rows → bounds_in (rules_of bacrp) id ≡ bounds id → bounds_in (rules_of bacwp) id ≡ bounds id
+      → bounds_in (rules_of bacrun) id ≡ bounds id → bounds_in (rules_of bacwi) id ≡ bounds id → FitsWord (bounds id)
+      → IsNumberWord id rows
+  of_client taken reads writes runs seeks fits =
+      elim taken [ inl sender ↦ of_sender sender reads writes runs fits | inr search ↦ of_tool _ search seeks fits ]
+
+  -- An argument that has to be given.
+  pub given_to_tool : (rules : List Rule) → IsTaken rules rows → is_needed rules id ≡ true → IsGiven id rows
+  given_to_tool rules taken is = record { given = needed rules id rows taken is }
+
+  pub given_to_request : IsRequest rows → is_needed (rules_of bacrp) id ≡ true → is_needed (rules_of bacwp) id ≡ true
+      → IsGiven id rows
+  given_to_request taken reads writes =
+      elim taken [ inl read ↦ given_to_tool _ read reads | inr write ↦ given_to_tool _ write writes ]
+
+-- The words of the pairs, or none.
+pub pairs_typed : (o : Option (Bor (List (Bor Text)))) (none : Bor (List (Bor Text))) → none.now ≡ [] →
+    map unmarked (texts (unwrap_or o none).now) ≡ map unmarked (unwrap_or (option_map (λ p. texts p.now) o) [])
+pairs_typed None _ empty = rw empty refl
+pairs_typed (Some p) _ _ = refl
+
+-- ---- the peer that a word names has no route, so it is what is seen of it
+
+abbrev IsPlain : Station → Type 0
+IsPlain to = to.route ≡ None
+
+plain_at : (parts : List ℕ × List ℕ) → IfSome (station_at parts) IsPlain
+plain_at (address, number) = at_port (short_number 5 65535 number) (address_of address)
+  where
+    at_port : (port ip : Option ℕ)
+        → IfSome (port >>= λ n. ip >>= λ m. Some (record { ip = m; port = n; route = None })) IsPlain
+    at_port None ip = tt
+    at_port (Some n) None = tt
+    at_port (Some n) (Some m) = refl
+
+no_route : (route : Option Route) → option_map network_address route ≡ None → route ≡ None
+no_route None e = refl
+no_route (Some r) e = cc
+
+same_peer : (p : Peer) (s : Station) → station p ≡ s → IsPlain s → p ≡ record { ip = s.ip; port = s.port; route = None }
+same_peer p s e plain =
+    let routes = no_route p.route (ap (λ (s : Station). s.route) e ∙ plain) in
+    λ i. record { ip = (e i).ip; port = (e i).port; route = routes i }
+
+pub peer_named : (word : Text) (p : Option Peer) → option_map station p ≡ plain_peer_of word → p ≡ peer_in word
+peer_named word p = go p (plain_peer_of word) (plain_at (unwrap_or (cut_at 58 word) (word, codes "47808")))
+  where
+    go : (p : Option Peer) (o : Option Station) → IfSome o IsPlain → option_map station p ≡ o
+        → p ≡ option_map (λ to. record { ip = to.ip; port = to.port; route = None }) o
+    go None None plain e = refl
+    go (Some p) (Some s) plain e = ap Some (same_peer p s (same_Some (station p) s e) plain)
+    go None (Some s) plain e = cc
+    go (Some p) None plain e = cc
+
+-- ---- the words that are left, from their front
+
+pub typed_next : (words : List (Bor Text)) (n : ℕ) (d : Bor Text) → n < length words →
+    map unmarked (texts (drop n words)) ≡ unmarked (get_or words n d).now ∷ map unmarked (texts (drop (n + 1) words))
+typed_next words n d h =
+    ap (λ (ws : List (Bor Text)). map unmarked (texts ws)) (drop-cons words n d h)
+    ∙ ap (λ (k : ℕ). unmarked (get_or words n d).now ∷ map unmarked (texts (drop k words))) (sym (add-one n))
+
+pub typed_end : (words : List (Bor Text)) (n : ℕ) → length words ≤ n → map unmarked (texts (drop n words)) ≡ []
+typed_end words n h = ap (λ (ws : List (Bor Text)). map unmarked (texts ws)) (drop_all n words h)
+
+pub typed_fewer : (words : List (Bor Text)) (n : ℕ) → length (map unmarked (texts (drop n words))) ≤ length words
+typed_fewer words n =
+    let typed = length-map (texts (drop n words)) unmarked in
+    let seen = length-map (drop n words) (λ (b : Bor Text). b.now) in
+    let left = length-drop n words in omega arith
+
+-- ---- words have one answer: one job, or one first fault
+
+pub one_answer : (words : List Text) (a b : Result Job UsageFault) → Answers words a → Answers words b → a ≡ b
+one_answer _ a b first second = same_Some a b (sym first.answer_is ∙ second.answer_is)

@@ -1,4 +1,1 @@
-pub mod Rows
-pub mod Enters
-pub mod Getters
-pub mod Built
+pub mod Parsed

@@ -1,9 +1,9 @@
 -- Requests to the demonstration device, for examples of what it replies.
-use Rattle.std.specs.Prelude.{◌≡◌, ℕ, ◌+◌, List, [], ◌∷◌, ◌++◌, codes, length, map, replicate, Some, None}
-use Rattle.bac_pdu.specs.Peer.{Station}
+use Rattle.std.specs.Prelude.{[], codes, length, List, map, None, replicate, Some, ℕ, ◌++◌, ◌+◌, ◌∷◌, ◌≡◌}
 use Rattle.bac_wire.specs.Identifier.{Identifier}
-use Rattle.bac_device.specs.{Info.Info, Turns.{Arrival, replies_to}, Demo.demo_points, Point.Given}
-use Rattle.bac_device.specs.{Places.Write, Device.{DeviceState, device_after}}
+use Rattle.bac_pdu.specs.Peer.{Station}
+use Rattle.bac_device.specs.{Demo.demo_points, Device.{device_after, DeviceState}, Info.Info, Places.Write, Point.Given}
+use Rattle.bac_device.specs.Turns.{Arrival, replies_to}
 
 -- The device of a script.
 abbrev pub small : Info

@@ -1,17 +1,15 @@
 -- One turn of a call, by the steps of the client.
-use Rattle.std.specs.Prelude.{◌≡◌, ◌≢◌, ℕ, ◌-◌, ◌≤◌, Bool, true, false, List, [], ◌∷◌, ◌++◌, length, Option, Some, None}
-use Rattle.std.specs.List.{All, flat_map}
-use Rattle.bac_pdu.specs.{Peer.{Station, station}, Apdu.longest_body}
-use Rattle.bac_tsm.{
-  specs.{Laws.state_at, Events.{Outcome, Data, Event, Ask, Tick, Note, Sent, Refused, Done, Dropped, TimedOut, Rules}},
-  specs.{Lookahead.send_notes, Machine.{State, Waiting, Stepped, step}, Client.{Client, rules_of, keeping}},
-}
+use Rattle.std.specs.{List.{All, flat_map}, Prelude.{[], Bool, false, length, List, None, Option, Some, true, ℕ, ◌++◌}}
+use Rattle.std.specs.Prelude.{◌-◌, ◌∷◌, ◌≡◌, ◌≢◌, ◌≤◌}
+use Rattle.bac_pdu.specs.{Apdu.longest_body, Peer.{Station, station}}
+use Rattle.bac_tsm.specs.{Client.{Client, keeping, rules_of}, Events.{Ask, Data, Done, Dropped, Event, Note, Outcome}}
+use Rattle.bac_tsm.specs.{Events.{Refused, Rules, Sent, Tick, TimedOut}, Laws.state_at, Lookahead.send_notes}
+use Rattle.bac_tsm.specs.Machine.{State, step, Stepped, Waiting}
 use Rattle.bac_text.specs.declared.jobs.Call.{Call}
-use Rattle.bac_links.{
-  specs.History.{Heard, Silence, Arrived, Failure, Entry, Waited, Timed, Posted, Unposted, Account, Gains, GainsAll},
-  specs.{Asking.{Move, Asks, question_of, Follows, next_move, waits_in, turn_after}, Handed.handed},
-  specs.{Limits.turn_wait, Call.{Comes, service_of, rules_for, asked, end_in, move}, declared.ending.Purpose.Purpose},
-}
+use Rattle.bac_links.specs.{Asking.{Asks, Follows, Move, next_move, question_of, turn_after, waits_in}, Call.asked}
+use Rattle.bac_links.specs.{Call.{Comes, end_in, move, rules_for, service_of}, declared.ending.Purpose.Purpose}
+use Rattle.bac_links.specs.{Handed.handed, History.{Account, Arrived, Entry, Failure, Gains, GainsAll, Heard, Posted}}
+use Rattle.bac_links.specs.{History.{Silence, Timed, Unposted, Waited}, Limits.turn_wait}
 
 -- The send in a note.
 abbrev pub post_in : Note → List Entry

@@ -1,13 +1,12 @@
 -- One turn of a search.
-use Rattle.std.specs.Prelude.{◌≡◌, ◌≢◌, ℕ, nat_lt, Bool, List, [], ◌∷◌, ◌++◌, length, Option, Result, Ok, Err}
-use Rattle.std.specs.List.{flat_map}
-use Rattle.bac_pdu.specs.{Found.Found, declared.discovery.WhoIs.WhoIs}
+use Rattle.std.specs.{List.flat_map, Prelude.{[], Bool, Err, length, List, nat_lt, Ok, Option, Result, ℕ, ◌++◌, ◌∷◌}}
+use Rattle.std.specs.Prelude.{◌≡◌, ◌≢◌}
+use Rattle.bac_pdu.specs.{declared.discovery.WhoIs.WhoIs, Found.Found}
 use Rattle.bac_text.specs.declared.jobs.Search.{Search}
-use Rattle.bac_print.specs.{declared.checked.Checked.Checked, Checked.Took}
-use Rattle.bac_links.{
-  specs.{Limits.turn_wait, History.{Heard, Failure, Waited, Account, Gains}, Search.{found_by, found_line}},
-  specs.declared.fault.ToolFault.{ToolFault, TheVariants.{SendFailed, ReceiveFailed, TurnsSpent, WriteFailed}},
-}
+use Rattle.bac_print.specs.{Checked.Took, declared.checked.Checked.Checked}
+use Rattle.bac_links.specs.declared.fault.ToolFault.{ToolFault, TheVariants.{ReceiveFailed, SendFailed, TurnsSpent}}
+use Rattle.bac_links.specs.{declared.fault.ToolFault.TheVariants.WriteFailed, History.{Account, Failure, Gains, Heard}}
+use Rattle.bac_links.specs.{History.Waited, Limits.turn_wait, Search.{found_by, found_line}}
 
 -- How long a turn waits.
 abbrev pub search_wait : Search → ℕ

@@ -1,13 +1,12 @@
 -- One wait of a server, and the answer to what it brings.
-use Rattle.std.specs.Prelude.{◌≡◌, ◌≢◌, ℕ, List, [], ◌∷◌, map, length, Option, Some, Result, Ok, Err}
-use Rattle.std.specs.{Option.option_to_list, List.flat_map}
+use Rattle.std.specs.{List.flat_map, Option.option_to_list, Prelude.{[], Err, length, List, map, Ok, Option, Result}}
+use Rattle.std.specs.Prelude.{Some, ℕ, ◌∷◌, ◌≡◌, ◌≢◌}
 use Rattle.bac_pdu.specs.Peer.{Station}
 use Rattle.bac_device.specs.{Device.DeviceState, Turns.Arrival}
-use Rattle.bac_links.{
-  specs.{Limits.serve_wait, History.{Heard, Failure, Entry, Waited, Posted, Unposted, Account, GainsAll, Gains}},
-  specs.Serve.{came_by, device_behind, replies_of},
-  specs.declared.fault.ToolFault.{ToolFault, TheVariants.{SendFailed, ReceiveFailed, TurnsSpent, WriteFailed}},
-}
+use Rattle.bac_links.specs.declared.fault.ToolFault.{ToolFault, TheVariants.{ReceiveFailed, SendFailed, TurnsSpent}}
+use Rattle.bac_links.specs.{declared.fault.ToolFault.TheVariants.WriteFailed, History.{Account, Entry, Failure, Gains}}
+use Rattle.bac_links.specs.{History.{GainsAll, Heard, Posted, Unposted, Waited}, Limits.serve_wait, Serve.came_by}
+use Rattle.bac_links.specs.Serve.{device_behind, replies_of}
 
 -- The datagram that a wait brings which heard this, if it brings one.
 abbrev pub brought_by : Heard → List Arrival

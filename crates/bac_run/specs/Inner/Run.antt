@@ -1,18 +1,11 @@
 -- A run of which some of the journal may still be on the page.
-use Rattle.std.specs.Prelude.{◌≡◌, ℕ, List, ◌∷◌, ◌++◌, Option, Result}
-use Rattle.bac_print.specs.declared.checked.Checked.{Checked}
-use Rattle.bac_print.specs.declared.page.Page.{Page}
-use Rattle.bac_print.specs.Page.{writer_of, Prints}
-use Rattle.bac_run.specs.Inner.Went.{HasPassed}
+use Rattle.std.specs.{List.AllByRecursion, Prelude.{List, Option, Result, ℕ, ◌++◌, ◌∷◌, ◌≡◌}}
+use Rattle.bac_print.specs.{declared.{checked.Checked.Checked, page.Page.Page}, Page.{Prints, writer_of}}
 use Rattle.bac_script.specs.declared.tracing.TraceEnd.{TraceEnd}
 use Rattle.bac_links.specs.History.{Account}
-use Rattle.bac_run.specs.Journal.{Act, FitsLine, client_after, new_client}
-use Rattle.bac_run.specs.Went.{HasAsked, IsOver, IsWithin}
-use Rattle.std.specs.List.{AllByRecursion}
-use Rattle.bac_run.specs.Input.{Takes}
-use Rattle.bac_run.specs.declared.session.Session.{Session}
-use Rattle.bac_run.specs.declared.fault.RunFault.{RunFault}
-use Rattle.bac_run.specs.Run.{IsCourse, IsWait, journal_lines}
+use Rattle.bac_run.specs.{declared.{fault.RunFault.RunFault, session.Session.Session}, Inner.Went.HasPassed}
+use Rattle.bac_run.specs.{Input.Takes, Journal.{Act, client_after, FitsLine, new_client}, Run.{IsCourse, IsWait}}
+use Rattle.bac_run.specs.{Run.journal_lines, Went.{HasAsked, IsOver, IsWithin}}
 
 -- The same, while some of the journal may still be on the page.
 pub record RunsOn {Origin R W : Type 0} (remaining : R → Option (List ℕ)) (contents : W → Option (List ℕ))

@@ -1,26 +1,16 @@
 -- What a part of a run did to its client, its page and its link.
-use Rattle.std.specs.Prelude.{◌≡◌, ℕ, suc, Bool, false, ⊤, List, [], ◌∷◌, ◌++◌, if◌then◌else◌, Option, None, Some}
-use Rattle.std.specs.Prelude.{Result, Ok, Err, unwrap_or}
-use Rattle.std.specs.List.{AllByRecursion}
-use Rattle.bac_tsm.specs.Client.{Client}
-use Rattle.bac_tsm.specs.Events.{Event}
-use Rattle.bac_print.specs.declared.page.Page.{Page}
-use Rattle.bac_print.specs.Checked.{has_failed, octets_of}
-use Rattle.bac_print.specs.Page.{held, laid_out, room_of, writer_of, Prints}
-use Rattle.bac_print.specs.declared.checked.Checked.{Checked}
-use Rattle.bac_script.specs.Alike.{IsFrontOf}
-use Rattle.bac_run.specs.Run.{IsWait}
-use Rattle.bac_script.specs.declared.tracing.TraceFault.TheVariants.{WriteFailed}
-use Rattle.bac_links.specs.History.{Account, Entry, GainsAll}
-use Rattle.bac_links.specs.declared.fault.ToolFault.TheVariants.{SendFailed}
-use Rattle.bac_run.specs.declared.fault.RunFault.{RunFault}
-use Rattle.bac_run.specs.declared.fault.RunFault.TheVariants.{Link, Script}
-use Rattle.bac_run.specs.declared.turns.Run.{Run}
-use Rattle.bac_run.specs.declared.turns.Until.{Until}
-use Rattle.bac_run.specs.Input.{acts_of_line, fault_of_line, inputs_in}
-use Rattle.bac_run.specs.Journal.{Act, FitsLine, client_after, journal, at_event, remarks, posts}
-use Rattle.bac_run.specs.Course.{Aim, Goes, Looked, Outside, Stage, Turns, aims_for, settled, stage_after, telling}
-use Rattle.bac_run.specs.Went.{ComesTo, HasAsked, IsCut, IsWithin}
+use Rattle.std.specs.{List.AllByRecursion, Prelude.{[], Bool, Err, false, if◌then◌else◌, List, None, Ok, Option}}
+use Rattle.std.specs.Prelude.{Result, Some, suc, unwrap_or, ℕ, ⊤, ◌++◌, ◌∷◌, ◌≡◌}
+use Rattle.bac_tsm.specs.{Client.Client, Events.Event}
+use Rattle.bac_print.specs.{Checked.{has_failed, octets_of}, declared.{checked.Checked.Checked, page.Page.Page}}
+use Rattle.bac_print.specs.Page.{held, laid_out, Prints, room_of, writer_of}
+use Rattle.bac_script.specs.{Alike.IsFrontOf, declared.tracing.TraceFault.TheVariants.WriteFailed}
+use Rattle.bac_links.specs.{declared.fault.ToolFault.TheVariants.SendFailed, History.{Account, Entry, GainsAll}}
+use Rattle.bac_run.specs.Course.{Aim, aims_for, Goes, Looked, Outside, settled, Stage, stage_after, telling, Turns}
+use Rattle.bac_run.specs.declared.{fault.RunFault.{RunFault, TheVariants.{Link, Script}}, turns.{Run.Run, Until.Until}}
+use Rattle.bac_run.specs.{Input.{acts_of_line, fault_of_line, inputs_in}, Journal.{Act, at_event, client_after}}
+use Rattle.bac_run.specs.{Journal.{FitsLine, journal, posts, remarks}, Run.IsWait, Went.{ComesTo, HasAsked, IsCut}}
+use Rattle.bac_run.specs.Went.{IsWithin}
 
 -- It stopped.
 abbrev pub stopped : RunFault → Result (Unit {0}) RunFault

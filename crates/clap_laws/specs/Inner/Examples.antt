@@ -1,8 +1,7 @@
 -- A program with one tool, rules and entries, for examples of what is said of them.
-use Rattle.std.specs.Prelude.{List, Some, None, codes}
-use Rattle.clap.specs.Words.{App, Rule, Text, new_app, new_rule, with_subcommand}
-use Rattle.clap.specs.Walk.{Row, reading_by}
-use Rattle.clap.specs.declared.builder.action.ArgAction.TheVariants.{SetTrue}
+use Rattle.std.specs.Prelude.{codes, List, None, Some}
+use Rattle.clap.specs.{declared.builder.action.ArgAction.TheVariants.SetTrue, Walk.{reading_by, Row}, Words.App}
+use Rattle.clap.specs.Words.{new_app, new_rule, Rule, Text, with_subcommand}
 use Rattle.clap_laws.specs.Commands.{needed, wanting}
 
 -- A program that wants its one tool, which takes no words.

@@ -1,4 +1,4 @@
-use Rattle.std.proofs.Common.{◌++◌, ◌≡◌, drop, map, take}
+use Rattle.std.proofs.Common.{drop, map, take, ◌++◌, ◌≡◌}
 use Rattle.bac_device.specs.{put, Inner.write_seen}
 use Rattle.bac_device.proofs.device.put_in.Given as goal
 

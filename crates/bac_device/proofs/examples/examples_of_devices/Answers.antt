@@ -1,6 +1,6 @@
 -- Each row computes.
 use Rattle.std.proofs.Common.{arith, refl}
-use Rattle.bac_device.{specs.{add_point, description_of, kind_of, place_at, standing_after}, proofs.Computed.computed}
+use Rattle.bac_device.{proofs.Computed.computed, specs.{add_point, description_of, kind_of, place_at, standing_after}}
 use Rattle.bac_device.proofs.examples.examples_of_devices.Goals as goal
 
 pub returns : goal.returns

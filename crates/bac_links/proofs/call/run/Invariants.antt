@@ -1,4 +1,4 @@
-use Rattle.std.proofs.Common.{◌≡◌, false}
+use Rattle.std.proofs.Common.{false, ◌≡◌}
 use Rattle.bac_links.specs.Inner.CallSteps.{Underway}
 use Rattle.bac_links.proofs.call.run.Given as goal
 

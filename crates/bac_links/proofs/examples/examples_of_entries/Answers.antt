@@ -1,5 +1,5 @@
 -- Each computes; what is not so is told by a field.
-use Rattle.std.proofs.Common.{[], None, refl, arith}
+use Rattle.std.proofs.Common.{[], arith, None, refl}
 use Rattle.bac_links.proofs.examples.examples_of_entries.Goals as goal
 
 pub returns : goal.returns

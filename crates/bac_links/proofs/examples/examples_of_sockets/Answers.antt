@@ -1,13 +1,10 @@
 -- Each computes once the octets of an address are opened; what is not so is told by a field.
-use Rattle.std.proofs.Common.{[], ◌∷◌, List, Some, None, Ok, Err, inl, inr, refl, sym, ap, subst, arith}
-use Rattle.std.specs.Net.Addr.{IsIpv4OfBits, ipv4_bits}
-use Rattle.std.specs.declared.net.socket_addr.SocketAddr.{SocketAddr}
-use Rattle.std.specs.declared.io.ErrorKind.TheVariants.{TimedOut}
-use Rattle.bac_links.specs.History.{Silence}
-use Rattle.bac_links.specs.Socket.{BindsAtMost, IsAddressOf, Waits}
-use Rattle.bac_links.specs.SystemCall.{SystemCall, Bind, Elapsed, Receive, SendTo}
-use Rattle.bac_links.specs.Inner.Examples.{desk, local, to_desk}
-use Rattle.bac_links.specs.declared.udp.OnRefusal.TheVariants.{Fails}
+use Rattle.std.proofs.Common.{[], ap, arith, Err, inl, inr, List, None, Ok, refl, Some, subst, sym, ◌∷◌}
+use Rattle.std.specs.declared.{io.ErrorKind.TheVariants.TimedOut, net.socket_addr.SocketAddr.SocketAddr}
+use Rattle.std.specs.Net.Addr.{ipv4_bits, IsIpv4OfBits}
+use Rattle.bac_links.specs.{declared.udp.OnRefusal.TheVariants.Fails, History.Silence, Inner.Examples.{desk, local}}
+use Rattle.bac_links.specs.{Inner.Examples.to_desk, Socket.{BindsAtMost, IsAddressOf, Waits}, SystemCall.Bind}
+use Rattle.bac_links.specs.SystemCall.{Elapsed, Receive, SendTo, SystemCall}
 use Rattle.bac_links.proofs.examples.examples_of_sockets.Goals as goal
 
 -- The address in the first of these calls.

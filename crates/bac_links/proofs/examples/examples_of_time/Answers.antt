@@ -1,5 +1,5 @@
 -- Each computes, or is arithmetic.
-use Rattle.std.proofs.Common.{refl, arith}
+use Rattle.std.proofs.Common.{arith, refl}
 use Rattle.bac_links.proofs.examples.examples_of_time.Goals as goal
 
 pub returns : goal.returns

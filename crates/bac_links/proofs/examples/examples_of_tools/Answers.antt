@@ -1,10 +1,8 @@
 -- What two tools asked is read off what their links gained.
-use Rattle.std.proofs.Common.{◌≡◌, ℕ, List, [], ◌∷◌, ◌++◌, refl, sym, ap, ◌∙◌, arith}
-use Rattle.bac_print.specs.Checked.{Took}
-use Rattle.bac_print.specs.Inner.Examples.{having, unasked, unknown}
-use Rattle.bac_links.specs.Answered.{GoOnAlike, answers_of}
-use Rattle.bac_links.specs.History.{Entry, Timed, Posted}
-use Rattle.bac_links.specs.Inner.Examples.{NoCut, Same, asked_so, desk}
+use Rattle.std.proofs.Common.{[], ap, arith, List, refl, sym, ℕ, ◌++◌, ◌∙◌, ◌∷◌, ◌≡◌}
+use Rattle.bac_print.specs.{Checked.Took, Inner.Examples.{having, unasked, unknown}}
+use Rattle.bac_links.specs.{Answered.{answers_of, GoOnAlike}, History.{Entry, Posted, Timed}, Inner.Examples.asked_so}
+use Rattle.bac_links.specs.Inner.Examples.{desk, NoCut, Same}
 use Rattle.bac_links.proofs.examples.examples_of_tools.Goals as goal
 
 -- Who both asked the time once, and were told the same, ended with the same.

@@ -1,6 +1,7 @@
 -- What was heard is what the history gained, with the octets that the room holds now.
-use Rattle.std.proofs.{Common.refl, lemmas.{List.append-nil, Result.err_from_is_err_and}}
-use Rattle.{bac_print.proofs.Known.Took-none, bac_pdu.specs.{Found.found_seen, Peer.station}}
+use Rattle.std.proofs.{Common.{append-nil, refl}, lemmas.Result.err_from_is_err_and}
+use Rattle.bac_pdu.specs.{Found.found_seen, Peer.station}
+use Rattle.bac_print.proofs.Printed.{Took-none}
 use Rattle.bac_links.specs.History.{Arrived}
 use Rattle.bac_links.proofs.search.listen.Goals as goal
 

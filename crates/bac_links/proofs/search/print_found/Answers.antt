@@ -1,6 +1,6 @@
 -- Ten prints are one line.
 use Rattle.std.proofs.Common.{refl}
-use Rattle.bac_print.proofs.Printed.{◌⨾◌, printed_as}
+use Rattle.bac_print.proofs.Printed.{printed_as, ◌⨾◌}
 use Rattle.bac_links.proofs.search.print_found.Goals as goal
 
 pub returns : goal.returns

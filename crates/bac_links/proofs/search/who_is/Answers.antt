@@ -1,9 +1,9 @@
 -- The datagram always fits, since a Who-Is is short.
-use Rattle.std.proofs.Common.{◌≡◌, ℕ, ◌<◌, ◌≤◌, List, ◌∷◌}
-use Rattle.std.proofs.Common.{[], ◌++◌, length, length-append, None, Result, Ok, Err, OnOk, OnErr, refl, arith, ap, ◌∙◌}
-use Rattle.bac_wire.specs.{Tag.plain_tag, Parameter.{number_octets, object_octets}}
-use Rattle.bac_pdu.specs.{declared.discovery.WhoIs.WhoIs, Parameter.plain_parameter, Peer.station}
-use Rattle.bac_pdu.{specs.{Datagram.wrapped, Discovery.who_is_octets}, proofs.LengthLaws.read_octets_short}
+use Rattle.std.proofs.Common.{[], ap, arith, Err, length, length-append, List, None, Ok, OnErr, OnOk, refl, Result, ℕ}
+use Rattle.std.proofs.Common.{◌++◌, ◌<◌, ◌∙◌, ◌∷◌, ◌≡◌, ◌≤◌}
+use Rattle.bac_wire.specs.{Parameter.{number_octets, object_octets}, Tag.plain_tag}
+use Rattle.bac_pdu.{proofs.ShortestLaws.read_octets_short, specs.{Datagram.wrapped, declared.discovery.WhoIs.WhoIs}}
+use Rattle.bac_pdu.specs.{Discovery.who_is_octets, Parameter.plain_parameter, Peer.station}
 use Rattle.bac_pdu.specs.declared.discovery.WhoIs.TheVariants as limits
 use Rattle.bac_links.proofs.search.who_is.Goals as goal
 

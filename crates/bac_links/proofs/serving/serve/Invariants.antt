@@ -1,4 +1,4 @@
-use Rattle.std.proofs.Common.{◌≡◌, ◌<◌, false}
+use Rattle.std.proofs.Common.{false, ◌<◌, ◌≡◌}
 use Rattle.bac_links.proofs.Servings.{ServeGoes}
 use Rattle.bac_links.proofs.serving.serve.Given as goal
 

@@ -1,13 +1,12 @@
 -- What a body says is what is read of it, which computes once the definitions that read are opened.
-use Rattle.std.{proofs.Common.{[], ◌++◌, ◌∷◌, arith, List, refl, ℕ}, specs.Prelude.{Err, Ok}}
-use Rattle.bac_wire.specs.{DatumReading.{contents_of, value_at}, ItemReading.{behind_closing, behind_items, region_at}}
-use Rattle.bac_wire.specs.ParameterReading.{behind_opening, context_at, enclosed_at, kind_at, number_at, object_at}
-use Rattle.bac_wire.specs.{Tag.plain_tag, TagReading.{length_at, long_length_at, shape_at, tag_at, tag_number_at}}
-use Rattle.bac_wire.proofs.ItemLaws.{whole_is}
+use Rattle.std.proofs.Common.{[], arith, Err, List, Ok, refl, ℕ, ◌++◌, ◌∷◌}
+use Rattle.bac_wire.{proofs.ItemLaws.whole_is, specs.{DatumReading.{contents_of, value_at}, ItemReading.behind_closing}}
+use Rattle.bac_wire.specs.{ItemReading.{behind_items, region_at}, ParameterReading.{behind_opening, context_at}}
+use Rattle.bac_wire.specs.{ParameterReading.{enclosed_at, kind_at, number_at, object_at}, Tag.plain_tag}
+use Rattle.bac_wire.specs.TagReading.{length_at, long_length_at, shape_at, tag_at, tag_number_at}
+use Rattle.bac_pdu.proofs.{BodyLaws.{ack_is, read_is, write_is}, DiscoveryLaws.{error_is, introduction_is, who_is_is}}
 use Rattle.bac_pdu.specs.{ack_of, error_of, introduction_of, OutOfRange, plain_parameter, Range, read_of, reference_at}
 use Rattle.bac_pdu.specs.{TooMany, who_is_of, write_of, Inner.{present_octets, present_value, release}}
-use Rattle.bac_pdu.proofs.DiscoveryLaws.{error_is, introduction_is, who_is_is}
-use Rattle.bac_pdu.proofs.PropertyLaws.{ack_is, read_is, write_is}
 use Rattle.bac_pdu.proofs.examples.examples_of_bodies.Goals as goal
 
 -- the value NULL in a body, and a write of it

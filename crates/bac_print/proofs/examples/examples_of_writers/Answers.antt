@@ -1,5 +1,5 @@
 -- A writer that was asked for nothing took nothing.
-use Rattle.std.proofs.Common.{[], ◌∷◌, arith, refl}
+use Rattle.std.proofs.Common.{[], arith, refl, ◌∷◌}
 use Rattle.bac_print.specs.{Took, Inner.{unasked, unknown}}
 use Rattle.bac_print.proofs.examples.examples_of_writers.Goals as goal
 

@@ -1,4 +1,4 @@
-use Rattle.std.proofs.Common.{◌++◌, ◌+◌, ◌≡◌, ◌≤◌, decimal, drop, length}
+use Rattle.std.proofs.Common.{decimal, drop, length, ◌++◌, ◌+◌, ◌≡◌, ◌≤◌}
 use Rattle.bac_print.proofs.page.write_digits.Given as goal
 
 abbrev pub invariant-loop-rest : goal.invariant-loop-rest

@@ -1,6 +1,6 @@
 -- The parts are written from the last to the first, and their texts are joined otherwise than the definition says.
-use Rattle.std.proofs.Common.{◌++◌, ◌∙◌, ◌∷◌, ◌≡◌, ap, append-nil, append_assoc, arith, decimal, get_or, List, ℕ}
-use Rattle.std.proofs.Math.ListN.{drop_of_length-le}
+use Rattle.std.proofs.Common.{ap, append-nil, append_assoc, arith, decimal, drop_of_length-le, get_or, List, ℕ, ◌++◌}
+use Rattle.std.proofs.Common.{◌∙◌, ◌∷◌, ◌≡◌}
 use Rattle.bac_print.proofs.peer_texts.write_station.Goals as goal
 
 -- Four octets in decimal, joined by dots, a colon and a port.

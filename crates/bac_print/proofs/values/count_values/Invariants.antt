@@ -1,5 +1,5 @@
-use Rattle.std.proofs.Common.{◌+◌, ◌≤◌, length}
-use Rattle.bac_wire.proofs.ValueLists.{Counted}
+use Rattle.std.proofs.Common.{length, ◌+◌, ◌≤◌}
+use Rattle.bac_wire.proofs.DatumLaws.{Counted}
 use Rattle.bac_print.proofs.values.count_values.Given as goal
 
 abbrev pub invariant-loop-rest : goal.invariant-loop-rest

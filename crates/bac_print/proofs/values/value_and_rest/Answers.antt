@@ -1,6 +1,6 @@
 -- That less is left is known of the octets of a value, not of the call that reads it.
 use Rattle.std.proofs.Common.{sym}
-use Rattle.bac_wire.proofs.ValueLists.{value-shorter}
+use Rattle.bac_wire.proofs.DatumLaws.{value-shorter}
 use Rattle.bac_print.proofs.values.value_and_rest.Goals as goal
 
 pub returns-clause-shorter : goal.returns-clause-shorter

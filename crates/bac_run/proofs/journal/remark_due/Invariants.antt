@@ -1,5 +1,4 @@
-use Rattle.std.proofs.Common.{take}
-use Rattle.std.specs.List.{flat_map}
+use Rattle.std.{proofs.Common.take, specs.List.flat_map}
 use Rattle.bac_tsm.specs.Machine.{due_notes}
 use Rattle.bac_print.specs.Page.{Prints}
 use Rattle.bac_run.specs.Journal.{remarks}

@@ -1,17 +1,14 @@
 -- Each way out of the loop ends the run that stands so far in another way.
-use denote.Enum.Bare.{same_true}
-use Rattle.std.proofs.Common.{◌≡◌, ◌≢◌, ◌∙◌, ◌∷◌, refl, sym, length-drop, arith, rules}
+use Rattle.std.proofs.Common.{arith, length-drop, refl, rules, sym, ◌∙◌, ◌∷◌, ◌≡◌, ◌≢◌}
 use Rattle.std.proofs.lemmas.Result.{err_from_is_err_and}
-use Rattle.bac_script.specs.contracts.input.Reading.{the_type}
-use Rattle.bac_script.specs.declared.input.Reading.TheVariants.{AtEnd, Failed}
+use Rattle.bac_script.specs.{contracts.input.Reading.the_type, declared.input.Reading.TheVariants.{AtEnd, Failed}}
 use Rattle.bac_links.specs.Limits.{most_turns}
-use Rattle.bac_run.specs.Course.{Turns}
-use Rattle.bac_run.specs.declared.turns.Until.TheVariants.{FewOpen}
-use Rattle.bac_run.proofs.Parts.{went_at, went_more}
-use Rattle.bac_run.proofs.Runs.{so_far_none, so_far_more, stops_waiting, stops_unread, stops_reading, stops_line}
-use Rattle.bac_run.proofs.Runs.{stops_last, ends_unread, ends_behind, roomed}
 use Rattle.bac_run.proofs.Cut.{at_end, at_last, can_read, cut_next, cut_so, failed_lines, last_line, none_left}
-use Rattle.bac_run.proofs.Cut.{open_cut, open_stands, still_stands}
+use Rattle.bac_run.proofs.{Cut.{open_cut, open_stands, still_stands}, Parts.{went_at, went_more}, Runs.ends_behind}
+use Rattle.bac_run.proofs.Runs.{ends_unread, roomed, so_far_more, so_far_none, stops_last, stops_line, stops_reading}
+use Rattle.bac_run.{proofs.Runs.{stops_unread, stops_waiting}, specs.Course.Turns}
+use Rattle.bac_run.specs.declared.turns.Until.TheVariants.{FewOpen}
+use denote.Enum.Bare.{same_true}
 use Rattle.bac_run.proofs.running.run_lines.Goals as goal
 
 pub lines-init : goal.lines-init

@@ -1,5 +1,5 @@
 -- Each computes; what is not so is told by a field.
-use Rattle.std.proofs.Common.{[], ◌∷◌, arith, refl}
+use Rattle.std.proofs.Common.{[], arith, refl, ◌∷◌}
 use Rattle.bac_script.proofs.examples.examples_of_limits.Goals as goal
 
 pub returns : goal.returns

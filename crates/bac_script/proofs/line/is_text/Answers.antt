@@ -1,9 +1,8 @@
 -- Where all octets are ASCII, no reading of UTF-8 is needed.
-use Rattle.std.proofs.Common.{◌∙◌, ◌≡◌, arith, Err, is_ok, IsUtf8, List, MatchResult, nat_lt, None, Ok, position}
-use Rattle.std.proofs.{Common.{Result, sym, ℕ}, lemmas.{Bool.false_from_ne_true, List.get_or_past}}
-use Rattle.std.proofs.lemmas.Str.{is_utf8-from_IsUtf8, IsUtf8-from_ascii, IsUtf8-from_is_utf8}
-use Rattle.std.specs.Str.{is_utf8, IsAscii}
-use Rattle.bac_script.proofs.Taken.{none_passes}
+use Rattle.std.proofs.Common.{arith, Err, is_ok, IsUtf8, List, MatchResult, nat_lt, None, Ok, position, Result, sym, ℕ}
+use Rattle.std.proofs.{Common.{◌∙◌, ◌≡◌}, lemmas.{Bool.false_from_ne_true, List.get_or_past, Str.is_utf8-from_IsUtf8}}
+use Rattle.std.{proofs.lemmas.Str.{IsUtf8-from_ascii, IsUtf8-from_is_utf8}, specs.Str.{is_utf8, IsAscii}}
+use Rattle.bac_script.proofs.Chunks.{none_passes}
 use Rattle.bac_script.proofs.line.is_text.Goals as goal
 
 all_ascii : (octets : List ℕ) → position (λ octet. nat_lt 127 octet) octets ≡ None → IsAscii octets

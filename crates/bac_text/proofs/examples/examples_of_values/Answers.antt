@@ -1,7 +1,7 @@
 -- Each row computes once the definitions that read and write it are opened.
 use Rattle.std.{proofs.Common.arith, specs.Fmt.digits}
-use Rattle.bac_wire.specs.{Datum.plain, Tag.plain_tag, Inner.Datum.tagged}
 use Rattle.hex.specs.Hex.{decode_pairs}
+use Rattle.bac_wire.specs.{Datum.plain, Inner.Datum.tagged, Tag.plain_tag}
 use Rattle.bac_text.specs.{value_under}
 use Rattle.bac_text.proofs.examples.examples_of_values.Goals as goal
 

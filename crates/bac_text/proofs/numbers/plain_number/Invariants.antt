@@ -1,4 +1,4 @@
-use Rattle.std.{proofs.Common.{◌<◌, ◌^◌, ◌≡◌, take, true}, specs.Str.{all_ascii_digits, Parse.digits_value}}
+use Rattle.std.{proofs.Common.{take, true, ◌<◌, ◌^◌, ◌≡◌}, specs.Str.{all_ascii_digits, Parse.digits_value}}
 use Rattle.bac_text.proofs.numbers.plain_number.Given as goal
 
 abbrev pub invariant-loop-digit : goal.invariant-loop-digit

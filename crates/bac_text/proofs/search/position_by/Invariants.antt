@@ -1,4 +1,4 @@
-use Rattle.std.proofs.Common.{◌-◌, ◌<◌, ◌≡◌, ◌≤◌, false, get_or, length, ℕ}
+use Rattle.std.proofs.Common.{false, get_or, length, ℕ, ◌-◌, ◌<◌, ◌≡◌, ◌≤◌}
 use Rattle.bac_text.specs.{ends_at}
 use Rattle.bac_text.proofs.search.position_by.Given as goal
 

@@ -1,4 +1,4 @@
-use Rattle.std.proofs.Common.{◌*◌, ◌<◌, ◌≡◌, drop, get_or, length, ℕ}
+use Rattle.std.proofs.Common.{drop, get_or, length, ℕ, ◌*◌, ◌<◌, ◌≡◌}
 use Rattle.bac_text.specs.{bits_octet}
 use Rattle.bac_text.proofs.value_words.append_bits.Given as goal
 

@@ -1,21 +1,13 @@
 -- Each is computed; the end of the run, its writers and its calls tell what is not so.
-use Rattle.std.proofs.Common.{[], ◌∷◌, Ok, Err, None, inl, inr, refl, arith}
-use Rattle.std.proofs.Math.Logic.{∥∥₁_elim}
-use Rattle.std.specs.Prelude.{codes, false}
+use Rattle.std.proofs.{Common.{[], arith, codes, Err, false, inl, inr, None, Ok, refl, ◌∷◌}, Math.Logic.∥∥₁_elim}
 use Rattle.std.specs.Net.Addr.{IsIpv4OfBits}
-use Rattle.clap.specs.Faults.{walk_fault, defaults_fault}
-use Rattle.clap.specs.Walk.{walked}
-use Rattle.bac_links.specs.Socket.{IsAddressOf}
-use Rattle.bac_links.specs.SystemCall.{Limit}
-use Rattle.bac_links.specs.declared.fault.ToolFault.TheVariants.{ReceiveFailed}
-use Rattle.bac_links.specs.declared.udp.OnRefusal.TheVariants.{IsLost}
-use Rattle.bac_pdu.specs.Peer.{station}
-use Rattle.bac_pdu.specs.declared.peer.Peer.{Peer}
-use Rattle.bac_words.specs.Line.{Answers}
-use Rattle.bac_words.specs.declared.job.Job.TheVariants.{Over}
-use Rattle.bac_tools.specs.Runs.{ToolRuns}
-use Rattle.bac_tools.specs.Inner.Examples.{any_at, asked_so, deaf, device, device_words, no_contents, unasked}
-use Rattle.bac_tools.proofs.Worked.{ends, given, silent, untaken}
+use Rattle.clap.specs.{Faults.{defaults_fault, walk_fault}, Walk.walked}
+use Rattle.bac_pdu.specs.{declared.peer.Peer.Peer, Peer.station}
+use Rattle.bac_links.specs.declared.{fault.ToolFault.TheVariants.ReceiveFailed, udp.OnRefusal.TheVariants.IsLost}
+use Rattle.bac_links.specs.{Socket.IsAddressOf, SystemCall.Limit}
+use Rattle.bac_words.specs.{declared.job.Job.TheVariants.Over, Line.Answers}
+use Rattle.bac_tools.{proofs.Worked.{ends, given, silent, untaken}, specs.Inner.Examples.{any_at, asked_so, deaf}}
+use Rattle.bac_tools.specs.{Inner.Examples.{device, device_words, no_contents, unasked}, Runs.ToolRuns}
 use Rattle.bac_tools.proofs.examples.examples_of_a_device.Goals as goal
 
 runs : ToolRuns no_contents unasked unasked (asked_so []) (asked_so deaf) (Err ReceiveFailed) device

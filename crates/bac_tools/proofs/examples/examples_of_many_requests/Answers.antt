@@ -1,14 +1,9 @@
 -- A run without an input is computed; its lines and its settings tell what is not so.
-use Rattle.std.proofs.Common.{◌≡◌, ℕ, ◌<◌, List, [], length, refl, sym, subst, arith}
-use Rattle.bac_script.proofs.Computed.{computed}
+use Rattle.std.proofs.Common.{[], arith, length, List, refl, subst, sym, ℕ, ◌<◌, ◌≡◌}
+use Rattle.bac_script.{proofs.Computed.computed, specs.declared.input.Reading.{Reading, TheVariants.AtEnd}}
 use Rattle.bac_script.specs.Script.{lines}
-use Rattle.bac_script.specs.declared.input.Reading.{Reading}
-use Rattle.bac_script.specs.declared.input.Reading.TheVariants.{AtEnd}
-use Rattle.bac_run.specs.declared.session.Session.{Session}
-use Rattle.bac_run.proofs.Out.{out_nothing}
-use Rattle.bac_run.proofs.ReadBack.{settings_read_back}
-use Rattle.bac_tools.specs.Inner.Examples.{settings_told, unasked}
-use Rattle.bac_tools.proofs.Worked.{given}
+use Rattle.bac_run.{proofs.{Out.out_nothing, ReadBack.settings_read_back}, specs.declared.session.Session.Session}
+use Rattle.bac_tools.{proofs.Worked.given, specs.Inner.Examples.{settings_told, unasked}}
 use Rattle.bac_tools.proofs.examples.examples_of_many_requests.Goals as goal
 
 abbrev session : 0 < 3000 → 0 < 1 → Session
@@ -19,8 +14,7 @@ no_line : 1 ≡ length (lines [] AtEnd) → ⊥
 unfolding computed
 no_line count = grind arith
 
-one_line : (octets : List ℕ) (reading : Reading) → [] ≡ octets → reading ≡ AtEnd
-    → 1 ≡ length (lines octets reading) → ⊥
+one_line : (octets : List ℕ) (reading : Reading) → [] ≡ octets → reading ≡ AtEnd → 1 ≡ length (lines octets reading) → ⊥
 one_line octets reading none over count =
     no_line (subst (λ r. 1 ≡ length (lines [] r)) over
     (subst (λ os. 1 ≡ length (lines os reading)) (sym none) count))

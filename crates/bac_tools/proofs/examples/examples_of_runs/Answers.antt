@@ -1,5 +1,5 @@
 -- What the runs were asked, read and printed is nothing.
-use Rattle.std.proofs.Common.{[], inl, refl, arith}
+use Rattle.std.proofs.Common.{[], arith, inl, refl}
 use Rattle.bac_tools.proofs.examples.examples_of_runs.Goals as goal
 
 pub returns : goal.returns

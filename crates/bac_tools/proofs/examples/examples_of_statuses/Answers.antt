@@ -1,5 +1,5 @@
 -- Each is arithmetic.
-use Rattle.std.proofs.Common.{refl, arith}
+use Rattle.std.proofs.Common.{arith, refl}
 use Rattle.bac_tools.proofs.examples.examples_of_statuses.Goals as goal
 
 pub returns : goal.returns

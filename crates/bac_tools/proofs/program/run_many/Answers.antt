@@ -1,5 +1,5 @@
 -- Many requests were made over the socket that they ask for, or it is told that there is none.
-use Rattle.std.proofs.Common.{Some, Ok, Err, refl}
+use Rattle.std.proofs.Common.{Err, Ok, refl, Some}
 use Rattle.bac_tools.proofs.program.run_many.Goals as goal
 
 pub returns-in-Ok : goal.returns-in-Ok

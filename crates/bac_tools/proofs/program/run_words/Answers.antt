@@ -1,5 +1,5 @@
 -- A tool was run over the socket that it asked for, or was told that there is none.
-use Rattle.std.proofs.Common.{Some, Ok, Err, refl}
+use Rattle.std.proofs.Common.{Err, Ok, refl, Some}
 use Rattle.bac_words.specs.declared.job.Job.TheVariants.{Over, Run}
 use Rattle.bac_tools.proofs.program.run_words.Goals as goal
 

@@ -1,4 +1,4 @@
-use Rattle.std.proofs.Common.{◌≡◌, ◌++◌}
+use Rattle.std.proofs.Common.{◌++◌, ◌≡◌}
 use Rattle.bac_tools.proofs.program.words_typed.Given as goal
 
 abbrev pub invariant-loop-word : goal.invariant-loop-word

@@ -1,6 +1,6 @@
 -- What was printed so far, and the next part.
 use Rattle.std.proofs.Common.{[]}
-use Rattle.bac_print.proofs.Printed.{◌⨾◌, prints_nothing}
+use Rattle.bac_print.proofs.Printed.{prints_nothing, ◌⨾◌}
 use Rattle.bac_tools.proofs.telling.print_text.Goals as goal
 
 pub parts-init : goal.parts-init

@@ -1,4 +1,4 @@
-use Rattle.std.proofs.Common.{ℕ, ◌-◌, ◌^◌, List}
+use Rattle.std.proofs.Common.{List, ℕ, ◌-◌, ◌^◌}
 use Rattle.bac_print.specs.Page.{Prints}
 use Rattle.bac_tools.proofs.telling.print_text.Given as goal
 

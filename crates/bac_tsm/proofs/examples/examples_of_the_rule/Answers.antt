@@ -1,5 +1,5 @@
 -- What the record says is its fields.
-use Rattle.bac_tsm.proofs.{AnswersInWords.few_open, Placed.follows}
+use Rattle.bac_tsm.proofs.{Calls.few_open, WholeRun.follows}
 use Rattle.bac_tsm.proofs.examples.examples_of_the_rule.Goals as goal
 
 pub returns : goal.returns

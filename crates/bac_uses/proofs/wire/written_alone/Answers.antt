@@ -1,6 +1,6 @@
 -- What stands alone in a frame is read back whole.
 use Rattle.std.proofs.Common.{refl, true}
-use Rattle.bac_wire.proofs.ReadBack.{value_alone}
+use Rattle.bac_wire.proofs.ItemLaws.{value_alone}
 use Rattle.bac_uses.proofs.wire.written_alone.Goals as goal
 
 pub unwrap-count-requires : goal.unwrap-count-requires

@@ -1,11 +1,11 @@
 -- What is spelled is what a reader finds, which computes once the definitions that read are opened.
-use Rattle.std.proofs.Common.{[], ◌∷◌, ◌≤◌, append-nil, arith, inl, inr, List, refl, subst, ℕ}
+use Rattle.std.proofs.Common.{[], append-nil, arith, inl, inr, List, refl, subst, ℕ, ◌∷◌, ◌≤◌}
+use Rattle.bac_wire.proofs.ItemLaws.{context_reader, enclosed_reader, items_is, nesting, number_reader, one_region}
+use Rattle.bac_wire.proofs.{ItemLaws.{region_reader, whole_is}, TagLaws.{is_read, is_spelled, tag_reader}}
 use Rattle.bac_wire.specs.{behind_closing, behind_items, behind_opening, context_at, enclosed_at, here, into}
 use Rattle.bac_wire.specs.{IsClosedRegion, IsItem, IsPrimitive, IsRegion, length_at, long_length_at, more, none}
 use Rattle.bac_wire.specs.{number_at, object_at, past, plain_tag, region_at, shape_at, tag_at, tag_number_at}
-use Rattle.bac_wire.{specs.Inner.unsigned_tag, proofs.ItemLaws.{items_is, nesting, one_region, region_reader, whole_is}}
-use Rattle.bac_wire.proofs.{ParameterLaws.{context_reader, enclosed_reader, number_reader}, TagLaws.tag_reader}
-use Rattle.bac_wire.proofs.Spelled.{is_read, is_spelled}
+use Rattle.bac_wire.specs.Inner.{unsigned_tag}
 use Rattle.bac_wire.proofs.examples.examples_of_regions.Goals as goal
 
 -- the number 5

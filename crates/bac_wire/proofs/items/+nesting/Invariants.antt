@@ -1,4 +1,4 @@
-use Rattle.std.proofs.Common.{◌*◌, ◌+◌, ◌≡◌, ◌≤◌, length}
+use Rattle.std.proofs.Common.{length, ◌*◌, ◌+◌, ◌≡◌, ◌≤◌}
 use Rattle.bac_wire.proofs.ItemLaws.{rest_of}
 use Rattle.bac_wire.proofs.items.+nesting.Given as goal
 

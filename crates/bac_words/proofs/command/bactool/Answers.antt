@@ -1,5 +1,5 @@
 -- The six tools are added, one after another, to a command that wants one.
-use Rattle.clap_laws.proofs.Built.{wanting_is}
+use Rattle.clap_laws.proofs.Parsed.{wanting_is}
 use Rattle.bac_words.proofs.command.bactool.Goals as goal
 
 pub returns : goal.returns

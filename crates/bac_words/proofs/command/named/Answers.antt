@@ -1,5 +1,5 @@
 -- What help says of a command is none of its rules.
-use Rattle.clap_laws.proofs.Built.{helped}
+use Rattle.clap_laws.proofs.Parsed.{helped}
 use Rattle.bac_words.proofs.command.named.Goals as goal
 
 pub returns : goal.returns

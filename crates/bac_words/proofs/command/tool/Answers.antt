@@ -1,6 +1,6 @@
 -- The arguments are added one after another, and the command stays simple.
 use Rattle.std.proofs.lemmas.Result.{IfOk-weaker}
-use Rattle.clap_laws.proofs.Built.{in_turn}
+use Rattle.clap_laws.proofs.Parsed.{in_turn}
 use Rattle.bac_words.proofs.command.tool.Goals as goal
 
 pub returns : goal.returns

@@ -1,6 +1,7 @@
 -- What `clap` hands out of such an argument is a number within its limits.
 use Rattle.std.proofs.Common.{IfSome, Option, subst, sym, ℕ}
-use Rattle.{clap.specs.Words.found_of, clap_laws.{specs.Inner.Numbers.{FitsWord, IsWithin}, proofs.Getters.getter}}
+use Rattle.clap.specs.Words.{found_of}
+use Rattle.clap_laws.{proofs.Parsed.getter, specs.Inner.Numbers.{FitsWord, IsWithin}}
 use Rattle.bac_words.proofs.parse.number.Goals as goal
 
 pub returns : goal.returns

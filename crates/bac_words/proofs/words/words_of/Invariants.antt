@@ -1,4 +1,4 @@
-use Rattle.std.{proofs.Common.{◌++◌, ◌≡◌, map, take}, specs.String.string_bytes}
+use Rattle.std.{proofs.Common.{map, take, ◌++◌, ◌≡◌}, specs.String.string_bytes}
 use Rattle.bac_words.proofs.words.words_of.Given as goal
 
 abbrev pub invariant-loop-word : goal.invariant-loop-word

@@ -1,8 +1,6 @@
 -- Each computes; that words enter is walked through.
-use Rattle.std.proofs.Common.{[], refl, sym, ◌∙◌, arith}
-use Rattle.std.specs.Prelude.{codes}
-use Rattle.clap.specs.Faults.{walk_fault, defaults_fault}
-use Rattle.clap.specs.Walk.{walked}
+use Rattle.std.proofs.Common.{[], arith, codes, refl, sym, ◌∙◌}
+use Rattle.clap.specs.{Faults.{defaults_fault, walk_fault}, Walk.walked}
 use Rattle.clap_laws.proofs.examples.examples_of_commands.Goals as goal
 
 pub returns : goal.returns

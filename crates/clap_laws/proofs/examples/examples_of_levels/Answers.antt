@@ -1,5 +1,5 @@
 -- Each computes; what is not so is told by a field.
-use Rattle.std.proofs.Common.{refl, arith}
+use Rattle.std.proofs.Common.{arith, refl}
 use Rattle.clap_laws.specs.Inner.Examples.{word}
 use Rattle.clap_laws.proofs.examples.examples_of_levels.Goals as goal
 

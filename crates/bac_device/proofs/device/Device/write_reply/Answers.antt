@@ -1,6 +1,6 @@
 -- A request that was read has a priority that there is.
 use Rattle.std.proofs.Common.{sym}
-use Rattle.bac_pdu.proofs.PropertyLaws.{write_is}
+use Rattle.bac_pdu.proofs.BodyLaws.{write_is}
 use Rattle.bac_device.proofs.device.Device.write_reply.Goals as goal
 
 pub accepted_write-requires : goal.accepted_write-requires

@@ -1,9 +1,9 @@
 -- `and` picks the items, and what the note tells behind them.
-use Rattle.bac_wire.proofs.Walks.{[], ◌$◌, ◌++◌, ◌∵◌, ◌∷◌, ◌⊛◌, !, a_type, agg, alive, alloc_all, and_then, bounded}
-use Rattle.bac_wire.proofs.Walks.{dcons, dnil, done, ends_at, enter, fjoin, free_all, get, Goes-dropped, inst_fn, keep}
-use Rattle.bac_wire.proofs.Walks.{look_at, move, named, no_more, nothing, owns, param, pass_all, plain, proved, qed}
-use Rattle.bac_wire.proofs.Walks.{RattleType, raw, refl, RefOf, returns, says, sets, shr_Tells, shr_vals, split}
-use Rattle.bac_wire.proofs.Walks.{stay_dropped, Stays, suffices, types_at, yes, ‵}
+use Rattle.bac_wire.proofs.Walks.{ !, [], a_type, agg, alive, alloc_all, and_then, bounded, dcons, dnil, done, ends_at}
+use Rattle.bac_wire.proofs.Walks.{enter, fjoin, free_all, get, Goes-dropped, inst_fn, keep, look_at, move, named}
+use Rattle.bac_wire.proofs.Walks.{no_more, nothing, owns, param, pass_all, plain, proved, qed, RattleType, raw, refl}
+use Rattle.bac_wire.proofs.Walks.{RefOf, returns, says, sets, shr_Tells, shr_vals, split, stay_dropped, Stays, suffices}
+use Rattle.bac_wire.proofs.Walks.{types_at, yes, ‵, ◌$◌, ◌++◌, ◌∵◌, ◌∷◌, ◌⊛◌}
 use Rattle.bac_print.proofs.{ghost_list.GhostList.and.Statement.statement, Walks.{marked, marked_made}}
 use Rattle.bac_print.specs.contracts.ghost_list.GhostList as GhostList
 use Rattle.bac_print.specs.contracts.ghost_list.GhostList.and as f

@@ -1,4 +1,4 @@
-use Rattle.std.{proofs.Common.take, specs.List.flat_map}
+use Rattle.std.proofs.Common.{flat_map, take}
 use Rattle.bac_print.specs.{Prints, quoted_octet}
 use Rattle.bac_print.proofs.page.Page.print_quoted_octets.Given as goal
 

@@ -1,4 +1,4 @@
-use Rattle.std.{proofs.Common.take, specs.List.flat_map}
+use Rattle.std.proofs.Common.{flat_map, take}
 use Rattle.bac_print.specs.{octet_bits, Prints}
 use Rattle.bac_print.proofs.page.Page.print_whole_octets.Given as goal
 

@@ -1,11 +1,7 @@
 -- A line without words.
-use Rattle.std.proofs.Common.{◌∷◌, [], Some, arith, refl}
-use Rattle.std.proofs.lemmas.Result.{err_from_is_err_and}
-use Rattle.bac_run.proofs.Acts.{due_nothing}
-use Rattle.bac_run.proofs.Parts.{for_front, for_quiet, for_same, went_at, went_failed, went_more, went_nothing}
-use Rattle.bac_run.proofs.Parts.{went_one}
-use Rattle.bac_run.specs.Course.{Does}
-use Rattle.bac_run.specs.Journal.{Paused}
+use Rattle.std.proofs.{Common.{[], arith, refl, Some, ◌∷◌}, lemmas.Result.err_from_is_err_and}
+use Rattle.bac_run.proofs.{Acts.due_nothing, Parts.{for_front, for_quiet, for_same, went_at, went_failed, went_more}}
+use Rattle.bac_run.{proofs.Parts.{went_nothing, went_one}, specs.{Course.Does, Journal.Paused}}
 use Rattle.bac_run.proofs.turns.Run.pause.Goals as goal
 
 pub returns-in_err-wait-clause-went : goal.returns-in_err-wait-clause-went

@@ -1,23 +1,15 @@
 -- What a line says.
-use Rattle.std.proofs.Common.{ℕ, List, [], ◌<◌, length, Some, None, Result, Ok, Err, IsTrue, arith, refl, rules, ◌≡◌}
-use Rattle.std.proofs.Common.{sym, ap, ◌∷◌}
-use Rattle.std.specs.Prelude.{option_and_then}
-use Rattle.std.specs.Result.{result_ok}
-use Rattle.std.proofs.lemmas.Result.{err_from_is_err_and}
-use Rattle.bac_tsm.specs.Events.{Ask}
-use Rattle.bac_script.specs.Line.{Said, Nothing, Happens}
-use Rattle.bac_script.specs.declared.line.LineFault.{LineFault}
-use Rattle.bac_run.specs.Course.{Does}
-use Rattle.bac_run.specs.Input.{acts_of_line, acts_of_said, said_of}
-use Rattle.bac_run.specs.Journal.{Asked}
-use Rattle.std.proofs.lemmas.Bool.Decides.{nat_tests}
+use Rattle.std.proofs.Common.{[], ap, arith, Err, IsTrue, length, List, None, Ok, refl, Result, rules, Some, sym, ℕ}
+use Rattle.std.proofs.{Common.{◌<◌, ◌∷◌, ◌≡◌}, lemmas.{Bool.Decides.nat_tests, Result.err_from_is_err_and}}
+use Rattle.std.specs.{Prelude.option_and_then, Result.result_ok}
 use Rattle.bac_wire.specs.Identifier.{identifier}
-use Rattle.bac_pdu.specs.Apdu.{longest_body}
-use Rattle.bac_pdu.specs.Peer.{station}
+use Rattle.bac_pdu.specs.{Apdu.longest_body, Peer.station}
+use Rattle.bac_tsm.specs.Events.{Ask}
 use Rattle.bac_text.specs.Pairs.{whole_body_of}
-use Rattle.bac_script.specs.LineSeen.{long_body}
-use Rattle.bac_script.specs.LongBody.{octets_or_none, is_long}
-use Rattle.bac_run.proofs.Parts.{for_front, for_same, for_refused, went_at, went_failed}
+use Rattle.bac_script.specs.{declared.line.LineFault.LineFault, Line.{Happens, Nothing, Said}, LineSeen.long_body}
+use Rattle.bac_script.specs.LongBody.{is_long, octets_or_none}
+use Rattle.bac_run.{proofs.Parts.{for_front, for_refused, for_same, went_at, went_failed}, specs.Course.Does}
+use Rattle.bac_run.specs.{Input.{acts_of_line, acts_of_said, said_of}, Journal.Asked}
 use Rattle.bac_run.proofs.turns.Run.take_line.Goals as goal
 
 past : (whole : Result (List ℕ) ℕ) → IsTrue (is_long whole) → longest_body < length (octets_or_none whole)

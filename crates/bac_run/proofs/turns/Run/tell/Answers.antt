@@ -1,10 +1,8 @@
 -- What is told at a time.
-use Rattle.std.proofs.Common.{◌∙◌, ap, refl, rules, sym, arith, length, nat_lt, false, true, ◌≡◌}
+use Rattle.std.proofs.Common.{ap, arith, false, length, nat_lt, refl, rules, sym, true, ◌∙◌, ◌≡◌}
 use Rattle.std.proofs.lemmas.Bool.Decides.{nat_tests}
-use Rattle.bac_run.proofs.Parts.{comes_sent, went_still, went_told}
 use Rattle.bac_tsm.specs.Client.{Client}
-use Rattle.bac_run.specs.Course.{ready}
-use Rattle.bac_run.proofs.Counts.{tick_open}
+use Rattle.bac_run.{proofs.{Counts.tick_open, Parts.{comes_sent, went_still, went_told}}, specs.Course.ready}
 use Rattle.bac_run.proofs.turns.Run.tell.Goals as goal
 
 pub returns-then-now-clock-clause-went : goal.returns-then-now-clock-clause-went

@@ -1,9 +1,7 @@
 -- One turn after another.
-use Rattle.std.proofs.Common.{◌≡◌, ◌≤◌, ◌∷◌, false, []}
+use Rattle.std.proofs.Common.{[], false, ◌∷◌, ◌≡◌, ◌≤◌}
 use Rattle.bac_links.specs.Limits.{most_turns}
-use Rattle.bac_run.specs.Course.{Turns, open_in}
-use Rattle.bac_run.specs.Inner.Went.{Went, started}
-use Rattle.bac_run.proofs.Acts.{done}
+use Rattle.bac_run.{proofs.Acts.done, specs.{Course.{open_in, Turns}, Inner.Went.{started, Went}}}
 use Rattle.bac_run.proofs.turns.Run.wait.Given as goal
 
 abbrev pub invariant-turns : goal.invariant-turns

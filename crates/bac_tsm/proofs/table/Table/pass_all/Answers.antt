@@ -1,7 +1,7 @@
 -- Each turn passes one request; what is told in that order, sorted by ticket, is what the definition tells.
-use Rattle.std.proofs.{Common.{◌∙◌, arith, List, subst, sym}, lemmas.List.Sorted.IsPermutation-trans}
+use Rattle.std.proofs.{Common.{arith, List, subst, sym, ◌∙◌}, lemmas.List.Sorted.IsPermutation-trans}
 use Rattle.std.specs.List.Sorted.{IsPermutation}
-use Rattle.bac_tsm.{specs.{client_rules, DueEntry}, proofs.TableTick.{all_passed, few_due, fewer, passed, refilled}}
+use Rattle.bac_tsm.{proofs.TableTick.{all_passed, few_due, fewer, passed, refilled}, specs.{client_rules, DueEntry}}
 use Rattle.bac_tsm.proofs.table.Table.pass_all.Goals as goal
 
 pub put_last-requires : goal.put_last-requires

@@ -1,21 +1,191 @@
--- Reading the body of a ReadProperty or a WriteProperty finds what it says, or the first fault that it has; reading the
--- answer of a ReadProperty finds the value.
-use Rattle.std.proofs.Common.{[], ◌++◌, ◌∙◌, ◌∷◌, ◌≡◌, ◌≤◌, ap, arith, Bool, cond, Err, false, inl, inr, length, List}
-use Rattle.std.proofs.{Common.{None, Ok, Option, refl, Result, Some, subst, sym, true, ℕ}, lemmas.List.length-append}
-use Rattle.std.{proofs.lemmas.Bool.{false_from_ne_true, iff_false}, specs.Prelude.{◌↔◌, ◌⊎◌, IfSome}}
-use Rattle.std.specs.Result.{result_ok}
-use Rattle.{
-  bac_wire.{specs.Front.{Begins, SpellsAll, SpellsTo}, proofs.ParameterLaws.{enclosed_no_number, no_number, no_object}},
-  bac_wire.{specs.ParameterReading.{behind_opening, enclosed_at, number_at, object_at}, proofs.RegionReading.no_octets},
-  bac_pdu.specs.{◌>>=◌, ack_of, InvalidTag, is_priority, IsAckBody, IsOutcome, IsPriority, IsReadBody, IsWriteBody},
-  bac_pdu.specs.{LacksReference, MissingParameter, numbered, optional_at, Order, order_parameters, OutOfRange, read_of},
-  bac_pdu.specs.{ReadAck, ReadFault, Reference, reference_at, reference_parameters, RejectReason, SpellsParameter},
-  bac_pdu.specs.{TooMany, unless_missing, value, write_of, WriteFault, Parameter.Parameter, Inner.optional},
-  bac_pdu.proofs.ParameterLaws.{numbered_step, object_step, optional_begins, optional_read, value_step},
-  bac_pdu.proofs.RejectLaws.{and_then_err, and_then_ok, ended, ended_err, ended_ok, IsJudge, needs_fails, needs_ok},
-  bac_pdu.proofs.RejectLaws.{needs_takes, outcome_is, step_ok},
-  bac_pdu.proofs.SequenceLaws.{from_front, split_to, then_to, to_front},
+-- Bodies that are read: what is found is what the relation of the service says, or the first fault.
+use Rattle.std.proofs.Common.{[], ap, append-nil, append_assoc, arith, Bool, cond, Err, false, flat_map, IfSome, inl}
+use Rattle.std.proofs.Common.{inr, length, length-append, List, None, Ok, ok_or, Option, refl, Result, Some, subst, sym}
+use Rattle.std.proofs.{Common.{true, ℕ, ◌++◌, ◌↔◌, ◌∙◌, ◌∷◌, ◌≡◌, ◌≤◌, ◌⊎◌}, lemmas.Bool.false_from_ne_true}
+use Rattle.std.{proofs.lemmas.{Bool.iff_false, Option.none-some}, specs.{List.AllByRecursion, Result.result_ok}}
+use Rattle.bac_wire.proofs.ItemLaws.{enclosed_no_number, enclosed_reader, IsStep, no_number, no_object, no_octets}
+use Rattle.bac_wire.{proofs.ItemLaws.{number_reader, object_reader}, specs.Front.{Begins, IsReader, SpellsAll}}
+use Rattle.bac_wire.specs.{Front.SpellsTo, ParameterReading.{behind_opening, enclosed_at, number_at, object_at}}
+use Rattle.bac_pdu.specs.{ack_of, InvalidTag, is_priority, IsAckBody, IsFirst, IsOutcome, IsPriority, IsReadBody}
+use Rattle.bac_pdu.specs.{IsWriteBody, LacksReference, MissingParameter, numbered, object as object_parameter}
+use Rattle.bac_pdu.specs.{optional_at, or_none, Order, order_parameters, OutOfRange, read_of, ReadAck, ReadFault}
+use Rattle.bac_pdu.specs.{Reference, reference_at, reference_parameters, RejectReason, SpellsParameter, TooMany}
+use Rattle.bac_pdu.specs.{unless_missing, value, whole_of, write_of, WriteFault, ◌>>=◌}
+use Rattle.bac_pdu.specs.{declared.reject.RejectReason.TheVariants.UnknownService, Inner.optional, Parameter.Parameter}
+
+-- ---- one after the other
+
+module _ {A : Type 0} (Spells : List ℕ → A → Type 0) where
+  pub then_to : (octets mid rest : List ℕ) (xs ys : List A) → SpellsTo Spells octets xs mid
+      → SpellsTo Spells mid ys rest → SpellsTo Spells octets (xs ++ ys) rest
+  then_to _ _ rest [] ys s t = subst (λ (w : List ℕ). SpellsTo Spells w ys rest) (sym s) t
+  then_to _ _ _ (x ∷ xs) ys (next, first, later) t = (next, first, then_to next _ _ xs _ later t)
+
+  pub split_to : (octets rest : List ℕ) (xs ys : List A) → SpellsTo Spells octets (xs ++ ys) rest
+      → (mid : List ℕ) × SpellsTo Spells octets xs mid × SpellsTo Spells mid ys rest
+  split_to octets _ [] ys s = (octets, refl, s)
+  split_to _ _ (x ∷ xs) ys (next, first, later) =
+      let (mid, others, behind) = split_to next _ xs _ later in (mid, (next, first, others), behind)
+
+  -- what is spelled in front of a rest
+  pub to_front : (octets rest : List ℕ) (xs : List A) → SpellsTo Spells octets xs rest
+      → (front : List ℕ) × SpellsAll Spells front xs × (octets ≡ front ++ rest)
+  to_front _ _ [] s = ([], refl, s)
+  to_front _ _ (x ∷ xs) (next, first, later) =
+      let (front, others, whole) = to_front next _ xs later in (
+        first.front ++ front,
+        (front, record { front = first.front; spelled = first.spelled; whole = refl }, others),
+        first.whole ∙ ap (λ (w : List ℕ). first.front ++ w) whole ∙ sym (append_assoc _ front _),
+      )
+
+  pub from_front : (octets front rest : List ℕ) (xs : List A)
+      → octets ≡ front ++ rest → SpellsAll Spells front xs → SpellsTo Spells octets xs rest
+  from_front _ _ rest [] e s = e ∙ ap (λ (w : List ℕ). w ++ rest) s
+  from_front _ front rest (x ∷ xs) e (next, first, later) =
+      grind (arith, append_assoc, from_front (next ++ rest) next _ xs refl later)
+
+-- ---- a whole body
+
+-- a record that was read, where nothing is left
+pub whole_ended : {A : Type 0} (x y : A) (rest : List ℕ) → whole_of x rest ≡ Some y → (rest ≡ []) × (x ≡ y)
+whole_ended = grind (arith, none-some)
+
+-- ---- what is written
+
+module _ {A : Type 0} (Spells : List ℕ → A → Type 0) (plain : A → List ℕ) (Is : A → Type 0)
+    (spell : (x : A) → Is x → Spells (plain x) x) where
+  -- the spellings of these things, and then this rest
+  pub all_spell : (xs : List A) (rest : List ℕ) → AllByRecursion Is xs
+      → SpellsTo Spells (flat_map plain xs ++ rest) xs rest
+  all_spell [] _ h = refl
+  all_spell (x ∷ xs) rest (is, are) = grind (arith, append_assoc, all_spell xs rest are)
+
+  -- what is written of these things spells them
+  pub whole_spell : (xs : List A) → AllByRecursion Is xs → SpellsAll Spells (flat_map plain xs) xs
+  whole_spell xs h = subst (λ (w : List ℕ). SpellsTo Spells w xs []) (append-nil _) (all_spell _ [] h)
+
+-- ---- reading a parameter of ReadProperty or WriteProperty finds what its relation says
+
+-- a reader of things of one kind, as a step of what reads such things among others
+pub reader_step : {A P : Type 0} {Spells : List ℕ → P → Type 0} {Kind : List ℕ → A → Type 0}
+    {at : List ℕ → Option (A × List ℕ)} (made : A → P) → IsReader Kind at
+    → ((front : List ℕ) (x : A) → Kind front x → Spells front (made x))
+    → ((front : List ℕ) (x : A) → Spells front (made x) → Kind front x) → IsStep Spells made at
+reader_step {at} _ reader to from = record {
+  takes = λ octets x rest e. let t = reader.takes _ x _ e in
+      record { front = t.front; spelled = to _ x t.spelled; whole = t.whole };
+  again = λ octets x rest b. ap at b.whole ∙ reader.again _ x _ (from _ x b.spelled);
 }
+
+pub object_step : IsStep SpellsParameter object_parameter (object_at 0)
+object_step = reader_step _ (object_reader 0) (λ front x s. s) (λ front x s. s)
+
+pub numbered_step : (number : ℕ) → IsStep SpellsParameter (numbered number) (number_at number)
+numbered_step _ = reader_step _ (number_reader _) (λ front x s. s) (λ front x s. s)
+
+pub value_step : IsStep SpellsParameter value (enclosed_at 3)
+value_step = reader_step _ (enclosed_reader 3) (λ front x s. s) (λ front x s. s)
+
+-- ---- a number that may be there
+
+module _ (number : ℕ) (made : ℕ → Parameter) (step : IsStep SpellsParameter made (number_at number)) where
+  optional_begins_at : (octets : List ℕ) (read : Option (ℕ × List ℕ)) → number_at number octets ≡ read
+      → (let (i, rest) = or_none octets read in SpellsTo SpellsParameter octets (optional made i) rest)
+  optional_begins_at = grind arith
+
+  -- what was read of a number that may be there is spelled
+  pub optional_begins : (octets : List ℕ)
+      → (let (i, rest) = optional_at number octets in SpellsTo SpellsParameter octets (optional made i) rest)
+  optional_begins _ = optional_begins_at _ _ refl
+
+  pub optional_read : (octets : List ℕ) (i : Option ℕ) (rest : List ℕ)
+      → SpellsTo SpellsParameter octets (optional made i) rest
+      → (i ≡ None → number_at number rest ≡ None) → optional_at number octets ≡ (i, rest)
+  optional_read _ None _ s none = rw (ap (number_at _) s ∙ none refl) (cc)
+  optional_read _ (Some n) _ (_, first, last) none = rw (step.again _ n _ first) (cc)
+
+-- ---- results
+
+pub and_then_ok : {A B : Type 0} (r : Result A RejectReason) (f : A → Result B RejectReason) (y : B)
+    → (r >>= f) ≡ Ok y → (x : A) × (r ≡ Ok x) × (f x ≡ Ok y)
+and_then_ok = grind arith
+
+pub and_then_err : {A B : Type 0} (r : Result A RejectReason) (f : A → Result B RejectReason) (reason : RejectReason)
+    → (r >>= f) ≡ Err reason → (r ≡ Err reason) ⊎ ((x : A) × (r ≡ Ok x) × (f x ≡ Err reason))
+and_then_err = grind arith
+
+pub needs_ok : {A : Type 0} (octets : List ℕ) (found : Option A) (x : A) → (octets ≡ [] → found ≡ None) → found ≡ Some x
+    → unless_missing octets found ≡ Ok x
+needs_ok = grind (arith, none-some)
+
+-- what a step reads, where octets are left
+pub step_ok : {A P : Type 0} {Spells : List ℕ → P → Type 0} {made : A → P} {at : List ℕ → Option (A × List ℕ)}
+    → IsStep Spells made at
+    → at [] ≡ None → (octets : List ℕ) (x : A) (rest : List ℕ) → Begins Spells octets (made x) rest
+    → unless_missing octets (at octets) ≡ Ok (x, rest)
+step_ok {at} step none _ x rest b = needs_ok _ _ (x, rest) (λ e. ap at e ∙ none) (step.again _ x _ b)
+
+pub needs_takes : {A : Type 0} (octets : List ℕ) (found : Option A) (x : A) → unless_missing octets found ≡ Ok x
+    → found ≡ Some x
+needs_takes = grind arith
+
+pub needs_fails : {A : Type 0} (octets : List ℕ) (found : Option A) (reason : RejectReason)
+    → unless_missing octets found ≡ Err reason
+    → ((reason ≡ MissingParameter) × (octets ≡ [])) ⊎ ((reason ≡ InvalidTag) × (found ≡ None) × (octets ≡ [] → ⊥))
+needs_fails = grind arith
+
+-- the result, where no octet is left
+abbrev pub ended : {A : Type 0} → A → List ℕ → Result A RejectReason
+ended x rest = ok_or (whole_of x rest) TooMany
+
+pub ended_ok : {A : Type 0} (x y : A) (rest : List ℕ) → ended x rest ≡ Ok y → (rest ≡ []) × (x ≡ y)
+ended_ok = grind arith
+
+pub ended_err : {A : Type 0} (x : A) (rest : List ℕ) (reason : RejectReason) → ended x rest ≡ Err reason
+    → (reason ≡ TooMany) × (rest ≡ [] → ⊥)
+ended_err = grind arith
+
+-- ---- the outcome of a body
+
+-- a function that reads a body: it takes what is whole and nothing else; where it fails the body has that fault, and
+-- none that comes before
+pub record IsJudge {A : Type 0} (IsWhole : List ℕ → A → Type 0) (HasFault : List ℕ → RejectReason → Type 0)
+    (of : List ℕ → Result A RejectReason) : Type 0 where
+  pub takes : (body : List ℕ) (x : A) → of body ≡ Ok x → IsWhole body x
+  pub again : (body : List ℕ) (x : A) → IsWhole body x → of body ≡ Ok x
+  pub fault : (body : List ℕ) (reason : RejectReason) → of body ≡ Err reason → HasFault body reason
+  pub range : (body : List ℕ) → HasFault body OutOfRange → of body ≡ Err OutOfRange
+  pub late : (body : List ℕ) (reason : RejectReason) → HasFault body TooMany → of body ≡ Err reason → (reason ≡ TooMany)
+      ⊎ (reason ≡ OutOfRange)
+  pub missing : (body : List ℕ) → HasFault body MissingParameter → of body ≡ Err MissingParameter
+  pub invalid : (body : List ℕ) → HasFault body InvalidTag
+  pub unknown : (body : List ℕ) → HasFault body UnknownService → ⊥
+
+-- the reason is the first that applies, in this order
+abbrev IsRejectReason : (List ℕ → RejectReason → Type 0) → List ℕ → RejectReason → Type 0
+IsRejectReason HasFault body reason =
+    IsFirst (HasFault body) (OutOfRange ∷ TooMany ∷ MissingParameter ∷ InvalidTag ∷ []) reason
+
+one_reason : {A : Type 0} (r : Result A RejectReason) (a b : RejectReason) → r ≡ Err a → r ≡ Err b → a ≡ b
+one_reason = grind arith
+
+module _ {A : Type 0} {IsWhole : List ℕ → A → Type 0} {HasFault : List ℕ → RejectReason → Type 0}
+    {of : List ℕ → Result A RejectReason} (judge : IsJudge IsWhole HasFault of) (body : List ℕ) where
+  rejected : (reason : RejectReason) → of body ≡ Err reason → IsRejectReason HasFault body reason
+  rejected = grind (arith, one_reason)
+
+  -- what is read is the outcome
+  outcome_found : (o : Result A RejectReason) → of body ≡ o → IsOutcome IsWhole HasFault body o
+  outcome_found = grind (arith, rejected)
+
+  outcome_read : (read o : Result A RejectReason) → of body ≡ read → IsOutcome IsWhole HasFault body o → read ≡ o
+  outcome_read _ (Ok x) e is = sym e ∙ judge.again _ x is.whole
+  outcome_read (Ok y) (Err reason) e is = let two = is.all y (judge.takes _ y e) in absurd cc
+  outcome_read (Err other) (Err reason) e is = grind (arith, rejected)
+
+  -- a body has one outcome
+  pub outcome_is : (o : Result A RejectReason) → (of body ≡ o) ↔ IsOutcome IsWhole HasFault body o
+  outcome_is o = (outcome_found o, outcome_read _ o refl)
 
 -- ---- the reference
 

@@ -1,26 +1,37 @@
--- What a command of one level leaves in its matches, where `clap` takes the words: each value passed
--- the parser of its argument, and each argument that has an entry has a value.
-use Rattle.std.proofs.Common.{[], ◌&&◌, ◌++◌, ◌<◌, ◌||◌, ◌∙◌, ◌∷◌, ◌≡◌, ap, arith, Bool, codes, cond, drop, encode_utf8}
-use Rattle.std.proofs.Common.{false, IfSome, if◌then◌else◌, is_some, length, length-append, List, None, not, Option}
-use Rattle.std.{proofs.{Common.{refl, Some, subst, suc, sym, true, zero, ℕ}, lemmas.Bool.or_parts}, specs.Str.bytes_eq}
-use Rattle.std.{proofs.lemmas.{List.Folds.list_all-append, Slice.Eq.bytes_eq-Decides}, specs.Option.option_map_or}
-use Rattle.std.specs.{List.{AllByRecursion, find, fold, list_all, list_any}, Prelude.nat_lt}
+-- What a simple command leaves of the words that `clap` takes, and what the getters read of it.
+use Rattle.std.{
+  proofs.Common.{[], ap, ap₂, arith, Bool, codes, cond, drop, encode_utf8, false, find, fold, IfSome, if◌then◌else◌},
+  proofs.Common.{is_some, length, length-append, List, map, nat_lt, None, not, Option, option_and_then, option_map},
+  proofs.Common.{pos, refl, Result, slice_get, Some, subst, suc, sym, true, zero, ℕ, ◌&&◌, ◌++◌, ◌<◌, ◌||◌, ◌∙◌, ◌∷◌},
+  proofs.{Common.◌≡◌, lemmas.{Bool.{not-false, or_parts}, List.Folds.list_all-append, Slice.Eq.bytes_eq-Decides}},
+  specs.{Borrow.Bor, declared.num.ParseIntError.ParseIntError, List.{AllByRecursion, list_all, list_any}},
+  specs.{Option.option_map_or, Str.{bytes_eq, Parse.{ExplainsUnsignedError, HasUnsignedDigitsIfOk, ParsesUnsigned}}},
+}
 use Rattle.{
-  clap.specs.declared.{builder.action.ArgAction.ArgAction, parser.matches.ValueSource.TheVariants.CommandLine},
-  clap.specs.Faults.{action_fault, bundle_fault, bundle_step_fault, flag_word_fault, flags_fault, level_fault},
-  clap.specs.Faults.{long_fault, option_fault, other_fault, positional_fault, react_fault, settle_fault, short_fault},
-  clap.specs.{Faults.{step_fault, stray_fault, use_fault, values_fault, walk_fault, word_fault}, Simple.Shape},
-  clap.specs.{Kinds.{check_kinds, Kinds, or_else, range_kinds}, Takes.values_pass, Values.is_request},
-  clap.specs.Walk.{after_flag, after_step, arg_by_id, at_row, bundle_met, bundle_step, default_rows, done, has_short},
-  clap.specs.Walk.{Held, is_empty, long_met, long_or_other, more_values, Names, nothing_held, option_met, Outcome},
-  clap.specs.Walk.{plain, plain_word, reacted, reading_by, Row, rows_after, Rule, settled, short_met, short_or_plain},
-  clap.specs.Walk.{Step, subcommand_or_other, takes_values, Text, to_positional, used, used_as, values_or_missing},
-  clap.specs.Walk.{Waiting, Walk, walk, walked, walked_from, with_default, with_values, word_met},
-  clap.proofs.{SimpleLemmas.is_false, WalkLemmas.both},
-  clap_laws.specs.{has_distinct_ids, is_plain_rule, IsPlainLevel, IsTaken, keeps_values, RowPasses},
+  clap.proofs.{CallerReads.signed_reads, SimpleLemmas.is_false, ValueTestLemmas.accepts-Accepts, WalkLemmas.both},
+  clap.{proofs.WalkLemmas.one_text-rows, specs.declared.builder.{action.ArgAction.ArgAction, arg.Arg.Arg}},
+  clap.specs.declared.builder.command.Command.{Command, TheOpen.Command-F, TheViews.out-Command},
+  clap.specs.declared.{builder.value_parser.ValueParser.ValueParser, parser.matches.Found.Found},
+  clap.specs.{declared.parser.matches.ValueSource.TheVariants.CommandLine, Facts.{explicit_source, parser_of_value}},
+  clap.specs.Faults.{action_fault, bundle_fault, bundle_step_fault, check_fault, defaults_fault, entered_fault},
+  clap.specs.Faults.{fault_of, flag_word_fault, flags_fault, level_fault, long_fault, option_fault, other_fault},
+  clap.specs.Faults.{positional_fault, react_fault, settle_fault, short_fault, step_fault, stray_fault, use_fault},
+  clap.specs.{Faults.{values_fault, walk_fault, word_fault}, Kinds.{check_kinds, Kinds, or_else, range_kinds}},
+  clap.specs.{Matches.{one_text, ReadsOne}, Simple.{App, app_of_fields, argument_words, built, entered, names_of}},
+  clap.specs.{Simple.Shape, Takes.{is_given, value_passes, values_pass}, Values.{Accepts, is_request, read_as}},
+  clap.specs.{Values.reading_of, ValueTests.accepts, Walk.{after_flag, after_step, arg_by_id, at_row, bundle_met}},
+  clap.specs.Walk.{bundle_step, default_rows, done, finished, has_short, Held, is_empty, long_met, long_or_other},
+  clap.specs.Walk.{more_values, Names, nothing_held, one_of, option_met, Outcome, plain, plain_word, reacted},
+  clap.specs.Walk.{reading_by, Row, row_text, rows_after, rows_of, Rule, settled, short_met, short_or_plain, Step},
+  clap.specs.Walk.{stop_after, subcommand_or_other, takes_values, Text, to_positional, used, used_as},
+  clap.specs.Walk.{values_or_missing, Waiting, Walk, walk, walked, walked_from, with_default, with_values, word_met},
+  clap.specs.Words.{AddsArg, AddsInTurn, AddsSubcommand, App, rule_of, with_rule, with_subcommand},
+  clap_laws.specs.{Enters, has_distinct_ids, is_plain_rule, IsCommand, IsPlainLevel, IsTaken, keeps_values, number_of},
+  clap_laws.specs.{RowPasses, wanting, Inner.{bounds_by, bounds_in, decimal, FitsWord, is_needed, IsWithin}},
 }
 use Rattle.clap.specs.Walk as w
 use Rattle.clap.specs.declared.builder.action.ArgAction.TheVariants as action
+use Rattle.clap.specs.declared.builder.value_parser.ValueParser.TheVariants as vp
 
 -- What holds of the element that a search finds, by induction over the list.
 pub when_found : {X : Type 0} (p : X → Bool) (P : List X → Type 0) (a : X) → ((xs : List X) → p a ≡ true → P (a ∷ xs))
@@ -315,3 +326,171 @@ last_check = grind arith
 pub level_taken : (s : Shape) (words : List Text) → IsPlainLevel s.rules → s.subcommand_negates_reqs ≡ false
     → level_fault s [] nothing_held words false [] ≡ [] → IsTaken s.rules (rows_after s.rules [] words)
 level_taken = grind (arith, last_check, walk_goes, defaults_pass, settled_pass)
+
+-- ---- where a program wants a tool, the words name one other than `help`, and it takes the words after it
+
+enters_by : (a : App) (words : List Text) (stop : Option (Text × List Text))
+    → stop_after (built a).top.rules (names_of (built a)) (argument_words a words) ≡ stop
+    → is_some (entered (built a) stop) ≡ true → entered_fault (built a) stop ≡ []
+    → IfSome stop (λ (name, _). asks (built a).top name ≡ false) → Enters a words
+enters_by = grind arith
+
+pub enters : (a : App) (words : List Text) → (built a).top.subcommand_required ≡ true → fault_of a words ≡ []
+    → Enters a words
+enters a words wanted none =
+    let stop = stop_after (built a).top.rules (names_of (built a)) (argument_words a words) in
+    let (unfaulted, after) = none_fails _ _ none in
+    let (below, end_none) = none_fails _ _ after in
+    let (settle, defaults_none) = none_fails _ _ end_none in
+    let end = (walk (built a).top.rules (names_of (built a)) nothing_held (argument_words a words)).held in
+    let there = is_some (entered (built a) stop) in
+    let rows = finished (built a).top.rules end in
+    let defaults = none_fails (defaults_fault (settled (built a).top.rules end).rows (built a).top.rules)
+    (check_fault (built a).top rows there) defaults_none in
+    let (_, other) = walk_goes (built a).top (names_of (built a)) _ _
+    unfaulted ((λ level. tt), tt) in
+    enters_by a _ _ refl (grind arith) below other
+
+-- ---- from the rules that the words passed to what the getters of the matches read
+
+-- the entry of an id passed
+entry : (c : List Rule) (id : Text) (rows : List Row) (r : Row) → RowsPass c rows
+    → find (λ r. bytes_eq r.id id) rows ≡ Some r
+    → (r.id ≡ id) × RowPasses c r
+entry c id rows r h is =
+    when_found _ (λ rows. RowsPass c rows → (r.id ≡ id) × RowPasses c r) r
+    (λ xs passes (entry, _). ((bytes_eq-Decides _ _).0 passes, entry))
+    (λ x xs fails is rest (_, others). rest others) _ is h
+
+-- the text of an argument is that of a value that passed
+record IsText (a : Rule) (text : Text) : Type 0 where
+  given : Text
+  read : text ≡ read_as (reading_by a) given
+  passed : value_passes a given ≡ true
+
+head_text : (a : Rule) (r : Row) (vs : List Text) → r.reading ≡ reading_by a → list_all (value_passes a) vs ≡ true
+    → 0 < length vs
+    → (t : Text) × (option_map (read_as r.reading) (slice_get vs 0) ≡ Some t) × IsText a t
+head_text a r [] how all filled = absurd (omega arith)
+head_text a r (v ∷ vs) how all _ = (
+  read_as _ v,
+  refl,
+  record { given = v; read = ap (λ how. read_as how v) how; passed = let (first, _) = both _ _ all in first },
+)
+
+-- such is the text of an argument, if it has one, and an argument that is given has one
+text_of : (c : List Rule) (a : Rule) (id : Text) (rows : List Row) → RowsPass c rows → arg_by_id c id ≡ Some a
+    → IfSome (one_of id rows) (IsText a) × (is_given id rows ≡ true → is_some (one_of id rows) ≡ true)
+text_of c a id rows h is = go _ refl
+  where
+    go : (o : Option Row) → find (λ r. bytes_eq r.id id) rows ≡ o → IfSome (option_and_then row_text o) (IsText a)
+        × (option_map_or (λ r. explicit_source r.source) o false ≡ true → is_some (option_and_then row_text o) ≡ true)
+    go None found = (tt, λ given. given)
+    go (Some r) found =
+        let (same, passes) = entry _ _ _ _ h found in
+        let there : Some passes.rule ≡ Some a = sym passes.own ∙ ap (arg_by_id c) same ∙ is in
+        let rule : passes.rule ≡ a = cc in
+        let (_, read, text) =
+        head_text a r _ (passes.reading ∙ ap reading_by rule) (rw (← rule) passes.passed) passes.filled in
+        rw read (text, λ given. refl {a = true})
+
+-- what the getter of a `u32` reads a text by
+abbrev pub Parses : Text → Result ℕ ParseIntError → Type 0
+Parses bs r = ParsesUnsigned 32 10 bs r × ExplainsUnsignedError 10 bs r × HasUnsignedDigitsIfOk bs r
+
+number_text : (a : Rule) (t : Text) (r : Option ℕ) (p : ValueParser) → parser_of_value a.parser ≡ p
+    → FitsWord (bounds_by p) → IsText a t → ReadsOne Parses t r
+    → (r ≡ Some (decimal t)) × IfSome r (IsWithin (bounds_by p))
+number_text a t r (vp.Signed (pos low) (pos high)) parser fits text reads =
+    let accepted : Accepts a.ignore_case (vp.Signed (pos low) (pos high)) text.given =
+    accepts-Accepts a.ignore_case (vp.Signed _ _) text.given
+    (subst (λ (p : ValueParser). accepts a.ignore_case p text.given ≡ true) parser text.passed) in
+    let how : t ≡ read_as (reading_of (vp.Signed (pos low) (pos high))) text.given = text.read
+    ∙ ap (λ (p : ValueParser). read_as (reading_of p) text.given) parser in
+    let (n, is, least, most) = signed_reads _ Parses 32 _ _ text.given r
+    (subst (λ (u : Text). ReadsOne Parses u r) how reads) (λ u x (parsed, _, _). parsed) fits accepted in
+    let ((_, value), _, _) : ReadsOne Parses t (Some n) = subst (λ (o : Option ℕ). ReadsOne Parses t o) is reads in
+    (is ∙ ap Some value, subst (λ o. IfSome o (IsWithin (Some (low, high)))) (sym is) (least, most))
+number_text a t r _ parser fits _ _ = absurd fits
+
+-- the number of an argument is that of the words, and within its bounds
+pub getter : (c : List Rule) (id : Text) (f : Found) (r : Option ℕ) → IsTaken c (rows_of f) → FitsWord (bounds_in c id)
+    → (one_text f id ≡ None → r ≡ None) → ((t : Text) → one_text f id ≡ Some t → ReadsOne Parses t r)
+    → (r ≡ number_of id (rows_of f)) × IfSome r (IsWithin (bounds_in c id))
+getter c id f r taken fits none value = at_rule _ refl fits
+  where
+    at_text : (a : Rule) (o : Option Text) → one_of id (rows_of f) ≡ o → IfSome o (IsText a)
+        → FitsWord (bounds_by (parser_of_value a.parser))
+        → (r ≡ option_map decimal o) × IfSome r (IsWithin (bounds_by (parser_of_value a.parser)))
+    at_text a None e text fits = rw (none (one_text-rows f id ∙ e)) (refl, tt)
+    at_text a (Some t) e text fits =
+        number_text _ _ _ _ refl fits text (value t (one_text-rows f id ∙ e))
+
+    at_rule : (o : Option Rule) → arg_by_id c id ≡ o
+        → FitsWord (option_and_then (λ a. bounds_by (parser_of_value a.parser)) o)
+        → (r ≡ number_of id (rows_of f))
+        × IfSome r (IsWithin (option_and_then (λ a. bounds_by (parser_of_value a.parser)) o))
+    at_rule None is fits = absurd fits
+    at_rule (Some a) is fits = let (text, _) = text_of _ _ _ _ taken.entries is in at_text a _ refl text fits
+
+-- of an argument that has to be given there is one
+pub needed : (c : List Rule) (id : Text) (rows : List Row) → IsTaken c rows → is_needed c id ≡ true
+    → is_some (number_of id rows) ≡ true
+needed c id rows taken is = at_rule _ refl is
+  where
+    some_number : (o : Option Text) → is_some o ≡ true → is_some (option_map decimal o) ≡ true
+    some_number o e = grind (arith, e)
+
+    at_rule : (o : Option Rule) → arg_by_id c id ≡ o
+        → option_map_or (λ a. a.required && bytes_eq a.id id) o false ≡ true → is_some (number_of id rows) ≡ true
+    at_rule None found is = cc
+    at_rule (Some a) found is =
+        let (required, same) = both a.required (bytes_eq a.id id) is in
+        let missing = any_not (λ a. a.required && not (is_given a.id rows)) (λ a. bytes_eq a.id id) _ _ taken.complete
+        found in
+        let given : is_given a.id rows ≡ true = not-false _ (rw required at missing) in
+        let (_, some) = text_of c a _ _ taken.entries found in
+        some_number (one_of id rows)
+        (some (subst (λ (t : Text). is_given t rows ≡ true) ((bytes_eq-Decides a.id id).0 same) given))
+
+-- ---- a command grows by one argument or one tool, and stays the one that the rules say
+
+pub with_tool : {app tool : App} (old new sub : Command) → IsCommand old app → IsCommand sub tool
+    → AddsSubcommand old sub new
+    → IsCommand new (with_subcommand app tool.top)
+with_tool _ _ _ is tool_is added = record {
+  shape = added.shape tool_is.local ∙ ap₂ with_subcommand is.shape (ap (λ (a : App). a.top) tool_is.shape);
+  local = added.globals ∙ ap₂ (λ x y. x || y) is.local tool_is.local;
+}
+
+-- arguments in turn
+pub in_turn : (args : List Arg) (app : App) (old new : Command) → IsCommand old app
+    → list_any (λ a. a.global) args ≡ false → AddsInTurn AddsArg old args new
+    → IsCommand new (fold with_rule app (map rule_of args))
+in_turn [] app _ _ is _ same = subst (λ c. IsCommand c app) same is
+in_turn (a ∷ rest) app _ _ is local (mid, added, chain) =
+    let (here, later) = or_parts _ _ local in
+    let next : IsCommand mid (with_rule app (rule_of a)) = record {
+      shape = added.shape here ∙ ap (λ (app : App). with_rule app (rule_of a)) is.shape;
+      local = added.globals ∙ rw (is.local, here) refl;
+    } in
+    in_turn rest _ _ _ next later chain
+
+-- help leaves the rules as they are
+pub helped : {app : App} {about after : Option (Bor Text)} (first second third : Command) → IsCommand first app
+    → out-Command second ≡ record (out-Command first) { about = about }
+    → out-Command third ≡ record (out-Command second) { after_help = after } → IsCommand third app
+helped _ _ _ is about after = record {
+  shape = ap app_of_fields after ∙ ap app_of_fields about ∙ is.shape;
+  local = ap (λ (f : Command-F Command). f.has_globals) after ∙ ap (λ (f : Command-F Command). f.has_globals) about
+      ∙ is.local;
+}
+
+-- the program before its tools: one is wanted
+pub wanting_is : {app : App} (old new : Command) → IsCommand old app
+    → out-Command new ≡ record (out-Command old) { subcommand_required = true }
+    → IsCommand new (wanting app)
+wanting_is _ _ is same = record {
+  shape = ap app_of_fields same ∙ ap wanting is.shape;
+  local = ap (λ (f : Command-F Command). f.has_globals) same ∙ is.local;
+}

@@ -1,19 +1,80 @@
--- A call whose waits are prompt ends in time.
-use Rattle.std.proofs.lemmas.{Grind.common_steps, List.{take_all, take-append-le, append-nil}, Bool.cases_lt}
-use Rattle.std.proofs.Common.{◌≡◌, ℕ, suc, ◌+◌, ◌*◌, ◌<◌, ◌≤◌, max, List, [], ◌∷◌, ◌++◌, length, Option}
-use Rattle.std.{proofs.Common.{Some, None, Result, subst, arith, ap, sym, ◌∙◌, inl, inr, refl}, specs.List.last_or}
+-- Whole calls: two that are answered alike, one whose waits are prompt, and one that heard nothing.
+use Rattle.std.proofs.Common.{[], ap, append-nil, arith, Err, inl, inr, length, List, max, None, Ok, Option, refl}
+use Rattle.std.proofs.Common.{Result, Some, subst, suc, sym, take_all, ℕ, ◌*◌, ◌++◌, ◌+◌, ◌<◌, ◌∙◌, ◌∷◌, ◌≡◌, ◌≢◌, ◌≤◌}
+use Rattle.std.{proofs.lemmas.{Bool.cases_lt, Grind.common_steps, List.take-append-le}, specs.List.last_or}
 use Rattle.bac_pdu.specs.Peer.{Station}
-use Rattle.bac_tsm.specs.Positions.{greatest_tick}
-use Rattle.bac_tsm.{specs.{Events.{Event, Tick}, Lookahead.clock}, proofs.Progress.{clock_rises, open_soon, never_due}}
+use Rattle.bac_tsm.{proofs.Laws.{clock_rises, never_due, open_soon}, specs.Events.{Event, Tick}}
+use Rattle.bac_tsm.specs.{Lookahead.clock, Positions.greatest_tick}
 use Rattle.bac_text.specs.declared.jobs.Call.{Call}
-use Rattle.bac_print.specs.declared.checked.Checked.{Checked}
-use Rattle.bac_links.{
-  specs.History.{Heard, Silence, Arrived, Failure, Entry, Waited, Timed, Posted, Account},
-  specs.Asking.{Asks, Question, ForDatagram, ForTime, question_of, Follows, next_move, waits_in},
-  specs.{Handed.handed_of, Call.{rules_for, asked, end_in, events_of, move, Tells}},
-  specs.{Progress.{AreTold, ArePrompt}, declared.{ending.Purpose.Purpose, exit.Exit.Exit, fault.ToolFault.ToolFault}},
-  proofs.{Alike.went, Asking.{last_push, plays_all}, CallTurns.handed_push},
-}
+use Rattle.bac_print.{proofs.Printed.Took-none, specs.{Checked.Took, declared.checked.Checked.Checked}}
+use Rattle.bac_links.proofs.{Asking.{last_push, plays_all, to_the_end}, CallTurns.handed_push}
+use Rattle.bac_links.specs.{Answered.{AskAlike, OneText, Printed}, Asking.{Asks, Follows, ForDatagram, ForTime}}
+use Rattle.bac_links.specs.{Asking.{next_move, Over, Plays, Question, question_of, waits_in}, Call.{asked, Comes}}
+use Rattle.bac_links.specs.{Call.{end_in, events_of, move, rules_for, Tells}, declared.ending.Purpose.Purpose}
+use Rattle.bac_links.specs.declared.{exit.Exit.Exit, fault.ToolFault.{ToolFault, TheVariants.ReceiveFailed}}
+use Rattle.bac_links.specs.declared.fault.ToolFault.TheVariants.{SendFailed, TurnsSpent, WriteFailed}
+use Rattle.bac_links.specs.{Ending.{ending_line, exit_of}, Handed.handed_of, History.{Account, Arrived, Entry, Failure}}
+use Rattle.bac_links.specs.{History.{Heard, Posted, Silence, Timed, Waited}, Progress.{ArePrompt, AreTold}}
+
+module _ (purpose : Purpose) (call : Call) where
+  abbrev pub result_of : Comes → Result Exit ToolFault
+  result_of (Ok ending) = Ok (exit_of purpose ending)
+  result_of (Err fault) = Err fault
+
+  abbrev pub line_of : Comes → List ℕ
+  line_of (Ok ending) = ending_line purpose ending
+  line_of (Err fault) = []
+
+  -- What a call comes to, what it answers, and what it prints.
+  module _ {Origin W : Type 0} (contents : W → Option (List ℕ)) (before after : Checked W)
+      (seen left : Account Origin) where
+    pub record Went (result : Result Exit ToolFault) : Type 0 where
+      pub comes : Comes
+      pub plays : Plays (move purpose call) seen left comes
+      pub answers : result ≢ Err WriteFailed → result ≡ result_of comes
+      pub prints : Printed contents before after (line_of comes) result
+
+    unprinted : after ≡ before → Took contents before after []
+    unprinted same = subst (λ (w : Checked W). Took contents before w []) (sym same) (Took-none before)
+
+    pub went : (result : Result Exit ToolFault) → Tells purpose call contents before after seen left result
+        → Went result
+    went (Ok exit) tells =
+        record {
+          comes = Ok tells.ending;
+          plays = tells.plays;
+          answers = λ other. ap Ok tells.exit_is;
+          prints = tells.printed;
+        }
+    went (Err WriteFailed) tells = record {
+      comes = Ok tells.ending;
+      plays = tells.plays;
+      answers = λ other. absurd (other refl);
+      prints = tells.printed;
+    }
+    went (Err SendFailed) it =
+        record { comes = Err SendFailed; plays = it.plays; answers = λ other. refl; prints = unprinted it.unprinted }
+    went (Err ReceiveFailed) it =
+        record { comes = Err ReceiveFailed; plays = it.plays; answers = λ other. refl; prints = unprinted it.unprinted }
+    went (Err TurnsSpent) it =
+        record { comes = Err TurnsSpent; plays = it.plays; answers = λ other. refl; prints = unprinted it.unprinted }
+
+  -- Two calls that are answered alike.
+  module _ {V W : Type 0} (contents : V → Option (List ℕ)) (contents' : W → Option (List ℕ)) (before after : Checked V)
+      (before' after' : Checked W) where
+    abbrev EndAlike : Result Exit ToolFault → Result Exit ToolFault → Type 0
+    EndAlike result result' = result ≢ Err WriteFailed → result' ≢ Err WriteFailed → result ≡ result'
+
+    abbrev PrintAlike : Result Exit ToolFault → Result Exit ToolFault → Type 0
+    PrintAlike = OneText contents before after contents' before' after'
+
+    pub calls_so_far : {Origin Other : Type 0} → AskAlike Origin Other (Tells purpose call contents before after)
+        (Tells purpose call contents' before' after') (λ r. ⊥) EndAlike PrintAlike
+    calls_so_far seen left seen' left' result result' first rest first' rest' tells tells' gains gains' same =
+        let a = went contents before after seen left result tells in
+        let b = went contents' before' after' seen' left' result' tells' in
+        to_the_end EndAlike PrintAlike result result' a.plays b.plays (grind (arith, a, b)) first rest first' rest'
+        gains gains' same
 
 -- ---- the clock over some events
 
@@ -196,3 +257,12 @@ pub told_in_time : {Origin W : Type 0} (contents : W → Option (List ℕ)) (pur
 told_in_time contents purpose call before after seen left result gained time_behind longest tells gains =
     let it = went purpose call contents before after seen left result tells in
     in_time purpose call time_behind longest gained (plays_all it.plays gains).follows
+
+-- ---- a call over a link whose history gained nothing has not ended
+
+pub not_ended : {Origin W : Type 0} (contents : W → Option (List ℕ)) (purpose : Purpose) (call : Call)
+    (before after : Checked W)
+    (seen : Account Origin) (exit : Exit) → Tells purpose call contents before after seen seen (Ok exit) → ⊥
+not_ended _ purpose call _ _ seen exit tells =
+    let plays = plays_all {gained = []} tells.plays (sym (append-nil _)) in
+    let over : Asks ForTime ≡ Over (Ok tells.ending) = plays.over in cc

@@ -1,17 +1,84 @@
--- A link in memory goes on as its scenes say.
-use Rattle.std.{
-  proofs.Common.{◌≡◌, ℕ, zero, suc, ◌+◌, ◌-◌, ◌^◌, ◌<◌, ◌≤◌, min, List, [], ◌∷◌, ◌++◌, append_assoc},
-  proofs.Common.{length, slice_get, Option, Some, None, Result, Ok, Err, OnOk, OnErr, refl, sym, ap, ◌∙◌, arith},
-  proofs.{Math.{Logic.∥∥₁_elim, Seq.drop-nil}, lemmas.{List.append-nil, Option.{none-some, slice_get_within}}},
-  specs.Coded.{Coded, Coded-set, coded_ℕ, coded_list, coded×, coded_option, code_by, ×_prop, Unit-prop},
-  specs.{Option.option_to_list, Prelude.{drop, unwrap_or}},
-}
+-- What a link is asked, over a socket and in memory.
+use Rattle.std.proofs.Common.{[], ap, append-nil, append_assoc, arith, Bool, drop, Err, false, is_err, is_ok, length}
+use Rattle.std.proofs.Common.{List, max, min, None, Ok, OnErr, OnOk, Option, option_to_list, refl, Result, slice_get}
+use Rattle.std.proofs.Common.{Some, subst, suc, sym, unwrap_or, zero, ℕ, ◌++◌, ◌+◌, ◌-◌, ◌<◌, ◌^◌, ◌∙◌, ◌∷◌, ◌≡◌, ◌≤◌}
+use Rattle.std.proofs.{lemmas.Option.{none-some, slice_get_within}, Math.{Logic.∥∥₁_elim, Seq.drop-nil}}
+use Rattle.std.specs.Coded.{code_by, Coded, Coded-set, coded_list, coded_option, coded_ℕ, coded×, Unit-prop, ×_prop}
 use Rattle.bac_pdu.specs.Peer.{NetworkAddress, Station}
-use Rattle.bac_links.specs.{
-  History.{Heard, Silence, Arrived, Failure, Entry, Waited, Timed, Posted, Unposted, posted},
-  Played.{Scene, ToPlay, at_first, heard_next, behind_wait, behind, IsPlayed, ArePlayed, Sending, sending_in, sendings},
-  HasPlayed.{behind_all, HasPlayed},
-}
+use Rattle.bac_links.specs.{declared.udp.OnRefusal.OnRefusal, HasPlayed.{behind_all, HasPlayed}, History.Arrived}
+use Rattle.bac_links.specs.History.{Entry, Failure, Heard, Posted, posted, Silence, Timed, Unposted, Waited}
+use Rattle.bac_links.specs.{Keeps.{Keeps, time_behind_all, waits_behind_all}, Played.{ArePlayed, at_first, behind}}
+use Rattle.bac_links.specs.Played.{behind_wait, heard_next, IsPlayed, Scene, Sending, sending_in, sendings, ToPlay}
+use Rattle.bac_links.specs.Socket.{AreCallsFor, CallsFor, Logs, Sends, time_behind, Times, Waits, waits_behind}
+use Rattle.bac_links.specs.SystemCall.{SystemCall}
+
+waits_more : (waits : ℕ) (xs : List Entry) (x : Entry)
+    → waits_behind_all waits (xs ++ x ∷ []) ≡ waits_behind (waits_behind_all waits xs) x
+waits_more _ [] x = refl
+waits_more waits (y ∷ xs) x = waits_more (waits_behind waits y) xs x
+
+time_more : (time : ℕ) (xs : List Entry) (x : Entry)
+    → time_behind_all time (xs ++ x ∷ []) ≡ time_behind (time_behind_all time xs) x
+time_more _ [] x = refl
+time_more time (y ∷ xs) x = time_more (time_behind time y) xs x
+
+module _ (refused : OnRefusal) where
+  calls_more : (waits time : ℕ) (xs : List Entry) (x : Entry) (calls more : List SystemCall)
+      → AreCallsFor refused waits time xs calls
+      → CallsFor refused (waits_behind_all waits xs) (time_behind_all time xs) x more
+      → AreCallsFor refused waits time (xs ++ x ∷ []) (calls ++ more)
+  calls_more _ _ [] x _ more none last = grind (arith, append-nil)
+  calls_more waits time (y ∷ xs) x _ more (first, rest, split, is, others) last = (
+    first,
+    rest ++ more,
+    ap (λ (before : List SystemCall). before ++ more) split ∙ append_assoc first rest more,
+    is,
+    calls_more (waits_behind waits y) (time_behind time y) xs x rest more others last,
+  )
+
+  module _ (before log : List SystemCall) (xs : List Entry) (waits time : ℕ) (failed : Bool)
+      (keeps : Keeps refused before log xs waits time failed) where
+    abbrev waits_now : ℕ
+    waits_now = waits_behind_all 0 xs
+
+    abbrev time_now : ℕ
+    time_now = time_behind_all 0 xs
+
+    keeps_more : (x : Entry) (log' : List SystemCall) (waits' time' : ℕ) (failed' : Bool)
+        → Logs (CallsFor refused waits_now time_now x) log log'
+        → (failed' ≡ false → waits' ≡ waits_behind waits_now x) → time' ≡ time_behind time_now x
+        → Keeps refused before log' (xs ++ x ∷ []) waits' time' failed'
+    keeps_more = grind (arith, append_assoc, calls_more, waits_more, time_more)
+
+    pub keeps_timed : (log' : List SystemCall) (now : ℕ) → Logs (Times time now) log log'
+        → Keeps refused before log' (xs ++ Timed now ∷ []) waits now failed
+    keeps_timed log' now asked =
+        keeps_more _ _ _ _ _
+        (subst (λ (t : ℕ). Logs (Times t now) log log') keeps.timed asked) keeps.limited refl
+
+    -- The link has not failed yet.
+    module _ (sound : failed ≡ false) where
+      pub keeps_sent : {A E : Type 0} (result : Result A E) (to : Station) (octets : List ℕ) (log' : List SystemCall)
+          (failed' : Bool) → Logs (Sends refused to octets (is_ok result)) log log'
+          → Keeps refused before log' (xs ++ posted result to octets ∷ []) waits time failed'
+      keeps_sent (Ok x) to octets log' failed' asked =
+          keeps_more _ _ _ _ _ asked (λ s. keeps.limited sound) keeps.timed
+      keeps_sent (Err e) to octets log' failed' asked =
+          keeps_more _ _ _ _ _ asked (λ s. keeps.limited sound) keeps.timed
+
+      pub keeps_waited : {A E : Type 0} (result : Result A E) (wait : ℕ) (heard : Heard) (log' : List SystemCall)
+          (waits' : ℕ) (failed' : Bool) → Logs (Waits refused waits (max wait 1) heard) log log'
+          → OnOk result (waits' ≡ max wait 1) → failed' ≡ is_err result
+          → Keeps refused before log' (xs ++ Waited wait heard ∷ []) waits' time failed'
+      keeps_waited result wait heard log' waits' failed' asked limited marked =
+          keeps_more _ _ _ _ _
+          (subst (λ (w : ℕ). Logs (Waits refused w (max wait 1) heard) log log') (keeps.limited sound) asked)
+          (λ good. go result limited (sym marked ∙ good)) keeps.timed
+        where
+          go : {A E : Type 0} (result : Result A E) → OnOk result (waits' ≡ max wait 1) → is_err result ≡ false
+              → waits' ≡ max wait 1
+          go (Ok x) limited good = limited
+          go (Err e) limited good = cc
 
 -- ---- one entry more
 
@@ -30,8 +97,7 @@ sendings_more : (stage : ToPlay) (xs : List Entry) (x : Entry)
 sendings_more _ [] x = append-nil _
 sendings_more stage (y ∷ xs) x = grind (arith, append_assoc, sendings_more (behind stage y) xs x)
 
-drop_one : (scene : Scene) (ss : List Scene) (n : ℕ) → slice_get ss n ≡ Some scene
-    → drop n ss ≡ scene ∷ drop (suc n) ss
+drop_one : (scene : Scene) (ss : List Scene) (n : ℕ) → slice_get ss n ≡ Some scene → drop n ss ≡ scene ∷ drop (suc n) ss
 drop_one _ [] n e = absurd (none-some _ e)
 drop_one _ (s ∷ ss) zero e = ap (λ (o : Option Scene). unwrap_or o s ∷ ss) e
 drop_one _ (s ∷ ss) (suc n) e = drop_one _ ss n e
