@@ -1,4 +1,3 @@
-pub mod StateLaws
 pub mod Answering
-pub mod SizeLaws
+pub mod StateLaws
 pub mod Computed

@@ -292,7 +292,7 @@ impl Device {
 }
 
 // Appends the I-Am to an empty frame, where the body of a Who-Is asks for the device. Else None.
-#[tactic(auto, using(crate::proofs::SizeLaws::length_i_am), unfolding(crate::specs::Reply::who_is_reply))]
+#[tactic(auto, using(crate::proofs::StateLaws::length_i_am), unfolding(crate::specs::Reply::who_is_reply))]
 fn introduce(info: &DeviceInfo, body: &[u8], frame: &mut Frame) -> Option<()>
     requires { frame.old ≡ [] }
     ensures value { option_map (λ _. frame.new) result ≡ option_map laid_out (spec.who_is_reply info.now body.now) }

@@ -2,17 +2,15 @@
 use Rattle.std.proofs.Common.{[], ap, append-nil, arith, Err, inl, inr, length, List, max, None, Ok, Option, refl}
 use Rattle.std.proofs.Common.{Result, Some, subst, suc, sym, take_all, ℕ, ◌*◌, ◌++◌, ◌+◌, ◌<◌, ◌∙◌, ◌∷◌, ◌≡◌, ◌≢◌, ◌≤◌}
 use Rattle.std.{proofs.lemmas.{Bool.cases_lt, Grind.common_steps, List.take-append-le}, specs.List.last_or}
-use Rattle.bac_pdu.specs.Peer.{Station}
-use Rattle.bac_tsm.{proofs.Laws.{clock_rises, never_due, open_soon}, specs.Events.{Event, Tick}}
-use Rattle.bac_tsm.specs.{Lookahead.clock, Positions.greatest_tick}
-use Rattle.bac_text.specs.declared.jobs.Call.{Call}
-use Rattle.bac_print.{proofs.Printed.Took-none, specs.{Checked.Took, declared.checked.Checked.Checked}}
-use Rattle.bac_links.proofs.{Asking.{last_push, plays_all, to_the_end}, CallTurns.handed_push}
-use Rattle.bac_links.specs.{Answered.{AskAlike, OneText, Printed}, Asking.{Asks, Follows, ForDatagram, ForTime}}
-use Rattle.bac_links.specs.{Asking.{next_move, Over, Plays, Question, question_of, waits_in}, Call.{asked, Comes}}
-use Rattle.bac_links.specs.{Call.{end_in, events_of, move, rules_for, Tells}, declared.ending.Purpose.Purpose}
-use Rattle.bac_links.specs.declared.{exit.Exit.Exit, fault.ToolFault.{ToolFault, TheVariants.ReceiveFailed}}
-use Rattle.bac_links.specs.declared.fault.ToolFault.TheVariants.{SendFailed, TurnsSpent, WriteFailed}
+use Rattle.{bac_pdu.specs.Peer.Station, bac_tsm.proofs.Laws.{clock_rises, never_due, open_soon}}
+use Rattle.bac_tsm.specs.{Events.{Event, Tick}, Lookahead.clock, Positions.greatest_tick}
+use Rattle.{bac_text.specs.declared.jobs.Call.Call, bac_print.proofs.Printed.Took-none}
+use Rattle.{bac_print.specs.{Checked.Took, declared.checked.Checked.Checked}, bac_links.proofs.CallTurns.handed_push}
+use Rattle.bac_links.{proofs.CallTurns.{last_push, plays_all, to_the_end}, specs.Answered.{AskAlike, OneText, Printed}}
+use Rattle.bac_links.specs.Asking.{Asks, Follows, ForDatagram, ForTime, next_move, Over, Plays, Question, question_of}
+use Rattle.bac_links.specs.{Asking.waits_in, Call.{asked, Comes, end_in, events_of, move, rules_for, Tells}}
+use Rattle.bac_links.specs.declared.{ending.Purpose.Purpose, exit.Exit.Exit, fault.ToolFault.TheVariants.ReceiveFailed}
+use Rattle.bac_links.specs.declared.fault.ToolFault.{TheVariants.{SendFailed, TurnsSpent, WriteFailed}, ToolFault}
 use Rattle.bac_links.specs.{Ending.{ending_line, exit_of}, Handed.handed_of, History.{Account, Arrived, Entry, Failure}}
 use Rattle.bac_links.specs.{History.{Heard, Posted, Silence, Timed, Waited}, Progress.{ArePrompt, AreTold}}
 

@@ -1,31 +1,163 @@
--- A call beside the look-ahead, one event and one turn after another; and how it ends, or fails.
+-- Who asks by his moves asks alike where he is answered alike; and a call, turn by turn.
 use Rattle.std.proofs.Common.{[], All, ap, append-nil, append_assoc, arith, Err, false, flat_map, IfErr, IfOk, inl, inr}
 use Rattle.std.proofs.Common.{length, List, nat_lt, None, Ok, Option, refl, Result, slice_get, Some, subst, suc, sym}
-use Rattle.std.proofs.{Common.{true, zero, ℕ, ◌++◌, ◌<◌, ◌∙◌, ◌∷◌, ◌≡◌, ◌≢◌, ◌≤◌, ◌⊎◌}, lemmas.Bool.cases_Bool}
-use Rattle.std.proofs.lemmas.{Bool.{cases_eq, cases_lt, Decides.nat_tests}, Grind.common_steps, List.length_push}
-use Rattle.std.proofs.lemmas.List.{take-append-le, Concat.flat_map-append, Elements.{All-cons, All-nil}}
-use Rattle.std.proofs.{lemmas.Option.{get_or_from_slice_get, slice_get_within}, Math.Seq.take-append_seam}
+use Rattle.std.proofs.{Common.{true, zero, ℕ, ◌++◌, ◌+◌, ◌<◌, ◌∙◌, ◌∷◌, ◌≡◌, ◌≢◌, ◌≤◌, ◌⊎◌}, lemmas.Bool.cases_Bool}
+use Rattle.std.proofs.lemmas.{Bool.{cases_eq, cases_lt, Decides.nat_tests, le-ltb, lt-ltb}, Grind.common_steps}
+use Rattle.std.proofs.lemmas.List.{append_cancel_left, Concat.flat_map-append, Elements.{All-cons, All-nil}}
+use Rattle.std.proofs.lemmas.{List.{length_push, take-append-le}, Option.{get_or_from_slice_get, slice_get_within}}
+use Rattle.std.{proofs.Math.Seq.take-append_seam, specs.List.last_or}
 use Rattle.bac_pdu.specs.{Apdu.longest_body, Peer.{Station, station}}
 use Rattle.bac_tsm.proofs.Laws.{both_are, by_invoke_id, drop_head, early_unended, early_unsent, few_open, looks_back}
 use Rattle.bac_tsm.proofs.Laws.{one_step, past_unended, quiet_unsent, run_first, run_whole, sent_first}
-use Rattle.bac_tsm.specs.{Client.{Client, keeping, rules_of}, declared.client.SubmitFault.SubmitFault, Events.Ask}
-use Rattle.bac_tsm.specs.{Events.{Data, Dropped, Event, Note, Outcome, Request, Rules, Tick}, Laws.AnswersByInvokeId}
-use Rattle.bac_tsm.specs.{Laws.{state_at, waiting_at}, Lookahead.{Accepted, accepted, accepted_at, End, end, end_notes}}
-use Rattle.bac_tsm.specs.{Lookahead.{next_invoke_id, or_dropped, output, refusal_of, send_notes}, Machine.Answered}
-use Rattle.bac_tsm.specs.Machine.{folded, initial, Run, sent, State, step, Stepped, submit, tick, to_send}
-use Rattle.bac_text.specs.declared.jobs.Call.{Call}
-use Rattle.bac_print.specs.{Checked.TookOrFailed, declared.checked.Checked.Checked}
-use Rattle.bac_links.proofs.Asking.{follows_push, gains_both, last_push, turn_begins, turns_over, waits_push}
-use Rattle.bac_links.specs.Asking.{Asks, Follows, ForTime, Move, next_move, Over, Plays, question_of, ToSend}
-use Rattle.bac_links.specs.{Asking.{turn_after, waits_in}, Call.{asked, Comes, end_in, events_of, IsAccepted, move}}
-use Rattle.bac_links.specs.{Call.{or_ended, rules_for, service_of, Tells}, declared.ending.Purpose.Purpose}
-use Rattle.bac_links.specs.declared.{exit.Exit.Exit, fault.ToolFault.{ToolFault, TheVariants.ReceiveFailed}}
-use Rattle.bac_links.specs.declared.fault.ToolFault.TheVariants.{SendFailed, TurnsSpent, WriteFailed}
+use Rattle.bac_tsm.specs.{Client.{Client, keeping, rules_of}, declared.client.SubmitFault.SubmitFault}
+use Rattle.bac_tsm.specs.Events.{Ask, Data, Dropped, Event, Note, Outcome, Request, Rules, Tick}
+use Rattle.bac_tsm.specs.{Laws.{AnswersByInvokeId, state_at, waiting_at}, Lookahead.{Accepted, accepted, accepted_at}}
+use Rattle.bac_tsm.specs.Lookahead.{End, end, end_notes, next_invoke_id, or_dropped, output, refusal_of, send_notes}
+use Rattle.bac_tsm.specs.Machine.{Answered, folded, initial, Run, sent, State, step, Stepped, submit, tick, to_send}
+use Rattle.{bac_text.specs.declared.jobs.Call.Call, bac_print.specs.Checked.TookOrFailed}
+use Rattle.{bac_print.specs.declared.checked.Checked.Checked, bac_links.specs.Answered.{answer_of, answers_of}}
+use Rattle.bac_links.specs.{Answered.GoOnAlike, Asking.{Asks, Follows, ForDatagram, ForTime, Move, next_move, Over}}
+use Rattle.bac_links.specs.{Asking.{Plays, question_of, times_in, ToSend, turn_after, waits_in}, Call.asked}
+use Rattle.bac_links.specs.Call.{Comes, end_in, events_of, IsAccepted, move, or_ended, rules_for, service_of, Tells}
+use Rattle.bac_links.specs.declared.{ending.Purpose.Purpose, exit.Exit.Exit, fault.ToolFault.TheVariants.ReceiveFailed}
+use Rattle.bac_links.specs.declared.fault.ToolFault.{TheVariants.{SendFailed, TurnsSpent, WriteFailed}, ToolFault}
 use Rattle.bac_links.specs.{Ending.{ending_line, exit_of}, Handed.{handed, handed_of}, History.{Account, Arrived}}
 use Rattle.bac_links.specs.History.{Entry, Failure, Gains, GainsAll, Heard, Posted, Silence, Timed, Unposted, Waited}
 use Rattle.bac_links.specs.Inner.CallSteps.{AsksNothing, begun_at, CarriesOn, ending_in, endings, GainsLost, heard_step}
 use Rattle.bac_links.specs.Inner.CallSteps.{Hears, IsAlone, or_sent, post_in, posts, sent_last, ticked, Ticks}
 use Rattle.bac_links.specs.{Inner.CallSteps.{TicksLost, Underway, wait_of}, Limits.most_turns}
+
+-- An account with this history.
+abbrev with_history : {Origin : Type 0} → Account Origin → List Entry → Account Origin
+with_history a entries = record a { history = entries }
+
+pub gains_both : {Origin : Type 0} (xs ys : List Entry) (a b c : Account Origin) → GainsAll xs a b → GainsAll ys b c
+    → GainsAll (xs ++ ys) a c
+gains_both = grind (arith, append_assoc)
+
+pub gains_none : {Origin : Type 0} (a : Account Origin) → GainsAll [] a a
+gains_none a = sym (ap (with_history a) (append-nil a.history))
+
+-- ---- who asks by his moves, and is answered alike, asks alike
+
+pub last_push : {A : Type 0} (o : Option A) (xs : List A) (x : A) → last_or o (xs ++ x ∷ []) ≡ Some x
+last_push o [] x = refl
+last_push o (y ∷ xs) x = last_push _ xs x
+
+pub waits_push : (more : List Entry) (x : Entry) → waits_in (more ++ x ∷ []) ≡ waits_in more + waits_in (x ∷ [])
+waits_push [] x = omega arith
+waits_push (Waited wait heard ∷ more) x = let h = waits_push more x in omega (arith, h)
+waits_push (Timed time ∷ more) x = waits_push more x
+waits_push (Posted to octets ∷ more) x = waits_push more x
+waits_push (Unposted to octets ∷ more) x = waits_push more x
+
+pub times_push : (more : List Entry) (x : Entry) → times_in (more ++ x ∷ []) ≡ times_in more ++ times_in (x ∷ [])
+times_push [] x = refl
+times_push (Waited wait heard ∷ more) x = times_push more x
+times_push (Timed time ∷ more) x = ap (λ (ts : List ℕ). time ∷ ts) (times_push more x)
+times_push (Posted to octets ∷ more) x = times_push more x
+times_push (Unposted to octets ∷ more) x = times_push more x
+
+module _ {X : Type 0} (wait n : ℕ) where
+  abbrev turn : Move (Result X ToolFault)
+  turn = turn_after wait n
+
+  pub turn_begins : n < most_turns → turn ≡ Asks (ForDatagram wait)
+  turn_begins within = rw (lt-ltb n _ within) refl
+
+  pub turns_over : most_turns ≤ n → turn ≡ Over (Err TurnsSpent)
+  turns_over over = rw (le-ltb n _ over) refl
+
+-- What was asked and what was answered make the entry.
+one_entry : (x y : Entry) → question_of x ≡ question_of y → answer_of x ≡ answer_of y → x ≡ y
+one_entry = grind arith
+
+module _ {R : Type 0} (move : List Entry → Option Entry → Move R) where
+  pub follows_push : (before xs : List Entry) (x : Entry) → Follows move before xs
+      → next_move move (before ++ xs) ≡ Asks (question_of x) → Follows move before (xs ++ x ∷ [])
+  follows_push _ [] x _ due = (ap (next_move move) (sym (append-nil _)) ∙ due, tt)
+  follows_push _ (y ∷ xs) x (asks, later) due =
+      (asks, follows_push _ xs x later (ap (next_move move) (append_assoc _ _ xs) ∙ due))
+
+  -- What holds at first, and behind each entry more that follows, holds behind all that follow.
+  pub followed : (P : List Entry → Type 0)
+      → ((xs : List Entry) (x : Entry) → Follows move [] xs → next_move move xs ≡ Asks (question_of x) → P xs
+      → P (xs ++ x ∷ [])) → P [] → (xs : List Entry) → Follows move [] xs → P xs
+  followed P more first xs = go [] xs tt first
+    where
+      go : (before later : List Entry) → Follows move [] before → P before → Follows move before later
+          → P (before ++ later)
+      go before [] here so _ = subst P (sym (append-nil before)) so
+      go before (x ∷ later) here so (asks, follows) =
+          subst P (append_assoc before (x ∷ []) later) (go (before ++ x ∷ []) later
+          (follows_push [] before x here asks) (more before x here asks so) follows)
+
+  follows_behind : (before xs ys : List Entry) → Follows move before (xs ++ ys) → Follows move (before ++ xs) ys
+  follows_behind _ [] ys follows = grind (arith, append-nil)
+  follows_behind before (x ∷ xs) ys (_, later) =
+      grind (arith, append_assoc, follows_behind (before ++ x ∷ []) xs ys later)
+
+  -- As far as they were answered alike they asked alike.
+  pub same_so_far : (before first other rest other_rest : List Entry) → Follows move before (first ++ rest)
+      → Follows move before (other ++ other_rest) → answers_of first ≡ answers_of other → first ≡ other
+  same_so_far _ [] [] _ _ p q e = refl
+  same_so_far before (x ∷ first) (y ∷ other) rest other_rest (asks, later) (other_asks, other_later) e =
+      grind (arith, one_entry, same_so_far (before ++ x ∷ []) first other rest other_rest later)
+  same_so_far _ [] (y ∷ other) _ _ p q e = cc
+  same_so_far _ (x ∷ first) [] _ _ p q e = cc
+
+  -- And so they go on.
+  module _ {A : Type 0} (IsCutOff : A → Type 0) (EndAlike PrintAlike : A → A → Type 0)
+      (first rest other_rest : List Entry) (r s : A)
+      (cut : rest ≡ [] → (x : Entry) → next_move move first ≡ Asks (question_of x) → IsCutOff r × PrintAlike r s)
+      (other_cut : other_rest ≡ [] → (x : Entry) → next_move move first ≡ Asks (question_of x)
+      → IsCutOff s × PrintAlike r s)
+      (ends : rest ≡ [] → other_rest ≡ [] → EndAlike r s × PrintAlike r s) where
+    go_on : (xs ys : List Entry) → rest ≡ xs → other_rest ≡ ys → Follows move first xs → Follows move first ys
+        → GoOnAlike IsCutOff EndAlike PrintAlike r s xs ys
+    go_on = grind arith
+
+    pub so_far : (other : List Entry) → first ≡ other → Follows move [] (first ++ rest)
+        → Follows move [] (other ++ other_rest) → GoOnAlike IsCutOff EndAlike PrintAlike r s rest other_rest
+    so_far = grind (arith, go_on, follows_behind)
+
+-- What was gained, by a history as it stands.
+pub played : {Origin R : Type 0} {move : List Entry → Option Entry → Move R} {seen left : Account Origin} {result : R}
+    {gained : List Entry} (plays : Plays move seen left result) → left.history ≡ seen.history ++ gained
+    → plays.gained ≡ gained
+played = grind (arith, append_cancel_left)
+
+-- So these entries were asked by the moves that were due, and behind them it is over.
+pub record PlaysAll {R : Type 0} (move : List Entry → Option Entry → Move R) (gained : List Entry) (result : R) : Type 0
+  where
+    pub follows : Follows move [] gained
+    pub over : next_move move gained ≡ Over result
+
+pub plays_all : {Origin R : Type 0} {move : List Entry → Option Entry → Move R} {seen left : Account Origin}
+    {result : R} {gained : List Entry} → Plays move seen left result → left.history ≡ seen.history ++ gained
+    → PlaysAll move gained result
+plays_all plays gains = rw (← played plays gains) (record { follows = plays.follows; over = plays.over })
+
+-- Two that play to their ends: they stop together.
+module _ {Origin Other R A : Type 0} {move : List Entry → Option Entry → Move R} (EndAlike PrintAlike : A → A → Type 0)
+    {seen left : Account Origin} {other_seen other_left : Account Other} {c d : R} (r s : A)
+    (plays : Plays move seen left c) (others : Plays move other_seen other_left d)
+    (ends : c ≡ d → plays.gained ≡ others.gained → EndAlike r s × PrintAlike r s) where
+  pub to_the_end : (first rest other other_rest : List Entry) → left.history ≡ seen.history ++ (first ++ rest)
+      → other_left.history ≡ other_seen.history ++ (other ++ other_rest) → answers_of first ≡ answers_of other
+      → (first ≡ other) × GoOnAlike (λ r. ⊥) EndAlike PrintAlike r s rest other_rest
+  to_the_end first rest other other_rest gains other_gains same =
+      let here = plays_all plays gains in
+      let there = plays_all others other_gains in
+      let one = same_so_far move [] first other rest other_rest here.follows there.follows same in (
+        one,
+        so_far move (λ r. ⊥) EndAlike PrintAlike first rest other_rest r s (grind (arith, append-nil, here))
+            (grind (arith, append-nil, there, one))
+            (grind (arith, append-nil, here, there, one, ends, played plays gains, played others other_gains))
+            other one here.follows there.follows,
+      )
+
+-- ---- a call, turn by turn
 
 -- ---- one more event at the end of any list
 
@@ -509,10 +641,10 @@ module _ {Origin : Type 0} {purpose : Purpose} {call : Call} {seen mid next : Ac
 module _ {Origin : Type 0} {purpose : Purpose} {call : Call} {seen mid next : Account Origin} {client middle : Client}
     {n : ℕ} (within : n < most_turns) (far : Underway purpose call seen mid client n)
     (hears : Hears (wait_of call) client middle None mid next) where
-  abbrev so_far : List Entry
-  so_far = waited within far hears.heard hears.gains
+  abbrev until_now : List Entry
+  until_now = waited within far hears.heard hears.gains
 
-  carried : CarriesOn purpose call far.time (handed so_far) middle
+  carried : CarriesOn purpose call far.time (handed until_now) middle
   carried = heard_on far.more far.carried _ hears.heard _ hears.ends hears.handed
 
   pub alone : IsAlone middle.state
@@ -520,16 +652,16 @@ module _ {Origin : Type 0} {purpose : Purpose} {call : Call} {seen mid next : Ac
 
   module _ (now : ℕ) where
     abbrev timed : List Entry
-    timed = so_far ++ Timed now ∷ []
+    timed = until_now ++ Timed now ∷ []
 
     follows_timed : Follows (move purpose call) [] (Timed far.time ∷ timed)
     follows_timed =
-        follows_push (move purpose call) [] (Timed far.time ∷ so_far) (Timed now)
+        follows_push (move purpose call) [] (Timed far.time ∷ until_now) (Timed now)
         (follows_waited within far hears.heard hears.gains)
         (behind_waited within far hears.heard hears.gains hears.received None carried.unended)
 
     due_is : sent_last purpose call (events_of purpose call (Timed far.time ∷ timed)) ≡ posts (ticked middle now).notes
-    due_is = sends_so so_far carried (Timed now) (Tick now) tt refl
+    due_is = sends_so until_now carried (Timed now) (Tick now) tt refl
 
     turned : waits_in timed ≡ suc n
     turned = grind (arith, waits_push)
@@ -545,7 +677,7 @@ module _ {Origin : Type 0} {purpose : Purpose} {call : Call} {seen mid next : Ac
     next_then : endings (ticked middle now).notes ≡ [] → next_move (move purpose call) (Timed far.time ∷ timed)
         ≡ or_sent (posts (ticked middle now).notes) (turn_after (wait_of call) (suc n))
     next_then none_then =
-        behind_time purpose call (Timed far.time ∷ so_far) now (carried_then none_then _ refl).unended
+        behind_time purpose call (Timed far.time ∷ until_now) now (carried_then none_then _ refl).unended
         ∙ ap (λ (d : List Entry). or_sent d (turn_after (wait_of call) (waits_in timed))) due_is
         ∙ ap (λ (k : ℕ). or_sent (posts (ticked middle now).notes) (turn_after (wait_of call) k)) turned
 
@@ -565,8 +697,8 @@ module _ {Origin : Type 0} {purpose : Purpose} {call : Call} {seen mid next : Ac
     gains = grind (arith, unsent_at_end, alone, append-nil, gains_timed now _ ticks.gains);
     follows = follows_timed now;
     over =
-        behind_now purpose call (Timed far.time ∷ so_far) now
-        ∙ rw (ends_so so_far carried (Timed now) (Tick now) tt refl None ticks.ends) refl;
+        behind_now purpose call (Timed far.time ∷ until_now) now
+        ∙ rw (ends_so until_now carried (Timed now) (Tick now) tt refl None ticks.ends) refl;
   }
 
   -- The request could not be sent again.

@@ -1,7 +1,5 @@
-mod Asking
 mod LinkLaws
 mod CallTurns
-pub mod Searches
-pub mod Servings
+pub mod Listening
 pub mod CallLaws
 mod Worked

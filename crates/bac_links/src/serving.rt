@@ -42,7 +42,7 @@ pub fn serve<L: Link>(link: &mut L, device: &mut Device, count: u32) -> Result<E
 }
 
 // Answers the next datagram, if one comes, and says how many that are: one, or none.
-#[tactic(auto, using(crate::proofs::Asking::gains_both))]
+#[tactic(auto, using(crate::proofs::CallTurns::gains_both))]
 fn serve_turn<L: Link>(
     link: &mut L,
     device: &mut Device,

@@ -1,4 +1,3 @@
 pub mod Chunks
 pub mod Courses
-pub mod SoFar
 pub mod Computed

@@ -2,29 +2,27 @@
 use Rattle.std.proofs.Common.{[], ap, arith, Err, inl, inr, is_some, IsErrAnd, IsTrue, List, None, Ok, Option}
 use Rattle.std.proofs.Common.{option_and_then, refl, Result, Some, subst, sym, ℕ, ◌++◌, ◌<◌, ◌∙◌, ◌∷◌, ◌≡◌, ◌≢◌, ◌⊎◌}
 use Rattle.std.specs.Result.{result_ok}
-use Rattle.clap.specs.Words.{fault_of, Text}
-use Rattle.bac_tsm.specs.declared.config.Config.{Config}
-use Rattle.bac_text.specs.declared.jobs.Call.{Call}
-use Rattle.bac_print.specs.{Checked.{fresh, octets_of}, declared.checked.Checked.Checked}
-use Rattle.bac_script.{proofs.Courses.{traces_alike, traces_front}, specs.Alike.GaveSame}
-use Rattle.bac_script.specs.declared.tracing.TraceEnd.{TraceEnd}
-use Rattle.bac_links.proofs.{CallLaws.calls_so_far, Searches.searches_so_far, Servings.servings_so_far}
+use Rattle.{clap.specs.Words.{fault_of, Text}, bac_tsm.specs.declared.config.Config.Config}
+use Rattle.{bac_text.specs.declared.jobs.Call.Call, bac_print.specs.Checked.{fresh, octets_of}}
+use Rattle.{bac_print.specs.declared.checked.Checked.Checked, bac_script.proofs.Courses.{traces_alike, traces_front}}
+use Rattle.bac_script.specs.{Alike.GaveSame, declared.tracing.TraceEnd.TraceEnd}
+use Rattle.bac_links.proofs.{CallLaws.calls_so_far, Listening.{searches_so_far, servings_so_far}}
 use Rattle.bac_links.specs.{Answered.{answers_of, GoOnAlike, OneText, Printed}, Call.Tells}
 use Rattle.bac_links.specs.declared.{ending.Purpose.{Purpose, TheVariants.{Reading, Writing}}, exit.Exit.Exit}
-use Rattle.bac_links.specs.declared.{fault.ToolFault.{ToolFault, TheVariants.WriteFailed}, socket.NoSocket.NoSocket}
-use Rattle.bac_links.specs.History.{Account, Entry}
+use Rattle.bac_links.specs.declared.{fault.ToolFault.{TheVariants.WriteFailed, ToolFault}, socket.NoSocket.NoSocket}
+use Rattle.{bac_links.specs.History.{Account, Entry}, bac_words.proofs.Tools.one_answer}
+use Rattle.bac_words.specs.{Command.bactool, declared.faults.UsageFault.{TheVariants.{Help, Memory, Words}, UsageFault}}
+use Rattle.bac_words.specs.declared.job.{Batch.Batch, Job.{Job, TheVariants.{Over, Run, Trace}}}
+use Rattle.bac_words.specs.declared.job.Tool.{TheVariants.{Device, Read, WhoIs, Write}, Tool}
+use Rattle.bac_words.specs.{Line.{Answers, IsRefusal}, Marks.marked_words}
 use Rattle.bac_run.proofs.GoOn.{IsCutShort as IsBatchCut, IsTaken, one_text as one_journal, runs_on, taken}
 use Rattle.bac_run.{proofs.Standing.Meets, specs.declared.fault.RunFault.{RunFault, TheVariants.{Link, Script}}}
 use Rattle.bac_run.specs.{declared.session.Session.Session, Fault.write_failed, Run.{journal_of, Runs as Requested}}
-use Rattle.bac_words.{proofs.Tools.one_answer, specs.{Command.bactool, declared.faults.UsageFault.UsageFault}}
-use Rattle.bac_words.specs.declared.{faults.UsageFault.TheVariants.{Help, Memory, Words}, job.{Batch.Batch, Job.Job}}
-use Rattle.bac_words.specs.declared.job.{Job.TheVariants.{Over, Run, Trace}, Tool.{Tool, TheVariants.{Device, Read}}}
-use Rattle.bac_words.specs.{declared.job.Tool.TheVariants.{WhoIs, Write}, Line.{Answers, IsRefusal}, Marks.marked_words}
 use Rattle.bac_tools.specs.Alike.{AreAlike, AreGivenAlike, EndAlike, Gained, is_socket, IsCutOff, IsCutShort, IsPrinted}
-use Rattle.bac_tools.specs.{Alike.{PrintAlike, ProgramRun}, Binding.asked_by, declared.program.Binding.Binding}
-use Rattle.bac_tools.specs.{declared.report.Report.Report, Outside.Outside, Program.{IsGiven, RunsAsRead}}
-use Rattle.bac_tools.specs.{Report.{report_of, run_report, tool_report}, Runs.{IsSessionOf, Runs, RunsBatch, RunsOver}}
-use Rattle.bac_tools.specs.Runs.{RunsScript, ToolRuns}
+use Rattle.bac_tools.specs.Alike.{PrintAlike, ProgramRun}
+use Rattle.bac_tools.specs.{Binding.asked_by, declared.{program.Binding.Binding, report.Report.Report}, Outside.Outside}
+use Rattle.bac_tools.specs.{Program.{IsGiven, RunsAsRead}, Report.{report_of, run_report, tool_report}}
+use Rattle.bac_tools.specs.Runs.{IsSessionOf, Runs, RunsBatch, RunsOver, RunsScript, ToolRuns}
 use denote.Struct.Props.{props}
 use Rattle.bac_script.specs.declared.tracing.TraceFault.TheVariants as stops
 use Rattle.bac_tools.specs.declared.report.Fault.TheVariants as faults

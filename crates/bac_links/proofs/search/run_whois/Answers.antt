@@ -1,6 +1,6 @@
 -- Each way out of the loop ends the search that goes so far in another way.
 use Rattle.std.proofs.{Common.{add-one, arith, refl, ◌∙◌}, lemmas.Result.err_from_is_err_and}
-use Rattle.bac_links.proofs.Searches.{begun, ended, fails, goes_on, spent, unbegun}
+use Rattle.bac_links.proofs.Listening.{begun, ended, fails, goes_on, spent, unbegun}
 use Rattle.bac_links.specs.declared.exit.Exit.TheVariants.{Bad, Good}
 use Rattle.bac_links.proofs.search.run_whois.Goals as goal
 

@@ -1,11 +1,11 @@
 -- What is left on the page in the end goes out, or the run is cut off there.
 use Rattle.std.proofs.Common.{rules}
-use Rattle.bac_script.proofs.SoFar.{traces_all, traces_front}
+use Rattle.bac_script.proofs.Courses.{trace_cut, traces_all}
 use Rattle.bac_script.proofs.tracing.trace.Goals as goal
 
 pub returns-in_err-finish-clause-script : goal.returns-in_err-finish-clause-script
 returns-in_err-finish-clause-script g c =
-    traces_front _ (search rules) (search rules) c.run_script-answer.ensures.script
+    trace_cut _ (search rules) (search rules) c.run_script-answer.ensures.script
     c.new-page.ensures.writer c.new-page.ensures.empty c.new-page.ensures.unfolded c.finish.ensures.printed
 
 pub returns-clause-script : goal.returns-clause-script
