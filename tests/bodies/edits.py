@@ -33,6 +33,7 @@ class Function(typing.NamedTuple):
     in_cycle: bool  # it is called by what it calls
     behind: int  # the line behind which a copy of it may stand; 0: none may
     impl: str  # the head of an `impl` that the copy needs, or ""
+    trait: str  # whose method it is, as a check names that, or ""
     head: list  # the lines in front of its body, its remarks and attributes among them
     text: str  # what stands between the brackets of its body
 
@@ -40,9 +41,10 @@ class Function(typing.NamedTuple):
 @functools.cache
 def functions_of(crate, path, source):
     """The functions of a file of a crate. By its layout each ends at the first line of its indent and a bracket."""
-    lines, found, block, in_cycle = source.split("\n"), [], "", False
+    lines, found, block, ghosts, in_cycle = source.split("\n"), [], "", [], False
     for first, line in enumerate(lines):
-        block = line if re.match(r"\S", line) else block
+        block, ghosts = (line, []) if re.match(r"\S", line) else (block, ghosts)
+        ghosts += [line] * line.startswith("    ghost ")
         in_cycle, head = in_cycle or "#[cycle(" in line, HEAD.match(line)
         if not head:
             continue
@@ -54,14 +56,28 @@ def functions_of(crate, path, source):
         owner = IMPL.match(block)
         trait, given, kind = owner.groups() if owner else ("", "", "")
         behind, impl = 0 if indent and (trait or not owner) else last, ""
-        if trait and block.endswith("{") and any(re.match(" *ensures", it) for it in lines[first:body]):
-            behind, impl = lines.index("}", last), block.replace(f"{trait}{given or ''} for ", "", 1)
+        above = [*lines[start:body], *gives(ghosts, line)]
+        if trait and block.endswith("{") and any(re.match(" *ensures", it) for it in above):
+            behind, uses = lines.index("}", last), [it for it in ghosts if it.startswith("    ghost use ")]
+            impl = "\n".join([block.replace(f"{trait}{given or ''} for ", "", 1), *uses])
         symbols = re.compile(f"{crate}::{symbol_of(path, owner, name)}(::.+)?$")
         text = "\n".join(lines[body + 1 : last]) if last > body else line.partition("{")[2]
-        of = (first, body, last, name, f"{kind}::{name}" if kind else name, symbols, in_cycle, behind, impl)
-        found.append(Function(*of, lines[start:body], text))
+        shown, of_trait = f"{kind}::{name}" if kind else name, f"{trait}{words_of(given)}" if trait else ""
+        of = (first, body, last, name, shown, symbols, in_cycle, behind, impl, of_trait)
+        found.append(Function(*of, above, text))
         in_cycle = False
     return found
+
+
+def gives(ghosts, head):
+    """The head of a `from` with one line, in whose `impl` these lines stand, with a clause of what it gives."""
+    found = re.search(r"(?m)^    ghost from_gives = \{ λ (\w+) (\w+)\. (.*) \};$", "\n".join(ghosts))
+    given = re.match(r"    fn from\((\w\w+): .*\{$", head)
+    if not (found and given):
+        return []
+    named = {found[1]: given[1], found[2]: "result"}
+    made = re.sub(r"[\w-]+", lambda it: named.get(it[0], it[0]), found[3])
+    return [head[:-2], f"        ensures {{ {made} }}"]
 
 
 def symbol_of(path, owner, name):
@@ -69,8 +85,12 @@ def symbol_of(path, owner, name):
     if not owner:
         return "".join(f"{part}::" for part in module_of(path)) + f"(fn::)?{name}"
     trait, given, kind = owner.groups()
-    words = "".join(it[0].upper() + it[1:] for it in re.findall(r"(?<!')\b\w+", given or ""))
-    return rf"(\w+::)*(fn::)?{kind}(\+\w+)*{trait or ''}({words})?::{name}"
+    return rf"(\w+::)*(fn::)?{kind}(\+\w+)*{trait or ''}({words_of(given)})?::{name}"
+
+
+def words_of(given):
+    """How a check names what a trait is given."""
+    return "".join(it[0].upper() + it[1:] for it in re.findall(r"(?<!')\b\w+", given or ""))
 
 
 def module_of(path):
@@ -350,6 +370,8 @@ class Edit:
             head = self.promises(self.promised or self.clauses())
         name, lines = f"{of.name}_again_{number}", self.applied({})[path].split("\n")
         fewer = self.pairs[0].old.count("\n")  # what stands in a body is one line
-        text = "\n".join(it for it in [*head, *lines[of.body : of.last + 1 - fewer]] if "#[cycle(" not in it)
+        begin, *rest = lines[of.body : of.last + 1 - fewer]
+        begin = f"    {begin[begin.index('{') :]}" if of.impl and HEAD.match(begin) else begin  # behind its clause
+        text = "\n".join(it for it in [*head, begin, *rest] if "#[cycle(" not in it)
         text = re.sub(rf"(?m)^([^/\n]*\bfn ){of.name}\b", rf"\1{name}", text, count=1)
         self.copy = Copy(path, of.behind, f"\n{of.impl}\n{text}\n}}" if of.impl else f"\n{text}", name)

@@ -4,10 +4,11 @@
 CONTRIBUTING.md (A wrong body) says how one is written, and what shows it to be wrong. Many bodies of a crate stand
 together in one copy of it, where other functions have stubs for bodies (stubs.py), over the libraries of the crates
 below. A body stands beside its function, as one more function with the same contract, and the same answers where it
-needs them. What can't stand so is tried in its function's place, where a round has one of each function: a body of a
-method with a trait's contract, or one that may call back. Edits of constants and types, which a law refuses, have
-rounds of their own, but not their twins. What is refused for nothing but a callee is tried again alone. What no edit
-touches must be proved. A body is refused by a
+needs them; that of a `from` has what its `impl` gives for its contract. What can't stand so is tried in its function's
+place, where a round has one of each function: a body of another method with a trait's contract, or one that may call
+back. Those of them that are wrong have a round of their own, since their callers would be refused too, and so have
+edits of constants and types, which a law refuses, but not their twins. What is refused for nothing but a callee is
+tried again alone. What no edit touches must be proved. A body is refused by a
 
     clause  of the function, or its type's invariant; false: there are values at which it does not hold; open: no proof
             is found; limit: none in time
@@ -32,7 +33,7 @@ import time
 sys.path.insert(0, os.path.dirname(__file__) + "/..")
 import twins
 from edits import CONTROL, EMPTIED, GHOST, GHOSTS, INVARIANT, NEVER, REFUTED, ROOT, TWIN, WRONG
-from edits import IMPL, Edit, entries_of, functions_of, module_of, sources_of, symbol_of
+from edits import IMPL, Edit, entries_of, functions_of, home_of, module_of, sources_of, symbol_of
 from stubs import LINKED, PLACE, put_answers, put_fault, put_stubs
 from tree import all_crates, copy_crate, crates_below, end_by_signals, files, free_memory, processors, ran
 
@@ -82,7 +83,10 @@ class Body(Edit):
             asked = ["::".join([*module_of(path), kind + trait, name]) for path, trait, kind, name in brought]
             return asked if self.part == GHOST else [self.by, *asked]
         path, of = self.functions[0]
-        if not of.behind or of.impl:
+        if of.trait:
+            kind = of.shown.rpartition("::")[0]
+            return ["::".join([*home_of(self.crate, path, kind)[:-1], kind + of.trait, of.name])]
+        if not of.behind:
             return ["::".join(module_of(path)) or of.shown]
         return [of.shown if "::" in of.shown else "::".join([*module_of(path), of.name])]
 
@@ -219,8 +223,9 @@ class Round:
         if edit.is_wide:
             keys = {(edit.by, it) for it in edit.promised or edit.clauses()} | {(it.path, it.old) for it in edit.pairs}
         texts = self.texts if edit.copy else edit.applied(self.texts)
-        # a right text is no law's to refuse, nor is a ghost clause alone
-        kind = lambda it: (it.is_wide and it.part != TWIN, it.part == GHOST)
+        # a right text is no law's to refuse, nor is a ghost clause alone; what is wrong in its place spoils its callers
+        spoils = lambda it: not (it.copy or it.is_wide or it.part or it.hole)
+        kind = lambda it: (it.is_wide and it.part != TWIN, it.part == GHOST, spoils(it))
         is_like = all(kind(it) == kind(edit) for it in self.edits)
         most = 1 if edit.tries or any(it.tries for it in self.edits) else LARGEST
         if texts is None or not is_like or keys & self.keys or len(self.edits) >= most:
