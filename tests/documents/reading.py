@@ -167,7 +167,7 @@ def unused_or_gone():
         for uses, text in used_and_said(code_of(path), path.endswith(".rt")):
             said = names_in(text)
             for module, name, here, public in uses_in(uses):
-                if not public and not {*parts_of(here)} <= said:
+                if not public and here != "*" and not {*parts_of(here)} <= said:
                     yield f"{path} brings in what it doesn't say: {here}"
                 if name and module in {*SPECS, *ROOMS} and not defined(module, name):
                     yield f"{path} brings in {name}, which {module} hasn't"

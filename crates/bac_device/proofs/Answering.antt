@@ -1,12 +1,11 @@
 -- What a device replies to a datagram, and what it is then, by the writes that it holds.
 use Rattle.std.proofs.Common.{ap, arith, Bool, Err, IfSome, if◌then◌else◌, List, Ok, ok_or, Option, refl, Result, subst}
 use Rattle.std.{proofs.{Common.{ℕ, ◌≡◌}, lemmas.Bool.cases_Bool}, specs.Result.result_ok}
-use Rattle.bac_pdu.{proofs.BodyLaws.write_is, specs.{Apdu.Message, Peer.Station, Property.{IsPriority, Order}}}
-use Rattle.bac_pdu.specs.{PropertyReading.write_of, Steps.◌>>=◌}
-use Rattle.bac_device.{proofs.StateLaws.{after_holds, each_ordered, points_after, write_held}, specs.accepted_write}
-use Rattle.bac_device.specs.{Description, device_after, DeviceState, Holds, order_in, ordered_write, points_of}
-use Rattle.bac_device.specs.{reply_of, reply_to, Standing, urgency, with_write, Write, write_in_datagram, writes_after}
-use Rattle.bac_device.specs.{Info.Info, Inner.IsUrgent}
+use Rattle.bac_pdu.{proofs.BodyLaws.write_is, specs.{IsPriority, Message, Order, Station, write_of, ◌>>=◌}}
+use Rattle.bac_device.proofs.StateLaws.{after_holds, each_ordered, points_after, write_held}
+use Rattle.bac_device.specs.{accepted_write, Description, device_after, DeviceState, Holds, order_in, ordered_write}
+use Rattle.bac_device.specs.{points_of, reply_of, reply_to, Standing, urgency, with_write, Write, write_in_datagram}
+use Rattle.bac_device.specs.{writes_after, Info.Info, Inner.IsUrgent}
 
 -- ---- a write that a device accepts is at a priority that there is
 

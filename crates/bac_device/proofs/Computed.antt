@@ -1,11 +1,9 @@
 -- What the worked examples compute with. Who unfolds `computed` unfolds all of it.
-use Rattle.bac_wire.specs.{Datum.plain, DatumReading.{contents_of, value_at}, Inner.Datum.tagged}
-use Rattle.bac_wire.specs.{ItemReading.{behind_closing, behind_items, region_at}, ParameterReading.behind_opening}
-use Rattle.bac_wire.specs.{ParameterReading.{context_at, enclosed_at, kind_at, number_at, object_at}, Tag.plain_tag}
-use Rattle.bac_wire.specs.TagReading.{length_at, long_length_at, shape_at, tag_at, tag_number_at}
-use Rattle.bac_pdu.specs.{ApduReading.{apdu_of, parts_at}, Datagram.wrapped, DatagramReading.{address_at, carried}}
-use Rattle.bac_pdu.specs.{DatagramReading.{header_at, link_at}, Inner.Datagram.front_octets, Parameter.plain_parameter}
-use Rattle.bac_pdu.specs.PropertyReading.{read_of, reference_at, write_of}
+use Rattle.bac_wire.specs.{behind_closing, behind_items, behind_opening, contents_of, context_at, enclosed_at, kind_at}
+use Rattle.bac_wire.specs.{length_at, long_length_at, number_at, object_at, plain, plain_tag, region_at, shape_at}
+use Rattle.bac_wire.specs.{tag_at, tag_number_at, value_at, Inner.Datum.tagged}
+use Rattle.bac_pdu.specs.{address_at, apdu_of, carried, header_at, link_at, parts_at, plain_parameter, wrapped}
+use Rattle.bac_pdu.specs.{write_of, Inner.Datagram.front_octets, PropertyReading.{read_of, reference_at}}
 use Rattle.bac_device.specs.{accepted_write, device_property, element, fixed_value, full_reply, kind_property}
 use Rattle.bac_device.specs.{one_value, ordered_write, place, point_property, property_of, read_property, read_reply}
 use Rattle.bac_device.specs.{reply_of, standing_after, write_in_datagram, write_reply, written_value}

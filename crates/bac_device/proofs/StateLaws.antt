@@ -5,18 +5,18 @@ use Rattle.std.proofs.Common.{slice_set, Some, subst, suc, sym, true, zero, ℕ,
 use Rattle.std.proofs.{Common.◌⊎◌, lemmas.Bool.{cases_Bool, cond_both}}
 use Rattle.std.proofs.lemmas.{Grind.common_steps, Option.{none-some, some_pair_parts}, Simd.map-map}
 use Rattle.std.specs.{List.last_or, Option.ForSome, Result.result_ok}
-use Rattle.bac_wire.specs.{Datum.plain, Identifier.Identifier, Steps.◌>>=◌, Tag.plain_tag}
+use Rattle.bac_wire.specs.{plain, plain_tag, ◌>>=◌, Identifier.Identifier}
 use Rattle.bac_pdu.proofs.DatagramLaws.{announced_most, apdu_is, carried_is, wrapped_short, wrapped_takes}
-use Rattle.bac_pdu.specs.Apdu.{announced_size, confirmed, IsLaidOut, laid_out, Message, unconfirmed}
-use Rattle.bac_pdu.specs.{ApduReading.apdu_of, Datagram.{Carries, Delivery, Takes, wrapped}, DatagramReading.carried}
-use Rattle.bac_pdu.specs.{declared.{apdu.Part.Part, discovery.WhoIs.WhoIs, peer.Peer.Peer}, Discovery.asks}
-use Rattle.{bac_pdu.specs.{Peer.{IsRoutable, Station, station}, Property.Order}, bac_device.specs.accepted_write}
-use Rattle.bac_device.specs.{AreDefined, Arrival, Description, description_of, device_after, DeviceState, FitsRequest}
-use Rattle.bac_device.specs.{fitting, Given, Holds, i_am, Info.Info, Inner.{IsUrgent, write_in_body, write_in_request}}
-use Rattle.bac_device.specs.{is_to, NoneTo, order_in, place, place_after, place_at, point_at, points_of, present}
-use Rattle.bac_device.specs.{present_after, priorities, put, Replies, replies_to, RepliesFit, RepliesInTurn}
-use Rattle.bac_device.specs.{reply_message, reply_of, reply_to, ReplyFits, Standing, standing_after, standing_at}
-use Rattle.bac_device.specs.{who_is_reply, with_point, with_write, Write, write_in_datagram, writes_after}
+use Rattle.bac_pdu.specs.{apdu_of, carried, Carries, confirmed, Delivery, IsLaidOut, laid_out, Message, Order, Station}
+use Rattle.bac_pdu.specs.{station, unconfirmed, wrapped, Apdu.announced_size, Datagram.Takes}
+use Rattle.bac_pdu.specs.{declared.{discovery.WhoIs.WhoIs, peer.Peer.Peer}, Discovery.asks, Peer.IsRoutable}
+use Rattle.bac_device.specs.{accepted_write, AreDefined, Arrival, Description, description_of, device_after}
+use Rattle.bac_device.specs.{DeviceState, FitsRequest, fitting, Given, Holds, i_am, is_to, NoneTo, order_in, Part}
+use Rattle.bac_device.specs.{place, place_after, place_at, point_at, points_of, present, present_after, priorities, put}
+use Rattle.bac_device.specs.{Replies, replies_to, RepliesFit, RepliesInTurn, reply_message, reply_of, reply_to}
+use Rattle.bac_device.specs.{ReplyFits, Standing, standing_after, standing_at, who_is_reply, with_point, with_write}
+use Rattle.bac_device.specs.{Write, write_in_datagram, writes_after, Info.Info}
+use Rattle.bac_device.specs.Inner.{IsUrgent, write_in_body, write_in_request}
 
 pub map_same : {A B : Type 0} (f g : A → B) → ((x : A) → f x ≡ g x) → (xs : List A) → map f xs ≡ map g xs
 map_same f g _ [] = refl

@@ -1,12 +1,11 @@
 -- What is read of a device, and which writes it accepts (clauses 15.5 and 15.9).
-use Rattle.std.specs.Prelude.{ℕ, ◌==◌, not, ◌&&◌, ◌||◌, if◌then◌else◌, Option, Some, None, is_some, Result, Ok, Err}
-use Rattle.std.specs.Option.{option_and_then, ok_or}
-use Rattle.bac_wire.specs.Identifier.{Identifier}
-use Rattle.bac_pdu.specs.{Property.{Reference, Order}, Steps.◌>>=◌}
-use Rattle.bac_device.specs.declared.failure.Failure.{Failure, TheVariants.{UnknownObject, UnknownProperty, NotAnArray}}
-use Rattle.bac_device.specs.{declared.failure.Failure.TheVariants.WriteDenied, Kind.is_commandable}
-use Rattle.bac_device.specs.{Places.{Write, Standing, written_value}, Property.{Property, element, point_property}}
-use Rattle.bac_device.specs.Device.{DeviceState, is_device, standing_at, device_property}
+use Rattle.std.specs.Option.{ok_or, option_and_then}
+use Rattle.std.specs.Prelude.{Err, if◌then◌else◌, is_some, None, not, Ok, Option, Result, Some, ℕ, ◌&&◌, ◌==◌, ◌||◌}
+use Rattle.{bac_wire.specs.Identifier.Identifier, bac_pdu.specs.{Order, Reference, ◌>>=◌}}
+use Rattle.bac_device.specs.declared.failure.Failure.{Failure, TheVariants.NotAnArray}
+use Rattle.bac_device.specs.declared.failure.Failure.TheVariants.{UnknownObject, UnknownProperty, WriteDenied}
+use Rattle.bac_device.specs.{Device.{device_property, DeviceState, is_device, standing_at}, Kind.is_commandable}
+use Rattle.bac_device.specs.{Places.{Standing, Write, written_value}, Property.{element, point_property, Property}}
 
 -- ---- ReadProperty (clause 15.5)
 

@@ -1,14 +1,14 @@
 -- The device: what it keeps, its own properties, and what can be added to it (clause 12.11).
-use Rattle.std.specs.Prelude.{ℕ, ◌==◌, ◌&&◌, ◌||◌, Bool, false, nat_eq, if◌then◌else◌, List, [], ◌∷◌, ◌++◌, length, map}
-use Rattle.std.specs.{Prelude.{find, codes, Option, Result, Err, ◌≡◌}, List.list_any, Map.lookup}
-use Rattle.std.specs.{Option.{is_some, option_map, option_and_then, option_or, ok_or}, Str.bytes_eq}
-use Rattle.bac_wire.specs.{Identifier.Identifier, Datum.{Datum, unsigned, enumerated, char_string}}
+use Rattle.std.specs.{List.list_any, Map.lookup, Option.{is_some, ok_or, option_and_then, option_map, option_or}}
+use Rattle.std.specs.Prelude.{[], Bool, codes, Err, false, find, if◌then◌else◌, length, List, map, nat_eq, Option}
+use Rattle.std.specs.{Prelude.{Result, ℕ, ◌&&◌, ◌++◌, ◌==◌, ◌||◌, ◌∷◌, ◌≡◌}, Str.bytes_eq}
+use Rattle.bac_wire.specs.{char_string, enumerated, unsigned, Datum.Datum, Identifier.Identifier}
+use Rattle.bac_device.specs.declared.device.AddFault.{AddFault, TheVariants.{BadPoint, NameTwice, TooMany, Twice}}
+use Rattle.bac_device.specs.{Info.Info, Limits.{device_room, greatest_apdu, no_instance, no_segmentation, own_vendor}}
+use Rattle.bac_device.specs.Places.{place_at, present, Standing, standing_after, Write}
+use Rattle.bac_device.specs.Point.{Description, description_of, Given, same_object}
+use Rattle.bac_device.specs.Property.{array, point_objects, Property, single}
 use Rattle.bac_wire.specs.Datum as values
-use Rattle.bac_device.specs.declared.device.AddFault.{AddFault, TheVariants.{TooMany, Twice, NameTwice, BadPoint}}
-use Rattle.bac_device.specs.{Info.Info, Limits.{device_room, no_instance, greatest_apdu, no_segmentation, own_vendor}}
-use Rattle.bac_device.specs.Point.{Given, Description, description_of, same_object}
-use Rattle.bac_device.specs.Places.{Write, Standing, standing_after, present, place_at}
-use Rattle.bac_device.specs.Property.{Property, single, array, point_objects}
 
 -- What a device keeps: what it is known by, and its points as they stand.
 pub record DeviceState : Type 0 where

@@ -1,10 +1,9 @@
 -- The types of point, and the values of each (clause 12).
 use Rattle.std.specs.{Int.{from_be_bytes, to_be_bytes, w32}, Map.lookup, Option.option_map, Prelude.{[], Bool, false}}
 use Rattle.std.specs.Prelude.{List, nat_eq, nat_le, nat_lt, None, Option, Some, true, ℕ, ◌&&◌, ◌==◌, ◌^◌, ◌∷◌}
-use Rattle.bac_wire.specs.{Datum.{Datum, enumerated, null, real, unsigned}, DatumReading.value_at, Steps.◌>>=◌}
-use Rattle.bac_pdu.specs.PropertyReading.{whole_of}
-use Rattle.bac_device.specs.declared.kind.{Family.{Family, TheVariants.{Analog, Binary, MultiState}}, Kind.Kind}
-use Rattle.bac_device.specs.declared.kind.Role.{Role}
+use Rattle.bac_wire.specs.{enumerated, null, real, unsigned, value_at, ◌>>=◌, Datum.Datum}
+use Rattle.{bac_pdu.specs.PropertyReading.whole_of, bac_device.specs.declared.kind.Family.Family}
+use Rattle.bac_device.specs.declared.kind.{Family.TheVariants.{Analog, Binary, MultiState}, Kind.Kind, Role.Role}
 use Rattle.bac_device.specs.declared.kind.Role.TheVariants as roles
 
 -- The kind of this family and role.

@@ -25,3 +25,5 @@ unfoldable pub use Reply.*
 unfoldable pub use Size.*
 unfoldable pub use Demo.*
 unfoldable pub use Turns.*
+pub use Rattle.bac_device.specs.{Demo.demo_points, Device.{device_after, DeviceState}, Places.Write}
+pub use Rattle.{bac_device.specs.Turns.{Arrival, replies_to}, bac_pdu.specs.declared.apdu.Part.Part}

@@ -1,11 +1,11 @@
 -- What a point has after writes: the sixteen places of its priority array, and its present value (clause 19.2).
-use Rattle.std.specs.Prelude.{◌≡◌, ℕ, ◌-◌, ◌==◌, ◌&&◌, ◌||◌, not, Bool, false, if◌then◌else◌, is_some, List, [], ◌∷◌}
-use Rattle.std.specs.Prelude.{map, filter, find, slice_get, slice_set, unwrap_or, Option, Some, None, Result, Ok, Err}
-use Rattle.std.specs.{List.{last_or, AllByRecursion}, Option.{option_and_then, option_flatten, ok_or}}
+use Rattle.std.specs.{List.{AllByRecursion, last_or}, Option.{ok_or, option_and_then, option_flatten}}
+use Rattle.std.specs.Prelude.{[], Bool, Err, false, filter, find, if◌then◌else◌, is_some, List, map, None, not, Ok}
+use Rattle.std.specs.Prelude.{Option, Result, slice_get, slice_set, Some, unwrap_or, ℕ, ◌&&◌, ◌-◌, ◌==◌, ◌||◌, ◌∷◌, ◌≡◌}
 use Rattle.bac_wire.specs.Identifier.{Identifier}
-use Rattle.bac_device.specs.declared.failure.Failure.{Failure, TheVariants.{WrongType, OutOfRange}}
-use Rattle.bac_device.specs.{Kind.{is_commandable, place_in, one_value, allows}, Point.{Description, same_object}}
-use Rattle.bac_pdu.specs.Steps.{◌>>=◌}
+use Rattle.bac_device.specs.declared.failure.Failure.{Failure, TheVariants.{OutOfRange, WrongType}}
+use Rattle.bac_device.specs.{Kind.{allows, is_commandable, one_value, place_in}, Point.{Description, same_object}}
+use Rattle.bac_pdu.specs.{◌>>=◌}
 
 -- A write of a present value that was accepted. None is NULL.
 pub record Write : Type 0 where

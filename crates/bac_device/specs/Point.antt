@@ -1,6 +1,6 @@
 -- A point of the device: an object with a present value.
 use Rattle.std.specs.Prelude.{Bool, if◌then◌else◌, length, List, nat_le, nat_lt, None, Option, Some, ℕ, ◌&&◌, ◌==◌}
-use Rattle.bac_wire.specs.{Identifier.{Identifier, identifier}, Steps.◌>>=◌}
+use Rattle.bac_wire.specs.{identifier, ◌>>=◌, Identifier.Identifier}
 use Rattle.bac_device.specs.{declared.{kind.Kind.Kind, point.Point.Point}, Kind.{allows, allows_extra, kind_of}}
 use Rattle.bac_device.specs.Limits.{longest_name, no_instance}
 

@@ -1,11 +1,11 @@
 -- The values of a property, and the properties of a point (clause 12).
-use Rattle.std.specs.Prelude.{ℕ, nat_eq, ◌-◌, ◌==◌, ◌&&◌, Bool, true, false, not, if◌then◌else◌, List, [], ◌∷◌, length}
-use Rattle.std.specs.{Prelude.{map, slice_get, Option, Some, None, Result, Ok, Err}, List.flat_map}
-use Rattle.std.specs.{Option.{option_map, option_or, ok_or}, Map.lookup}
-use Rattle.bac_wire.specs.Datum.{Datum, boolean, unsigned, enumerated, char_string, bit_string, object, plain}
-use Rattle.bac_device.specs.declared.kind.{Family.Family, Family.TheVariants.{Analog, Binary, MultiState}, Role.Role}
-use Rattle.bac_device.specs.declared.failure.Failure.{Failure, TheVariants.{NotAnArray, InvalidIndex}}
-use Rattle.bac_device.specs.{Kind.{is_commandable, value_of, place_value}, Places.{Standing, present}}
+use Rattle.std.specs.{List.flat_map, Map.lookup, Option.{ok_or, option_map, option_or}}
+use Rattle.std.specs.Prelude.{[], Bool, Err, false, if◌then◌else◌, length, List, map, nat_eq, None, not, Ok, Option}
+use Rattle.std.specs.Prelude.{Result, slice_get, Some, true, ℕ, ◌&&◌, ◌-◌, ◌==◌, ◌∷◌}
+use Rattle.bac_wire.specs.{bit_string, boolean, char_string, enumerated, object, plain, unsigned, Datum.Datum}
+use Rattle.bac_device.specs.declared.failure.Failure.{Failure, TheVariants.{InvalidIndex, NotAnArray}}
+use Rattle.bac_device.specs.declared.kind.{Family.{Family, TheVariants.{Analog, Binary, MultiState}}, Role.Role}
+use Rattle.bac_device.specs.{Kind.{is_commandable, place_value, value_of}, Places.{present, Standing}}
 use Rattle.bac_device.specs.declared.kind.Role.TheVariants as roles
 
 -- The values of a property. Where it is an array, an index can choose from them.

@@ -1,16 +1,15 @@
 -- What the device replies to a datagram, and which write it makes then (clauses 5.4, 15.5, 15.9 and 16.10).
-use Rattle.std.specs.Prelude.{ℕ, ◌==◌, nat_le, Bool, true, false, if◌then◌else◌, List, ◌++◌, length, map, Option, Some}
-use Rattle.std.specs.{Prelude.{None, Result, Ok, Err}, Option.{option_and_then, option_to_list}, Result.result_ok}
-use Rattle.bac_pdu.specs.{declared.{apdu.Part.Part, reject.RejectReason.RejectReason}, Peer.Station, Datagram.wrapped}
-use Rattle.bac_pdu.specs.{DatagramReading.carried, Apdu.announced_size, ApduReading.apdu_of, Reject.reason_number}
-use Rattle.bac_pdu.specs.Apdu.{Message, confirmed, unconfirmed, simple_ack, complex_ack, error, reject, abort, laid_out}
-use Rattle.bac_pdu.specs.{Property.{Reference, Order, ReadAck, ack_octets}, PropertyReading.{read_of, write_of}}
-use Rattle.bac_pdu.specs.{Discovery.{asks, i_am_octets}, Failure.error_octets, ValueReading.who_is_of}
-use Rattle.bac_wire.specs.{Identifier.Identifier, Steps.◌>>=◌}
-use Rattle.bac_device.specs.{declared.failure.Failure.Failure, Info.Info, Point.Description, Places.{Write, put}}
-use Rattle.bac_device.specs.{Limits.{greatest_apdu, no_segmentation, own_vendor}, Property.{Property, region_octets}}
-use Rattle.bac_device.specs.{Failure.{error_class, error_code}, Access.{read_property, accepted_write}}
-use Rattle.bac_device.specs.Device.{DeviceState, device_after, device_object, is_device}
+use Rattle.std.specs.{Option.{option_and_then, option_to_list}, Prelude.{Bool, Err, false, if◌then◌else◌, length, List}}
+use Rattle.std.specs.{Prelude.{map, nat_le, None, Ok, Option, Result, Some, true, ℕ, ◌++◌, ◌==◌}, Result.result_ok}
+use Rattle.bac_pdu.specs.{abort, apdu_of, carried, complex_ack, confirmed, error, laid_out, Message, Order, ReadAck}
+use Rattle.bac_pdu.specs.{Reference, reject, simple_ack, Station, unconfirmed, wrapped, write_of, Apdu.announced_size}
+use Rattle.bac_pdu.specs.{declared.{apdu.Part.Part, reject.RejectReason.RejectReason}, Discovery.{asks, i_am_octets}}
+use Rattle.bac_pdu.specs.{Failure.error_octets, Property.ack_octets, PropertyReading.read_of, Reject.reason_number}
+use Rattle.{bac_pdu.specs.ValueReading.who_is_of, bac_wire.specs.{◌>>=◌, Identifier.Identifier}}
+use Rattle.bac_device.specs.{Access.{accepted_write, read_property}, declared.failure.Failure.Failure}
+use Rattle.bac_device.specs.{Device.{device_after, device_object, DeviceState, is_device}, Failure.error_class}
+use Rattle.bac_device.specs.{Failure.error_code, Info.Info, Limits.{greatest_apdu, no_segmentation, own_vendor}}
+use Rattle.bac_device.specs.{Places.{put, Write}, Point.Description, Property.{Property, region_octets}}
 
 -- ---- the replies to confirmed requests
 

@@ -1,8 +1,7 @@
 -- How long the device's replies are.
-use Rattle.std.specs.{Prelude.{◌≡◌, ℕ, ◌≤◌, ◌⊎◌, false, List, [], ◌∷◌, length, Option}, Option.ForSome}
-use Rattle.bac_pdu.specs.{Peer.Station, Datagram.{Delivery, Carries, Takes}}
-use Rattle.bac_pdu.specs.Apdu.{Message, IsLaidOut, confirmed, unconfirmed, announced_size}
-use Rattle.bac_device.specs.Turns.{Arrival}
+use Rattle.std.specs.{Option.ForSome, Prelude.{[], false, length, List, Option, ℕ, ◌∷◌, ◌≡◌, ◌≤◌, ◌⊎◌}}
+use Rattle.bac_pdu.specs.{Carries, confirmed, Delivery, IsLaidOut, Message, Station, unconfirmed, Apdu.announced_size}
+use Rattle.{bac_pdu.specs.Datagram.Takes, bac_device.specs.Turns.Arrival}
 
 -- How long the APDU of a reply is. To a confirmed request it has no more octets than the request's code announces, the
 -- greatest APDU that the requester takes, or it is the Abort 71 id 04. To an unconfirmed request it has fifteen octets,

@@ -1,8 +1,7 @@
 -- The replies to a list of datagrams, one after the other.
-use Rattle.std.specs.Prelude.{◌≡◌, ℕ, List, [], ◌∷◌, Option}
-use Rattle.bac_pdu.specs.Peer.{Station}
-use Rattle.bac_device.specs.{Info.Info, Point.Description, Places.Write}
-use Rattle.bac_device.specs.{Device.{DeviceState, points_of, device_after, Holds}, Reply.{reply_to, writes_after}}
+use Rattle.std.specs.Prelude.{[], List, Option, ℕ, ◌∷◌, ◌≡◌}
+use Rattle.{bac_pdu.specs.Station, bac_device.specs.Device.{device_after, DeviceState, Holds, points_of}}
+use Rattle.bac_device.specs.{Info.Info, Places.Write, Point.Description, Reply.{reply_to, writes_after}}
 
 -- A datagram, and the station that it came from.
 pub record Arrival : Type 0 where

@@ -1,8 +1,8 @@
 //! Which writes the device accepts.
 
-ghost use Rattle.std.specs.Prelude.{◌≡◌, IfOk, IfSome};
-ghost use Rattle.{bac_pdu.specs.Property.{IsPriority, order}, bac_wire.specs.Steps.result_seen};
-ghost use Rattle.bac_device.specs.Inner.{write_seen};
+ghost use Rattle.std.specs.Prelude.{IfOk, IfSome, ◌≡◌};
+ghost use Rattle.bac_pdu.specs.{IsPriority, Property.order};
+ghost use Rattle.{bac_wire.specs.result_seen, bac_device.specs.Inner.write_seen};
 ghost use Rattle.bac_device.specs.Access as spec;
 
 use crate::device::Device;
@@ -19,7 +19,7 @@ const MINIMUM_TIMES: u8 = 6;
 
 impl Device {
     /// The write that a request orders, where the device accepts it; else why it does not.
-    #[tactic(auto, unfolding(crate::specs::Access::accepted_write))]
+    #[tactic(auto, unfolding(crate::specs::accepted_write))]
     pub(crate) fn accepted_write(&self, request: &WriteRequest<'_>) -> Result<PlaceWrite, Failure>
         requires { IfSome request.now.priority IsPriority }
         ensures { result_seen write_seen result ≡ spec.accepted_write self.now (order request.now) }
@@ -40,7 +40,7 @@ impl Device {
 }
 
 // The write that a request orders of a point.
-#[tactic(auto, unfolding(crate::specs::Access::ordered_write))]
+#[tactic(auto, unfolding(crate::specs::ordered_write))]
 fn ordered_write(point: &StandingPoint, request: &WriteRequest<'_>) -> Result<PlaceWrite, Failure>
     requires { IfSome request.now.priority IsPriority }
     ensures { result_seen write_seen result ≡ spec.ordered_write point.now (order request.now) }

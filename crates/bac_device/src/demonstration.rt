@@ -10,7 +10,7 @@ use bac_wire::ObjectId;
 
 /// A device with the eleven demonstration points: three analog inputs, and a point of each other type. Give it a name
 /// that none of them has.
-#[tactic(auto, unfolding(crate::specs::Point::description_of, crate::specs::Kind::kind_of))]
+#[tactic(auto, unfolding(crate::specs::description_of, crate::specs::kind_of))]
 pub fn demo(info: DeviceInfo) -> Device
     ensures { result ≡ device_after info demo_points [] }
 {
@@ -46,7 +46,7 @@ pub fn demo(info: DeviceInfo) -> Device
 }
 
 // One more point, which has to be one that a device can have.
-#[tactic(auto, unfolding(crate::specs::Inner::Demo::with_row))]
+#[tactic(auto, unfolding(crate::specs::Inner::with_row))]
 fn append_row(device: &mut Device, kind: u16, instance: u32, name: &str, start: u32, extra: u32)
     requires kind { kind < 1024 }
     requires instance { instance < 2 ^ 22 }

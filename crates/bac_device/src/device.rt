@@ -1,9 +1,9 @@
 //! The device: its points, its own properties, and what is held after writes.
 
-ghost use Rattle.std.specs.{List.list_any, Option.{option_and_then, option_copied}, Str.bytes_eq};
-ghost use Rattle.std.specs.Prelude.{[], ◌++◌, ◌<◌, ◌∷◌, ◌≡◌, Err, IfErr, IfOk, IfSome, length, List, map, None, Ok};
-ghost use Rattle.std.specs.Prelude.{OnErr, OnOk, option_map, Some};
-ghost use Rattle.bac_wire.specs.{Datum.{char_string, datum, IsSound}, Identifier.identifier, Steps.result_seen};
+ghost use Rattle.std.specs.{List.list_any, Option.{option_and_then, option_copied}};
+ghost use Rattle.std.specs.Prelude.{[], Err, IfErr, IfOk, IfSome, length, List, map, None, Ok, OnErr, OnOk, option_map};
+ghost use Rattle.std.specs.{Prelude.{Some, ◌++◌, ◌<◌, ◌∷◌, ◌≡◌}, Str.bytes_eq};
+ghost use Rattle.bac_wire.specs.{char_string, datum, identifier, IsSound, result_seen};
 ghost use Rattle.bac_device.specs.{add_point, commanded_point, device_after, device_property, device_room, fixed_value};
 ghost use Rattle.bac_device.specs.{given, Holds, NoneTo, place_after, place_at, points_of, present, present_after};
 ghost use Rattle.bac_device.specs.{property_of, put, single, standing_at, value_of, with_write, Write};
@@ -75,7 +75,7 @@ impl Device {
     /// # Errors
     ///
     /// The first fault in the order of [`AddFault`]; the device is then as it was.
-    #[tactic(auto, using(crate::proofs::StateLaws::added_held), unfolding(crate::specs::Device::add_point))]
+    #[tactic(auto, using(crate::proofs::added_held), unfolding(crate::specs::add_point))]
     pub fn add(&mut self, point: &Point<'_>) -> Result<(), AddFault>
         ensures ok { OnOk result (add_point self.old (given point.now) ≡ Ok self.new) }
         ensures held { OnOk result ((writes : List Write) → Holds self.old writes
@@ -101,7 +101,7 @@ impl Device {
 
     /// The number of the present value of a point (clause 19.2), as in [`Point::start`]: what the most urgent place
     /// that is not NULL holds, or `start`. None where the object is no point.
-    #[tactic(auto, using(crate::proofs::StateLaws::present_held))]
+    #[tactic(auto, using(crate::proofs::present_held))]
     pub fn present(&self, object: ObjectId) -> Option<u32>
         ensures standing { result ≡ option_map present (standing_at self.now (identifier object)) }
         ensures after { (writes : List Write) → Holds self.now writes
@@ -113,7 +113,7 @@ impl Device {
 
     /// What a commandable point has at a priority; `Some(None)` is NULL. None where the object is no commandable point,
     /// or the priority is not 1 to 16.
-    #[tactic(auto, using(crate::proofs::StateLaws::place_held))]
+    #[tactic(auto, using(crate::proofs::place_held))]
     pub fn place(&self, object: ObjectId, priority: u8) -> Option<Option<u32>>
         ensures standing { result ≡ option_and_then (λ standing. place_at standing priority)
             (standing_at self.now (identifier object)) }
@@ -139,7 +139,7 @@ impl Device {
     }
 
     /// The property of this number of the object.
-    #[tactic(auto, unfolding(crate::specs::Access::property_of))]
+    #[tactic(auto, unfolding(crate::specs::property_of))]
     pub(crate) fn property(&self, object: ObjectId, number: u32) -> Result<Property<'_>, Failure>
         ensures value { result_seen property_seen result ≡ property_of self.now (identifier object) number }
         ensures sound { IfOk result IsSoundProperty }
@@ -152,7 +152,7 @@ impl Device {
     }
 
     /// The point whose present value this property is, where it can be written.
-    #[tactic(auto, unfolding(crate::specs::Access::property_of, crate::specs::Property::point_property))]
+    #[tactic(auto, unfolding(crate::specs::property_of, crate::specs::point_property))]
     pub(crate) fn commanded_point(&self, object: ObjectId, number: u32) -> Option<&StandingPoint>
         ensures point { option_copied result
             ≡ commanded_point self.now (record { object = identifier object; property = number; index = None }) }
@@ -177,7 +177,7 @@ impl Device {
     }
 
     // The device's own property of this number.
-    #[tactic(auto, unfolding(crate::specs::Device::device_property))]
+    #[tactic(auto, unfolding(crate::specs::device_property))]
     fn own_property(&self, number: u32) -> Option<Property<'_>>
         ensures value { option_map property_seen result ≡ device_property self.now number }
         ensures sound { IfSome result IsSoundProperty }
@@ -216,7 +216,7 @@ fn put_in(points: &mut [StandingPoint], write: &PlaceWrite)
 }
 
 // The value of a property of every device of this kind.
-#[tactic(auto, unfolding(crate::specs::Device::fixed_value))]
+#[tactic(auto, unfolding(crate::specs::fixed_value))]
 fn fixed_value(number: u32) -> Option<Value<'static>>
     ensures value { option_map datum result ≡ fixed_value number }
     ensures sound { IfSome result (λ value. IsSound (datum value)) }

@@ -1,7 +1,7 @@
 //! The instance and the name of a device.
 
-ghost use Rattle.std.specs.Prelude.{◌↔◌, ◌≡◌, IfSome, IsSome};
-ghost use Rattle.{bac_wire.specs.Identifier.identifier, bac_device.specs.{device_object, is_device, IsInfo}};
+ghost use Rattle.std.specs.Prelude.{IfSome, IsSome, ◌↔◌, ◌≡◌};
+ghost use Rattle.{bac_wire.specs.identifier, bac_device.specs.{device_object, is_device, IsInfo}};
 
 use crate::numbers::NO_INSTANCE;
 use crate::point::NAME_OCTETS;

@@ -1,7 +1,7 @@
 //! The types of points, and the values that each takes.
 
-ghost use Rattle.std.specs.Prelude.{◌<◌, ◌^◌, ◌≡◌, IsTrue, option_map};
-ghost use Rattle.bac_wire.specs.Datum.{datum, IsSound};
+ghost use Rattle.std.specs.Prelude.{IsTrue, option_map, ◌<◌, ◌^◌, ◌≡◌};
+ghost use Rattle.bac_wire.specs.{datum, IsSound};
 ghost use Rattle.bac_device.specs.Kind as spec;
 
 use bac_wire::{Value, value_and_rest};
@@ -31,7 +31,7 @@ pub(crate) enum Role {
 
 impl Kind {
     /// The kind of this object type, where it is one of a point (clause 21, BACnetObjectType).
-    #[tactic(auto, unfolding(crate::specs::Kind::kind_of))]
+    #[tactic(auto, unfolding(crate::specs::kind_of))]
     pub(crate) fn from_number(number: u16) -> Option<Self>
         ensures { result ≡ spec.kind_of number }
     {
@@ -132,7 +132,7 @@ impl Role {
 }
 
 /// The one value that the octets are.
-#[tactic(auto, unfolding(crate::specs::Kind::one_value))]
+#[tactic(auto, unfolding(crate::specs::one_value))]
 pub(crate) fn one_value(octets: &[u8]) -> Option<Value<'_>>
     ensures { option_map datum result ≡ spec.one_value octets.now }
 {

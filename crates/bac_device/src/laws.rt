@@ -1,8 +1,8 @@
 //! What holds of the definitions that the contracts cite, and of the public types. Each function has an empty body, and
 //! its clause is the law.
 
-ghost use Rattle.std.specs.{Option.ForSome, Prelude.{◌≡◌, List, Option, ℕ}};
-ghost use Rattle.{bac_pdu.specs.Peer.Station, bac_wire.specs.Copies.{EqualsBy, MakesCopies}};
+ghost use Rattle.std.specs.{Option.ForSome, Prelude.{List, Option, ℕ, ◌≡◌}};
+ghost use Rattle.{bac_pdu.specs.Station, bac_wire.specs.{EqualsBy, MakesCopies}};
 ghost use Rattle.bac_device.specs.{AreDefined, Arrival, Description, device_after, device_room, DeviceState, Holds};
 ghost use Rattle.bac_device.specs.{longest_name, points_of, replies_to, RepliesFit, RepliesInTurn, reply_of, ReplyFits};
 ghost use Rattle.bac_device.specs.{Write, Info.Info};

@@ -1,9 +1,8 @@
 //! A point: as it is added, and with the sixteen places of its priority array.
 
-ghost use Rattle.std.specs.{Option.option_copied, Prelude.{[], ◌≡◌, find, IfSome, is_some, option_map}, Str.bytes_eq};
-ghost use Rattle.bac_wire.specs.Identifier.{identifier};
-ghost use Rattle.bac_device.specs.{description_of, given, is_commandable, kind_property, place_at, point_property};
-ghost use Rattle.bac_device.specs.{present, put, same_object, standing_after, written_value};
+ghost use Rattle.std.specs.{Option.option_copied, Prelude.{[], find, IfSome, is_some, option_map, ◌≡◌}, Str.bytes_eq};
+ghost use Rattle.{bac_wire.specs.identifier, bac_device.specs.{description_of, given, is_commandable, kind_property}};
+ghost use Rattle.bac_device.specs.{place_at, point_property, present, put, same_object, standing_after, written_value};
 ghost use Rattle.bac_device.specs.Inner.{IsSoundProperty, property_seen, write_seen};
 
 use crate::failure::Failure;
@@ -83,7 +82,7 @@ impl Default for StandingPoint {
 
 impl StandingPoint {
     /// The point that is described, with every place NULL. None where it is none that a device can have.
-    #[tactic(auto, unfolding(crate::specs::Point::description_of, crate::specs::Places::standing_after, crate::specs::Places::place))]
+    #[tactic(auto, unfolding(crate::specs::description_of, crate::specs::standing_after, crate::specs::place))]
     pub(crate) fn new(point: &Point<'_>) -> Option<Self>
         ensures { result ≡ option_map (standing_after []) (description_of (given point.now)) }
     {
@@ -134,7 +133,7 @@ impl StandingPoint {
     }
 
     /// What the place of this priority holds. None where the point has no such place.
-    #[tactic(auto, unfolding(crate::specs::Places::place_at))]
+    #[tactic(auto, unfolding(crate::specs::place_at))]
     pub(crate) fn place(&self, priority: u8) -> Option<Option<u32>>
         ensures { result ≡ place_at self.now priority }
     {
@@ -146,7 +145,7 @@ impl StandingPoint {
 
     /// What the octets of a value ask a place to hold. They have to be one value, of the type of the point and in its
     /// range, or NULL.
-    #[tactic(auto, unfolding(crate::specs::Places::written_value))]
+    #[tactic(auto, unfolding(crate::specs::written_value))]
     pub(crate) fn value_in(&self, octets: &[u8]) -> Result<Option<u32>, Failure>
         ensures { result ≡ written_value self.now.point octets.now }
     {
@@ -179,7 +178,7 @@ impl StandingPoint {
     }
 
     /// The property of this number.
-    #[tactic(auto, unfolding(crate::specs::Property::point_property))]
+    #[tactic(auto, unfolding(crate::specs::point_property))]
     pub(crate) fn property(&self, number: u32) -> Option<Property<'_>>
         ensures value { option_map property_seen result ≡ point_property self.now number }
         ensures sound { IfSome result IsSoundProperty }
@@ -201,7 +200,7 @@ impl StandingPoint {
     }
 
     // The property of this number, where it is one that only points of some types have.
-    #[tactic(auto, unfolding(crate::specs::Property::kind_property))]
+    #[tactic(auto, unfolding(crate::specs::kind_property))]
     fn property_by_kind(&self, number: u32) -> Option<Property<'_>>
         ensures value { option_map property_seen result ≡ kind_property self.now number }
         ensures sound { IfSome result IsSoundProperty }

@@ -1,11 +1,10 @@
 //! A property's values, one of them by its index, and their octets.
 
-ghost use Rattle.std.specs.Prelude.{◌++◌, ◌+◌, ◌<◌, ◌∷◌, ◌≡◌, IfOk, IfSome, length, map, OnErr, OnOk, option_map};
-ghost use Rattle.std.specs.Prelude.{slice_get};
-ghost use Rattle.{
-  bac_wire.specs.{Datum.{datum, IsSound, object}, Identifier.identifier, Limits.frame_room, Steps.result_seen},
-  bac_device.specs.{element, place_value, point_objects, region_octets, Inner.{IsSoundProperty, property_seen}},
-};
+ghost use Rattle.std.specs.Prelude.{IfOk, IfSome, length, map, OnErr, OnOk, option_map, slice_get, ◌++◌, ◌+◌, ◌<◌, ◌∷◌};
+ghost use Rattle.std.specs.Prelude.{◌≡◌};
+ghost use Rattle.bac_wire.specs.{datum, frame_room, identifier, IsSound, object, result_seen};
+ghost use Rattle.bac_device.specs.{element, place_value, point_objects, region_octets};
+ghost use Rattle.bac_device.specs.Inner.{IsSoundProperty, property_seen};
 
 use crate::failure::Failure;
 use crate::kind::Family;
@@ -27,7 +26,7 @@ pub(crate) enum Property<'a> {
 
 impl<'a> Property<'a> {
     /// What an index chooses: without one all, with 0 the number of elements, else the element, counted from 1.
-    #[tactic(auto, unfolding(crate::specs::Property::element))]
+    #[tactic(auto, unfolding(crate::specs::element))]
     pub(crate) fn element(self, index: Option<u32>) -> Result<Property<'a>, Failure>
         requires { IsSoundProperty self }
         ensures value { result_seen property_seen result ≡ element (property_seen self.entry) index }

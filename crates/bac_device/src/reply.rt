@@ -1,15 +1,12 @@
 //! The reply to a datagram.
 
-ghost use Rattle.std.specs.Prelude.{[], ◌*◌, ◌+◌, ◌<◌, ◌≡◌, ◌≤◌, IfNone, IfOk, IfSome, length, List, OnErr, OnOk};
-ghost use Rattle.std.specs.Prelude.{option_map};
-ghost use Rattle.{
-  bac_pdu.specs.{Apdu.{error, laid_out, reject}, Failure.error_octets, Peer.station, Property.reference},
-  bac_pdu.specs.Reject.reason_number,
-  bac_wire.specs.{Identifier.identifier, Limits.frame_room, Steps.result_seen},
-  bac_device.specs.{device_after, error_class, error_code, Holds, points_of, read_property, ReplyFits},
-  bac_device.specs.{Write, Inner.{IsSoundProperty, property_seen, reply_apdu, write_in_apdu, write_in_body}},
-  bac_device.specs.Inner.Reply.{ordered_write, whole_reply},
-};
+ghost use Rattle.std.specs.Prelude.{[], IfNone, IfOk, IfSome, length, List, OnErr, OnOk, option_map, ◌*◌, ◌+◌, ◌<◌};
+ghost use Rattle.std.specs.Prelude.{◌≡◌, ◌≤◌};
+ghost use Rattle.bac_pdu.specs.{error, laid_out, reference, reject, station, Failure.error_octets};
+ghost use Rattle.{bac_pdu.specs.Reject.reason_number, bac_wire.specs.{frame_room, identifier, result_seen}};
+ghost use Rattle.bac_device.specs.{device_after, error_class, error_code, Holds, points_of, read_property, ReplyFits};
+ghost use Rattle.bac_device.specs.{Write, Inner.{IsSoundProperty, property_seen, reply_apdu, write_in_apdu}};
+ghost use Rattle.bac_device.specs.Inner.{write_in_body, Reply.{ordered_write, whole_reply}};
 ghost use Rattle.bac_device.specs.Reply as spec;
 
 use crate::device::Device;
@@ -45,7 +42,7 @@ impl Device {
     /// There is a reply to a Who-Is that asks for the device, and to a confirmed request that was not sent to all. An
     /// APDU of more octets than the requester announced becomes an Abort. That of an I-Am has fifteen octets. In walks
     /// over regions at most two tags are read for each octet of the datagram.
-    #[tactic(auto, using(crate::proofs::Answering::reply_held, crate::proofs::Answering::after_held))]
+    #[tactic(auto, using(crate::proofs::reply_held, crate::proofs::after_held))]
     pub fn answer(
         &mut self,
         from: Peer,
@@ -72,7 +69,7 @@ impl Device {
     }
 
     // The same, where the frame is empty at first.
-    #[tactic(auto, using(bac_pdu::proofs::DatagramLaws::carried_no_longer), unfolding(crate::specs::Reply::reply_of, crate::specs::Reply::write_in_datagram, crate::specs::Inner::Reply::reply_apdu, crate::specs::Inner::Reply::write_in_apdu))]
+    #[tactic(auto, using(bac_pdu::proofs::DatagramLaws::carried_no_longer), unfolding(crate::specs::reply_of, crate::specs::write_in_datagram, crate::specs::Inner::reply_apdu, crate::specs::Inner::write_in_apdu))]
     fn answer_into(
         &mut self,
         from: Peer,
@@ -99,7 +96,7 @@ impl Device {
 
     // Appends the reply to the octets of an APDU to an empty frame; an accepted write is made. None where there is no
     // reply.
-    #[tactic(auto, using(crate::proofs::StateLaws::request_write, bac_pdu::proofs::DatagramLaws::confirmed_no_longer), unfolding(crate::specs::Inner::Reply::reply_apdu, crate::specs::Inner::Reply::write_in_apdu))]
+    #[tactic(auto, using(crate::proofs::request_write, bac_pdu::proofs::DatagramLaws::confirmed_no_longer), unfolding(crate::specs::Inner::reply_apdu, crate::specs::Inner::write_in_apdu))]
     fn reply(
         &mut self,
         broadcast: bool,
@@ -156,7 +153,7 @@ impl Device {
     }
 
     // Appends the whole reply to a request to an empty frame; an accepted write is made.
-    #[tactic(auto, unfolding(crate::specs::Reply::full_reply, crate::specs::Inner::Reply::write_in_request))]
+    #[tactic(auto, unfolding(crate::specs::full_reply, crate::specs::Inner::write_in_request))]
     fn full_reply(
         &mut self,
         request: &Request<'_>,
@@ -182,7 +179,7 @@ impl Device {
     }
 
     // Appends the reply to a ReadProperty with this body to an empty frame.
-    #[tactic(auto, unfolding(crate::specs::Reply::read_reply))]
+    #[tactic(auto, unfolding(crate::specs::read_reply))]
     fn read_reply(&self, id: u8, body: &[u8], frame: &mut Frame) -> Result<(), Full>
         requires { frame.old ≡ [] }
         ensures ok { OnOk result (frame.new ≡ laid_out (spec.read_reply self.now id body.now)) }
@@ -199,7 +196,7 @@ impl Device {
     }
 
     // Appends the reply to a WriteProperty with this body to an empty frame; an accepted write is made.
-    #[tactic(auto, unfolding(crate::specs::Reply::write_reply, crate::specs::Inner::Reply::write_in_body))]
+    #[tactic(auto, unfolding(crate::specs::write_reply, crate::specs::Inner::write_in_body))]
     fn write_reply(
         &mut self,
         id: u8,
@@ -233,7 +230,7 @@ impl Device {
     }
 
     // The property that a request asks for, or the element of it.
-    #[tactic(auto, unfolding(crate::specs::Access::read_property))]
+    #[tactic(auto, unfolding(crate::specs::read_property))]
     fn read_property(&self, request: &ReadRequest) -> Result<Property<'_>, Failure>
         ensures value { result_seen property_seen result ≡ read_property self.now (reference request.now) }
         ensures sound { IfOk result IsSoundProperty }
@@ -292,7 +289,7 @@ impl Device {
 }
 
 // Appends the I-Am to an empty frame, where the body of a Who-Is asks for the device. Else None.
-#[tactic(auto, using(crate::proofs::StateLaws::length_i_am), unfolding(crate::specs::Reply::who_is_reply))]
+#[tactic(auto, using(crate::proofs::length_i_am), unfolding(crate::specs::who_is_reply))]
 fn introduce(info: &DeviceInfo, body: &[u8], frame: &mut Frame) -> Option<()>
     requires { frame.old ≡ [] }
     ensures value { option_map (λ _. frame.new) result ≡ option_map laid_out (spec.who_is_reply info.now body.now) }

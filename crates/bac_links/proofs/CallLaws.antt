@@ -2,17 +2,15 @@
 use Rattle.std.proofs.Common.{[], ap, append-nil, arith, Err, inl, inr, length, List, max, None, Ok, Option, refl}
 use Rattle.std.proofs.Common.{Result, Some, subst, suc, sym, take_all, ℕ, ◌*◌, ◌++◌, ◌+◌, ◌<◌, ◌∙◌, ◌∷◌, ◌≡◌, ◌≢◌, ◌≤◌}
 use Rattle.std.{proofs.lemmas.{Bool.cases_lt, Grind.common_steps, List.take-append-le}, specs.List.last_or}
-use Rattle.{bac_pdu.specs.Peer.Station, bac_tsm.proofs.Laws.{clock_rises, never_due, open_soon}}
-use Rattle.bac_tsm.specs.{Events.{Event, Tick}, Lookahead.clock, Positions.greatest_tick}
-use Rattle.{bac_text.specs.declared.jobs.Call.Call, bac_print.proofs.Printed.Took-none}
-use Rattle.{bac_print.specs.{Checked.Took, declared.checked.Checked.Checked}, bac_links.proofs.CallTurns.handed_push}
-use Rattle.bac_links.{proofs.CallTurns.{last_push, plays_all, to_the_end}, specs.Answered.{AskAlike, OneText, Printed}}
-use Rattle.bac_links.specs.Asking.{Asks, Follows, ForDatagram, ForTime, next_move, Over, Plays, Question, question_of}
-use Rattle.bac_links.specs.{Asking.waits_in, Call.{asked, Comes, end_in, events_of, move, rules_for, Tells}}
-use Rattle.bac_links.specs.declared.{ending.Purpose.Purpose, exit.Exit.Exit, fault.ToolFault.TheVariants.ReceiveFailed}
-use Rattle.bac_links.specs.declared.fault.ToolFault.{TheVariants.{SendFailed, TurnsSpent, WriteFailed}, ToolFault}
-use Rattle.bac_links.specs.{Ending.{ending_line, exit_of}, Handed.handed_of, History.{Account, Arrived, Entry, Failure}}
-use Rattle.bac_links.specs.{History.{Heard, Posted, Silence, Timed, Waited}, Progress.{ArePrompt, AreTold}}
+use Rattle.{bac_pdu.specs.Station, bac_tsm.proofs.Laws.{clock_rises, never_due, open_soon}}
+use Rattle.{bac_tsm.specs.{clock, Event, Tick, Positions.greatest_tick}, bac_text.specs.declared.jobs.Call.Call}
+use Rattle.bac_print.{proofs.Printed.Took-none, specs.Took}
+use Rattle.bac_links.proofs.CallTurns.{handed_push, last_push, plays_all, to_the_end}
+use Rattle.bac_links.specs.{Account, ArePrompt, AreTold, Arrived, AskAlike, asked, Asks, Checked, Comes, end_in}
+use Rattle.bac_links.specs.{ending_line, Entry, events_of, Exit, exit_of, Failure, Follows, ForDatagram, ForTime}
+use Rattle.bac_links.specs.{handed_of, Heard, move, next_move, OneText, Over, Plays, Posted, Printed, Purpose, Question}
+use Rattle.bac_links.specs.{question_of, ReceiveFailed, rules_for, SendFailed, Silence, Tells, Timed, ToolFault}
+use Rattle.bac_links.specs.{TurnsSpent, Waited, waits_in, WriteFailed}
 
 module _ (purpose : Purpose) (call : Call) where
   abbrev pub result_of : Comes → Result Exit ToolFault

@@ -2,30 +2,27 @@
 use Rattle.std.proofs.Common.{[], All, ap, append-nil, append_assoc, arith, Err, false, flat_map, IfErr, IfOk, inl, inr}
 use Rattle.std.proofs.Common.{length, List, nat_lt, None, Ok, Option, refl, Result, slice_get, Some, subst, suc, sym}
 use Rattle.std.proofs.{Common.{true, zero, ℕ, ◌++◌, ◌+◌, ◌<◌, ◌∙◌, ◌∷◌, ◌≡◌, ◌≢◌, ◌≤◌, ◌⊎◌}, lemmas.Bool.cases_Bool}
-use Rattle.std.proofs.lemmas.{Bool.{cases_eq, cases_lt, Decides.nat_tests, le-ltb, lt-ltb}, Grind.common_steps}
-use Rattle.std.proofs.lemmas.List.{append_cancel_left, Concat.flat_map-append, Elements.{All-cons, All-nil}}
-use Rattle.std.proofs.lemmas.{List.{length_push, take-append-le}, Option.{get_or_from_slice_get, slice_get_within}}
+use Rattle.std.proofs.lemmas.{Bool.{cases_eq, cases_lt, le-ltb, lt-ltb, Decides.nat_tests}, Grind.common_steps}
+use Rattle.std.proofs.lemmas.List.{append_cancel_left, length_push, take-append-le, Concat.flat_map-append}
+use Rattle.std.proofs.lemmas.{List.Elements.{All-cons, All-nil}, Option.{get_or_from_slice_get, slice_get_within}}
 use Rattle.std.{proofs.Math.Seq.take-append_seam, specs.List.last_or}
-use Rattle.bac_pdu.specs.{Apdu.longest_body, Peer.{Station, station}}
+use Rattle.bac_pdu.specs.{longest_body, Station, station}
 use Rattle.bac_tsm.proofs.Laws.{both_are, by_invoke_id, drop_head, early_unended, early_unsent, few_open, looks_back}
 use Rattle.bac_tsm.proofs.Laws.{one_step, past_unended, quiet_unsent, run_first, run_whole, sent_first}
-use Rattle.bac_tsm.specs.{Client.{Client, keeping, rules_of}, declared.client.SubmitFault.SubmitFault}
-use Rattle.bac_tsm.specs.Events.{Ask, Data, Dropped, Event, Note, Outcome, Request, Rules, Tick}
-use Rattle.bac_tsm.specs.{Laws.{AnswersByInvokeId, state_at, waiting_at}, Lookahead.{Accepted, accepted, accepted_at}}
-use Rattle.bac_tsm.specs.Lookahead.{End, end, end_notes, next_invoke_id, or_dropped, output, refusal_of, send_notes}
-use Rattle.bac_tsm.specs.Machine.{Answered, folded, initial, Run, sent, State, step, Stepped, submit, tick, to_send}
+use Rattle.bac_tsm.specs.{Accepted, Ask, Data, Dropped, end, Event, initial, keeping, next_invoke_id, Note, Outcome}
+use Rattle.bac_tsm.specs.{refusal_of, Rules, rules_of, sent, State, state_at, step, Stepped, Tick, Client.Client}
+use Rattle.bac_tsm.specs.{declared.client.SubmitFault.SubmitFault, Events.Request, Laws.{AnswersByInvokeId, waiting_at}}
+use Rattle.bac_tsm.specs.Lookahead.{accepted, accepted_at, End, end_notes, or_dropped, output, send_notes}
+use Rattle.bac_tsm.specs.Machine.{Answered, folded, Run, submit, tick, to_send}
 use Rattle.{bac_text.specs.declared.jobs.Call.Call, bac_print.specs.Checked.TookOrFailed}
-use Rattle.{bac_print.specs.declared.checked.Checked.Checked, bac_links.specs.Answered.{answer_of, answers_of}}
-use Rattle.bac_links.specs.{Answered.GoOnAlike, Asking.{Asks, Follows, ForDatagram, ForTime, Move, next_move, Over}}
-use Rattle.bac_links.specs.{Asking.{Plays, question_of, times_in, ToSend, turn_after, waits_in}, Call.asked}
-use Rattle.bac_links.specs.Call.{Comes, end_in, events_of, IsAccepted, move, or_ended, rules_for, service_of, Tells}
-use Rattle.bac_links.specs.declared.{ending.Purpose.Purpose, exit.Exit.Exit, fault.ToolFault.TheVariants.ReceiveFailed}
-use Rattle.bac_links.specs.declared.fault.ToolFault.{TheVariants.{SendFailed, TurnsSpent, WriteFailed}, ToolFault}
-use Rattle.bac_links.specs.{Ending.{ending_line, exit_of}, Handed.{handed, handed_of}, History.{Account, Arrived}}
-use Rattle.bac_links.specs.History.{Entry, Failure, Gains, GainsAll, Heard, Posted, Silence, Timed, Unposted, Waited}
-use Rattle.bac_links.specs.Inner.CallSteps.{AsksNothing, begun_at, CarriesOn, ending_in, endings, GainsLost, heard_step}
-use Rattle.bac_links.specs.Inner.CallSteps.{Hears, IsAlone, or_sent, post_in, posts, sent_last, ticked, Ticks}
-use Rattle.bac_links.specs.{Inner.CallSteps.{TicksLost, Underway, wait_of}, Limits.most_turns}
+use Rattle.bac_links.specs.{Account, answer_of, answers_of, Arrived, asked, Asks, Checked, Comes, end_in, ending_line}
+use Rattle.bac_links.specs.{Entry, events_of, Exit, exit_of, Failure, Follows, ForDatagram, ForTime, Gains, GainsAll}
+use Rattle.bac_links.specs.{GoOnAlike, handed, handed_of, Heard, IsAccepted, most_turns, Move, move, next_move}
+use Rattle.bac_links.specs.{or_ended, Over, Plays, Posted, Purpose, question_of, ReceiveFailed, rules_for, SendFailed}
+use Rattle.bac_links.specs.{service_of, Silence, Tells, Timed, times_in, ToolFault, ToSend, turn_after, TurnsSpent}
+use Rattle.bac_links.specs.{Unposted, Waited, waits_in, WriteFailed, Inner.AsksNothing}
+use Rattle.bac_links.specs.Inner.{begun_at, CarriesOn, ending_in, endings, GainsLost, heard_step, Hears, IsAlone}
+use Rattle.bac_links.specs.Inner.{or_sent, post_in, posts, sent_last, ticked, Ticks, TicksLost, Underway, wait_of}
 
 -- An account with this history.
 abbrev with_history : {Origin : Type 0} → Account Origin → List Entry → Account Origin
@@ -156,8 +153,6 @@ module _ {Origin Other R A : Type 0} {move : List Entry → Option Entry → Mov
             (grind (arith, append-nil, here, there, one, ends, played plays gains, played others other_gains))
             other one here.follows there.follows,
       )
-
--- ---- a call, turn by turn
 
 -- ---- one more event at the end of any list
 

@@ -3,3 +3,7 @@ mod CallTurns
 pub mod Listening
 pub mod CallLaws
 mod Worked
+pub use LinkLaws.*
+pub use CallTurns.*
+pub use Listening.*
+pub use CallLaws.*

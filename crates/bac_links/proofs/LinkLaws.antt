@@ -4,13 +4,12 @@ use Rattle.std.proofs.Common.{List, max, min, None, Ok, OnErr, OnOk, Option, opt
 use Rattle.std.proofs.Common.{Some, subst, suc, sym, unwrap_or, zero, ℕ, ◌++◌, ◌+◌, ◌-◌, ◌<◌, ◌^◌, ◌∙◌, ◌∷◌, ◌≡◌, ◌≤◌}
 use Rattle.std.proofs.{lemmas.Option.{none-some, slice_get_within}, Math.{Logic.∥∥₁_elim, Seq.drop-nil}}
 use Rattle.std.specs.Coded.{code_by, Coded, Coded-set, coded_list, coded_option, coded_ℕ, coded×, Unit-prop, ×_prop}
-use Rattle.bac_pdu.specs.Peer.{NetworkAddress, Station}
-use Rattle.bac_links.specs.{declared.udp.OnRefusal.OnRefusal, HasPlayed.{behind_all, HasPlayed}, History.Arrived}
-use Rattle.bac_links.specs.History.{Entry, Failure, Heard, Posted, posted, Silence, Timed, Unposted, Waited}
-use Rattle.bac_links.specs.{Keeps.{Keeps, time_behind_all, waits_behind_all}, Played.{ArePlayed, at_first, behind}}
-use Rattle.bac_links.specs.Played.{behind_wait, heard_next, IsPlayed, Scene, Sending, sending_in, sendings, ToPlay}
-use Rattle.bac_links.specs.Socket.{AreCallsFor, CallsFor, Logs, Sends, time_behind, Times, Waits, waits_behind}
-use Rattle.bac_links.specs.SystemCall.{SystemCall}
+use Rattle.bac_pdu.specs.{NetworkAddress, Station}
+use Rattle.bac_links.specs.{AreCallsFor, ArePlayed, Arrived, at_first, behind, behind_all, behind_wait, CallsFor, Entry}
+use Rattle.bac_links.specs.{Failure, Heard, heard_next, IsPlayed, Logs, Posted, posted, Scene, Sending, sending_in}
+use Rattle.bac_links.specs.{sendings, Sends, Silence, time_behind, time_behind_all, Timed, Times, ToPlay, Unposted}
+use Rattle.bac_links.specs.{Waited, Waits, waits_behind, waits_behind_all, declared.udp.OnRefusal.OnRefusal}
+use Rattle.bac_links.specs.{HasPlayed.HasPlayed, Keeps.Keeps, SystemCall.SystemCall}
 
 waits_more : (waits : ℕ) (xs : List Entry) (x : Entry)
     → waits_behind_all waits (xs ++ x ∷ []) ≡ waits_behind (waits_behind_all waits xs) x

@@ -2,32 +2,27 @@
 use Rattle.std.proofs.Common.{[], ap, append-nil, append_assoc, arith, Bool, Err, false, flat_map, IfOk, if◌then◌else◌}
 use Rattle.std.proofs.Common.{inl, length, length-append, List, map, max, None, Ok, Option, option_to_list, refl}
 use Rattle.std.proofs.Common.{Result, Some, subst, suc, sym, true, zero, ℕ, ◌++◌, ◌+◌, ◌-◌, ◌<◌, ◌||◌, ◌∙◌, ◌∷◌, ◌≡◌}
-use Rattle.std.proofs.{Common.{◌≢◌, ◌≤◌, ◌⊎◌}, lemmas.Bool.{cases_Bool, Decides.nat_tests, le-leb, lt-leb}}
-use Rattle.std.proofs.lemmas.{Grind.common_steps, List.{append_cancel_left, Concat.flat_map-append, length_push}}
-use Rattle.std.{proofs.lemmas.List.map-append, specs.List.last_or}
-use Rattle.bac_pdu.specs.{Found.Found, Peer.{station, Station}}
-use Rattle.bac_tsm.{proofs.Laws.{quiet_unsent, sends_push, sent_unended}, specs.Events.{Data, Event, Tick}}
-use Rattle.{bac_tsm.specs.Lookahead.{Accepted, due, sends, sends_within}, bac_device.proofs.Answering.next_after}
-use Rattle.bac_device.specs.{Device.{device_after, DeviceState, Holds}, Info.Info, Places.Write, Point.Description}
-use Rattle.bac_device.specs.{Reply.{reply_of, writes_after}, Turns.{all_writes, AreDefined, Arrival, replies_to}}
-use Rattle.{bac_text.specs.declared.jobs.{Call.Call, Search.Search}, bac_print.proofs.Printed.{Took-more, Took-none}}
-use Rattle.bac_print.specs.{Checked.{TakesFront, Took}, declared.checked.Checked.Checked}
+use Rattle.std.proofs.{Common.{◌≢◌, ◌≤◌, ◌⊎◌}, lemmas.Bool.{cases_Bool, le-leb, lt-leb, Decides.nat_tests}}
+use Rattle.std.proofs.lemmas.{Grind.common_steps, List.{append_cancel_left, length_push, map-append}}
+use Rattle.std.{proofs.lemmas.List.Concat.flat_map-append, specs.List.last_or}
+use Rattle.{bac_pdu.specs.{Station, station, Found.Found}, bac_tsm.proofs.Laws.{quiet_unsent, sends_push, sent_unended}}
+use Rattle.bac_tsm.specs.{Accepted, Data, Event, Tick, Lookahead.{due, sends, sends_within}}
+use Rattle.bac_device.{proofs.Answering.next_after, specs.{Arrival, device_after, DeviceState, replies_to, Write}}
+use Rattle.bac_device.specs.{Device.Holds, Info.Info, Point.Description, Reply.{reply_of, writes_after}}
+use Rattle.{bac_device.specs.Turns.{all_writes, AreDefined}, bac_text.specs.declared.jobs.{Call.Call, Search.Search}}
+use Rattle.bac_print.{proofs.Printed.{Took-more, Took-none}, specs.{Took, Checked.TakesFront}}
 use Rattle.bac_links.proofs.CallTurns.{followed, follows_push, gains_both, gains_none, handed_push, last_push, played}
 use Rattle.bac_links.proofs.CallTurns.{plays_all, PlaysAll, same_so_far, slice_get-last, so_far, times_push, to_the_end}
-use Rattle.bac_links.proofs.CallTurns.{turn_begins, turns_over, waits_push}
-use Rattle.bac_links.specs.{Answered.{AskAlike, OneText, Printed}, Asking.{Asks, Follows, ForTime, Move, next_move}}
-use Rattle.bac_links.specs.Asking.{Over, question_of, times_in, ToSend, turn_after, waits_in}
-use Rattle.bac_links.specs.Call.{asked, Comes, end_in, events_of, is_sent_last, move, rules_for, Tells}
-use Rattle.bac_links.specs.declared.{ending.Purpose.Purpose, exit.Exit.{Exit, TheVariants.{Bad, Good}}}
-use Rattle.bac_links.specs.declared.fault.ToolFault.TheVariants.{ReceiveFailed, SendFailed, TurnsSpent, WriteFailed}
-use Rattle.bac_links.specs.{declared.fault.ToolFault.ToolFault, Handed.handed_of, History.{Account, Arrived, Entry}}
-use Rattle.bac_links.specs.History.{Failure, Gains, GainsAll, Heard, Posted, Silence, Timed, Unposted, Waited}
-use Rattle.bac_links.specs.Inner.SearchSteps.{found_lines, has_found, Listens, search_wait}
-use Rattle.bac_links.specs.Inner.ServeSteps.{brought_by, LeavesDevice, sends_of, ServesTurn}
-use Rattle.bac_links.specs.{Limits.{most_turns, serve_wait}, Search.{behind_time, found_by, found_in, found_line}}
-use Rattle.bac_links.specs.Search.{greatest_of, IsCutOff, passed_in, search_move, Searched, who_is_to}
-use Rattle.bac_links.specs.{Sent.{AllSent, sends_of_call, sent_at, sent_behind, sent_in}, Serve.{arrivals_in, came_by}}
-use Rattle.bac_links.specs.Serve.{device_behind, device_next, or_reply, replies_of, serve_move, serve_next, Serves}
+use Rattle.bac_links.{proofs.CallTurns.{turn_begins, turns_over, waits_push}, specs.{Account, AllSent, arrivals_in}}
+use Rattle.bac_links.specs.{Arrived, AskAlike, asked, Asks, Bad, behind_time, came_by, Checked, Comes, device_behind}
+use Rattle.bac_links.specs.{device_next, end_in, Entry, events_of, Exit, Failure, Follows, ForTime, found_by, found_in}
+use Rattle.bac_links.specs.{found_line, Gains, GainsAll, Good, greatest_of, handed_of, Heard, is_sent_last, IsCutOff}
+use Rattle.bac_links.specs.{most_turns, Move, move, next_move, OneText, or_reply, Over, passed_in, Posted, Printed}
+use Rattle.bac_links.specs.{Purpose, question_of, ReceiveFailed, replies_of, rules_for, search_move, Searched}
+use Rattle.bac_links.specs.{SendFailed, sends_of_call, sent_at, sent_behind, sent_in, serve_move, serve_next}
+use Rattle.bac_links.specs.{serve_wait, Serves, Silence, Tells, Timed, times_in, ToolFault, ToSend, turn_after}
+use Rattle.bac_links.specs.{TurnsSpent, Unposted, Waited, waits_in, who_is_to, WriteFailed, Inner.brought_by}
+use Rattle.bac_links.specs.Inner.{found_lines, has_found, LeavesDevice, Listens, search_wait, sends_of, ServesTurn}
 
 -- What a search begins with, and then this.
 abbrev pub searched : Search → ℕ → List Entry → List Entry
@@ -194,18 +189,18 @@ module _ {Origin W : Type 0} {search : Search} {contents : W → Option (List �
   fails _ _ _ _ listens = absurd listens
 
 -- A search begins with its Who-Is sent.
-pub begun : {Origin W : Type 0} (search : Search) {contents : W → Option (List ℕ)} {before : Checked W}
+pub search_begun : {Origin W : Type 0} (search : Search) {contents : W → Option (List ℕ)} {before : Checked W}
     {seen mid link : Account Origin} (first : ℕ) → Gains (Timed first) seen mid →
     Gains (Posted (station search.to) (who_is_to search)) mid link
     → SearchGoes search contents before before seen link first first false 0
-begun = grind (arith, common_steps, gains_both)
+search_begun = grind (arith, common_steps, gains_both)
 
 -- Or with one that could not be sent.
-pub unbegun : {Origin W : Type 0} (search : Search) {contents : W → Option (List ℕ)} {before : Checked W}
+pub search_unbegun : {Origin W : Type 0} (search : Search) {contents : W → Option (List ℕ)} {before : Checked W}
     {seen mid link : Account Origin} (first : ℕ) → Gains (Timed first) seen mid →
     Gains (Unposted (station search.to) (who_is_to search)) mid link
     → Searched search contents before before seen link (Err SendFailed)
-unbegun search {before} {seen} {mid} {link} first asks sends = record {
+search_unbegun search {before} {seen} {mid} {link} first asks sends = record {
   plays = record {
     gained = Timed first ∷ Unposted (station search.to) (who_is_to search) ∷ [];
     gains = gains_both _ _ _ _ _ asks sends;
@@ -215,11 +210,11 @@ unbegun search {before} {seen} {mid} {link} first asks sends = record {
   printed = Took-none _;
 }
 
-pub spent : {Origin W : Type 0} {search : Search} {contents : W → Option (List ℕ)} {before after : Checked W}
+pub search_spent : {Origin W : Type 0} {search : Search} {contents : W → Option (List ℕ)} {before after : Checked W}
     {seen link : Account Origin} {first greatest : ℕ} {any : Bool} (n : ℕ) → n ≡ most_turns →
     SearchGoes search contents before after seen link first greatest any n
     → Searched search contents before after seen link (Err TurnsSpent)
-spent {search} {first} n all goes = record {
+search_spent {search} {first} n all goes = record {
   plays = record {
     gained = searched search first goes.more;
     gains = goes.gains;

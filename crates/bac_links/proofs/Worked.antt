@@ -1,7 +1,7 @@
 -- What examples of whole runs have in common.
 use Rattle.std.proofs.Common.{[], ap, arith, List, Option, refl, subst, sym, ◌≡◌}
-use Rattle.bac_print.specs.{Checked.Took, Inner.Examples.{unasked, unknown}}
-use Rattle.bac_links.specs.{Asking.{Move, next_move, Over, Plays}, History.{Entry, GainsAll}, Inner.Examples.asked_so}
+use Rattle.bac_print.specs.{Took, Inner.Examples.{unasked, unknown}}
+use Rattle.bac_links.specs.{Entry, GainsAll, Move, next_move, Over, Plays, Inner.asked_so}
 
 module _ {h : List Entry} where
   -- What a link gained that had been asked nothing is its history.

@@ -1,8 +1,8 @@
 -- What a link answered to what it was asked, and that who is answered alike asks alike.
-use Rattle.std.specs.Prelude.{◌≡◌, ℕ, List, [], ◌∷◌, ◌++◌, map, Option, Result, Err}
-use Rattle.bac_print.specs.{declared.checked.Checked.Checked, Checked.{Took, TakesFront}}
-use Rattle.bac_links.specs.History.{Heard, Entry, Waited, Timed, Posted, Unposted, Account}
+use Rattle.std.specs.Prelude.{[], Err, List, map, Option, Result, ℕ, ◌++◌, ◌∷◌, ◌≡◌}
+use Rattle.bac_print.specs.{Took, Checked.TakesFront, declared.checked.Checked.Checked}
 use Rattle.bac_links.specs.{Asking.question_of, declared.fault.ToolFault.{ToolFault, TheVariants.WriteFailed}}
+use Rattle.bac_links.specs.History.{Account, Entry, Heard, Posted, Timed, Unposted, Waited}
 
 -- What a link answered: what a wait brought, the time, that a datagram was sent, or that it could not be.
 pub data LinkAnswer : Type 0 where

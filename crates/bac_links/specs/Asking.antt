@@ -1,9 +1,8 @@
 -- How a tool goes on: by all that it was asked and answered, what it asks of its link next, or that it is over.
-use Rattle.std.specs.Prelude.{◌≡◌, ℕ, zero, suc}
-use Rattle.std.specs.{Prelude.{nat_lt, if◌then◌else◌, List, [], ◌∷◌, ◌++◌, ⊤, Option, None, Result, Err}, List.last_or}
-use Rattle.bac_pdu.specs.Peer.{Station}
-use Rattle.bac_links.specs.{Limits.most_turns, History.{Entry, Waited, Timed, Posted, Unposted, Account, GainsAll}}
-use Rattle.bac_links.specs.declared.fault.ToolFault.{ToolFault, TheVariants.TurnsSpent}
+use Rattle.std.specs.{List.last_or, Prelude.[]}
+use Rattle.std.specs.Prelude.{Err, if◌then◌else◌, List, nat_lt, None, Option, Result, suc, zero, ℕ, ⊤, ◌++◌, ◌∷◌, ◌≡◌}
+use Rattle.{bac_pdu.specs.Station, bac_links.specs.declared.fault.ToolFault.{ToolFault, TheVariants.TurnsSpent}}
+use Rattle.bac_links.specs.{History.{Account, Entry, GainsAll, Posted, Timed, Unposted, Waited}, Limits.most_turns}
 
 -- What is asked of a link: a datagram, in a wait of so long; the time; that a datagram is sent.
 pub data Question : Type 0 where

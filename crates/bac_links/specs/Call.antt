@@ -1,16 +1,14 @@
 -- A call: one request, what it asks of its link, and how it ends.
 use Rattle.std.specs.{List.list_any, Prelude.{[], Bool, Err, if◌then◌else◌, length, List, nat_eq, None, Ok, Option}}
 use Rattle.std.specs.Prelude.{Result, Some, ℕ, ◌-◌, ◌∷◌, ◌≡◌}
-use Rattle.bac_pdu.specs.Peer.{station}
-use Rattle.bac_tsm.specs.{Client.client_rules, Events.{Ask, Event, Outcome, request_of, Rules}, Lookahead.Accepted}
-use Rattle.bac_tsm.specs.Lookahead.{accepted, End, end, sends}
-use Rattle.bac_text.specs.declared.jobs.Call.{Call}
-use Rattle.bac_print.specs.{Checked.{TakesFront, Took}, declared.checked.Checked.Checked}
+use Rattle.{bac_pdu.specs.station, bac_tsm.specs.{Accepted, Ask, client_rules, end, Event, Outcome, Rules}}
+use Rattle.{bac_tsm.specs.{Events.request_of, Lookahead.{accepted, End, sends}}, bac_text.specs.declared.jobs.Call.Call}
+use Rattle.bac_print.specs.{Took, Checked.TakesFront, declared.checked.Checked.Checked}
 use Rattle.bac_links.specs.Asking.{Asks, ForTime, Move, Over, Plays, ToSend, turn_after, waits_in}
 use Rattle.bac_links.specs.declared.{ending.Purpose.{Purpose, TheVariants.{Reading, Writing}}, exit.Exit.Exit}
 use Rattle.bac_links.specs.declared.fault.ToolFault.{ToolFault, TheVariants.{ReceiveFailed, SendFailed, WriteFailed}}
-use Rattle.bac_links.specs.{Ending.{ending_line, exit_of}, Handed.handed, History.{Account, Entry, Failure, Posted}}
-use Rattle.bac_links.specs.{History.{Timed, Unposted, Waited}, Limits.turn_wait}
+use Rattle.bac_links.specs.{Ending.{ending_line, exit_of}, Handed.handed}
+use Rattle.bac_links.specs.{History.{Account, Entry, Failure, Posted, Timed, Unposted, Waited}, Limits.turn_wait}
 
 -- The service choices of ReadProperty and WriteProperty (clause 21, BACnetConfirmedServiceChoice).
 abbrev pub service_of : Purpose → ℕ

@@ -1,7 +1,7 @@
 -- What is printed of how a call's request ended, and how the tool ends then.
 use Rattle.std.specs.Option.{option_map_or}
-use Rattle.std.specs.Prelude.{[], ◌++◌, ◌∷◌, codes, if◌then◌else◌, is_some, List, None, Option, Some, ℕ}
-use Rattle.{bac_pdu.specs.{Property.ReadAck, PropertyReading.ack_of}, bac_tsm.specs.Events.{Complex, Outcome, Simple}}
+use Rattle.std.specs.Prelude.{[], codes, if◌then◌else◌, is_some, List, None, Option, Some, ℕ, ◌++◌, ◌∷◌}
+use Rattle.{bac_pdu.specs.{ack_of, ReadAck}, bac_tsm.specs.{Outcome, Simple, Events.Complex}}
 use Rattle.bac_print.specs.{Outcomes.outcome_text, Values.region_text}
 use Rattle.bac_links.specs.declared.ending.Purpose.{Purpose, TheVariants.{Reading, Writing}}
 use Rattle.bac_links.specs.declared.exit.Exit.{Exit, TheVariants.{Bad, Good}}

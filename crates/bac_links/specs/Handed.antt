@@ -1,6 +1,6 @@
 -- What a client is handed of what a link was asked and answered.
-use Rattle.std.specs.{List.flat_map, Prelude.{[], ◌∷◌, List}}
-use Rattle.{bac_tsm.specs.Events.{Data, Event, Tick}, bac_links.specs.History.{Arrived, Entry, Timed, Waited}}
+use Rattle.std.specs.{List.flat_map, Prelude.{[], List, ◌∷◌}}
+use Rattle.{bac_tsm.specs.{Data, Event, Tick}, bac_links.specs.History.{Arrived, Entry, Timed, Waited}}
 
 -- What the client is handed of an entry: the datagram that was heard, or the time that was told.
 abbrev pub handed_of : Entry → List Event

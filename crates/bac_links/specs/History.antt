@@ -1,6 +1,6 @@
 -- What a link was asked and answered, one thing after another; and what it was made of.
-use Rattle.std.specs.Prelude.{◌≡◌, ℕ, List, [], ◌∷◌, ◌++◌, Option, Some, None, Result, Ok, Err}
-use Rattle.bac_pdu.specs.{declared.peer.Peer.Peer, Peer.{Station, station}}
+use Rattle.std.specs.Prelude.{[], Err, List, None, Ok, Option, Result, Some, ℕ, ◌++◌, ◌∷◌, ◌≡◌}
+use Rattle.bac_pdu.specs.{Station, station, declared.peer.Peer.Peer}
 
 -- What a receive hears.
 pub data Heard : Type 0 where

@@ -1,9 +1,9 @@
 -- The scenes that the steps of a link in memory are, and what contracts see of such a link.
-use Rattle.std.specs.Prelude.{ℕ, List, map, length, nat_le, if◌then◌else◌, Some, None}
-use Rattle.bac_pdu.specs.Peer.{Station, station}
-use Rattle.bac_links.specs.{Limits.longest_datagram, History.{Heard, Silence, Arrived, Failure, Entry, Account}}
-use Rattle.bac_links.specs.Played.{Scene, at_first, ArePlayed, Sending, sendings}
-use Rattle.bac_links.specs.declared.memory.{Step.{Step, TheVariants.{Quiet, Packet, Broken}}, Kept.Kept, Record.Record}
+use Rattle.std.specs.Prelude.{if◌then◌else◌, length, List, map, nat_le, None, Some, ℕ}
+use Rattle.bac_pdu.specs.{Station, station}
+use Rattle.bac_links.specs.declared.memory.{Kept.Kept, Record.Record, Step.{Step, TheVariants.{Broken, Packet, Quiet}}}
+use Rattle.bac_links.specs.{History.{Account, Arrived, Entry, Failure, Heard, Silence}, Limits.longest_datagram}
+use Rattle.bac_links.specs.Played.{ArePlayed, at_first, Scene, Sending, sendings}
 use Rattle.bac_links.specs.declared.memory.Kept.TheVariants as kept
 
 -- The address and the port of a station.

@@ -1,6 +1,6 @@
 -- What a link in memory answers and sends, by the scenes that it was made of and what it was asked so far.
-use Rattle.std.specs.Prelude.{[], ◌++◌, ◌+◌, ◌-◌, ◌^◌, ◌∷◌, ◌≡◌, List, min, Option, unwrap_or, ℕ, ⊤}
-use Rattle.{bac_pdu.specs.Peer.Station, bac_links.specs.History.{Entry, Heard, Posted, Silence, Timed, Waited}}
+use Rattle.std.specs.Prelude.{[], List, min, Option, unwrap_or, ℕ, ⊤, ◌++◌, ◌+◌, ◌-◌, ◌^◌, ◌∷◌, ◌≡◌}
+use Rattle.{bac_pdu.specs.Station, bac_links.specs.History.{Entry, Heard, Posted, Silence, Timed, Waited}}
 
 -- What one receive of a link in memory hears, and the time then. A receive that fails leaves the time as it was.
 pub record Scene : Type 0 where

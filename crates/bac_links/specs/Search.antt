@@ -1,14 +1,14 @@
 -- A search for devices: what it asks of its link, which devices it finds, what it prints, and when it ends.
-use Rattle.std.specs.{List.flat_map, Option.option_to_list, Prelude.{[], decimal, Err, false, if◌then◌else◌, length}}
-use Rattle.std.specs.Prelude.{List, max, nat_le, nat_lt, None, Ok, Option, Result, Some, suc, zero, ℕ, ◌++◌, ◌-◌, ◌∷◌}
-use Rattle.std.specs.Prelude.{◌≡◌}
-use Rattle.bac_pdu.specs.{Apdu.{laid_out, unconfirmed}, Datagram.wrapped, declared.discovery.WhoIs.WhoIs}
-use Rattle.bac_pdu.specs.{Discovery.who_is_octets, Found.{Found, found_of}, Peer.station}
+use Rattle.std.specs.{List.flat_map, Option.option_to_list}
+use Rattle.std.specs.Prelude.{[], decimal, Err, false, if◌then◌else◌, length, List, max, nat_le, nat_lt, None, Ok}
+use Rattle.std.specs.Prelude.{Option, Result, Some, suc, zero, ℕ, ◌++◌, ◌-◌, ◌∷◌, ◌≡◌}
+use Rattle.bac_pdu.specs.{laid_out, station, unconfirmed, wrapped, declared.discovery.WhoIs.WhoIs}
+use Rattle.bac_pdu.specs.{Discovery.who_is_octets, Found.{Found, found_of}}
 use Rattle.bac_text.specs.declared.jobs.Search.{Search}
-use Rattle.bac_print.specs.{Checked.Took, declared.checked.Checked.Checked, PeerTexts.peer_text}
+use Rattle.bac_print.specs.{peer_text, Took, declared.checked.Checked.Checked}
 use Rattle.bac_links.specs.Asking.{Asks, Follows, ForTime, Move, Over, Plays, times_in, ToSend, turn_after, waits_in}
-use Rattle.bac_links.specs.declared.{exit.Exit.{Exit, TheVariants.{Bad, Good}}, fault.ToolFault.ToolFault}
-use Rattle.bac_links.specs.declared.fault.ToolFault.TheVariants.{ReceiveFailed, SendFailed, WriteFailed}
+use Rattle.bac_links.specs.declared.exit.Exit.{Exit, TheVariants.{Bad, Good}}
+use Rattle.bac_links.specs.declared.fault.ToolFault.{ToolFault, TheVariants.{ReceiveFailed, SendFailed, WriteFailed}}
 use Rattle.bac_links.specs.History.{Account, Arrived, Entry, Failure, GainsAll, Heard, Posted, Timed, Unposted, Waited}
 use Rattle.bac_links.specs.Limits.{turn_wait}
 

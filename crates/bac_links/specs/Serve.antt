@@ -1,12 +1,12 @@
 -- A device that answers what comes over a link.
-use Rattle.std.specs.Prelude.{◌≡◌, ℕ, nat_le, if◌then◌else◌, List, [], ◌∷◌, length, Option, Some, None, Result, Ok, Err}
 use Rattle.std.specs.List.{flat_map, last_or}
-use Rattle.bac_pdu.specs.Peer.{Station}
-use Rattle.bac_device.specs.{Device.DeviceState, Reply.{reply_of, write_in_datagram, with_write}, Turns.Arrival}
-use Rattle.bac_links.specs.{Limits.serve_wait, History.{Arrived, Failure, Entry, Waited, Unposted, Account}}
-use Rattle.bac_links.specs.Asking.{Move, Asks, Over, ToSend, Plays, waits_in, turn_after}
+use Rattle.std.specs.Prelude.{[], Err, if◌then◌else◌, length, List, nat_le, None, Ok, Option, Result, Some, ℕ, ◌∷◌, ◌≡◌}
+use Rattle.bac_pdu.specs.{Station}
+use Rattle.bac_device.specs.{Arrival, DeviceState, Reply.{reply_of, with_write, write_in_datagram}}
+use Rattle.bac_links.specs.Asking.{Asks, Move, Over, Plays, ToSend, turn_after, waits_in}
 use Rattle.bac_links.specs.declared.exit.Exit.{Exit, TheVariants.Good}
-use Rattle.bac_links.specs.declared.fault.ToolFault.{ToolFault, TheVariants.{SendFailed, ReceiveFailed}}
+use Rattle.bac_links.specs.declared.fault.ToolFault.{ToolFault, TheVariants.{ReceiveFailed, SendFailed}}
+use Rattle.bac_links.specs.{History.{Account, Arrived, Entry, Failure, Unposted, Waited}, Limits.serve_wait}
 
 -- The datagram that came by an entry, if one did.
 abbrev pub came_by : Entry → List Arrival

@@ -1,16 +1,16 @@
 -- What a link asks of a socket and its clock, and what it makes of the answers.
-use Rattle.std.{
-  specs.Prelude.{◌≡◌, ◌≢◌, ◌⊎◌, ℕ, ◌+◌, ◌*◌, ◌/◌, ◌-◌, ◌^◌, ◌==◌, ◌||◌, max, min, Bool},
-  specs.Prelude.{true, false, List, [], ◌∷◌, ◌++◌, length, nat_le, Option, Some, None, Result, Ok, Err, if◌then◌else◌},
-  specs.{Duration.as_nanos, Net.{Addr.{ipv4_bits, IsIpv4OfBits}, Socket.{v4_ip, v4_port}}, Option.option_map_or},
-  specs.declared.{time.Duration.Duration, io.ErrorKind.{ErrorKind, TheVariants.{WouldBlock, TimedOut, Interrupted}}},
-  specs.declared.io.ErrorKind.TheVariants.{ConnectionRefused, ConnectionReset, HostUnreachable, NetworkUnreachable},
-  specs.declared.net.socket_addr.SocketAddr.{SocketAddr, TheVariants.{V4, V6}},
-}
-use Rattle.bac_pdu.specs.{Peer.{Station, station}, declared.peer.Peer.Peer}
-use Rattle.bac_links.specs.History.{Heard, Silence, Arrived, Failure, Entry, Waited, Timed, Posted, Unposted, Account}
-use Rattle.bac_links.specs.{Limits.longest_datagram, SystemCall.{SystemCall, Bind, Limit, SendTo, Receive, Elapsed}}
+use Rattle.std.specs.declared.io.ErrorKind.{ErrorKind}
+use Rattle.std.specs.declared.io.ErrorKind.TheVariants.{ConnectionRefused, ConnectionReset, HostUnreachable}
+use Rattle.std.specs.declared.io.ErrorKind.TheVariants.{Interrupted, NetworkUnreachable, TimedOut, WouldBlock}
+use Rattle.std.specs.declared.{net.socket_addr.SocketAddr.{SocketAddr, TheVariants.{V4, V6}}, time.Duration.Duration}
+use Rattle.std.specs.{Duration.as_nanos, Net.{Addr.{ipv4_bits, IsIpv4OfBits}, Socket.{v4_ip, v4_port}}}
+use Rattle.std.specs.Option.{option_map_or}
+use Rattle.std.specs.Prelude.{[], Bool, Err, false, if◌then◌else◌, length, List, max, min, nat_le, None, Ok, Option}
+use Rattle.std.specs.Prelude.{Result, Some, true, ℕ, ◌*◌, ◌++◌, ◌+◌, ◌-◌, ◌/◌, ◌==◌, ◌^◌, ◌||◌, ◌∷◌, ◌≡◌, ◌≢◌, ◌⊎◌}
+use Rattle.bac_pdu.specs.{Station, station, declared.peer.Peer.Peer}
 use Rattle.bac_links.specs.declared.udp.OnRefusal.{OnRefusal, TheVariants.{Fails, IsLost}}
+use Rattle.bac_links.specs.History.{Account, Arrived, Entry, Failure, Heard, Posted, Silence, Timed, Unposted, Waited}
+use Rattle.bac_links.specs.{Limits.longest_datagram, SystemCall.{Bind, Elapsed, Limit, Receive, SendTo, SystemCall}}
 
 -- Between these two logs the system was asked for something of which this holds.
 pub record Logs (Are : List SystemCall → Type 0) (before after : List SystemCall) : Type 0 where

@@ -1,15 +1,11 @@
 //! One request to one peer, and its end.
-ghost use Rattle.std.specs.Prelude.{◌≡◌, ◌≢◌, ◌<◌, ℕ, suc, false, [], MatchOption, Ok, Err, IfOk, IfErr, OnOk, OnErr};
 ghost use Rattle.std.specs.Option.{option_map};
-ghost use Rattle.bac_tsm.specs.{Machine.sent, Client.outcome_seen};
-ghost use Rattle.bac_text.specs.declared.jobs.Call.{Call};
-ghost use Rattle.bac_print.specs.Checked.{has_failed};
-ghost use Rattle.bac_links.{
-  specs.{Limits.most_turns, History.{Failure, Waited, Account, GainsAll, Gains}},
-  specs.{Fault.{is_link_fault, is_write_fault}, Inner.Ending.ending_seen},
-  specs.{Inner.CallSteps.{posts, wait_of, GainsLost, Hears, IsAlone, Ticks, TicksLost, Underway}, Asking.Plays},
-  specs.{Call.{Tells, move, service_of}, declared.ending.Purpose.{Purpose, TheVariants.{Reading, Writing}}},
-};
+ghost use Rattle.std.specs.Prelude.{[], Err, false, IfErr, IfOk, MatchOption, Ok, OnErr, OnOk, suc, ℕ, ◌<◌, ◌≡◌, ◌≢◌};
+ghost use Rattle.{bac_tsm.specs.{outcome_seen, sent}, bac_text.specs.declared.jobs.Call.Call};
+ghost use Rattle.{bac_print.specs.has_failed, bac_links.specs.{Account, Failure, Gains, GainsAll, is_link_fault}};
+ghost use Rattle.bac_links.specs.{is_write_fault, most_turns, move, Plays, Purpose, service_of, Tells, Waited, Writing};
+ghost use Rattle.bac_links.specs.{declared.ending.Purpose.TheVariants.Reading, Inner.ending_seen};
+ghost use Rattle.bac_links.specs.Inner.{GainsLost, Hears, IsAlone, posts, Ticks, TicksLost, Underway, wait_of};
 
 use crate::datagram::Datagram;
 use crate::ending::{Ending, Purpose, show_ending};

@@ -1,6 +1,6 @@
 //! A datagram that a link received.
-ghost use Rattle.std.specs.Prelude.{◌≡◌, ◌≤◌, ◌↔◌, [], length, IsTrue, true, false};
-ghost use Rattle.bac_links.specs.Limits.{longest_datagram};
+ghost use Rattle.std.specs.Prelude.{[], false, IsTrue, length, true, ◌↔◌, ◌≡◌, ◌≤◌};
+ghost use Rattle.bac_links.specs.{longest_datagram};
 
 use arrayvec::ArrayVec;
 use std::marker::Model;

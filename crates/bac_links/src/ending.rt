@@ -1,9 +1,9 @@
 //! How a call ends, and what is printed of that.
-ghost use Rattle.std.specs.Prelude.{◌≡◌, codes, false, is_err, is_some, if◌then◌else◌, IfOk, IfErr};
 ghost use Rattle.std.specs.Option.{option_map_or};
-ghost use Rattle.bac_pdu.specs.{Property.ReadAck, PropertyReading.ack_of};
-ghost use Rattle.bac_print.specs.{Checked.{has_failed, TookOrFailed}, Page.Prints, Values.region_text};
-ghost use Rattle.bac_links.specs.{Ending.{ending_text, ending_line, exit_of}, Inner.Ending.ending_seen};
+ghost use Rattle.std.specs.Prelude.{codes, false, IfErr, IfOk, if◌then◌else◌, is_err, is_some, ◌≡◌};
+ghost use Rattle.bac_pdu.specs.{ack_of, ReadAck};
+ghost use Rattle.bac_print.specs.{has_failed, Prints, Checked.TookOrFailed, Values.region_text};
+ghost use Rattle.bac_links.specs.{ending_line, ending_text, exit_of, Inner.ending_seen};
 
 use crate::exit::Exit;
 use crate::fault::ToolFault;

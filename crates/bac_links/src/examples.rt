@@ -1,27 +1,19 @@
 //! Examples of what is said of links and tools, worked out by computation. They show what the definitions mean.
 
-ghost use Rattle.std.specs.Prelude.{◌≡◌, ℕ, [], ◌∷◌, Some, None, Ok, Err, true, false, codes};
 ghost use Rattle.std.specs.declared.io.ErrorKind.TheVariants.{TimedOut};
+ghost use Rattle.std.specs.Prelude.{[], codes, Err, false, None, Ok, Some, true, ℕ, ◌∷◌, ◌≡◌};
 ghost use Rattle.bac_print.specs.Inner.Examples.{having, unasked, unknown};
-ghost use Rattle.bac_links.specs.{Answered.{AskAlike, OneText}, Asking.waits_in, Call.{IsAccepted, Tells}};
-ghost use Rattle.bac_links.specs.Limits.{longest_datagram, most_turns, turn_wait};
-ghost use Rattle.bac_links.specs.Fault.{is_link_fault, is_write_fault, link_fault_text, tool_fault_text};
-ghost use Rattle.bac_links.specs.History.{Arrived, Failure, Gains, Posted, Silence, Timed, Unposted, Waited};
-ghost use Rattle.bac_links.specs.History.{heard_by, posted};
-ghost use Rattle.bac_links.specs.{Memory.{PlaysItsScenes, account_with, sent_by}, Progress.{AreTold, ArePrompt}};
-ghost use Rattle.bac_links.specs.{Search.{Searched, who_is_to}, Sent.{AllSent, sends_of_call, sent_at, sent_in}};
-ghost use Rattle.bac_links.specs.Serve.{Serves, arrivals_in};
-ghost use Rattle.bac_links.specs.Socket.{Binds, BindsAtMost, Logs, LogsHistory, Sends, Times, Waits, account_over};
-ghost use Rattle.bac_links.specs.SystemCall.{Bind, Elapsed, Limit, Receive, SendTo};
-ghost use Rattle.bac_links.specs.declared.ending.Purpose.TheVariants.{Writing};
-ghost use Rattle.bac_links.specs.declared.fault.ToolFault.TheVariants.{SendFailed, ReceiveFailed, TurnsSpent};
-ghost use Rattle.bac_links.specs.declared.fault.ToolFault.TheVariants.{WriteFailed};
-ghost use Rattle.bac_links.specs.declared.udp.OnRefusal.TheVariants.{Fails, IsLost};
-ghost use Rattle.bac_links.specs.Inner.Examples.{answered, asked_so, bad, broken, call, deaf, desk, device, good};
-ghost use Rattle.bac_links.specs.Inner.Examples.{local, lost, nobody, once_asked};
-ghost use Rattle.bac_links.specs.Inner.Examples.{one_step, quiet_link, search, steady, to_desk, twice_asked};
-ghost use Rattle.bac_links.specs.Inner.Examples.{unsearched, unsent, unwritten, write};
-ghost use Rattle.bac_links.specs.Inner.Examples.{AsksInVain, AsksTime, IsNothing, NoCut, Same, SendsOnly};
+ghost use Rattle.bac_links.specs.{account_over, account_with, AllSent, ArePrompt, AreTold, arrivals_in, Arrived};
+ghost use Rattle.bac_links.specs.{AskAlike, Bind, Binds, BindsAtMost, Elapsed, Fails, Failure, Gains, heard_by};
+ghost use Rattle.bac_links.specs.{is_link_fault, is_write_fault, IsAccepted, Limit, link_fault_text, Logs, LogsHistory};
+ghost use Rattle.bac_links.specs.{longest_datagram, most_turns, OneText, PlaysItsScenes, Posted, posted, Receive};
+ghost use Rattle.bac_links.specs.{ReceiveFailed, Searched, SendFailed, Sends, sends_of_call, SendTo, sent_at, sent_by};
+ghost use Rattle.bac_links.specs.{sent_in, Serves, Silence, Tells, Timed, Times, tool_fault_text, turn_wait};
+ghost use Rattle.bac_links.specs.{TurnsSpent, Unposted, Waited, Waits, waits_in, who_is_to, WriteFailed, Writing};
+ghost use Rattle.bac_links.specs.{declared.udp.OnRefusal.TheVariants.IsLost, Inner.{answered, asked_so, AsksInVain}};
+ghost use Rattle.bac_links.specs.Inner.{AsksTime, bad, broken, call, deaf, desk, device, good, IsNothing, local, lost};
+ghost use Rattle.bac_links.specs.Inner.{nobody, NoCut, once_asked, one_step, quiet_link, Same, search, SendsOnly};
+ghost use Rattle.bac_links.specs.Inner.{steady, to_desk, twice_asked, unsearched, unsent, unwritten, write};
 
 // What a clock tells, and how long waits take by it.
 #[tactic(none)]

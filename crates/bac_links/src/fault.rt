@@ -1,7 +1,6 @@
 //! Why a tool could not go on.
 ghost use Rattle.std.specs.Prelude.{◌≡◌};
-ghost use Rattle.bac_print.specs.Message.{message_text};
-ghost use Rattle.bac_links.specs.{Fault.tool_fault_text, declared.fault.ToolFault.TheVariants.WriteFailed};
+ghost use Rattle.{bac_print.specs.message_text, bac_links.specs.{tool_fault_text, WriteFailed}};
 
 use bac_print::{Message, WriteFailed as NotWritten};
 use thiserror::Error;

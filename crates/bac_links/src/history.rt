@@ -1,6 +1,6 @@
 //! What is noted of a link and of its socket, in proofs alone.
 ghost use Rattle.std.specs.Borrow.{ftrue};
-ghost use Rattle.bac_links.specs.{History.Entry, SystemCall.SystemCall};
+ghost use Rattle.bac_links.specs.{Entry, SystemCall.SystemCall};
 
 use crate::datagram::Datagram;
 use crate::link::LinkFault;

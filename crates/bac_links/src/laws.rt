@@ -1,20 +1,15 @@
 //! What holds of the definitions that the contracts cite, and of the public types. Each function has an empty body, and
 //! its clauses are the laws.
 
-ghost use Rattle.std.specs.Prelude.{◌≡◌, ◌≢◌, ◌≤◌, ◌+◌, ◌*◌, ◌++◌, ℕ, suc, ⊤, List};
-ghost use Rattle.std.specs.{Prelude.{[], ◌∷◌, length, Result, Ok, Err, IfOk}, List.flat_map, Option.option_to_list};
-ghost use Rattle.{
-  bac_wire.specs.Copies.{EqualsBy, MakesCopies},
-  bac_pdu.specs.{Apdu.longest_body, Peer.station},
-  bac_device.specs.{Device.{DeviceState, Holds, points_of}, Places.Write as Change, Turns.{AreDefined, replies_to}},
-  bac_text.specs.declared.jobs.{Call.Call, Search.Search},
-  bac_print.specs.declared.checked.Checked.Checked,
-  bac_links.specs.{Answered.{AskAlike, OneText}, Asking.waits_in, Call.{events_of, IsAccepted, Tells}},
-  bac_links.specs.declared.{ending.Purpose.Purpose, exit.Exit.Exit as ExitValue, fault.ToolFault.ToolFault as Fault},
-  bac_links.specs.{History.{Account, Entry}, Limits.longest_datagram, Memory.PlaysItsScenes, Progress.ArePrompt},
-  bac_links.specs.{Progress.AreTold, Search.{Searched, who_is_to}, Sent.{AllSent, sends_of_call, sent_at, sent_in}},
-  bac_links.specs.{Serve.{arrivals_in, replies_of, Serves}, Socket.LogsHistory},
-};
+ghost use Rattle.std.specs.{List.flat_map, Option.option_to_list, Prelude.[]};
+ghost use Rattle.std.specs.Prelude.{Err, IfOk, length, List, Ok, Result, suc, ℕ, ⊤, ◌*◌, ◌++◌, ◌+◌, ◌∷◌, ◌≡◌, ◌≢◌, ◌≤◌};
+ghost use Rattle.{bac_wire.specs.{EqualsBy, MakesCopies}, bac_pdu.specs.{longest_body, station}};
+ghost use Rattle.bac_device.specs.{DeviceState, replies_to, Write as Change, Device.{Holds, points_of}};
+ghost use Rattle.{bac_device.specs.Turns.AreDefined, bac_text.specs.declared.jobs.{Call.Call, Search.Search}};
+ghost use Rattle.bac_links.specs.{Account, AllSent, ArePrompt, AreTold, arrivals_in, AskAlike, Checked, Entry};
+ghost use Rattle.bac_links.specs.{events_of, Exit as ExitValue, IsAccepted, LogsHistory, longest_datagram, OneText};
+ghost use Rattle.bac_links.specs.{PlaysItsScenes, Purpose, replies_of, Searched, sends_of_call, sent_at, sent_in};
+ghost use Rattle.bac_links.specs.{Serves, Tells, ToolFault as Fault, waits_in, who_is_to};
 
 use crate::datagram::DATAGRAM_OCTETS;
 use crate::ending::Purpose as Aim;

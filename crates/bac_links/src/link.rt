@@ -1,8 +1,8 @@
 //! What the tools send and receive datagrams through.
-ghost use Rattle.std.specs.Prelude.{◌≡◌, Bool, false, is_err, None, IfOk, IfNone, IfSome};
-ghost use Rattle.std.specs.{Option.option_flatten, Result.result_ok};
-ghost use Rattle.{bac_pdu.specs.Peer.station, bac_print.specs.Message.message_text};
-ghost use Rattle.bac_links.specs.{Fault.link_fault_text, History.{Account, Gains, heard_by, posted, Timed, Waited}};
+ghost use Rattle.std.specs.{Option.option_flatten, Prelude.{Bool, false, IfNone, IfOk, IfSome, is_err, None, ◌≡◌}};
+ghost use Rattle.std.specs.Result.{result_ok};
+ghost use Rattle.{bac_pdu.specs.station, bac_print.specs.message_text};
+ghost use Rattle.bac_links.specs.{Account, Gains, heard_by, link_fault_text, posted, Timed, Waited};
 
 use crate::datagram::Datagram;
 use bac_pdu::Peer;

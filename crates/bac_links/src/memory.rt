@@ -1,12 +1,10 @@
 //! A link in memory.
-ghost use Rattle.std.specs.Prelude.{◌≡◌, ◌++◌, ◌∷◌, [], false, length, map, IfOk, OnOk};
-ghost use Rattle.std.specs.Prelude.{OnErr, is_err, slice_get, IfNone, IfSome, IsTrue, List, MatchOption, Some, None};
-ghost use Rattle.std.specs.{Option.{option_map, option_flatten, option_to_list}, Result.result_ok};
-ghost use Rattle.bac_pdu.specs.Peer.{station};
-ghost use Rattle.bac_links.{
-  specs.{HasPlayed.HasPlayed, History.{heard_by, Waited, Timed, Gains, posted}, Memory.{account_of, account_with}},
-  specs.{Memory.{scene_of_step, scene_of_kept, sent_by, sending_of, unrouted}, Played.{Scene, heard_next, behind_wait}},
-};
+ghost use Rattle.std.specs.Option.{option_flatten, option_map, option_to_list};
+ghost use Rattle.std.specs.Prelude.{[], false, IfNone, IfOk, IfSome, is_err, IsTrue, length, List, map, MatchOption};
+ghost use Rattle.std.specs.{Prelude.{None, OnErr, OnOk, slice_get, Some, ◌++◌, ◌∷◌, ◌≡◌}, Result.result_ok};
+ghost use Rattle.{bac_pdu.specs.station, bac_links.specs.account_of};
+ghost use Rattle.bac_links.specs.{account_with, behind_wait, Gains, heard_by, heard_next, posted, Scene, scene_of_kept};
+ghost use Rattle.bac_links.specs.{scene_of_step, sending_of, sent_by, Timed, unrouted, Waited, HasPlayed.HasPlayed};
 
 use crate::datagram::Datagram;
 use crate::history::{EntryNote, History};

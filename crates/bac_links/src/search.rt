@@ -1,11 +1,9 @@
 //! The search for devices.
-ghost use Rattle.std.specs.Prelude.{◌≡◌, ◌<◌, false, is_err, IfErr};
-ghost use Rattle.{
-  bac_pdu.specs.{Found.found_seen, Peer.station},
-  bac_print.specs.{Checked.{has_failed, TookOrFailed}, Page.Prints},
-  bac_links.specs.{Fault.{is_link_fault, is_write_fault}, History.{Gains, posted}, Inner.Search.who_is_datagram},
-  bac_links.specs.{Inner.SearchSteps.Listens, Search.{found_line, Searched, who_is_to}},
-};
+ghost use Rattle.std.specs.Prelude.{false, IfErr, is_err, ◌<◌, ◌≡◌};
+ghost use Rattle.bac_pdu.specs.{station, Found.found_seen};
+ghost use Rattle.bac_print.specs.{has_failed, Prints, Checked.TookOrFailed};
+ghost use Rattle.bac_links.specs.{found_line, Gains, is_link_fault, is_write_fault, posted, Searched, who_is_to};
+ghost use Rattle.bac_links.specs.Inner.{Listens, who_is_datagram};
 
 use crate::datagram::Datagram;
 use crate::exit::Exit;

@@ -1,6 +1,6 @@
 //! A device that answers what comes over a link.
-ghost use Rattle.std.specs.Prelude.{◌≡◌, ◌≤◌, false, IfOk};
-ghost use Rattle.bac_links.specs.{Fault.is_link_fault, Serve.Serves, Inner.ServeSteps.ServesTurn};
+ghost use Rattle.std.specs.Prelude.{false, IfOk, ◌≡◌, ◌≤◌};
+ghost use Rattle.bac_links.specs.{is_link_fault, Serves, Inner.ServesTurn};
 
 use crate::datagram::Datagram;
 use crate::exit::Exit;
@@ -42,7 +42,7 @@ pub fn serve<L: Link>(link: &mut L, device: &mut Device, count: u32) -> Result<E
 }
 
 // Answers the next datagram, if one comes, and says how many that are: one, or none.
-#[tactic(auto, using(crate::proofs::CallTurns::gains_both))]
+#[tactic(auto, using(crate::proofs::gains_both))]
 fn serve_turn<L: Link>(
     link: &mut L,
     device: &mut Device,

@@ -1,7 +1,7 @@
 //! A UDP socket and its clock, and that of the system.
-ghost use Rattle.std.specs.{Prelude.{◌≡◌, ◌≤◌, ◌∷◌, ◌++◌, [], IfOk, IfErr, length, is_ok, take}, Duration.as_nanos};
-ghost use Rattle.std.specs.{Io.WritesAtMost, IoError.error_kind, Result.{result_ok, result_map_both}};
-ghost use Rattle.bac_links.specs.SystemCall.{Bind, Limit, SendTo, Receive, Elapsed};
+ghost use Rattle.std.specs.{Duration.as_nanos, Io.WritesAtMost, IoError.error_kind, Prelude.{[], IfErr, IfOk, is_ok}};
+ghost use Rattle.std.specs.{Prelude.{length, take, ◌++◌, ◌∷◌, ◌≡◌, ◌≤◌}, Result.{result_map_both, result_ok}};
+ghost use Rattle.bac_links.specs.{Bind, Elapsed, Limit, Receive, SendTo};
 
 use crate::history::{CallNote, Log};
 use crate::link::LinkFault;

@@ -1,6 +1,6 @@
 //! How many turns a tool takes, and how long one waits.
 ghost use Rattle.std.specs.Prelude.{◌≡◌};
-ghost use Rattle.bac_links.specs.Limits.{most_turns, turn_wait};
+ghost use Rattle.bac_links.specs.{most_turns, turn_wait};
 
 // The longest wait of a turn, in milliseconds.
 const LONGEST_WAIT: u32 = 50;

@@ -1,14 +1,10 @@
 //! A link over a UDP socket.
-ghost use Rattle.std.{
-  specs.Prelude.{◌≡◌, ◌≢◌, ◌+◌, ◌*◌, ◌++◌, [], None, IfOk, IfErr, IfNone, IfSome, MatchOption, OnOk, OnErr, length},
-  specs.{Prelude.{Ok, false, is_ok, is_err, max, vec_len}, Duration.as_nanos, Option.option_flatten, Result.result_ok},
-};
-ghost use Rattle.{
-  bac_pdu.specs.Peer.station,
-  bac_links.specs.{History.{Gains, heard_by, posted, Timed, Waited}, Keeps.Keeps, Limits.longest_datagram},
-  bac_links.specs.Socket.{account_over, Binds, BindsAtMost, heard_from, is_quiet, IsAddressOf, limits, Logs},
-  bac_links.specs.Socket.{OverSocket, peer_at, Sends, time_by, Times, Waits},
-};
+ghost use Rattle.std.specs.{Duration.as_nanos, Option.option_flatten};
+ghost use Rattle.std.specs.Prelude.{[], false, IfErr, IfNone, IfOk, IfSome, is_err, is_ok, length, MatchOption, max};
+ghost use Rattle.std.specs.{Prelude.{None, Ok, OnErr, OnOk, vec_len, ◌*◌, ◌++◌, ◌+◌, ◌≡◌, ◌≢◌}, Result.result_ok};
+ghost use Rattle.{bac_pdu.specs.station, bac_links.specs.{account_over, Binds, BindsAtMost, Gains, heard_by}};
+ghost use Rattle.bac_links.specs.{heard_from, is_quiet, IsAddressOf, limits, Logs, longest_datagram, OverSocket};
+ghost use Rattle.bac_links.specs.{peer_at, posted, Sends, time_by, Timed, Times, Waited, Waits, Keeps.Keeps};
 
 use crate::datagram::{DATAGRAM_OCTETS, Datagram};
 use crate::history::{EntryNote, History, Log};

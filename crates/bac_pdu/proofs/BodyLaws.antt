@@ -4,8 +4,8 @@ use Rattle.std.proofs.Common.{inr, length, length-append, List, None, Ok, ok_or,
 use Rattle.std.proofs.{Common.{true, ℕ, ◌++◌, ◌↔◌, ◌∙◌, ◌∷◌, ◌≡◌, ◌≤◌, ◌⊎◌}, lemmas.Bool.false_from_ne_true}
 use Rattle.std.{proofs.lemmas.{Bool.iff_false, Option.none-some}, specs.{List.AllByRecursion, Result.result_ok}}
 use Rattle.bac_wire.proofs.ItemLaws.{enclosed_no_number, enclosed_reader, IsStep, no_number, no_object, no_octets}
-use Rattle.bac_wire.{proofs.ItemLaws.{number_reader, object_reader}, specs.Front.{Begins, IsReader, SpellsAll}}
-use Rattle.bac_wire.specs.{Front.SpellsTo, ParameterReading.{behind_opening, enclosed_at, number_at, object_at}}
+use Rattle.bac_wire.{proofs.ItemLaws.{number_reader, object_reader}, specs.behind_opening}
+use Rattle.bac_wire.specs.{enclosed_at, number_at, object_at, SpellsAll, Front.{Begins, IsReader, SpellsTo}}
 use Rattle.bac_pdu.specs.{ack_of, InvalidTag, is_priority, IsAckBody, IsFirst, IsOutcome, IsPriority, IsReadBody}
 use Rattle.bac_pdu.specs.{IsWriteBody, LacksReference, MissingParameter, numbered, object as object_parameter}
 use Rattle.bac_pdu.specs.{optional_at, or_none, Order, order_parameters, OutOfRange, read_of, ReadAck, ReadFault}

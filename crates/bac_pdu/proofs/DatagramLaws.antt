@@ -8,18 +8,17 @@ use Rattle.std.proofs.lemmas.Option.{cond_some, none-some, same_Some, some_pair_
 use Rattle.std.specs.{Cmp.Lexicographic.bytes_decides, Option.option_eq}
 use Rattle.byteorder.specs.{Endian.big_number, Numbers.big_number-reads_back}
 use Rattle.bac_wire.proofs.TagLaws.{bind_some, chosen, found_at, only_if, Took, took, took_as, unless}
-use Rattle.bac_wire.specs.{Front.IsReader, Steps.◌>>=◌}
-use Rattle.bac_pdu.specs.{abort, address_at, address_octets, announced_at, announced_size, apdu_of, behind_control}
-use Rattle.bac_pdu.specs.{behind_hops, bit, broadcast, carried, Carries, complex_ack, complex_ack_of, confirmed}
-use Rattle.bac_pdu.specs.{confirmed_of, counted_at, Delivery, error, Flags, forwarded, forwarded_at, front_count}
-use Rattle.bac_pdu.specs.{header_at, is_answerable, is_for_all, is_routable, IsLaidOut, IsRoutable, IsWritable}
-use Rattle.bac_pdu.specs.{laid_out, link_at, Message, network_address, NetworkAddress, NetworkHeader, numbered_of}
-use Rattle.bac_pdu.specs.{origin_at, part_at, part_flags, part_octets, parts_at, plain_header, reject, segment_ack}
-use Rattle.bac_pdu.specs.{service_at, simple_ack, SpellsAddress, SpellsAnnounced, SpellsHeader, SpellsOrigin, Station}
-use Rattle.bac_pdu.specs.{station, Takes, unconfirmed, unicast, wrapped}
-use Rattle.bac_pdu.specs.contracts.peer.PeerPartialEq.TheImpl.{eq-value as peer_eq}
-use Rattle.bac_pdu.specs.{contracts.route.RoutePartialEq.TheImpl.eq-value as route_eq, declared.apdu.Part.Part}
-use Rattle.bac_pdu.specs.{declared.{peer.Peer.Peer, route.Route.Route}, Inner.front_octets}
+use Rattle.{bac_wire.specs.{◌>>=◌, Front.IsReader}, bac_pdu.specs.{abort, address_at, address_octets, announced_at}}
+use Rattle.bac_pdu.specs.{announced_size, apdu_of, behind_control, behind_hops, bit, broadcast, carried, Carries}
+use Rattle.bac_pdu.specs.{complex_ack, complex_ack_of, confirmed, confirmed_of, counted_at, Delivery, error, Flags}
+use Rattle.bac_pdu.specs.{forwarded, forwarded_at, front_count, header_at, is_answerable, is_for_all, is_routable}
+use Rattle.bac_pdu.specs.{IsLaidOut, IsRoutable, IsWritable, laid_out, link_at, Message, network_address}
+use Rattle.bac_pdu.specs.{NetworkAddress, NetworkHeader, numbered_of, origin_at, part_at, part_flags, part_octets}
+use Rattle.bac_pdu.specs.{parts_at, plain_header, reject, segment_ack, service_at, simple_ack, SpellsAddress}
+use Rattle.bac_pdu.specs.{SpellsAnnounced, SpellsHeader, SpellsOrigin, Station, station, Takes, unconfirmed, unicast}
+use Rattle.bac_pdu.specs.{wrapped, contracts.peer.PeerPartialEq.TheImpl.eq-value as peer_eq}
+use Rattle.bac_pdu.specs.contracts.route.RoutePartialEq.TheImpl.{eq-value as route_eq}
+use Rattle.bac_pdu.specs.{declared.{apdu.Part.Part, peer.Peer.Peer, route.Route.Route}, Inner.front_octets}
 
 -- a route keeps its address in eight octets
 room : (r : Route) → length r.octets ≡ 8

@@ -1,9 +1,9 @@
 -- Reading the body of a Who-Is, of an I-Am or of an Error finds what its relation says.
 use Rattle.std.proofs.{Common.{[], List, Option, refl, Some, subst, ℕ, ◌↔◌, ◌∷◌, ◌≡◌}, lemmas.Bool.{eq-eqb, eqb-true}}
-use Rattle.bac_wire.proofs.{ItemLaws.{enumerated_step, IsStep, object_step, unsigned_step}, TagLaws.bind_some}
-use Rattle.bac_wire.{proofs.TagLaws.only_if, specs.{Datum.{Datum, Spells}, Front.Begins, Steps.◌>>=◌}}
-use Rattle.bac_pdu.{proofs.BodyLaws.{numbered_step, whole_ended}, specs.{error_of, Introduction, introduction_of}}
-use Rattle.bac_pdu.specs.{IsErrorBody, IsIAmBody, IsWhoIsBody, who_is_of, WhoIs}
+use Rattle.bac_wire.proofs.ItemLaws.{enumerated_step, IsStep, object_step, unsigned_step}
+use Rattle.bac_wire.{proofs.TagLaws.{bind_some, only_if}, specs.{Spells, ◌>>=◌, Datum.Datum, Front.Begins}}
+use Rattle.bac_pdu.{proofs.BodyLaws.{numbered_step, whole_ended}, specs.error_of}
+use Rattle.bac_pdu.specs.{Introduction, introduction_of, IsErrorBody, IsIAmBody, IsWhoIsBody, who_is_of, WhoIs}
 use Rattle.bac_pdu.specs.declared.discovery.WhoIs.TheVariants as limits
 
 -- ---- Who-Is

@@ -2,22 +2,22 @@
 use Rattle.std.proofs.Common.{[], ap, append-nil, append_assoc, arith, Err, flat_map, IfSome, length, length-append}
 use Rattle.std.proofs.Common.{List, Ok, Option, refl, Result, slice_index_or, Some, subst, sym, ℕ, ◌*◌, ◌++◌, ◌+◌, ◌<◌}
 use Rattle.std.{proofs.{Common.{◌^◌, ◌∙◌, ◌∷◌, ◌≡◌, ◌≤◌}, lemmas.Grind.common_steps}, specs.List.AllByRecursion}
-use Rattle.{
-  byteorder.specs.{Endian.big_bytes, Numbers.big_from-lt},
-  bac_wire.proofs.{DatumLaws.{ahead, octet_count_least, plain_spells}, ItemLaws.{enclosed_spells, number_spells}},
-  bac_wire.{proofs.{ItemLaws.object_spells, TagLaws.{behind, tag_least}}, specs.Datum.{Datum, enumerated, IsDatum}},
-  bac_wire.specs.{Datum.{plain, Spells, unsigned}, Front.{AreOctets, IsShortest, SpellsAll, SpellsTo}},
-  bac_wire.specs.{Identifier.Identifier, Parameter.{context_octets, context_tag, enclosed_octets, number_octets}},
-  bac_wire.specs.{Parameter.{object_octets, SpellsContext, SpellsEnclosed, SpellsIn}, Region.{closing_tag, IsRegion}},
-  bac_wire.specs.{Region.opening_tag, Tag.{plain_number, plain_tag}, Writing.Appends},
-  bac_pdu.proofs.{BodyLaws.{ack_is, all_spell, read_again, whole_spell, write_again}, DiscoveryLaws.error_is},
-  bac_pdu.{proofs.DiscoveryLaws.{introduction_is, who_is_is}, specs.{ack_end, ack_front, ack_octets, ack_of}},
-  bac_pdu.specs.{ack_parameters, error_octets, error_of, i_am_octets, Introduction, introduction_of},
-  bac_pdu.specs.{introduction_values, IsAckBody, IsErrorBody, IsIAmBody, IsParameter, IsPriority, IsReadBody},
-  bac_pdu.specs.{IsWhoIsBody, IsWriteBody, numbered, Order, order_parameters, plain_parameter, read_octets, read_of},
-  bac_pdu.specs.{ReadAck, Reference, reference_parameters, SpellsParameter, who_is_octets, who_is_of, WhoIs},
-  bac_pdu.specs.{write_octets, write_of, Inner.{HasLimits, optional, optional_octets}, Parameter.Parameter},
-}
+use Rattle.byteorder.specs.{Endian.big_bytes, Numbers.big_from-lt}
+use Rattle.bac_wire.proofs.DatumLaws.{ahead, octet_count_least, plain_spells}
+use Rattle.bac_wire.proofs.{ItemLaws.{enclosed_spells, number_spells, object_spells}, TagLaws.{behind, tag_least}}
+use Rattle.bac_wire.specs.{Appends, enumerated, IsRegion, IsShortest, number_octets, object_octets, plain, plain_tag}
+use Rattle.bac_wire.specs.{Spells, SpellsAll, unsigned, Datum.{Datum, IsDatum}, Front.{AreOctets, SpellsTo}}
+use Rattle.bac_wire.specs.{Identifier.Identifier, Parameter.context_octets}
+use Rattle.bac_wire.specs.Parameter.{context_tag, enclosed_octets, SpellsContext, SpellsEnclosed, SpellsIn}
+use Rattle.bac_wire.specs.{Region.{closing_tag, opening_tag}, Tag.plain_number}
+use Rattle.bac_pdu.proofs.BodyLaws.{ack_is, all_spell, read_again, whole_spell, write_again}
+use Rattle.bac_pdu.proofs.DiscoveryLaws.{error_is, introduction_is, who_is_is}
+use Rattle.bac_pdu.specs.{ack_end, ack_front, ack_octets, ack_of, ack_parameters, error_octets, error_of, i_am_octets}
+use Rattle.bac_pdu.specs.{Introduction, introduction_of, introduction_values, IsAckBody, IsErrorBody, IsIAmBody}
+use Rattle.bac_pdu.specs.{IsParameter, IsPriority, IsReadBody, IsWhoIsBody, IsWriteBody, numbered, Order}
+use Rattle.bac_pdu.specs.{order_parameters, plain_parameter, read_octets, read_of, ReadAck, Reference}
+use Rattle.bac_pdu.specs.{reference_parameters, SpellsParameter, who_is_octets, who_is_of, WhoIs, write_octets}
+use Rattle.bac_pdu.specs.{write_of, Inner.{HasLimits, optional, optional_octets}, Parameter.Parameter}
 use Rattle.bac_wire.specs.Datum as values
 use Rattle.bac_pdu.specs.declared.discovery.WhoIs.TheVariants as limits
 

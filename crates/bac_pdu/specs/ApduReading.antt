@@ -1,8 +1,7 @@
 -- Reading an APDU from left to right.
 use Rattle.std.specs.Prelude.{[], Bool, false, if◌then◌else◌, List, None, Option, Some, true, ℕ, ◌%◌, ◌/◌, ◌==◌, ◌∷◌}
-use Rattle.bac_wire.specs.Steps.{◌>>=◌}
-use Rattle.bac_pdu.specs.Apdu.{abort, complex_ack, confirmed, error, Message, reject, segment_ack, simple_ack}
-use Rattle.bac_pdu.specs.{Apdu.unconfirmed, Bits.bit, declared.apdu.Part.Part}
+use Rattle.{bac_wire.specs.◌>>=◌, bac_pdu.specs.Apdu.{abort, complex_ack, confirmed, error, Message, reject}}
+use Rattle.bac_pdu.specs.{Apdu.{segment_ack, simple_ack, unconfirmed}, Bits.bit, declared.apdu.Part.Part}
 
 -- The part where the flag says that there is one, and the octets behind it.
 abbrev pub part_at : ℕ → List ℕ → Bool → Option (Option Part × List ℕ)

@@ -1,10 +1,8 @@
 -- Reading a datagram from left to right.
-use Rattle.std.specs.Prelude.{ℕ, ◌+◌, nat_lt, ◌==◌, Bool, true, false, ◌&&◌, ◌||◌, is_some, if◌then◌else◌, List, []}
-use Rattle.std.specs.{Prelude.{◌∷◌, length, take, drop, Option, Some, None}, Option.option_map_or}
-use Rattle.byteorder.specs.Endian.{big_number}
-use Rattle.bac_wire.specs.{Steps.◌>>=◌, TagReading.two_at}
-use Rattle.bac_pdu.specs.{Bits.bit, Peer.{NetworkAddress, Station}, Header.NetworkHeader}
-use Rattle.bac_pdu.specs.Datagram.{Delivery, originator}
+use Rattle.std.specs.{Option.option_map_or, Prelude.{[], Bool, drop, false, if◌then◌else◌, is_some, length, List}}
+use Rattle.std.specs.Prelude.{nat_lt, None, Option, Some, take, true, ℕ, ◌&&◌, ◌+◌, ◌==◌, ◌||◌, ◌∷◌}
+use Rattle.{byteorder.specs.Endian.big_number, bac_wire.specs.{◌>>=◌, TagReading.two_at}, bac_pdu.specs.Bits.bit}
+use Rattle.bac_pdu.specs.{Datagram.{Delivery, originator}, Header.NetworkHeader, Peer.{NetworkAddress, Station}}
 
 -- As many octets as the first one says, and those behind them.
 abbrev pub counted_at : List ℕ → Option (List ℕ × List ℕ)

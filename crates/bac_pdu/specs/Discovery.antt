@@ -1,7 +1,7 @@
 -- The bodies of Who-Is and I-Am (clauses 16.10 and 21).
-use Rattle.std.specs.{Prelude.{◌≡◌, ℕ, nat_le, Bool, true, ◌&&◌, List, [], ◌∷◌, ◌++◌}, List.flat_map}
-use Rattle.bac_wire.specs.{Identifier.{Identifier, identifier}, Datum.{Datum, unsigned, enumerated, Spells, plain}}
-use Rattle.bac_wire.specs.{Parameter.number_octets, Front.SpellsAll}
+use Rattle.std.specs.{List.flat_map, Prelude.{[], Bool, List, nat_le, true, ℕ, ◌&&◌, ◌++◌, ◌∷◌, ◌≡◌}}
+use Rattle.bac_wire.specs.{enumerated, identifier, number_octets, plain, Spells, SpellsAll, unsigned, Datum.Datum}
+use Rattle.bac_wire.specs.Identifier.{Identifier}
 use Rattle.bac_pdu.specs.{declared.discovery.{IAm.IAm, WhoIs.WhoIs}, Parameter.{numbered, SpellsParameter}}
 use Rattle.bac_wire.specs.Datum as values
 use Rattle.bac_pdu.specs.declared.discovery.WhoIs.TheVariants as limits

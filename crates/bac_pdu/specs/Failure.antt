@@ -1,6 +1,6 @@
 -- The body of an Error (clauses 18 and 21).
-use Rattle.std.specs.{Prelude.{ℕ, List, [], ◌∷◌}, List.flat_map}
-use Rattle.bac_wire.specs.{Datum.{enumerated, Spells, plain}, Front.SpellsTo}
+use Rattle.std.specs.{List.flat_map, Prelude.{[], List, ℕ, ◌∷◌}}
+use Rattle.bac_wire.specs.{enumerated, plain, Spells, Front.SpellsTo}
 
 -- The body of an Error: the class and the code stand at the front, and what follows is not looked at.
 abbrev pub IsErrorBody : List ℕ → ℕ × ℕ → Type 0

@@ -1,6 +1,6 @@
 -- The device that introduces itself in a datagram (I-Am, clause 16.10).
-use Rattle.std.specs.Prelude.{◌==◌, if◌then◌else◌, List, None, Option, Some, ℕ}
-use Rattle.bac_wire.specs.Steps.{◌>>=◌}
+use Rattle.std.specs.Prelude.{if◌then◌else◌, List, None, Option, Some, ℕ, ◌==◌}
+use Rattle.bac_wire.specs.{◌>>=◌}
 use Rattle.bac_pdu.specs.{Apdu.{Message, unconfirmed}, ApduReading.apdu_of, DatagramReading.carried}
 use Rattle.bac_pdu.specs.{declared.{discovery.WhoIs.WhoIs, found.Found.Found as Finding}, Discovery.asks}
 use Rattle.bac_pdu.specs.{Discovery.{Introduction, introduction}, Peer.{Station, station}, ValueReading.introduction_of}

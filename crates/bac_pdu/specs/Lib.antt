@@ -31,6 +31,13 @@ unfoldable pub use Discovery.*
 unfoldable pub use Failure.*
 unfoldable pub use ValueReading.*
 unfoldable pub use Found.*
+pub use Rattle.bac_pdu.specs.Apdu.{abort, complex_ack, confirmed, error, IsLaidOut, laid_out, longest_body, Message}
+pub use Rattle.bac_pdu.specs.{Apdu.{reject, simple_ack, unconfirmed}, Datagram.{Carries, Delivery}}
 pub use Rattle.bac_pdu.specs.declared.discovery.WhoIs.{WhoIs, TheVariants.Range}
-pub use Rattle.bac_pdu.specs.declared.reject.RejectReason.{RejectReason, TheVariants.TooMany}
-pub use Rattle.bac_pdu.specs.declared.reject.RejectReason.TheVariants.{InvalidTag, MissingParameter, OutOfRange}
+pub use Rattle.bac_pdu.specs.declared.reject.RejectReason.{RejectReason, TheVariants.InvalidTag}
+pub use Rattle.bac_pdu.specs.declared.reject.RejectReason.TheVariants.{MissingParameter, OutOfRange, TooMany}
+pub use Rattle.bac_pdu.specs.Peer.{network_address, NetworkAddress, Station, station}
+pub use Rattle.bac_pdu.specs.{Property.{IsPriority, Order, read_octets, ReadAck, Reference, reference}, Steps.◌>>=◌}
+unfoldable pub use Rattle.bac_pdu.specs.{ApduReading.{apdu_of, parts_at}, Datagram.wrapped, DatagramReading.address_at}
+unfoldable pub use Rattle.bac_pdu.specs.{DatagramReading.{carried, header_at, link_at}, Parameter.plain_parameter}
+unfoldable pub use Rattle.bac_pdu.specs.{PropertyReading.{ack_of, write_of}, ValueReading.error_of}

@@ -1,7 +1,7 @@
 -- The parameters of ReadProperty, WriteProperty and Who-Is (clauses 15.5, 15.9, 16.10 and 21).
-use Rattle.std.specs.Prelude.{ℕ, ◌^◌, ◌<◌, List}
-use Rattle.bac_wire.specs.{Identifier.{Identifier, IsIdentifier}, Limits.deepest, Region.IsRegion}
-use Rattle.bac_wire.specs.Parameter.{SpellsIn, SpellsEnclosed, number_octets, object_octets, enclosed_octets}
+use Rattle.std.specs.Prelude.{List, ℕ, ◌<◌, ◌^◌}
+use Rattle.bac_wire.specs.{IsIdentifier, IsRegion, number_octets, object_octets, Identifier.Identifier, Limits.deepest}
+use Rattle.bac_wire.specs.Parameter.{enclosed_octets, SpellsEnclosed, SpellsIn}
 use Rattle.bac_wire.specs.Datum as values
 
 -- A parameter: an object, a number by the tag that it stands under, or a value.

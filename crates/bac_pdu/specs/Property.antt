@@ -1,11 +1,11 @@
 -- The bodies of ReadProperty, its answer and WriteProperty: their parameters in their order (clauses 15.5, 15.9 and
 -- 21).
-use Rattle.std.specs.{Prelude.{ℕ, ◌≤◌, List, [], ◌∷◌, ◌++◌, Option, IfSome}, Option.{option_map, option_to_list}}
-use Rattle.std.specs.List.{flat_map}
-use Rattle.bac_wire.specs.{declared.object_id.ObjectId.ObjectId, Identifier.{Identifier, identifier}, Tag.plain_tag}
-use Rattle.bac_wire.specs.{Region.{opening_tag, closing_tag}, Front.SpellsAll}
-use Rattle.bac_pdu.specs.declared.property.{ReadRequest.ReadRequest, WriteRequest.WriteRequest, Ack.Ack}
-use Rattle.bac_pdu.specs.Parameter.{Parameter, object, numbered, value, SpellsParameter, plain_parameter}
+use Rattle.std.specs.{List.flat_map, Option.{option_map, option_to_list}}
+use Rattle.std.specs.Prelude.{[], IfSome, List, Option, ℕ, ◌++◌, ◌∷◌, ◌≤◌}
+use Rattle.bac_wire.specs.{identifier, plain_tag, SpellsAll, declared.object_id.ObjectId.ObjectId}
+use Rattle.bac_wire.specs.{Identifier.Identifier, Region.{closing_tag, opening_tag}}
+use Rattle.bac_pdu.specs.declared.property.{Ack.Ack, ReadRequest.ReadRequest, WriteRequest.WriteRequest}
+use Rattle.bac_pdu.specs.Parameter.{numbered, object, Parameter, plain_parameter, SpellsParameter, value}
 
 -- A property of an object, or an element of it: what a request names.
 pub record Reference : Type 0 where

@@ -1,9 +1,9 @@
 -- Reading the body of ReadProperty, of its answer or of WriteProperty from left to right.
-use Rattle.std.specs.Prelude.{ℕ, nat_lt, Bool, true, ◌&&◌, if◌then◌else◌, List, [], ◌∷◌, Option, Some, None, Result, Ok}
-use Rattle.std.specs.{Prelude.Err, Option.{ok_or, option_map_or}, Result.result_ok}
-use Rattle.bac_wire.specs.ParameterReading.{number_at, object_at, enclosed_at}
-use Rattle.bac_pdu.specs.{declared.reject.RejectReason.RejectReason, Property.{Reference, ReadAck, Order}, Steps.◌>>=◌}
+use Rattle.std.specs.{Option.{ok_or, option_map_or}, Prelude.{[], Bool, Err, if◌then◌else◌, List, nat_lt, None, Ok}}
+use Rattle.std.specs.{Prelude.{Option, Result, Some, true, ℕ, ◌&&◌, ◌∷◌}, Result.result_ok}
+use Rattle.{bac_wire.specs.{enclosed_at, number_at, object_at}, bac_pdu.specs.declared.reject.RejectReason.RejectReason}
 use Rattle.bac_pdu.specs.declared.reject.RejectReason.TheVariants.{InvalidTag, MissingParameter, OutOfRange, TooMany}
+use Rattle.bac_pdu.specs.{Property.{Order, ReadAck, Reference}, Steps.◌>>=◌}
 
 -- What was read, and the octets behind it; where nothing was read, all octets are left.
 abbrev pub or_none : {A : Type 0} → List ℕ → Option (A × List ℕ) → Option A × List ℕ

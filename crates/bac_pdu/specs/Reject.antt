@@ -1,10 +1,10 @@
 -- Why the body of a confirmed request is rejected (clause 18.9; which reason a body gets is this project's choice).
-use Rattle.std.specs.Prelude.{◌≡◌, ◌≢◌, ℕ, ◌⊎◌, List, [], ◌∷◌, IfSome, IfOk, IfErr, Result, Ok}
-use Rattle.bac_wire.specs.{Identifier.Identifier, Front.{Begins, SpellsAll}}
+use Rattle.std.specs.Prelude.{[], IfErr, IfOk, IfSome, List, Ok, Result, ℕ, ◌∷◌, ◌≡◌, ◌≢◌, ◌⊎◌}
+use Rattle.bac_wire.specs.{SpellsAll, Front.Begins, Identifier.Identifier}
 use Rattle.bac_pdu.specs.declared.reject.RejectReason.{RejectReason, TheVariants.{InvalidTag, MissingParameter}}
 use Rattle.bac_pdu.specs.declared.reject.RejectReason.TheVariants.{OutOfRange, TooMany, UnknownService}
 use Rattle.bac_pdu.specs.Parameter.{object, SpellsParameter}
-use Rattle.bac_pdu.specs.Property.{Reference, Order, order_parameters, IsReadBody, IsWriteBody, IsPriority}
+use Rattle.bac_pdu.specs.Property.{IsPriority, IsReadBody, IsWriteBody, Order, order_parameters, Reference}
 
 -- The number of the reason in a Reject (clause 18.9).
 abbrev pub reason_number : RejectReason → ℕ

@@ -1,6 +1,6 @@
 -- Reading the bodies of Who-Is, I-Am and Error from left to right.
-use Rattle.std.specs.Prelude.{ℕ, ◌==◌, if◌then◌else◌, List, [], Option, Some, None}
-use Rattle.bac_wire.specs.{Steps.◌>>=◌, ParameterReading.{number_at, kind_at, unsigned_in, enumerated_in, object_in}}
+use Rattle.std.specs.Prelude.{[], if◌then◌else◌, List, None, Option, Some, ℕ, ◌==◌}
+use Rattle.bac_wire.specs.{kind_at, number_at, ◌>>=◌, ParameterReading.{enumerated_in, object_in, unsigned_in}}
 use Rattle.bac_pdu.specs.{declared.discovery.WhoIs.WhoIs, Discovery.Introduction, PropertyReading.whole_of}
 use Rattle.bac_pdu.specs.declared.discovery.WhoIs.TheVariants as limits
 

@@ -1,9 +1,8 @@
 //! APDUs, read and written.
 
-ghost use Rattle.std.specs.Prelude.{[], ◌++◌, ◌<◌, ◌∷◌, ◌≡◌, length, OnOk, option_map};
-ghost use Rattle.bac_wire.specs.Writing.{Appends};
-ghost use Rattle.bac_pdu.specs.{announced_size, apdu_of, complex_ack_of, confirmed_of, IsWritable, laid_out, message};
-ghost use Rattle.bac_pdu.specs.{part_flags, part_octets, parts_at};
+ghost use Rattle.std.specs.Prelude.{[], length, OnOk, option_map, ◌++◌, ◌<◌, ◌∷◌, ◌≡◌};
+ghost use Rattle.{bac_wire.specs.Appends, bac_pdu.specs.{announced_size, apdu_of, complex_ack_of, confirmed_of}};
+ghost use Rattle.bac_pdu.specs.{IsWritable, laid_out, message, part_flags, part_octets, parts_at};
 
 use crate::bits::has_bit;
 use crate::writing::whole_or_nothing;
@@ -69,7 +68,7 @@ pub struct Part {
 /// The APDU that the octets are. None where they are none, where the type is unknown, or where the layout is cut.
 ///
 /// Bits and octets that the layout of the type does not name are not looked at.
-#[tactic(auto, unfolding(crate::specs::ApduReading::apdu_of))]
+#[tactic(auto, unfolding(crate::specs::apdu_of))]
 #[inline(always)]
 pub fn read_apdu(octets: &[u8]) -> Option<Apdu<'_>>
     ensures value { option_map message result ≡ apdu_of octets.now }
@@ -171,7 +170,7 @@ fn read_complex_ack(first: u8, octets: &[u8]) -> Option<Apdu<'_>>
 }
 
 // The part, the service and the body.
-#[tactic(auto, unfolding(crate::specs::ApduReading::parts_at))]
+#[tactic(auto, unfolding(crate::specs::parts_at))]
 fn read_parts(first: u8, octets: &[u8]) -> Option<(Option<Part>, u8, &[u8])>
     ensures { option_map (λ x. (x.0, x.1, x.2.now)) result ≡ parts_at first octets.now }
 {

@@ -1,9 +1,8 @@
 //! Datagrams whole: what one carries, and the one that takes an APDU to a peer.
 
-ghost use Rattle.std.specs.Prelude.{◌+◌, ◌<◌, ◌^◌, ◌≡◌, ◌≤◌, IfOk, IfSome, length, OnErr, OnOk, option_map};
-ghost use Rattle.bac_wire.specs.Limits.{frame_room};
-ghost use Rattle.bac_pdu.specs.{carried, delivery, IsRoutable, link_at, origin_at, station, Takes, wrapped};
-ghost use Rattle.bac_pdu.specs.Inner.{front_octets};
+ghost use Rattle.std.specs.Prelude.{IfOk, IfSome, length, OnErr, OnOk, option_map, ◌+◌, ◌<◌, ◌^◌, ◌≡◌, ◌≤◌};
+ghost use Rattle.{bac_wire.specs.frame_room, bac_pdu.specs.carried};
+ghost use Rattle.bac_pdu.specs.{delivery, IsRoutable, link_at, origin_at, station, Takes, wrapped, Inner.front_octets};
 
 use crate::header::{HEADER_OCTETS, header_and_rest, local_header, network_header};
 use crate::peer::Peer;
@@ -45,7 +44,7 @@ const FRONT_OCTETS: usize = 4 + HEADER_OCTETS;
 /// route; the route of `from` is not looked at. None where the datagram is ignored: a link header that is cut, of
 /// another type or function, or with a length that is not the datagram's; a network header that is cut, of another
 /// version or a message of the network layer; a destination other than all networks; a source that no route leads to.
-#[tactic(auto, unfolding(crate::specs::DatagramReading::carried))]
+#[tactic(auto, unfolding(crate::specs::carried))]
 #[inline(always)]
 pub fn open_datagram(from: Peer, datagram: &[u8]) -> Option<Carried<'_>>
     ensures value { option_map delivery result ≡ carried (station from) datagram.now }
@@ -77,7 +76,7 @@ pub fn open_datagram(from: Peer, datagram: &[u8]) -> Option<Carried<'_>>
 ///
 /// `Full`, with the frame unchanged, only where the datagram has more octets than a frame: an APDU of more than 1,491
 /// octets, or with a route of more than 1,487 less those of its address; so never for one of at most 1,480.
-#[tactic(auto, using(crate::proofs::DatagramLaws::front_before, crate::proofs::DatagramLaws::length_front, crate::proofs::DatagramLaws::length_wrapped, crate::proofs::DatagramLaws::put_front_takes))]
+#[tactic(auto, using(crate::proofs::front_before, crate::proofs::length_front, crate::proofs::length_wrapped, crate::proofs::put_front_takes))]
 pub fn wrap(to: Peer, expect: bool, apdu: &[u8], frame: &mut Frame) -> Result<(), Full>
     ensures ok { OnOk result (frame.new ≡ wrapped (station to).route expect apdu.now) }
     ensures whole { OnOk result (Takes (station to).route expect apdu.now frame.new) }
@@ -94,7 +93,7 @@ pub fn wrap(to: Peer, expect: bool, apdu: &[u8], frame: &mut Frame) -> Result<()
 
 /// Makes the frame, which holds an APDU, the datagram that `wrap` would make of it. Nothing is copied but within the
 /// frame. `Full`, with the frame unchanged, only where the datagram has more octets than a frame.
-#[tactic(auto, using(crate::proofs::DatagramLaws::front_before, crate::proofs::DatagramLaws::length_front, crate::proofs::DatagramLaws::length_wrapped, crate::proofs::DatagramLaws::put_front_takes))]
+#[tactic(auto, using(crate::proofs::front_before, crate::proofs::length_front, crate::proofs::length_wrapped, crate::proofs::put_front_takes))]
 #[inline(always)]
 pub fn wrap_within(to: Peer, expect: bool, frame: &mut Frame) -> Result<(), Full>
     ensures ok { OnOk result (frame.new ≡ wrapped (station to).route expect frame.old) }
@@ -114,7 +113,7 @@ pub fn wrap_within(to: Peer, expect: bool, frame: &mut Frame) -> Result<(), Full
 }
 
 // Who sent the datagram, whether to all, and the octets behind the link header.
-#[tactic(auto, unfolding(crate::specs::DatagramReading::link_at))]
+#[tactic(auto, unfolding(crate::specs::link_at))]
 fn link_and_rest(from: Peer, datagram: &[u8]) -> Option<(Peer, bool, &[u8])>
     ensures { option_map (λ x. ((station x.0, x.1), x.2.now)) result ≡ link_at (station from) datagram.now }
 {
@@ -151,7 +150,7 @@ fn origin_and_rest(function: u8, from: Peer, octets: &[u8]) -> Option<(Peer, boo
 
 // What stands before an APDU of this size: the link header and the network header. `Full` where no frame has room for
 // these and the APDU.
-#[tactic(auto, unfolding(crate::specs::Inner::Datagram::front_octets))]
+#[tactic(auto, unfolding(crate::specs::Inner::front_octets))]
 fn front_of(to: Peer, expect: bool, size: usize) -> Result<ArrayVec<u8, FRONT_OCTETS>, Full>
     requires { size < 2 ^ 63 }
     ensures ok { IfOk result (λ front. front.items ≡ front_octets (station to).route expect size) }
@@ -176,7 +175,7 @@ fn front_of(to: Peer, expect: bool, size: usize) -> Result<ArrayVec<u8, FRONT_OC
 }
 
 // What stands before an APDU of this size for a station of this network.
-#[tactic(auto, using(crate::proofs::DatagramLaws::local_front))]
+#[tactic(auto, using(crate::proofs::local_front))]
 fn local_front(expect: bool, size: usize) -> [u8; 6]
     requires { size ≤ frame_room }
     ensures { result ≡ front_octets None expect size }

@@ -1,7 +1,7 @@
 //! Who-Is and I-Am, read and written.
 
-ghost use Rattle.std.specs.Prelude.{◌≡◌, OnOk, option_map};
-ghost use Rattle.bac_wire.specs.{Front.IsShortest, Identifier.identifier, Writing.Appends, Inner.Writing.AppendsFront};
+ghost use Rattle.std.specs.Prelude.{OnOk, option_map, ◌≡◌};
+ghost use Rattle.bac_wire.specs.{Appends, identifier, IsShortest, Inner.Writing.AppendsFront};
 ghost use Rattle.bac_pdu.specs.{asks, i_am_octets, introduction, introduction_of, IsIAmBody, IsWhoIsBody};
 ghost use Rattle.bac_pdu.specs.{who_is_octets, who_is_of, Inner.HasLimits};
 
@@ -53,7 +53,7 @@ pub struct IAm {
 }
 
 /// Which devices the body of a Who-Is asks. None where the body is not whole.
-#[tactic(auto, unfolding(crate::specs::ValueReading::who_is_of))]
+#[tactic(auto, unfolding(crate::specs::who_is_of))]
 pub fn read_whois(body: &[u8]) -> Option<WhoIs>
     ensures value { result ≡ who_is_of body.now }
 {
@@ -69,7 +69,7 @@ pub fn read_whois(body: &[u8]) -> Option<WhoIs>
 }
 
 /// What the body of an I-Am says. None where the body is not whole, or where the object is no device.
-#[tactic(auto, unfolding(crate::specs::ValueReading::introduction_of))]
+#[tactic(auto, unfolding(crate::specs::introduction_of))]
 pub fn read_iam(body: &[u8]) -> Option<IAm>
     ensures value { option_map introduction result ≡ introduction_of body.now }
 {
@@ -90,7 +90,7 @@ pub fn read_iam(body: &[u8]) -> Option<IAm>
 
 /// Appends the body of a Who-Is, each number in its fewest octets. `Full`, with the frame unchanged, only where there
 /// is no room for it.
-#[tactic(auto, using(crate::proofs::ShortestLaws::limits_back, crate::proofs::ShortestLaws::who_is_shortest, std::proofs::lemmas::Result::on_ok_weaker))]
+#[tactic(auto, using(crate::proofs::limits_back, crate::proofs::who_is_shortest, std::proofs::lemmas::Result::on_ok_weaker))]
 pub fn write_whois(frame: &mut Frame, who: &WhoIs) -> Result<(), Full>
     ensures appended { Appends frame.old (who_is_octets who.now) frame.new result }
     ensures shortest { OnOk result (IsShortest IsWhoIsBody (who_is_octets who.now) who.now) }

@@ -1,8 +1,7 @@
 //! The body of an Error, read and written.
 
-ghost use Rattle.std.specs.Prelude.{◌++◌, ◌≡◌, List, OnOk, ℕ};
-ghost use Rattle.bac_wire.specs.{Front.IsShortest, Writing.Appends};
-ghost use Rattle.bac_pdu.specs.{error_octets, error_of, IsErrorBody};
+ghost use Rattle.std.specs.Prelude.{List, OnOk, ℕ, ◌++◌, ◌≡◌};
+ghost use Rattle.{bac_wire.specs.{Appends, IsShortest}, bac_pdu.specs.{error_octets, error_of, IsErrorBody}};
 
 use crate::value::enumerated_and_rest;
 use crate::writing::whole_or_nothing;
@@ -10,7 +9,7 @@ use bac_wire::{Frame, Full, Value, write_value};
 
 /// The class and the code that the body of an Error begins with (clause 18). None where no two Enumerateds stand there.
 /// What follows is not looked at.
-#[tactic(auto, unfolding(crate::specs::ValueReading::error_of))]
+#[tactic(auto, unfolding(crate::specs::error_of))]
 pub fn read_error(body: &[u8]) -> Option<(u32, u32)>
     ensures value { result ≡ error_of body.now }
 {
@@ -21,7 +20,7 @@ pub fn read_error(body: &[u8]) -> Option<(u32, u32)>
 
 /// Appends the body of an Error, both numbers in their fewest octets. `Full`, with the frame unchanged, only where
 /// there is no room for it.
-#[tactic(auto, using(bac_wire::proofs::TagLaws::in_parts, crate::proofs::ShortestLaws::error_shortest))]
+#[tactic(auto, using(bac_wire::proofs::TagLaws::in_parts, crate::proofs::error_shortest))]
 pub fn write_error(frame: &mut Frame, class: u32, code: u32) -> Result<(), Full>
     ensures appended { Appends frame.old (error_octets class code) frame.new result }
     ensures shortest { OnOk result (IsShortest IsErrorBody (error_octets class code) (class, code)) }

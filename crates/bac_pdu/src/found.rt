@@ -19,7 +19,7 @@ pub struct Found {
 }
 
 /// The device that introduces itself in a datagram from this peer, where the Who-Is asks it. Else None.
-#[tactic(auto, unfolding(crate::specs::Found::found_of))]
+#[tactic(auto, unfolding(crate::specs::found_of))]
 pub fn read_found(who: WhoIs, from: Peer, datagram: &[u8]) -> Option<Found>
     ensures { option_map found_seen result ≡ found_of who (station from) datagram.now }
 {

@@ -45,7 +45,7 @@ pub(crate) const HEADER_OCTETS: usize = 13;
 
 /// The network header at the front, and the APDU behind it. None where it is cut, of another version, or a message of
 /// the network layer.
-#[tactic(auto, unfolding(crate::specs::DatagramReading::header_at))]
+#[tactic(auto, unfolding(crate::specs::header_at))]
 pub(crate) fn header_and_rest(octets: &[u8]) -> Option<(Header<'_>, &[u8])>
     ensures { option_map (λ x. (header_seen x.0, x.1.now)) result ≡ header_at octets.now }
 {
@@ -111,7 +111,7 @@ fn announced_and_rest(announced: bool, octets: &[u8]) -> Option<(Option<Address<
 }
 
 // A network and an address in it, of as many octets as the one before it says, and the octets behind.
-#[tactic(auto, unfolding(crate::specs::DatagramReading::address_at))]
+#[tactic(auto, unfolding(crate::specs::address_at))]
 fn address_and_rest(octets: &[u8]) -> Option<(Address<'_>, &[u8])>
     ensures { option_map (λ x. (address_seen x.0, x.1.now)) result ≡ address_at octets.now }
 {

@@ -1,19 +1,18 @@
 //! What holds of the definitions that the contracts cite. Each function has an empty body, and its clause is the law;
 //! those at the end are `clone` or `==` of types, and say what a clone is, or what is compared.
 
-ghost use Rattle.std.specs.{List.AllByRecursion, Prelude.{Result, ℕ}};
-ghost use Rattle.std.specs.Prelude.{[], ◌++◌, ◌+◌, ◌<◌, ◌^◌, ◌↔◌, ◌∷◌, ◌≡◌, Bool, false, IfSome, length, List, Option};
-ghost use Rattle.{
-  bac_wire.specs.{Copies.{EqualsBy, MakesCopies}, Datum.{enumerated, IsDatum}},
-  bac_pdu.specs.{ack_end, ack_front, ack_octets, ack_of, ack_parameters, ack_seen, apdu_of, carried, Carries, Delivery},
-  bac_pdu.specs.{error_octets, error_of, front_count, i_am_octets, Introduction, introduction, introduction_of},
-  bac_pdu.specs.{introduction_values, IsAckBody, IsErrorBody, IsIAmBody, IsLaidOut, IsOutcome, IsParameter, IsPriority},
-  bac_pdu.specs.{IsReadBody, IsRoutable, IsWhoIsBody, IsWritable, IsWriteBody, laid_out, longest_body, Message},
-  bac_pdu.specs.{message, network_address, NetworkAddress, Order, order, order_parameters, Range, read_octets, read_of},
-  bac_pdu.specs.{ReadAck, ReadFault, Reference, reference, reference_parameters, RejectReason, Station, station, Takes},
-  bac_pdu.specs.{who_is_octets, who_is_of, WhoIs, wrapped, write_octets, write_of, WriteFault},
-  bac_pdu.specs.declared.discovery.WhoIs.TheVariants.All,
-};
+ghost use Rattle.std.specs.{List.AllByRecursion, Prelude.{[], Bool, false, IfSome, length, List, Option, Result, ℕ}};
+ghost use Rattle.std.specs.Prelude.{◌++◌, ◌+◌, ◌<◌, ◌^◌, ◌↔◌, ◌∷◌, ◌≡◌};
+ghost use Rattle.bac_wire.specs.{enumerated, EqualsBy, MakesCopies, Datum.IsDatum};
+ghost use Rattle.bac_pdu.specs.{ack_end, ack_front, ack_octets, ack_of, ack_parameters, ack_seen, apdu_of, carried};
+ghost use Rattle.bac_pdu.specs.{Carries, Delivery, error_octets, error_of, front_count, i_am_octets, Introduction};
+ghost use Rattle.bac_pdu.specs.{introduction, introduction_of, introduction_values, IsAckBody, IsErrorBody, IsIAmBody};
+ghost use Rattle.bac_pdu.specs.{IsLaidOut, IsOutcome, IsParameter, IsPriority, IsReadBody, IsRoutable, IsWhoIsBody};
+ghost use Rattle.bac_pdu.specs.{IsWritable, IsWriteBody, laid_out, longest_body, Message, message, network_address};
+ghost use Rattle.bac_pdu.specs.{NetworkAddress, Order, order, order_parameters, Range, read_octets, read_of, ReadAck};
+ghost use Rattle.bac_pdu.specs.{ReadFault, Reference, reference, reference_parameters, RejectReason, Station, station};
+ghost use Rattle.bac_pdu.specs.{Takes, who_is_octets, who_is_of, WhoIs, wrapped, write_octets, write_of, WriteFault};
+ghost use Rattle.bac_pdu.specs.declared.discovery.WhoIs.TheVariants.{All};
 
 use crate::apdu::{Apdu, LONGEST_BODY, Part};
 use crate::datagram::Carried;

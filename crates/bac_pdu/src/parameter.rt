@@ -1,12 +1,11 @@
 //! The parameters of a service body: context tags, and items between brackets.
 
-ghost use Rattle.std.specs.Prelude.{◌*◌, ◌+◌, ◌<◌, ◌^◌, ◌≡◌, ◌≤◌, IfSome, length, OnOk, option_map};
 ghost use Rattle.std.specs.List.{AllByRecursion};
-ghost use Rattle.bac_wire.specs.{DatumReading.number_within, Identifier.{identifier, IsIdentifier}, Tag.plain_tag};
-ghost use Rattle.bac_wire.specs.{Region.{closing_tag, opening_tag}, Steps.result_seen, Writing.Appends};
-ghost use Rattle.bac_wire.specs.Parameter.{context_octets, enclosed_octets, number_octets, object_octets};
-ghost use Rattle.bac_wire.specs.ParameterReading.{behind_opening, context_at, enclosed_at, number_at, object_at};
-ghost use Rattle.bac_wire.specs.{ItemReading.behind_closing, Inner.Writing.AppendsFront};
+ghost use Rattle.std.specs.Prelude.{IfSome, length, OnOk, option_map, ◌*◌, ◌+◌, ◌<◌, ◌^◌, ◌≡◌, ◌≤◌};
+ghost use Rattle.bac_wire.specs.{Appends, behind_closing, behind_opening, context_at, enclosed_at, identifier};
+ghost use Rattle.bac_wire.specs.{IsIdentifier, number_at, number_octets, object_at, object_octets, plain_tag};
+ghost use Rattle.bac_wire.specs.{result_seen, DatumReading.number_within, Inner.Writing.AppendsFront};
+ghost use Rattle.bac_wire.specs.{Parameter.{context_octets, enclosed_octets}, Region.{closing_tag, opening_tag}};
 ghost use Rattle.bac_pdu.specs.{IsParameter, named, optional_at, read_octets, reference_at, reference_parameters};
 ghost use Rattle.bac_pdu.specs.Inner.{optional_octets};
 
@@ -28,7 +27,7 @@ pub(crate) const PRIORITY: u8 = 4;
 
 /// The object, the property and the index at the front of a body, which name a property or an element of it, and the
 /// octets behind.
-#[tactic(auto, unfolding(crate::specs::PropertyReading::reference_at))]
+#[tactic(auto, unfolding(crate::specs::reference_at))]
 pub(crate) fn reference_and_rest(
     body: &[u8],
 ) -> Result<(ObjectId, u32, Option<u32>, &[u8]), RejectReason>
@@ -85,7 +84,7 @@ pub(crate) fn enclosed_and_rest<'a>(
 }
 
 /// Appends the parameters that name a property. Where there is no room, a front of them may stay.
-#[tactic(auto, using(bac_wire::proofs::TagLaws::in_parts, crate::proofs::ShortestLaws::optional_plain), unfolding(crate::specs::Parameter::plain_parameter))]
+#[tactic(auto, using(bac_wire::proofs::TagLaws::in_parts, crate::proofs::optional_plain), unfolding(crate::specs::plain_parameter))]
 #[inline(always)]
 pub(crate) fn append_reference(
     body: &mut Frame,
@@ -140,7 +139,7 @@ pub(crate) fn append_enclosed(body: &mut Frame, items: &[u8]) -> Result<(), Full
 }
 
 /// Appends an opening tag 3. Where there is no room, nothing is appended.
-#[tactic(auto, using(crate::proofs::ShortestLaws::opening_octet))]
+#[tactic(auto, using(crate::proofs::opening_octet))]
 pub(crate) fn append_opening(body: &mut Frame) -> Result<(), Full>
     ensures { Appends body.old (plain_tag (opening_tag 3)) body.new result }
 {
@@ -148,7 +147,7 @@ pub(crate) fn append_opening(body: &mut Frame) -> Result<(), Full>
 }
 
 /// Appends a closing tag 3. Where there is no room, nothing is appended.
-#[tactic(auto, using(crate::proofs::ShortestLaws::closing_octet))]
+#[tactic(auto, using(crate::proofs::closing_octet))]
 pub(crate) fn append_closing(body: &mut Frame) -> Result<(), Full>
     ensures { Appends body.old (plain_tag (closing_tag 3)) body.new result }
 {
@@ -227,7 +226,7 @@ fn append_object(body: &mut Frame, number: u8, id: ObjectId) -> Result<(), Full>
 }
 
 // Appends a tag of one octet, and the four octets that it counts. Where there is no room, nothing is appended.
-#[tactic(auto, using(crate::proofs::ShortestLaws::four_context))]
+#[tactic(auto, using(crate::proofs::four_context))]
 fn append_four(body: &mut Frame, number: u8, contents: &[u8; 4]) -> Result<(), Full>
     requires { number < 15 }
     ensures { Appends body.old (context_octets number contents.now) body.new result }
@@ -237,7 +236,7 @@ fn append_four(body: &mut Frame, number: u8, contents: &[u8; 4]) -> Result<(), F
 }
 
 // Appends a number in one octet behind a tag of one octet. Where there is no room, nothing is appended.
-#[tactic(auto, using(crate::proofs::ShortestLaws::one_number))]
+#[tactic(auto, using(crate::proofs::one_number))]
 fn append_octet(body: &mut Frame, number: u8, n: u8) -> Result<(), Full>
     requires { number < 15 }
     ensures { Appends body.old (number_octets number n) body.new result }
@@ -247,7 +246,7 @@ fn append_octet(body: &mut Frame, number: u8, n: u8) -> Result<(), Full>
 
 // Appends a tag of one octet, and the contents that it counts, at most four octets. Where there is no room, nothing is
 // appended.
-#[tactic(auto, using(crate::proofs::ShortestLaws::short_context))]
+#[tactic(auto, using(crate::proofs::short_context))]
 fn append_context(body: &mut Frame, number: u8, contents: &[u8]) -> Result<(), Full>
     requires number { number < 15 }
     requires short { length contents.now ≤ 4 }

@@ -1,11 +1,10 @@
 //! ReadProperty, its answer, and WriteProperty, read and written.
 
-ghost use Rattle.std.specs.{List.AllByRecursion, Prelude.{◌*◌, ◌+◌, ◌≡◌, ◌≤◌, IfSome, length, OnOk, option_map}};
-ghost use Rattle.bac_wire.specs.{Front.IsShortest, Limits.deepest, Region.IsRegion, Steps.result_seen, Writing.Appends};
-ghost use Rattle.bac_wire.specs.Inner.Writing.{AppendsFront};
-ghost use Rattle.bac_pdu.specs.{ack_end, ack_front, ack_octets, ack_of, ack_seen, IsAckBody, IsParameter, IsPriority};
-ghost use Rattle.bac_pdu.specs.{IsReadBody, IsWriteBody, order, read_octets, read_of, reference};
-ghost use Rattle.bac_pdu.specs.{reference_parameters, write_octets, write_of};
+ghost use Rattle.std.specs.{List.AllByRecursion, Prelude.{IfSome, length, OnOk, option_map, ◌*◌, ◌+◌, ◌≡◌, ◌≤◌}};
+ghost use Rattle.bac_wire.specs.{Appends, IsRegion, IsShortest, result_seen, Inner.Writing.AppendsFront};
+ghost use Rattle.{bac_wire.specs.Limits.deepest, bac_pdu.specs.{ack_end, ack_front, ack_octets, ack_of, ack_seen}};
+ghost use Rattle.bac_pdu.specs.{IsAckBody, IsParameter, IsPriority, IsReadBody, IsWriteBody, order, read_octets};
+ghost use Rattle.bac_pdu.specs.{read_of, reference, reference_parameters, write_octets, write_of};
 
 use crate::parameter::{
     PRIORITY, append_closing, append_enclosed, append_opening, append_optional, append_reference,
@@ -57,7 +56,7 @@ pub struct Ack<'a> {
 ///
 /// `TooMany` where a front of the body is whole, `MissingParameter` where it is empty or an object alone, else
 /// `InvalidTag`.
-#[tactic(auto, unfolding(crate::specs::PropertyReading::read_of))]
+#[tactic(auto, unfolding(crate::specs::read_of))]
 pub fn read_read(body: &[u8]) -> Result<ReadRequest, RejectReason>
     ensures value { result_seen reference result ≡ read_of body.now }
 {
@@ -78,7 +77,7 @@ pub fn read_read(body: &[u8]) -> Result<ReadRequest, RejectReason>
 ///
 /// `OutOfRange` where it is whole but for a priority that is not 1 to 16, `TooMany` where a front of the body is whole,
 /// `MissingParameter` where it ends before the property or the value, else `InvalidTag`.
-#[tactic(auto, using(crate::proofs::BodyLaws::reference_no_longer), unfolding(crate::specs::PropertyReading::write_of))]
+#[tactic(auto, using(crate::proofs::reference_no_longer), unfolding(crate::specs::write_of))]
 pub fn read_write<'a>(body: &'a [u8], work: &mut Work) -> Result<WriteRequest<'a>, RejectReason>
     ensures value { result_seen order result ≡ write_of body.now }
     ensures walked_once { work.new.tags ≤ work.old.tags + 2 * length body.now }
@@ -110,7 +109,7 @@ pub fn read_write<'a>(body: &'a [u8], work: &mut Work) -> Result<WriteRequest<'a
 
 /// What the body of a ReadProperty-ACK says: a property, and its value. None where the body is not whole, or where more
 /// follows. In the walk over the value at most two tags are read for each octet of the body.
-#[tactic(auto, using(crate::proofs::BodyLaws::value_there, crate::proofs::BodyLaws::reference_no_longer), unfolding(crate::specs::PropertyReading::ack_of))]
+#[tactic(auto, using(crate::proofs::value_there, crate::proofs::reference_no_longer), unfolding(crate::specs::ack_of))]
 pub fn read_ack<'a>(body: &'a [u8], work: &mut Work) -> Option<Ack<'a>>
     ensures value { option_map ack_seen result ≡ ack_of body.now }
     ensures walked_once { work.new.tags ≤ work.old.tags + 2 * length body.now }

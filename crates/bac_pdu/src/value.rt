@@ -1,8 +1,7 @@
 //! Values of the kind that a service body has there.
 
-ghost use Rattle.std.specs.Prelude.{◌≡◌, option_map};
-ghost use Rattle.bac_wire.specs.Identifier.{identifier};
-ghost use Rattle.bac_wire.specs.ParameterReading.{enumerated_in, kind_at, object_in, unsigned_in};
+ghost use Rattle.std.specs.Prelude.{option_map, ◌≡◌};
+ghost use Rattle.bac_wire.specs.{identifier, kind_at, ParameterReading.{enumerated_in, object_in, unsigned_in}};
 
 use bac_wire::{ObjectId, Value, value_and_rest};
 

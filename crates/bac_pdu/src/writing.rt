@@ -1,7 +1,7 @@
 //! What is written is appended whole, or not at all.
 
-ghost use Rattle.std.specs.Prelude.{◌≡◌, ◌≤◌, length, List, ℕ};
-ghost use Rattle.bac_wire.specs.{Writing.Appends, Inner.Writing.AppendsFront};
+ghost use Rattle.std.specs.Prelude.{length, List, ℕ, ◌≡◌, ◌≤◌};
+ghost use Rattle.bac_wire.specs.{Appends, Inner.Writing.AppendsFront};
 
 use bac_wire::{Frame, Full};
 

@@ -9,15 +9,14 @@ use Rattle.std.proofs.lemmas.{Grind.flat_map-append, Int.{ints, to_z-of_z}, List
 use Rattle.std.proofs.{lemmas.{List.Sums.prefix_len-le-length, Option.none-some}, Math.Seq.take-append-add}
 use Rattle.std.specs.{declared.io.Error.Error, Fmt.signed_decimal, Io.KnownBytes.{Appends, WriteAppends}}
 use Rattle.std.specs.{List.position_or_len, Option.option_map_or, Result.result_unwrap_or}
-use Rattle.hex.specs.Hex.{encode_lower, encode_with}
-use Rattle.bac_wire.{proofs.DatumLaws.values-first, specs.{Datum.Datum, DatumReading.{value_at, values_of}}}
-use Rattle.bac_wire.specs.{DatumReading.values_within, Steps.result_seen}
+use Rattle.{hex.specs.Hex.{encode_lower, encode_with}, bac_wire.proofs.DatumLaws.values-first}
+use Rattle.bac_wire.specs.{result_seen, value_at, values_of, values_within, Datum.Datum}
 use Rattle.bac_print.specs.{bits_text, calls_of, datum_text, ends_of, FlushCall, folded, folded_octet, Gave, gone}
 use Rattle.bac_print.specs.{has_ended, has_failed, held, inner_of, laid_out, left_after, left_behind, meets_end}
 use Rattle.bac_print.specs.{octet_bits, octets_of, OnlyWrites, passes_none, Prints, ReadCall, region_text, room_after}
 use Rattle.bac_print.specs.{room_of, Took, TookOrFailed, values_text, WriteCall, writer_of, Writes, Wrote}
-use Rattle.bac_print.specs.{declared.{checked.Checked.Checked, page.Page.Page}, Inner.{HasNotRead, Holds, joined}}
-use Rattle.bac_print.specs.{Inner.separator, StreamCall.StreamCall}
+use Rattle.bac_print.specs.declared.{checked.Checked.Checked, page.Page.Page}
+use Rattle.bac_print.specs.{Inner.{HasNotRead, Holds, joined, separator}, StreamCall.StreamCall}
 
 pub left_after-append : (left : ℕ) (xs ys : List ℕ) → left_after left (xs ++ ys) ≡ left_after (left_after left xs) ys
 left_after-append left [] ys = refl

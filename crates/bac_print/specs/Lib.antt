@@ -13,3 +13,6 @@ unfoldable pub use PeerTexts.*
 unfoldable pub use Values.*
 unfoldable pub use Outcomes.*
 unfoldable pub use Message.*
+pub use Rattle.bac_print.specs.Checked.{ends_of, fresh, Gave, has_failed, last_of, octets_of, reads_of, Took}
+pub use Rattle.bac_print.specs.{Message.message_text, Page.{folded_line, held, Prints, room_of, writer_of, Writes}}
+pub use Rattle.bac_print.specs.PeerTexts.{peer_text}

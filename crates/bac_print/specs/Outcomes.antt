@@ -1,6 +1,6 @@
 -- How a request ended, as it is printed.
-use Rattle.std.specs.Prelude.{ℕ, List, ◌∷◌, ◌++◌, codes, decimal}
-use Rattle.bac_tsm.specs.Events.{Outcome, Simple, Complex, Segmented, Failed, BadError, Rejected, Aborted}
+use Rattle.std.specs.Prelude.{codes, decimal, List, ℕ, ◌++◌, ◌∷◌}
+use Rattle.bac_tsm.specs.{Outcome, Simple, Events.{Aborted, BadError, Complex, Failed, Rejected, Segmented}}
 use Rattle.bac_print.specs.Values.{ack_text}
 
 -- How a request ended.

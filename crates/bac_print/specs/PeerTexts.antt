@@ -1,7 +1,7 @@
 -- A peer as it is printed.
 use Rattle.std.specs.{Int.{to_be_bytes, w32}, List.join_with_byte, Option.option_map_or}
-use Rattle.std.specs.Prelude.{[], ◌++◌, ◌∷◌, decimal, List, map, ℕ}
-use Rattle.{bac_pdu.specs.Peer.{NetworkAddress, Station}, hex.specs.Hex.encode_lower}
+use Rattle.std.specs.Prelude.{[], decimal, List, map, ℕ, ◌++◌, ◌∷◌}
+use Rattle.{bac_pdu.specs.{NetworkAddress, Station}, hex.specs.Hex.encode_lower}
 
 -- The four octets of an IP address in decimal, joined by dots.
 abbrev pub address_text : ℕ → List ℕ

@@ -1,11 +1,10 @@
 -- What is printed of values, and of a region of values one after another.
-use Rattle.std.specs.Prelude.{ℕ, ◌+◌, ◌-◌, ◌*◌, min, ◌==◌, ◌||◌, List}
-use Rattle.std.specs.{Prelude.{[], ◌∷◌, ◌++◌, length, map, take, codes, decimal, if◌then◌else◌}, Fmt.signed_decimal}
-use Rattle.std.specs.{Int.{bit_at, is_in_range}, List.{flat_map, join_with_byte}, Option.option_map_or}
-use Rattle.hex.specs.Hex.{encode_lower}
-use Rattle.bac_wire.specs.Datum.{Datum, null, boolean, unsigned, signed, real, double, octet_string}
-use Rattle.bac_wire.specs.{Datum.{char_string, bit_string, enumerated, date, time, object}, DatumReading.values_of}
-use Rattle.bac_pdu.specs.PropertyReading.{ack_of}
+use Rattle.std.specs.{Fmt.signed_decimal, Int.{bit_at, is_in_range}, List.{flat_map, join_with_byte}}
+use Rattle.std.specs.{Option.option_map_or, Prelude.{[], codes, decimal, if◌then◌else◌, length, List, map, min, take}}
+use Rattle.std.specs.Prelude.{ℕ, ◌*◌, ◌++◌, ◌+◌, ◌-◌, ◌==◌, ◌||◌, ◌∷◌}
+use Rattle.{hex.specs.Hex.encode_lower, bac_wire.specs.{bit_string, boolean, char_string, enumerated, null, object}}
+use Rattle.bac_wire.specs.{octet_string, real, signed, unsigned, values_of, Datum.{date, Datum, double, time}}
+use Rattle.bac_pdu.specs.{ack_of}
 
 -- An octet of a text in quotes. A quotation mark (34) and a backslash (92) have a backslash before them, any other
 -- octet from 20 to 7E in hexadecimal stands for itself, and any other is a backslash, an x (120) and two digits.

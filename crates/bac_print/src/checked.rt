@@ -1,9 +1,8 @@
 //! Readers and writers that remember whether they failed.
 ghost use Rattle.std.specs.Io.{ReadsAtMost, WritesAtMost, KnownBytes.{Keeps, ReadConsumes, WriteAppends}};
-ghost use Rattle.std.specs.Prelude.{[], ◌++◌, ◌+◌, ◌-◌, ◌^◌, ◌||◌, ◌∷◌, ◌≡◌, if◌then◌else◌, is_err, length, min, take};
-ghost use Rattle.bac_wire.specs.Steps.{result_seen};
-ghost use Rattle.bac_print.specs.{calls_of, ends_of, FlushCall, fresh, gone, has_ended, has_failed, inner_of, last_of};
-ghost use Rattle.bac_print.specs.{octets_of, passes_none, ReadCall, reads_of, WriteCall};
+ghost use Rattle.std.specs.Prelude.{[], if◌then◌else◌, is_err, length, min, take, ◌++◌, ◌+◌, ◌-◌, ◌^◌, ◌||◌, ◌∷◌, ◌≡◌};
+ghost use Rattle.{bac_wire.specs.result_seen, bac_print.specs.{calls_of, ends_of, FlushCall, fresh, gone, has_ended}};
+ghost use Rattle.bac_print.specs.{has_failed, inner_of, last_of, octets_of, passes_none, ReadCall, reads_of, WriteCall};
 
 use crate::noted::Noted;
 use std::io::{self, Read, Write};
@@ -50,7 +49,7 @@ impl<T> Checked<T> {
 
 impl<R: Read> Checked<R> {
     /// One read of the reader, into this room.
-    #[tactic(auto, using(crate::proofs::Printed::one_read))]
+    #[tactic(auto, using(crate::proofs::one_read))]
     pub fn read(&mut self, buf: &mut [u8]) -> io::Result<usize>
         ensures bound { ReadsAtMost result buf.new }
         ensures asked { calls_of self.new ≡ calls_of self.old
@@ -76,7 +75,7 @@ impl<R: Read> Checked<R> {
 
 impl<W: Write> Checked<W> {
     /// One write to the writer, of these octets.
-    #[tactic(auto, using(crate::proofs::Printed::one_call))]
+    #[tactic(auto, using(crate::proofs::one_call))]
     pub fn write(&mut self, buf: &[u8]) -> io::Result<usize>
         ensures bound { WritesAtMost result buf.now }
         ensures asked { calls_of self.new ≡ calls_of self.old ++ WriteCall buf.now result ∷ [] }
@@ -97,7 +96,7 @@ impl<W: Write> Checked<W> {
     }
 
     /// One flush of the writer.
-    #[tactic(auto, using(crate::proofs::Printed::one_call))]
+    #[tactic(auto, using(crate::proofs::one_call))]
     pub fn flush(&mut self) -> io::Result<()>
         ensures asked { calls_of self.new ≡ calls_of self.old ++ FlushCall result ∷ [] }
         ensures passed { (octets_of self.new ≡ octets_of self.old) × (last_of self.new ≡ last_of self.old) }

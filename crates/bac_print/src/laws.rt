@@ -1,6 +1,6 @@
 //! What holds of the clones and the `==` of what says that a writer failed. Each function has an empty body, and its
 //! clause is the law.
-ghost use Rattle.bac_wire.specs.Copies.{EqualsBy, MakesCopies};
+ghost use Rattle.bac_wire.specs.{EqualsBy, MakesCopies};
 
 use crate::checked::WriteFailed;
 

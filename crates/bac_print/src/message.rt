@@ -28,7 +28,7 @@ impl fmt::Display for Message {
 
 impl<W: Write> Page<'_, W> {
     /// Prints the message.
-    #[tactic(auto, using(crate::proofs::Printed::printing))]
+    #[tactic(auto, using(crate::proofs::printing))]
     pub fn print_message(&mut self, message: Message)
         ensures { Prints W.contents self.old self.new (message_text message) }
     {

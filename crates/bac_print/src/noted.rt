@@ -1,8 +1,7 @@
 //! Readers and writers with a note of each of their calls.
-ghost use Rattle.std.specs.{Borrow.ftrue, Io.{ReadsAtMost, WritesAtMost}, Prelude.{[], ◌++◌, ◌∷◌, ◌≡◌, length, take}};
-ghost use Rattle.std.specs.Io.KnownBytes.{Keeps, ReadConsumes, WriteAppends};
-ghost use Rattle.bac_wire.specs.Steps.{result_seen};
-ghost use Rattle.bac_print.specs.StreamCall.{FlushCall, ReadCall, StreamCall, WriteCall};
+ghost use Rattle.std.specs.{Borrow.ftrue, Io.{ReadsAtMost, WritesAtMost, KnownBytes.{Keeps, ReadConsumes}}};
+ghost use Rattle.std.specs.{Io.KnownBytes.WriteAppends, Prelude.{[], length, take, ◌++◌, ◌∷◌, ◌≡◌}};
+ghost use Rattle.{bac_wire.specs.result_seen, bac_print.specs.StreamCall.{FlushCall, ReadCall, StreamCall, WriteCall}};
 
 use crate::ghost_list::{GhostList, NoteOf};
 use std::io::{self, Read, Write};

@@ -1,6 +1,6 @@
 //! How a request ended, as it is printed.
-ghost use Rattle.std.specs.Prelude.{◌++◌, ◌≡◌, decimal, false, is_err};
-ghost use Rattle.bac_tsm.specs.{Client.outcome_seen, Events.Failed};
+ghost use Rattle.std.specs.Prelude.{decimal, false, is_err, ◌++◌, ◌≡◌};
+ghost use Rattle.bac_tsm.specs.{outcome_seen, Events.Failed};
 ghost use Rattle.bac_print.specs.{has_failed, outcome_text, Prints, TookOrFailed};
 
 use crate::checked::{Checked, WriteFailed};
@@ -41,7 +41,7 @@ pub fn print_outcome<W: Write>(page: &mut Page<'_, W>, outcome: Outcome<'_>)
     }
 }
 
-#[tactic(auto, using(crate::proofs::Printed::printing))]
+#[tactic(auto, using(crate::proofs::printing))]
 fn print_error<W: Write>(page: &mut Page<'_, W>, class: u32, code: u32)
     ensures { Prints W.contents page.old page.new (outcome_text (Failed class code)) }
 {
@@ -51,7 +51,7 @@ fn print_error<W: Write>(page: &mut Page<'_, W>, class: u32, code: u32)
     page.print_number(u64::from(code));
 }
 
-#[tactic(auto, using(crate::proofs::Printed::printing))]
+#[tactic(auto, using(crate::proofs::printing))]
 fn print_reason<W: Write>(page: &mut Page<'_, W>, what: &[u8], reason: u8)
     ensures { Prints W.contents page.old page.new (what.now ++ decimal reason) }
 {

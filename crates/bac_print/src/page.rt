@@ -67,7 +67,7 @@ impl<'w, W: Write> Page<'w, W> {
     }
 
     /// Hands the writer what the page holds.
-    #[tactic(auto, unfolding(crate::specs::Page::Wrote, crate::specs::Page::laid_out, crate::specs::Page::room_after))]
+    #[tactic(auto, unfolding(crate::specs::Wrote, crate::specs::laid_out, crate::specs::room_after))]
     pub fn turn_in(&mut self)
         ensures printed { Prints W.contents self.old self.new [] }
         ensures empty { held self.new ≡ [] }
@@ -180,7 +180,7 @@ impl<'w, W: Write> Page<'w, W> {
 
 impl<W: Write> Page<'_, W> {
     /// Prints the number in decimal digits.
-    #[tactic(auto, using(crate::proofs::Printed::eight_octets))]
+    #[tactic(auto, using(crate::proofs::eight_octets))]
     pub fn print_number(&mut self, number: u64)
         ensures { Prints W.contents self.old self.new (decimal number) }
     {
@@ -190,7 +190,7 @@ impl<W: Write> Page<'_, W> {
     }
 
     /// Prints the octets in hexadecimal digits, in lower case.
-    #[tactic(auto, using(crate::proofs::Printed::printing_hex))]
+    #[tactic(auto, using(crate::proofs::printing_hex))]
     pub fn print_hex(&mut self, octets: &[u8])
         ensures { Prints W.contents self.old self.new (encode_lower octets.now) }
     {

@@ -1,7 +1,7 @@
 //! A peer as it is printed.
 ghost use Rattle.std.specs.Option.{option_map_or};
-ghost use Rattle.std.specs.Prelude.{[], ◌++◌, ◌+◌, ◌∷◌, ◌≡◌, ◌≤◌, decimal, drop, length, option_map};
-ghost use Rattle.bac_pdu.specs.Peer.{network_address, station};
+ghost use Rattle.std.specs.Prelude.{[], decimal, drop, length, option_map, ◌++◌, ◌+◌, ◌∷◌, ◌≡◌, ◌≤◌};
+ghost use Rattle.bac_pdu.specs.{network_address, station};
 ghost use Rattle.bac_print.specs.{address_text, peer_text, Prints, route_text};
 
 use crate::page::{Page, write_digits};
@@ -13,7 +13,7 @@ const LONGEST_STATION: usize = 21;
 
 impl<W: Write> Page<'_, W> {
     /// Prints the IP address in dotted decimal, a colon and the port, and the route, if there is one.
-    #[tactic(auto, using(crate::proofs::Printed::printing, std::proofs::lemmas::List::take_rest, std::proofs::lemmas::Grind::common_steps))]
+    #[tactic(auto, using(crate::proofs::printing, std::proofs::lemmas::List::take_rest, std::proofs::lemmas::Grind::common_steps))]
     pub fn print_peer(&mut self, peer: Peer)
         ensures { Prints W.contents self.old self.new (peer_text (station peer)) }
     {
@@ -23,7 +23,7 @@ impl<W: Write> Page<'_, W> {
         self.print_route(peer.route);
     }
 
-    #[tactic(auto, using(crate::proofs::Printed::printing))]
+    #[tactic(auto, using(crate::proofs::printing))]
     fn print_route(&mut self, route: Option<Route>)
         ensures { Prints W.contents self.old self.new (option_map_or route_text (option_map network_address route) []) }
     {
@@ -37,7 +37,7 @@ impl<W: Write> Page<'_, W> {
 }
 
 // Writes an IP address in dotted decimal, a colon and a port at the end of the room, and says where they begin.
-#[tactic(auto, using(crate::proofs::Printed::two_octets))]
+#[tactic(auto, using(crate::proofs::two_octets))]
 fn write_station(ip: u32, port: u16, room: &mut [u8; LONGEST_STATION]) -> usize
     ensures text { drop result room.new ≡ address_text ip ++ 58 ∷ decimal port }
     ensures within { result ≤ LONGEST_STATION }
@@ -52,7 +52,7 @@ fn write_station(ip: u32, port: u16, room: &mut [u8; LONGEST_STATION]) -> usize
 }
 
 // Writes the number of an octet and a mark before a position of the room, and says where they begin.
-#[tactic(auto, using(crate::proofs::Printed::one_octet))]
+#[tactic(auto, using(crate::proofs::one_octet))]
 fn write_octet(octet: u8, mark: u8, room: &mut [u8], end: usize) -> usize
     requires within { end ≤ length room.old }
     requires fits { 4 ≤ end }

@@ -1,8 +1,7 @@
 //! What is printed of values.
 ghost use Rattle.std.specs.{Fmt.signed_decimal, Int.is_in_range, List.flat_map};
-ghost use Rattle.std.specs.Prelude.{◌%◌, ◌+◌, ◌<◌, ◌==◌, ◌||◌, ◌≡◌, false, IfSome, is_err, length, option_map};
-ghost use Rattle.bac_wire.specs.{Datum.{bit_string, boolean, char_string, datum, object}, Identifier.identifier};
-ghost use Rattle.bac_wire.specs.DatumReading.{value_at, values_of};
+ghost use Rattle.std.specs.Prelude.{false, IfSome, is_err, length, option_map, ◌%◌, ◌+◌, ◌<◌, ◌==◌, ◌||◌, ◌≡◌};
+ghost use Rattle.bac_wire.specs.{bit_string, boolean, char_string, datum, identifier, object, value_at, values_of};
 ghost use Rattle.bac_print.specs.{ack_text, bits_text, datum_text, has_failed, lettered, octet_bits, Prints, quoted};
 ghost use Rattle.bac_print.specs.{quoted_octet, region_text, TookOrFailed, Inner.{joined, separator}};
 
@@ -31,7 +30,7 @@ pub fn show_value<W: Write>(region: &[u8], writer: &mut Checked<W>) -> Result<()
 
 impl<W: Write> Page<'_, W> {
     /// Prints what the body of a ReadProperty-ACK says.
-    #[tactic(auto, using(crate::proofs::Printed::printing))]
+    #[tactic(auto, using(crate::proofs::printing))]
     pub fn print_ack(&mut self, body: &[u8])
         ensures { Prints W.contents self.old self.new (ack_text body.now) }
     {
@@ -63,7 +62,7 @@ impl<W: Write> Page<'_, W> {
     }
 
     // Prints values one after another, joined by commas.
-    #[tactic(auto, using(crate::proofs::Printed::printing_values))]
+    #[tactic(auto, using(crate::proofs::printing_values))]
     fn print_values(&mut self, region: &[u8])
         ensures { IfSome (values_of region.now) (λ values. Prints W.contents self.old self.new (joined values)) }
     {
@@ -76,7 +75,7 @@ impl<W: Write> Page<'_, W> {
     }
 
     // Prints a comma, where octets follow.
-    #[tactic(auto, using(crate::proofs::Printed::no_print))]
+    #[tactic(auto, using(crate::proofs::no_print))]
     fn print_separator(&mut self, behind: &[u8])
         ensures { Prints W.contents self.old self.new (separator behind.now) }
     {
@@ -116,7 +115,7 @@ impl<W: Write> Page<'_, W> {
         }
     }
 
-    #[tactic(auto, using(crate::proofs::Printed::printing, crate::proofs::Printed::printing_signed))]
+    #[tactic(auto, using(crate::proofs::printing, crate::proofs::printing_signed))]
     fn print_signed(&mut self, number: i64)
         ensures { Prints W.contents self.old self.new (signed_decimal number) }
     {
@@ -126,7 +125,7 @@ impl<W: Write> Page<'_, W> {
         self.print_number(number.unsigned_abs());
     }
 
-    #[tactic(auto, using(crate::proofs::Printed::printing))]
+    #[tactic(auto, using(crate::proofs::printing))]
     fn print_object(&mut self, id: ObjectId)
         ensures { Prints W.contents self.old self.new (datum_text (object (identifier id))) }
     {
@@ -136,7 +135,7 @@ impl<W: Write> Page<'_, W> {
     }
 
     // Prints a letter, and the octets in hexadecimal digits between apostrophes.
-    #[tactic(auto, using(crate::proofs::Printed::printing))]
+    #[tactic(auto, using(crate::proofs::printing))]
     fn print_lettered(&mut self, letter: u8, octets: &[u8])
         ensures { Prints W.contents self.old self.new (lettered letter octets.now) }
     {
@@ -145,7 +144,7 @@ impl<W: Write> Page<'_, W> {
         self.print(b"'");
     }
 
-    #[tactic(auto, using(crate::proofs::Printed::printing))]
+    #[tactic(auto, using(crate::proofs::printing))]
     fn print_string(&mut self, set: u8, text: &[u8])
         ensures { Prints W.contents self.old self.new (datum_text (char_string set text.now)) }
     {
@@ -156,7 +155,7 @@ impl<W: Write> Page<'_, W> {
         self.print_quoted(text);
     }
 
-    #[tactic(auto, using(crate::proofs::Printed::printing))]
+    #[tactic(auto, using(crate::proofs::printing))]
     fn print_quoted(&mut self, text: &[u8])
         ensures { Prints W.contents self.old self.new (quoted text.now) }
     {
@@ -165,7 +164,7 @@ impl<W: Write> Page<'_, W> {
         self.print(b"\"");
     }
 
-    #[tactic(auto, using(crate::proofs::Printed::printing, crate::proofs::Printed::texts_more))]
+    #[tactic(auto, using(crate::proofs::printing, crate::proofs::texts_more))]
     fn print_quoted_octets(&mut self, text: &[u8])
         ensures { Prints W.contents self.old self.new (flat_map quoted_octet text.now) }
     {
@@ -174,7 +173,7 @@ impl<W: Write> Page<'_, W> {
         }
     }
 
-    #[tactic(auto, using(crate::proofs::Printed::printing))]
+    #[tactic(auto, using(crate::proofs::printing))]
     fn print_quoted_octet(&mut self, octet: u8)
         ensures { Prints W.contents self.old self.new (quoted_octet octet) }
     {
@@ -188,7 +187,7 @@ impl<W: Write> Page<'_, W> {
         }
     }
 
-    #[tactic(auto, using(crate::proofs::Printed::printing))]
+    #[tactic(auto, using(crate::proofs::printing))]
     fn print_bits(&mut self, unused: u8, octets: &[u8])
         ensures { Prints W.contents self.old self.new (datum_text (bit_string unused octets.now)) }
     {
@@ -198,7 +197,7 @@ impl<W: Write> Page<'_, W> {
     }
 
     // Prints the bits of the octets but for the last ones, which are unused.
-    #[tactic(auto, using(crate::proofs::Printed::printing, crate::proofs::Printed::bits_last, std::proofs::lemmas::List::nil_from_length))]
+    #[tactic(auto, using(crate::proofs::printing, crate::proofs::bits_last, std::proofs::lemmas::List::nil_from_length))]
     fn print_used_bits(&mut self, unused: u8, octets: &[u8])
         ensures { Prints W.contents self.old self.new (bits_text unused octets.now) }
     {
@@ -210,7 +209,7 @@ impl<W: Write> Page<'_, W> {
     }
 
     // Prints all bits of the octets.
-    #[tactic(auto, using(crate::proofs::Printed::printing, crate::proofs::Printed::texts_more))]
+    #[tactic(auto, using(crate::proofs::printing, crate::proofs::texts_more))]
     fn print_whole_octets(&mut self, octets: &[u8])
         ensures { Prints W.contents self.old self.new (flat_map octet_bits octets.now) }
     {

@@ -3,16 +3,13 @@ use Rattle.std.proofs.Common.{[], ap, append_assoc, arith, drop, Err, get_or, in
 use Rattle.std.proofs.Common.{Option, refl, Result, Some, subst, sym, take, true, ℕ, ◌++◌, ◌+◌, ◌<◌, ◌∙◌, ◌∷◌, ◌≡◌}
 use Rattle.std.proofs.lemmas.{Bool.Decides.nat_tests, List.{append-nil, take-append-drop, take_more}}
 use Rattle.std.{proofs.lemmas.List.Concat.flat_map-append, specs.List.{AllByRecursion, flat_map}}
-use Rattle.bac_pdu.specs.{Apdu.longest_body, Peer.Station}
+use Rattle.{bac_pdu.specs.{longest_body, Station}, bac_tsm.specs.{Ask, due_notes, Outcome, refusal_of, Refused, State}}
 use Rattle.bac_tsm.specs.{Client.Client, declared.{client.SubmitFault.TheVariants.TooLong, due.DueEntry.DueEntry}}
-use Rattle.bac_tsm.specs.{Events.{Ask, Outcome, Refused}, Lookahead.refusal_of, Machine.{datagram_notes, due_notes}}
-use Rattle.bac_tsm.specs.Machine.{State}
-use Rattle.bac_script.specs.declared.tracing.TraceFault.{TraceFault, TheVariants.WriteFailed}
-use Rattle.bac_links.specs.{declared.fault.ToolFault.TheVariants.SendFailed, History.{Account, Entry}}
-use Rattle.bac_run.specs.{declared.fault.RunFault.{RunFault, TheVariants.{Link, Script}}, Inner.Went.GainsDue}
-use Rattle.bac_run.specs.{Inner.Went.{IsGained, send_failed}, Input.inputs_in, Journal.{Act, Asked, asked_by, at_event}}
-use Rattle.bac_run.specs.Journal.{Came, client_after, FitsLine, history_of, journal, Passed, Paused, posts, Read, Told}
-use Rattle.bac_run.specs.{Journal.turn_at, Went.{HasAsked, IsAsked, IsCut, IsUnsent, IsWithin}}
+use Rattle.bac_tsm.specs.Machine.{datagram_notes}
+use Rattle.bac_run.specs.{Act, Asked, asked_by, at_event, Came, client_after, FitsLine, HasAsked, history_of, inputs_in}
+use Rattle.bac_run.specs.{IsAsked, IsCut, IsUnsent, IsWithin, journal, Link, Passed, Paused, posts, Read, RunFault}
+use Rattle.bac_run.specs.{Script, SendFailed, Told, TraceFault, turn_at, Inner.{GainsDue, IsGained, send_failed}}
+use Rattle.{bac_script.specs.declared.tracing.TraceFault.TheVariants.WriteFailed, bac_links.specs.{Account, Entry}}
 
 pub client_after-append : (client : Client) (xs ys : List Act)
     → client_after client (xs ++ ys) ≡ client_after (client_after client xs) ys

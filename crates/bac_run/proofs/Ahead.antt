@@ -1,12 +1,10 @@
 -- Of two runs that are due the same, the acts of one are the beginning of those of the other, as far as both were asked
 -- alike.
 use Rattle.std.proofs.Common.{[], ap, append_assoc, inl, inr, List, refl, subst, sym, ℕ, ◌++◌, ◌∷◌, ◌≡◌, ◌⊎◌}
-use Rattle.bac_pdu.specs.Peer.{Station}
-use Rattle.bac_tsm.specs.Client.{Client}
-use Rattle.bac_links.specs.{Answered.answer_of, History.{Entry, Posted}}
-use Rattle.bac_run.{proofs.Alike.{Asking, Gets, moved_client, moved_wider, same_due, SameDue, wider}, specs.Course.Aim}
-use Rattle.bac_run.specs.{Course.{Goes, moved, Stage}, Journal.{Act, Asked, asked_by, Came, history_of, Passed, Paused}}
-use Rattle.bac_run.specs.Journal.{posts, Read, Told, turn_at}
+use Rattle.{bac_pdu.specs.Station, bac_tsm.specs.Client.Client, bac_links.specs.{Entry, Posted, Answered.answer_of}}
+use Rattle.bac_run.proofs.Alike.{Asking, Gets, moved_client, moved_wider, same_due, SameDue, wider}
+use Rattle.bac_run.specs.{Act, Aim, Asked, asked_by, Came, Goes, history_of, moved, Passed, Paused, posts, Read, Stage}
+use Rattle.bac_run.specs.{Told, turn_at}
 
 -- One list of acts is the beginning of the other.
 abbrev pub Ahead : List Act → List Act → Type 0

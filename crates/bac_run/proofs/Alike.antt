@@ -2,18 +2,15 @@
 use Rattle.std.proofs.Common.{[], ap, Bool, Err, false, inl, inr, length, List, nat_lt, Ok, refl, Result, subst, suc}
 use Rattle.std.proofs.{Common.{sym, true, ℕ, ◌++◌, ◌-◌, ◌/◌, ◌==◌, ◌∙◌, ◌∷◌, ◌≡◌, ◌⊎◌}, lemmas.Bool.false≢true}
 use Rattle.std.specs.Prelude.{⊤}
-use Rattle.bac_pdu.specs.Peer.{Station}
-use Rattle.bac_tsm.specs.Client.{Client}
+use Rattle.{bac_pdu.specs.Station, bac_tsm.specs.Client.Client}
 use Rattle.bac_script.specs.declared.tracing.TraceFault.TheVariants.{WriteFailed}
-use Rattle.bac_links.specs.{Answered.{answer_of, answers_of, Brings}, Asking.{ForDatagram, question_of}}
-use Rattle.bac_links.specs.{declared.fault.ToolFault.TheVariants.SendFailed, History.{Arrived, Entry, Failure, Heard}}
-use Rattle.bac_links.specs.History.{Posted, Silence, Timed, Unposted, Waited}
-use Rattle.bac_run.{proofs.Acts.unsent_cut, specs.Course.{acted, Aim, Broken, Does, DueIn, Fresh, freshened, Goes}}
-use Rattle.bac_run.specs.Course.{heard_at, is_reached, IsDue, IsPassed, left_of, longest_row, Looked, moved, moved_in}
-use Rattle.bac_run.specs.Course.{open_in, Outside, passed_at, Phase, settled, settled_in, Stage, Telling, telling}
-use Rattle.bac_run.specs.{Course.Turns, declared.fault.RunFault.{RunFault, TheVariants.{Link, Script}}, Journal.Act}
-use Rattle.bac_run.specs.Journal.{Asked, asked_by, Came, has_line, history_of, Passed, Paused, posts, Read, Told}
-use Rattle.bac_run.specs.{Journal.turn_at, Replay.AskNext, Went.{IsAsked, IsCut, IsUnsent}}
+use Rattle.bac_links.specs.{answers_of, Arrived, Entry, Failure, Heard, Posted, Silence, Timed, Unposted, Waited}
+use Rattle.bac_links.specs.{Answered.{answer_of, Brings}, Asking.{ForDatagram, question_of}}
+use Rattle.bac_run.{proofs.Acts.unsent_cut, specs.{Act, acted, Aim, Asked, asked_by, AskNext, Broken, Came, Does}}
+use Rattle.bac_run.specs.{DueIn, Fresh, freshened, Goes, has_line, heard_at, history_of, is_reached, IsAsked, IsCut}
+use Rattle.bac_run.specs.{IsDue, IsPassed, IsUnsent, left_of, Link, longest_row, Looked, moved, moved_in, open_in}
+use Rattle.bac_run.specs.{Outside, Passed, passed_at, Paused, Phase, posts, Read, RunFault, Script, SendFailed, settled}
+use Rattle.bac_run.specs.{settled_in, Stage, Telling, telling, Told, turn_at, Turns}
 
 -- ---- a stage that is about more
 

@@ -2,15 +2,12 @@
 use Rattle.std.proofs.Common.{[], ap, append-nil, append_assoc, arith, Bool, Err, false, inl, inr, is_some, length}
 use Rattle.std.proofs.Common.{length-append, List, nat_lt, None, Option, refl, Some, subst, suc, sym, true, zero, ℕ}
 use Rattle.std.proofs.{Common.{◌++◌, ◌<◌, ◌∙◌, ◌∷◌, ◌≡◌, ◌≤◌, ◌⊎◌}, lemmas.Bool.Decides.nat_tests}
-use Rattle.bac_text.specs.Limits.{longest_line}
-use Rattle.bac_print.specs.{Checked.{ends_of, fresh}, declared.checked.Checked.Checked}
-use Rattle.bac_script.proofs.Chunks.{ends_with_feed-none, lines-ended, next_long, pieces-open, said-long}
-use Rattle.bac_script.{proofs.Courses.{first_line, FirstLine}, specs.declared.input.Reading.Reading}
-use Rattle.bac_script.specs.declared.input.Reading.TheVariants.{AtEnd, Failed, Open}
-use Rattle.bac_script.specs.declared.{line.LineFault.TheVariants.TooLong, tracing.TraceFault.TraceFault}
-use Rattle.bac_script.specs.{Feeds.HasNoFeed, Input.ReaderStands, Line.said, Script.lines}
-use Rattle.bac_run.{proofs.Cut.unsaid, specs.Course.{Aim, aims_for, aims_in_room, aims_of_lines, last_aims, room_for}}
-use Rattle.bac_run.specs.Input.{acts_of_line, fault_in}
+use Rattle.{bac_text.specs.longest_line, bac_print.specs.{ends_of, fresh}}
+use Rattle.bac_run.{proofs.Cut.unsaid, specs.{acts_of_line, Aim, aims_for, aims_in_room, aims_of_lines, AtEnd, Checked}}
+use Rattle.bac_run.specs.{Failed, fault_in, last_aims, Open, Reading, room_for, TraceFault}
+use Rattle.bac_script.proofs.Courses.{first_line, FirstLine}
+use Rattle.bac_script.proofs.Courses.Chunks.{ends_with_feed-none, lines-ended, next_long, pieces-open, said-long}
+use Rattle.bac_script.specs.{lines, ReaderStands, said, declared.line.LineFault.TheVariants.TooLong, Feeds.HasNoFeed}
 
 -- How often reading met the end.
 abbrev pub ends : Reading → ℕ

@@ -1,9 +1,8 @@
 -- How many requests are open: no more behind a datagram or a time than before.
 use Rattle.std.proofs.Common.{[], arith, length, length-append, List, None, Option, Some, ℕ, ◌∷◌, ◌≤◌}
 use Rattle.std.specs.List.{flat_map}
-use Rattle.bac_pdu.specs.Peer.{Station}
-use Rattle.bac_tsm.specs.{Client.{Client, rules_of}, Events.{Outcome, Request}, Machine.{datagram, deliver}}
-use Rattle.bac_tsm.specs.Machine.{deliver_first, kept, tick, Waiting}
+use Rattle.{bac_pdu.specs.Station, bac_tsm.specs.{Outcome, rules_of, Client.Client, Events.Request}}
+use Rattle.bac_tsm.specs.Machine.{datagram, deliver, deliver_first, kept, tick, Waiting}
 
 delivered_few : (outcome : Request → Option Outcome) (ws : List Waiting)
     → length (deliver outcome ws).waiting ≤ length ws

@@ -3,15 +3,12 @@ use Rattle.std.proofs.Common.{[], ap, append-nil, append_assoc, arith, drop, Err
 use Rattle.std.proofs.Common.{Option, option_and_then, refl, Result, subst, sym, take, take-append-drop, ℕ, ◌&&◌, ◌++◌}
 use Rattle.std.proofs.{Common.{◌+◌, ◌==◌, ◌∙◌, ◌∷◌, ◌≡◌, ◌≢◌, ◌≤◌, ◌⊎◌}, lemmas.Bool.cases_Bool}
 use Rattle.std.specs.{List.{AllByRecursion, concat}, Result.result_ok}
-use Rattle.bac_text.specs.Limits.{longest_line}
-use Rattle.bac_print.specs.{Checked.{Gave, has_failed}, declared.checked.Checked.Checked}
-use Rattle.bac_script.proofs.Chunks.{lines-ended, lines-last, lines-rest, next_long, said-whole_long}
-use Rattle.bac_script.specs.declared.input.Reading.{Reading, TheVariants.{AtEnd, Failed, Open}}
-use Rattle.bac_script.specs.declared.line.LineFault.{LineFault, TheVariants.TooLong}
-use Rattle.bac_script.specs.{declared.tracing.TraceFault.TheVariants.LineTooLong, Input.{CanReadOn, ReaderStands}}
-use Rattle.bac_script.specs.{Limits.line_room, Line.{Said, said}, NextLine.{IsLineCut, TakesAndKeeps}, Script.lines}
-use Rattle.bac_run.specs.Input.{acts_of_line, acts_of_said, AreCut, EndsWithFeed, fault_of_line, fault_of_said}
-use Rattle.bac_run.specs.{Input.{HasNoFeed, IsGood, said_of}, Journal.ends_with_return}
+use Rattle.{bac_text.specs.longest_line, bac_print.specs.{Gave, has_failed}, bac_run.specs.acts_of_line}
+use Rattle.bac_run.specs.{acts_of_said, AreCut, AtEnd, Checked, ends_with_return, EndsWithFeed, Failed, fault_of_line}
+use Rattle.bac_run.specs.{fault_of_said, HasNoFeed, IsGood, LineFault, LineTooLong, Open, Reading, said_of}
+use Rattle.bac_script.proofs.Courses.Chunks.{lines-ended, lines-last, lines-rest, next_long, said-whole_long}
+use Rattle.bac_script.specs.{lines, ReaderStands, Said, said, declared.line.LineFault.TheVariants.TooLong}
+use Rattle.bac_script.specs.{Input.CanReadOn, Limits.line_room, NextLine.{IsLineCut, TakesAndKeeps}}
 
 -- ---- lines
 

@@ -1,15 +1,12 @@
 -- Where a run has ended nothing is due, and how it ended is said by the stage and by its input.
 use Rattle.std.proofs.Common.{[], ap, Err, inl, inr, length, List, None, Ok, Option, refl, Result, Some, subst, suc}
 use Rattle.std.proofs.{Common.{sym, zero, ℕ, ◌++◌, ◌∙◌, ◌∷◌, ◌≡◌, ◌≢◌, ◌⊎◌}, lemmas.List.append-nil}
-use Rattle.bac_script.specs.declared.input.Reading.{Reading, TheVariants.{AtEnd, Failed, Open}}
-use Rattle.bac_script.specs.declared.tracing.{TraceEnd.TraceEnd, TraceFault.{TraceFault, TheVariants.BadLine}}
-use Rattle.bac_script.specs.declared.tracing.TraceFault.TheVariants.{LineTooLong, ReadFailed, WriteFailed}
-use Rattle.bac_links.specs.declared.fault.ToolFault.TheVariants.{ReceiveFailed, SendFailed, TurnsSpent}
+use Rattle.bac_run.{proofs.Alike.{IsWider, moved_wider, wider}, specs.{Act, Aim, AtEnd, BadLine, Broken, Came, Does}}
+use Rattle.bac_run.specs.{DueIn, EndsAt, Failed, fault_in, Fresh, Goes, IsAtRest, IsDue, IsSpent, LineTooLong, Link}
+use Rattle.bac_run.specs.{Looked, moved, Open, Outside, Passed, Phase, Read, ReadFailed, Reading, ReceiveFailed}
+use Rattle.bac_run.specs.{RunFault, Script, SendFailed, Stage, stage_after, Telling, TraceEnd, TraceFault, Turns}
+use Rattle.{bac_run.specs.TurnsSpent, bac_script.specs.declared.tracing.TraceFault.TheVariants.WriteFailed}
 use Rattle.bac_links.specs.declared.fault.ToolFault.TheVariants.{WriteFailed as LinkNotWritten}
-use Rattle.bac_run.{proofs.Alike.{IsWider, moved_wider, wider}, specs.Course.{Aim, Broken, Does, DueIn, Fresh, Goes}}
-use Rattle.bac_run.specs.Course.{IsDue, Looked, moved, Outside, Phase, Stage, stage_after, Telling, Turns}
-use Rattle.bac_run.specs.{declared.fault.RunFault.{RunFault, TheVariants.{Link, Script}}, Input.fault_in, Journal.Act}
-use Rattle.bac_run.specs.{Journal.{Came, Passed, Read}, Run.{EndsAt, IsAtRest}, Went.IsSpent}
 
 -- ---- where a run has ended nothing is due
 

@@ -1,18 +1,16 @@
 -- The lines of a journal, folded.
 use Rattle.std.proofs.Common.{[], ap, append_assoc, arith, Bool, codes, Err, false, filter, inl, inr, length}
 use Rattle.std.proofs.Common.{length-append, List, nat_lt, ne_eqb, Ok, refl, Result, slice_index, Some, subst, suc, sym}
-use Rattle.std.proofs.{Common.{take, true, ℕ, ◌++◌, ◌+◌, ◌-◌, ◌==◌, ◌∙◌, ◌∷◌, ◌≡◌, ◌≤◌}, lemmas.Bool.cases_Bool}
-use Rattle.std.proofs.lemmas.{Bool.Decides.nat_tests, Grind.common_steps, Str.{is_utf8-from_IsUtf8, IsUtf8-from_ascii}}
-use Rattle.std.{proofs.lemmas.Str.Ascii.{IsAscii-cons, IsAscii-nil}, specs.List.{onto_first, slice_split}}
-use Rattle.std.specs.Str.{is_utf8, IsAscii, Lines.strip_carriage_return}
-use Rattle.bac_tsm.specs.Events.{Note}
-use Rattle.bac_text.specs.{Limits.longest_line, Words.is_blank}
-use Rattle.bac_print.specs.Page.{folded, folded_line}
-use Rattle.bac_script.{proofs.Chunks.ends_with_feed-push, specs.declared.line.LineFault.LineFault}
-use Rattle.bac_script.specs.{declared.line.LineFault.TheVariants.TooLong, Line.{Nothing, Said, said, said_by, said_in}}
-use Rattle.bac_script.specs.Line.{text_of_line}
+use Rattle.std.proofs.Common.{take, true, ℕ, ◌++◌, ◌+◌, ◌-◌, ◌==◌, ◌∙◌, ◌∷◌, ◌≡◌, ◌≤◌}
+use Rattle.std.proofs.lemmas.{Bool.{cases_Bool, Decides.nat_tests}, Grind.common_steps}
+use Rattle.std.proofs.lemmas.Str.{is_utf8-from_IsUtf8, IsUtf8-from_ascii, Ascii.{IsAscii-cons, IsAscii-nil}}
+use Rattle.std.specs.{List.{onto_first, slice_split}, Str.{is_utf8, IsAscii, Lines.strip_carriage_return}}
+use Rattle.{bac_tsm.specs.Note, bac_text.specs.{longest_line, Words.is_blank}}
+use Rattle.bac_print.specs.{folded_line, Page.folded}
+use Rattle.bac_script.{proofs.Courses.Chunks.ends_with_feed-push, specs.{Nothing, Said, said}}
+use Rattle.bac_script.specs.{declared.line.LineFault.TheVariants.TooLong, Line.{said_by, said_in, text_of_line}}
 use Rattle.bac_run.proofs.{Lines.text_ended, Plain.{IsPlain, IsPlainOctet, note_plain, plain_on, plain_take}}
-use Rattle.bac_run.specs.{Input.HasNoFeed, Journal.{remark, remarks}, Replay.IsLineOf}
+use Rattle.bac_run.specs.{HasNoFeed, IsLineOf, LineFault, remark, remarks}
 
 -- From the beginning of a line on.
 abbrev pub lay : List ℕ → List ℕ

@@ -2,23 +2,19 @@
 use Rattle.std.proofs.Common.{[], ap, arith, Bool, Err, false, inl, inr, length, List, None, Option, refl, Result, Some}
 use Rattle.std.proofs.Common.{subst, sym, true, ℕ, ◌++◌, ◌<◌, ◌↔◌, ◌∙◌, ◌∷◌, ◌≡◌, ◌≢◌, ◌≤◌, ◌⊎◌}
 use Rattle.std.proofs.lemmas.{Bool.false≢true, List.{append-nil, append_cancel_left}}
-use Rattle.bac_tsm.specs.Client.{Client}
-use Rattle.bac_print.specs.{Checked.{ends_of, fresh, has_failed, octets_of, reads_of}, declared.checked.Checked.Checked}
-use Rattle.bac_script.specs.{Alike.{GaveFront, GaveSame, IsFrontOf}, declared.input.Reading.Reading}
-use Rattle.bac_script.specs.declared.{input.Reading.TheVariants.{AtEnd, Failed, Open}, tracing.TraceEnd.TraceEnd}
-use Rattle.bac_script.specs.{declared.tracing.TraceFault.{TraceFault, TheVariants.WriteFailed}, Input.most_reads}
-use Rattle.bac_script.specs.{Input.ReaderStands, Script.lines}
-use Rattle.bac_links.specs.{Answered.answers_of, declared.fault.ToolFault.TheVariants.{ReceiveFailed, SendFailed}}
-use Rattle.bac_links.specs.{declared.fault.ToolFault.TheVariants.TurnsSpent, History.{Account, Entry, GainsAll}}
-use Rattle.bac_run.proofs.{Alike.{next_none, settled_wider, wider}, Begun.{aims_fault, aims_open, ends, ends_as_stands}}
-use Rattle.bac_run.proofs.{Begun.lines_begun, Ends.{after_wider, Ended, ended, ended_none, IsStuck, Lost, rest_by}}
-use Rattle.bac_run.proofs.Ends.{rest_none, Rested, same_result, Spent, spent_wider, stuck_none, stuck_result}
-use Rattle.bac_run.proofs.{Ends.stuck_wider, Out.{fronts_join, journal_front}, Standing.{AreOn, goes_wider, Less}}
-use Rattle.bac_run.{proofs.Standing.{Meets, More, Same, stage_on, Stood}, specs.Course.{Aim, aims_of_lines, Broken}}
-use Rattle.bac_run.specs.{Course.{Goes, IsDue, Outside, room_for, Stage, stage_after}, declared.fault.RunFault.RunFault}
-use Rattle.bac_run.specs.{declared.{fault.RunFault.TheVariants.{Link, Script}, session.Session.Session}, Input.fault_in}
-use Rattle.bac_run.specs.{Journal.{Act, new_client}, Replay.AskNext, Run.{EndsAt, first_stage, IsAtRest, IsPrinted}}
-use Rattle.bac_run.specs.{Run.{journal_of, Runs}, Went.{IsAsked, IsSpent}}
+use Rattle.{bac_tsm.specs.Client.Client, bac_print.specs.{ends_of, fresh, has_failed, octets_of, reads_of}}
+use Rattle.bac_run.proofs.Alike.{next_none, settled_wider, wider}
+use Rattle.bac_run.proofs.{Begun.{aims_fault, aims_open, ends, ends_as_stands, lines_begun}, Ends.after_wider}
+use Rattle.bac_run.proofs.Ends.{Ended, ended, ended_none, IsStuck, Lost, rest_by, rest_none, Rested, same_result, Spent}
+use Rattle.bac_run.proofs.{Ends.{spent_wider, stuck_none, stuck_result, stuck_wider}, Out.{fronts_join, journal_front}}
+use Rattle.bac_run.proofs.Standing.{AreOn, goes_wider, Less, Meets, More, Same, stage_on, Stood}
+use Rattle.bac_run.specs.{Act, Aim, aims_of_lines, AskNext, AtEnd, Broken, Checked, EndsAt, Failed, fault_in}
+use Rattle.bac_run.specs.{first_stage, Goes, IsAsked, IsAtRest, IsDue, IsPrinted, IsSpent, journal_of, Link, new_client}
+use Rattle.bac_run.specs.{Open, Outside, Reading, ReceiveFailed, room_for, RunFault, Runs, Script, SendFailed, Session}
+use Rattle.bac_run.specs.{Stage, stage_after, TraceEnd, TraceFault, TurnsSpent}
+use Rattle.bac_script.specs.{GaveSame, IsFrontOf, lines, ReaderStands, Alike.GaveFront}
+use Rattle.bac_script.specs.{declared.tracing.TraceFault.TheVariants.WriteFailed, Input.most_reads}
+use Rattle.bac_links.specs.{Account, answers_of, Entry, GainsAll}
 
 -- How two runs were given their input: the same, and they met its end as often; or one was cut off, and it was given a
 -- front of what the other was, and could be read on.

@@ -3,11 +3,9 @@ use Rattle.std.proofs.Common.{[], ap, append_assoc, arith, false, inl, inr, leng
 use Rattle.std.proofs.Common.{refl, Result, sym, true, ℕ, ◌&&◌, ◌++◌, ◌==◌, ◌∙◌, ◌∷◌, ◌≡◌, ◌≢◌, ◌≤◌, ◌⊎◌}
 use Rattle.std.proofs.lemmas.{Bool.{cases_Bool, false≢true, Decides.nat_tests}, Grind.common_steps}
 use Rattle.std.specs.Str.Lines.{strip_carriage_return}
-use Rattle.bac_text.specs.Limits.{longest_line}
-use Rattle.bac_script.proofs.Chunks.{ends_with_feed-none, ends_with_feed-push}
-use Rattle.bac_script.specs.{declared.line.LineFault.LineFault, Line.{Nothing, Said, said, said_in, text_of_line}}
-use Rattle.bac_run.{proofs.ReadBack.line_so, specs.{Input.{EndsWithFeed, HasNoFeed, said_of}, Journal.ends_with_return}}
-use Rattle.bac_run.specs.{Journal.whole_line, Replay.IsLineOf}
+use Rattle.{bac_text.specs.longest_line, bac_script.proofs.Courses.Chunks.{ends_with_feed-none, ends_with_feed-push}}
+use Rattle.{bac_script.specs.{Nothing, Said, said, Line.{said_in, text_of_line}}, bac_run.proofs.ReadBack.line_so}
+use Rattle.bac_run.specs.{ends_with_return, EndsWithFeed, HasNoFeed, IsLineOf, LineFault, said_of, whole_line}
 
 -- ---- the line of a request
 

@@ -1,11 +1,10 @@
 -- What a run tells is what the look-ahead gives.
 use Rattle.std.proofs.Common.{[], ap, arith, length, List, map, None, refl, suc, sym, take_all, ℕ, ◌*◌, ◌++◌, ◌+◌, ◌∙◌}
 use Rattle.std.proofs.Common.{◌∷◌, ◌≡◌, ◌≤◌}
-use Rattle.bac_tsm.{proofs.Laws.{never_due, open_soon}, specs.Client.{Client, client_rules, rules_of}}
-use Rattle.bac_tsm.specs.{Events.{Event, Note, Rules}, Laws.{MachineIsLookahead, outputs, state_at}, Lookahead.Accepted}
-use Rattle.bac_tsm.specs.{Lookahead.{clock, end}, Machine.{folded, initial}}
-use Rattle.bac_run.specs.{Course.AreSteady, Journal.{Act, Asked, Came, client_after, events_of, new_client, notes_of}}
-use Rattle.bac_run.specs.Journal.{Passed, Paused, Read, Told, turn_at}
+use Rattle.bac_tsm.{proofs.Laws.{never_due, open_soon}, specs.{Accepted, client_rules, clock, end, Event, initial}}
+use Rattle.bac_tsm.specs.{Note, outputs, Rules, rules_of, state_at, Client.Client, Laws.MachineIsLookahead}
+use Rattle.{bac_tsm.specs.Machine.folded, bac_run.specs.{Act, AreSteady, Asked, Came, client_after, events_of}}
+use Rattle.bac_run.specs.{new_client, notes_of, Passed, Paused, Read, Told, turn_at}
 
 -- ---- notes without their positions
 

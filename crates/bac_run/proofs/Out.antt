@@ -1,14 +1,11 @@
 -- What is out before a wait.
 use Rattle.std.proofs.Common.{[], ap, append-nil, append_assoc, false, inl, inr, List, Option, refl, Some, subst, sym}
 use Rattle.std.proofs.Common.{ℕ, ◌++◌, ◌∙◌, ◌∷◌, ◌≡◌, ◌⊎◌}
-use Rattle.bac_tsm.specs.Client.{Client}
-use Rattle.bac_print.{proofs.Printed.{folded-append, laid_out-append, laid_out-none}, specs.Checked.has_failed}
-use Rattle.bac_print.specs.{Checked.octets_of, declared.{checked.Checked.Checked, page.Page.Page}, Page.folded}
-use Rattle.bac_print.specs.Page.{folded_line, held, laid_out, left_after, Prints, room_of, writer_of, Writes, Wrote}
-use Rattle.bac_script.specs.Alike.{IsFrontOf}
-use Rattle.bac_run.{proofs.Acts.journal-append, specs.{declared.session.Session.Session, Inner.Went.HasPassed}}
-use Rattle.bac_run.specs.{Inner.Went.IsOutAt, Journal.{Act, client_after, journal, new_client, settings_line}}
-use Rattle.bac_run.specs.Run.{IsOut, IsWait, journal_lines, journal_of}
+use Rattle.{bac_tsm.specs.Client.Client, bac_print.proofs.Printed.{folded-append, laid_out-append, laid_out-none}}
+use Rattle.bac_print.specs.{folded_line, has_failed, held, octets_of, Prints, room_of, writer_of, Writes}
+use Rattle.{bac_print.specs.Page.{folded, laid_out, left_after, Wrote}, bac_run.proofs.Acts.journal-append}
+use Rattle.bac_run.specs.{Act, Checked, client_after, IsOut, IsWait, journal, journal_lines, journal_of, new_client}
+use Rattle.{bac_run.specs.{Page, Session, settings_line, Inner.{HasPassed, IsOutAt}}, bac_script.specs.IsFrontOf}
 
 pub fronts_join : (xs ys zs : List ℕ) → IsFrontOf xs ys → IsFrontOf ys zs → IsFrontOf xs zs
 fronts_join xs ys zs (rest, is) (more, is') =

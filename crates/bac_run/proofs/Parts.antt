@@ -2,28 +2,25 @@
 use Rattle.std.proofs.Common.{[], ap, append-nil, arith, Err, false, flat_map, IfErr, length, List, Ok, Option, refl}
 use Rattle.std.proofs.Common.{Result, Some, subst, suc, sym, true, unwrap_or, zero, ℕ, ◌++◌, ◌-◌, ◌<◌, ◌^◌, ◌∙◌, ◌∷◌}
 use Rattle.std.{proofs.Common.◌≡◌, specs.List.AllByRecursion}
-use Rattle.bac_pdu.specs.{Apdu.longest_body, Peer.Station}
-use Rattle.bac_tsm.specs.{Client.{Client, keeping, rules_of}, declared.client.SubmitFault.TheVariants.TooLong}
-use Rattle.bac_tsm.specs.{declared.due.DueEntry.DueEntry, Events.{Ask, Event, Note, Outcome, Refused}, Machine.datagram}
-use Rattle.bac_tsm.specs.Machine.{datagram_notes, due_notes, tick}
-use Rattle.bac_print.{proofs.Printed.{printed_as, prints_nothing, ◌⨾◌}, specs.Checked.has_failed}
-use Rattle.bac_print.specs.{declared.page.Page.Page, Page.{held, Prints, writer_of}}
-use Rattle.bac_script.specs.declared.tracing.TraceFault.{TraceFault, TheVariants.{BadLine, LineTooLong, ReadFailed}}
-use Rattle.bac_script.specs.declared.tracing.TraceFault.TheVariants.{WriteFailed}
-use Rattle.bac_links.specs.declared.fault.ToolFault.TheVariants.{ReceiveFailed, SendFailed, TurnsSpent}
-use Rattle.bac_links.specs.{declared.fault.ToolFault.TheVariants.WriteFailed as LinkNotWritten, History.Account}
-use Rattle.bac_links.specs.History.{Arrived, Entry, Gains, Heard, Timed, Waited}
+use Rattle.bac_pdu.specs.{longest_body, Station}
+use Rattle.bac_tsm.specs.{Ask, due_notes, Event, keeping, Note, Outcome, Refused, rules_of, Client.Client}
+use Rattle.bac_tsm.specs.declared.{client.SubmitFault.TheVariants.TooLong, due.DueEntry.DueEntry}
+use Rattle.bac_tsm.specs.Machine.{datagram, datagram_notes, tick}
+use Rattle.bac_print.{proofs.Printed.{printed_as, prints_nothing, ◌⨾◌}, specs.{has_failed, held, Prints, writer_of}}
 use Rattle.bac_run.proofs.Acts.{asked_err, asked_more, asked_nothing, asked_once, asked_stopped, client_after-append}
 use Rattle.bac_run.proofs.Acts.{done, due_nothing, failed, fit_append, inputs-append, IsQuiet, journal-append}
-use Rattle.bac_run.proofs.{Acts.{posts-answer, quiet_within, refused_long, within_more}, Out.{out_behind, out_more}}
-use Rattle.bac_run.{proofs.Out.{out_none, out_one, passed_here, printed_on}, specs.Course.{Aim, aims_for, Does, Fresh}}
-use Rattle.bac_run.specs.Course.{Goes, is_reached, IsDue, moved, open_in, ready, Stage, stage_after, Turns}
-use Rattle.bac_run.specs.declared.{fault.RunFault.{RunFault, TheVariants.{Link, Script}}, turns.{Run.Run, Until.Until}}
-use Rattle.bac_run.specs.{declared.turns.Until.TheVariants.{FewOpen, TimeTold}, Inner.Went.{begins_turn, GainsDue}}
-use Rattle.bac_run.specs.Inner.Went.{HasPassed, IsGained, IsOfWait, Opened, outside, send_failed, started, Went}
-use Rattle.bac_run.specs.{Inner.Went.WentFor, Input.input_in, Journal.{Act, arrival_line, Asked, asked_by, Came}}
-use Rattle.bac_run.specs.Journal.{FitsLine, line_of, Passed, posts, Read, remark, remarks, time_line, Told, Turn}
-use Rattle.bac_run.specs.{Journal.{turn_at, whole_line}, Run.IsWait, Went.{ComesTo, IsSpent, IsWithin}}
+use Rattle.bac_run.proofs.Acts.{posts-answer, quiet_within, refused_long, within_more}
+use Rattle.bac_run.proofs.Out.{out_behind, out_more, out_none, out_one, passed_here, printed_on}
+use Rattle.bac_run.specs.{Act, Aim, aims_for, arrival_line, Asked, asked_by, BadLine, Came, ComesTo, Does, FewOpen}
+use Rattle.bac_run.specs.{FitsLine, Fresh, Goes, input_in, is_reached, IsDue, IsSpent, IsWait, IsWithin, line_of}
+use Rattle.bac_run.specs.{LineTooLong, Link, moved, open_in, Page, Passed, posts, Read, ReadFailed, ready}
+use Rattle.bac_run.specs.{ReceiveFailed, remark, remarks, RunFault, Script, SendFailed, Stage, stage_after, time_line}
+use Rattle.bac_run.specs.{TimeTold, Told, TraceFault, Turn, turn_at, Turns, TurnsSpent, whole_line}
+use Rattle.bac_run.specs.{declared.turns.{Run.Run, Until.Until}, Inner.{begins_turn, GainsDue, HasPassed, IsGained}}
+use Rattle.bac_run.specs.Inner.{IsOfWait, Opened, outside, send_failed, started, WentFor, Went.Went}
+use Rattle.bac_script.specs.declared.tracing.TraceFault.TheVariants.{WriteFailed}
+use Rattle.bac_links.specs.{Account, Arrived, Entry, Heard, Timed, Waited}
+use Rattle.bac_links.specs.{declared.fault.ToolFault.TheVariants.WriteFailed as LinkNotWritten, History.Gains}
 
 -- ---- the course
 

@@ -5,16 +5,15 @@ use Rattle.std.{proofs.lemmas.Bool.{cases_Bool, Decides.nat_tests}, specs.Fmt.{d
 use Rattle.std.specs.{Fmt.signed_decimal, Int.{bit_at, is_in_range, to_be_bytes, w32}, List.{AllByRecursion, flat_map}}
 use Rattle.std.specs.{List.join_with_byte, Option.option_map_or, Prelude.{codes, decimal, negsuc, pos, ℤ}}
 use Rattle.hex.specs.Hex.{encode_lower, encode_with, lower_digits}
-use Rattle.bac_wire.specs.Datum.{bit_string, boolean, char_string, date, Datum, double, enumerated, null, object}
-use Rattle.bac_wire.specs.{Datum.{octet_string, real, signed, time, unsigned}, DatumReading.values_of}
-use Rattle.bac_pdu.specs.{Peer.{NetworkAddress, Station}, Property.ReadAck, PropertyReading.ack_of}
+use Rattle.bac_wire.specs.{bit_string, boolean, char_string, enumerated, null, object, octet_string, real, signed}
+use Rattle.bac_wire.specs.{unsigned, values_of, Datum.{date, Datum, double, time}}
+use Rattle.bac_pdu.specs.{ack_of, NetworkAddress, ReadAck, Station}
+use Rattle.bac_tsm.specs.{Done, Dropped, Note, Outcome, Refused, Sent, Simple}
 use Rattle.bac_tsm.specs.declared.client.SubmitFault.{SubmitFault, TheVariants.{TableFull, TicketsSpent, TooLong}}
-use Rattle.bac_tsm.specs.Events.{Aborted, BadError, Complex, Done, Dropped, Failed, Note, Outcome, Refused, Rejected}
-use Rattle.bac_tsm.specs.Events.{Segmented, Sent, Simple, TimedOut}
-use Rattle.bac_print.specs.{Outcomes.outcome_text, PeerTexts.{address_text, peer_text, route_text}, Values.ack_text}
-use Rattle.bac_print.specs.Values.{bits_text, datum_text, lettered, octet_bits, quoted, quoted_octet, region_text}
-use Rattle.bac_print.specs.Values.{values_text}
-use Rattle.bac_script.specs.Text.{note_text, refusal_text}
+use Rattle.bac_tsm.specs.Events.{Aborted, BadError, Complex, Failed, Rejected, Segmented, TimedOut}
+use Rattle.bac_print.specs.{peer_text, Outcomes.outcome_text, PeerTexts.{address_text, route_text}}
+use Rattle.bac_print.specs.Values.{ack_text, bits_text, datum_text, lettered, octet_bits, quoted, quoted_octet}
+use Rattle.{bac_print.specs.Values.{region_text, values_text}, bac_script.specs.Text.{note_text, refusal_text}}
 use Rattle.bac_run.proofs.ReadBack.{IsShown, IsVisible, shown, visible_so}
 
 -- An octet of ASCII that is no line feed.

@@ -4,22 +4,20 @@ use Rattle.std.proofs.Common.{inl, inr, length, length-append, List, lit<, lit�
 use Rattle.std.proofs.Common.{Option, option_map, position, refl, Result, Some, suc, sym, take, true, unwrap_or, zero}
 use Rattle.std.proofs.Common.{ℕ, ◌%◌, ◌&&◌, ◌*◌, ◌++◌, ◌+◌, ◌-◌, ◌/◌, ◌<◌, ◌==◌, ◌^◌, ◌∙◌, ◌∷◌, ◌≡◌, ◌≢◌, ◌≤◌, ◌⊎◌}
 use Rattle.std.proofs.lemmas.{Bool.Decides.nat_tests, Fmt.{decimal_nonempty, digits_decimal, digits_value-decimal}}
-use Rattle.std.proofs.lemmas.{Fmt.length-decimal-le, Grind.common_steps, List.Elements.{All-cons, All-nil}}
-use Rattle.std.proofs.lemmas.{List.Splits.{slice_split_at, slice_split_none}, Nat.from_be_bytes-to_be_bytes_4}
-use Rattle.std.proofs.lemmas.Str.{is_utf8-from_IsUtf8, IsUtf8-from_ascii, Ascii.{IsAscii-cons, IsAscii-nil}}
-use Rattle.std.{proofs.lemmas.Str.Parse.{numerals_by_value, tells_all_ascii_digits}, specs.Int.is_in_range}
-use Rattle.std.specs.{Int.{to_be_bytes, w32}, List.{AllByRecursion, list_all}, Str.{all_ascii_digits, is_utf8, IsAscii}}
-use Rattle.std.specs.Str.Lines.{strip_carriage_return}
-use Rattle.hex.{proofs.HexLemmas.{decode_of-encode_lower, length-encode_with}, specs.Hex.{encode_lower, encode_with}}
-use Rattle.hex.specs.Hex.{IsBytes, lower_digits}
-use Rattle.bac_pdu.specs.Peer.{Station}
-use Rattle.bac_tsm.specs.Events.{Data, Tick}
-use Rattle.bac_text.specs.Address.{address_of, cut_at, number_before_dot, plain_peer_of, short_number, station_at}
-use Rattle.bac_text.specs.{Limits.longest_line, Words.{is_blank, number_up_to, octets_of, words_of}}
-use Rattle.bac_print.specs.PeerTexts.{address_text, peer_text}
-use Rattle.bac_script.{proofs.Chunks.ends_with_feed-push, specs.{declared.line.LineFault.LineFault, Line.Happens}}
-use Rattle.bac_script.specs.Line.{Said, said_by, said_in, Settings, text_of_line}
-use Rattle.bac_run.specs.{Journal.{arrival_line, settings_line, time_line}, Replay.IsLineOf}
+use Rattle.std.proofs.lemmas.{Fmt.length-decimal-le, Grind.common_steps}
+use Rattle.std.proofs.lemmas.List.{Elements.{All-cons, All-nil}, Splits.{slice_split_at, slice_split_none}}
+use Rattle.std.proofs.lemmas.{Nat.from_be_bytes-to_be_bytes_4, Str.{is_utf8-from_IsUtf8, IsUtf8-from_ascii}}
+use Rattle.std.proofs.lemmas.Str.{Ascii.{IsAscii-cons, IsAscii-nil}, Parse.{numerals_by_value, tells_all_ascii_digits}}
+use Rattle.std.specs.{Int.{is_in_range, to_be_bytes, w32}, List.{AllByRecursion, list_all}}
+use Rattle.std.specs.Str.{all_ascii_digits, is_utf8, IsAscii, Lines.strip_carriage_return}
+use Rattle.hex.proofs.HexLemmas.{decode_of-encode_lower, length-encode_with}
+use Rattle.{hex.specs.Hex.{encode_lower, encode_with, IsBytes, lower_digits}, bac_pdu.specs.Station}
+use Rattle.bac_tsm.specs.{Data, Tick}
+use Rattle.bac_text.specs.{longest_line, plain_peer_of, words_of, Address.{address_of, cut_at, number_before_dot}}
+use Rattle.bac_text.specs.{Address.{short_number, station_at}, Words.{is_blank, number_up_to, octets_of}}
+use Rattle.{bac_print.specs.{peer_text, PeerTexts.address_text}, bac_script.proofs.Courses.Chunks.ends_with_feed-push}
+use Rattle.bac_script.specs.{Happens, Said, Settings, Line.{said_by, said_in, text_of_line}}
+use Rattle.bac_run.specs.{arrival_line, IsLineOf, LineFault, settings_line, time_line}
 
 -- Octets that stand for themselves: those of a text in ASCII, from a space (32) on.
 abbrev pub IsShown : List ℕ → Type 0

@@ -1,18 +1,14 @@
 -- The acts of a run are read back.
 use Rattle.std.proofs.Common.{[], ap, arith, Err, false, inl, inr, length, List, Ok, Option, refl, Result, subst, sym}
-use Rattle.std.proofs.{Common.{unwrap_or, ℕ, ◌++◌, ◌<◌, ◌∷◌, ◌≡◌, ◌≤◌, ◌⊎◌}, lemmas.Bool.cases_Bool}
-use Rattle.std.{proofs.lemmas.Bool.Decides.nat_tests, specs.{List.{AllByRecursion, flat_map}, Prelude.option_and_then}}
-use Rattle.std.specs.Result.{result_ok}
-use Rattle.bac_pdu.specs.Peer.{Station}
-use Rattle.bac_tsm.specs.Events.{Ask, Data, Tick}
-use Rattle.bac_print.specs.declared.checked.Checked.{Checked}
-use Rattle.bac_script.specs.{declared.{line.LineFault.LineFault, tracing.TraceEnd.TraceEnd}, Line.{Asks, Happens}}
-use Rattle.bac_script.specs.Line.{Nothing, Said, Settings}
+use Rattle.std.proofs.Common.{unwrap_or, ℕ, ◌++◌, ◌<◌, ◌∷◌, ◌≡◌, ◌≤◌, ◌⊎◌}
+use Rattle.std.proofs.lemmas.Bool.{cases_Bool, Decides.nat_tests}
+use Rattle.std.specs.{List.{AllByRecursion, flat_map}, Prelude.option_and_then, Result.result_ok}
+use Rattle.{bac_pdu.specs.Station, bac_tsm.specs.{Ask, Data, Tick}}
 use Rattle.bac_run.proofs.{Lines.{empty_read_back, line_read_back}, ReadBack.{arrival_read_back, plain, time_read_back}}
-use Rattle.bac_run.{proofs.Runs.done_front, specs.{declared.fault.RunFault.RunFault, Input.acts_of_said}}
-use Rattle.bac_run.specs.Input.{acts_or_none, AreCut, EndsWithFeed, HasNoFeed, inputs_in, is_remark, said_of, Takes}
-use Rattle.bac_run.specs.Journal.{Act, arrival_line, Asked, Came, FitsLine, Passed, Paused, Read, Told}
-use Rattle.bac_run.specs.Replay.{IsLineOf, IsReadBack}
+use Rattle.bac_run.{proofs.Runs.done_front, specs.{Act, acts_of_said, acts_or_none, AreCut, arrival_line, Asked, Came}}
+use Rattle.bac_run.specs.{Checked, EndsWithFeed, FitsLine, HasNoFeed, inputs_in, is_remark, IsLineOf, IsReadBack}
+use Rattle.bac_run.specs.{LineFault, Passed, Paused, Read, RunFault, said_of, Takes, Told, TraceEnd}
+use Rattle.bac_script.specs.{Happens, Nothing, Said, Settings, Line.Asks}
 
 came_back : (wait : ℕ) (from : Station) (octets : List ℕ) → FitsLine (Came wait from octets)
     → IsReadBack (Came wait from octets)

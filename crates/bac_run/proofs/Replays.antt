@@ -1,15 +1,13 @@
 -- The journal, read as a script.
 use Rattle.std.proofs.Common.{[], ap, append_assoc, arith, Bool, false, List, None, refl, subst, sym, ℕ, ◌++◌, ◌+◌, ◌∙◌}
 use Rattle.std.{proofs.{Common.{◌∷◌, ◌≡◌}, lemmas.List.Concat.flat_map-append}, specs.List.AllByRecursion}
-use Rattle.{
-  bac_tsm.specs.{Client.Client, Events.{Data, Event, Note, Tick}},
-  bac_script.proofs.{Chunks.lines-ended, Courses.{settings_first, text_from, text_is}},
-  bac_script.specs.{declared.input.Reading.TheVariants.AtEnd, Inner.Running.{ran, Stage}, Line.{Happens, Nothing}},
-  bac_script.specs.{Line.Said, Script.{all_said, fault_from, first_fault, lines, said_from, text}, Text.notes_text},
-  bac_run.{proofs.Folded.{lay, line_laid, remarks_skipped}, specs.{declared.session.Session.Session, Journal.Act}},
-  bac_run.specs.Journal.{Asked, Came, journal, line_of, new_client, notes_of, Passed, Paused, Read, remarks},
-  bac_run.specs.{Journal.{settings_line, Told, turn_at}, Replay.{AreSettings, IsLineOf, IsReadBack}, Run.journal_of},
-}
+use Rattle.bac_tsm.specs.{Data, Event, Note, Tick, Client.Client}
+use Rattle.bac_script.proofs.Courses.{settings_first, text_from, text_is, Chunks.lines-ended}
+use Rattle.bac_script.specs.{Happens, lines, Nothing, Said, Inner.Running.{ran, Stage}}
+use Rattle.bac_script.specs.{Script.{all_said, fault_from, first_fault, said_from, text}, Text.notes_text}
+use Rattle.bac_run.proofs.Folded.{lay, line_laid, remarks_skipped}
+use Rattle.bac_run.specs.{Act, AreSettings, Asked, AtEnd, Came, IsLineOf, IsReadBack, journal, journal_of, line_of}
+use Rattle.bac_run.specs.{new_client, notes_of, Passed, Paused, Read, remarks, Session, settings_line, Told, turn_at}
 
 -- A line that says this, and then the rest.
 line_then : {is_first : Bool} {line : List ℕ} {what : Said} (rest : List ℕ) → IsLineOf is_first line what

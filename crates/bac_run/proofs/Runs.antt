@@ -3,31 +3,27 @@ use Rattle.std.proofs.Common.{[], ap, append-nil, append_assoc, arith, drop, Err
 use Rattle.std.proofs.Common.{inr, is_some, length, length-append, List, None, Ok, Option, refl, Result, Some, subst}
 use Rattle.std.proofs.Common.{suc, sym, take, unwrap_or, ℕ, ◌++◌, ◌+◌, ◌∙◌, ◌∷◌, ◌≡◌, ◌⊎◌}
 use Rattle.std.{proofs.lemmas.List.Concat.flat_map-append, specs.List.{AllByRecursion, concat}}
-use Rattle.{
-  bac_tsm.specs.Client.Client,
-  bac_print.{proofs.Printed.{folded_out, Gave-none, ◌⨾◌}, specs.Checked.{has_failed, octets_of}},
-  bac_print.specs.{declared.{checked.Checked.Checked, page.Page.Page}, Page.{folded_line, held, Prints, room_of}},
-  bac_print.specs.Page.{writer_of, Writes},
-  bac_script.{proofs.Chunks.{Takes-front, Takes-more}, specs.declared.input.Reading.{Reading, TheVariants.AtEnd}},
-  bac_script.specs.declared.{input.Reading.TheVariants.{Failed, Open}, line.LineFault.{LineFault, TheVariants.Bad}},
-  bac_script.specs.declared.{line.LineFault.TheVariants.TooLong, tracing.{TraceEnd.TraceEnd, TraceFault.TraceFault}},
-  bac_script.specs.declared.tracing.TraceFault.TheVariants.{BadLine, LineTooLong, ReadFailed, WriteFailed},
-  bac_script.specs.{Input.{CanReadOn, ReaderStands}, Line.Said, NextLine.{IsLineCut, TakesAndKeeps}, Script.lines},
-  bac_links.specs.declared.{datagram.Datagram.Datagram, fault.ToolFault.TheVariants.{ReceiveFailed, SendFailed}},
-  bac_links.specs.{declared.fault.ToolFault.TheVariants.{TurnsSpent, WriteFailed as LinkNotWritten}, History.Account},
-  bac_links.specs.{History.Entry, Limits.most_turns},
-  bac_run.proofs.{Acts.{done, failed}, Cut.{all_push, concat_push, cut_all, cut_push, feed_so, gave_so, IsCut}},
-  bac_run.proofs.{Cut.{reading_on, reads_on, split_push}, Out.{out_behind, out_whole, passed_on}, Parts.quiet_went},
-  bac_run.proofs.Parts.{went_at, went_err, went_failed, went_fault, went_from, went_more, went_still, went_stopped},
-  bac_run.proofs.Parts.{went_turned, within_at, within_both, within_fault, within_from, within_turned},
-  bac_run.specs.Course.{Aim, aims_behind, aims_for, aims_in_room, aims_of, aims_of_lines, Goes, room_for, Stage},
-  bac_run.specs.{Course.{stage_after, Turns}, declared.fault.RunFault.{RunFault, TheVariants.{Link, Script}}},
-  bac_run.specs.{declared.{session.Session.Session, turns.{Run.Run, Until.TheVariants.FewOpen}}, Fault.write_failed},
-  bac_run.specs.{Inner.{Run.RunsOn, Went.{IsNamed, IsOfWait, started, stopped, Went, WentFor}}, Input.acts_of_line},
-  bac_run.specs.Input.{acts_or_none, AllDone, EndsWithFeed, fault_in, fault_of_line, HasNoFeed, inputs_in, IsGood},
-  bac_run.specs.{Input.{said_of, Takes}, Journal.{Act, new_client, settings_line}, Replay.AreSettings, Run.EndsAt},
-  bac_run.specs.{Run.{first_stage, IsAtRest, Runs}, Went.{ComesTo, IsAsked, IsOver, IsOverAt, IsWithin}},
-}
+use Rattle.{bac_tsm.specs.Client.Client, bac_print.proofs.Printed.{folded_out, Gave-none, ◌⨾◌}}
+use Rattle.bac_print.specs.{folded_line, has_failed, held, octets_of, Prints, room_of, writer_of, Writes}
+use Rattle.bac_run.proofs.Acts.{done, failed}
+use Rattle.bac_run.proofs.Cut.{all_push, concat_push, cut_all, cut_push, feed_so, gave_so, IsCut, reading_on, reads_on}
+use Rattle.bac_run.proofs.{Cut.split_push, Out.{out_behind, out_whole, passed_on}, Parts.{quiet_went, went_at}}
+use Rattle.bac_run.proofs.Parts.{went_err, went_failed, went_fault, went_from, went_more, went_still, went_stopped}
+use Rattle.bac_run.proofs.Parts.{went_turned, within_at, within_both, within_fault, within_from, within_turned}
+use Rattle.bac_run.specs.{Act, acts_of_line, acts_or_none, Aim, aims_behind, aims_for, aims_in_room, aims_of}
+use Rattle.bac_run.specs.{aims_of_lines, AllDone, AreSettings, AtEnd, BadLine, Checked, ComesTo, EndsAt, EndsWithFeed}
+use Rattle.bac_run.specs.{Failed, fault_in, fault_of_line, FewOpen, first_stage, Goes, HasNoFeed, inputs_in, IsAsked}
+use Rattle.bac_run.specs.{IsAtRest, IsGood, IsOver, IsOverAt, IsWithin, LineFault, LineTooLong, Link, new_client, Open}
+use Rattle.bac_run.specs.{Page, ReadFailed, Reading, ReceiveFailed, room_for, RunFault, Runs, said_of, Script}
+use Rattle.bac_run.specs.{SendFailed, Session, settings_line, Stage, stage_after, Takes, TraceEnd, TraceFault, Turns}
+use Rattle.bac_run.specs.{TurnsSpent, write_failed, declared.turns.Run.Run}
+use Rattle.bac_run.specs.Inner.{IsNamed, IsOfWait, RunsOn, started, stopped, WentFor, Went.Went}
+use Rattle.bac_script.proofs.Courses.Chunks.{Takes-front, Takes-more}
+use Rattle.bac_script.specs.{lines, ReaderStands, Said, declared.line.LineFault.TheVariants.{Bad, TooLong}}
+use Rattle.bac_script.specs.{declared.tracing.TraceFault.TheVariants.WriteFailed, Input.CanReadOn}
+use Rattle.bac_script.specs.NextLine.{IsLineCut, TakesAndKeeps}
+use Rattle.bac_links.specs.{Account, Entry, most_turns, declared.datagram.Datagram.Datagram}
+use Rattle.bac_links.specs.declared.fault.ToolFault.TheVariants.{WriteFailed as LinkNotWritten}
 
 -- What a run is about for lines that were taken.
 abbrev pub taken_aims : (window : ℕ) → List (List ℕ) → List Aim

@@ -1,15 +1,11 @@
 -- What was sent is what the notes say.
 use Rattle.std.proofs.Common.{[], ap, arith, Err, inl, inr, List, Ok, Option, refl, Result, sym, ℕ, ◌++◌, ◌∙◌, ◌∷◌, ◌≡◌}
 use Rattle.std.{proofs.lemmas.List.{append-nil, append_cancel_left, Concat.flat_map-append}, specs.List.flat_map}
-use Rattle.bac_pdu.specs.Peer.{Station}
-use Rattle.bac_tsm.specs.{Client.Client, Events.{Note, Sent}}
-use Rattle.bac_print.specs.declared.checked.Checked.{Checked}
-use Rattle.bac_script.specs.declared.tracing.{TraceEnd.TraceEnd, TraceFault.TheVariants.WriteFailed}
-use Rattle.bac_links.specs.{declared.fault.ToolFault.TheVariants.SendFailed, History.{Account, Entry}}
-use Rattle.bac_run.{proofs.Acts.unsent_cut, specs.declared.fault.RunFault.{RunFault, TheVariants.{Link, Script}}}
-use Rattle.bac_run.specs.{declared.session.Session.Session, Journal.{Act, Asked, asked_by, Came, history_of}}
-use Rattle.bac_run.specs.{Journal.{new_client, notes_of, Passed, Paused, posts, Read, Told, turn_at}, Replay.AreSent}
-use Rattle.bac_run.specs.{Replay.{IsLost, posted_in, sent_in}, Run.Runs, Went.{IsAsked, IsCut, IsUnsent}}
+use Rattle.{bac_pdu.specs.Station, bac_tsm.specs.{Note, Sent, Client.Client}}
+use Rattle.bac_run.{proofs.Acts.unsent_cut, specs.{Act, AreSent, Asked, asked_by, Came, Checked, history_of, IsAsked}}
+use Rattle.bac_run.specs.{IsCut, IsLost, IsUnsent, Link, new_client, notes_of, Passed, Paused, posted_in, posts, Read}
+use Rattle.bac_run.specs.{RunFault, Runs, Script, SendFailed, sent_in, Session, Told, TraceEnd, turn_at}
+use Rattle.{bac_script.specs.declared.tracing.TraceFault.TheVariants.WriteFailed, bac_links.specs.{Account, Entry}}
 
 posts_sent : (notes : List Note) → flat_map posted_in (posts notes) ≡ flat_map sent_in notes
 posts_sent [] = refl

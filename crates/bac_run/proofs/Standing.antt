@@ -2,17 +2,15 @@
 use Rattle.std.proofs.Common.{[], ap, append_assoc, arith, Err, inl, inr, List, Ok, refl, Result, subst, sym, ℕ, ◌++◌}
 use Rattle.std.proofs.{Common.{◌∙◌, ◌∷◌, ◌≡◌, ◌≢◌, ◌⊎◌}, lemmas.List.{append-nil, append_cancel_left}}
 use Rattle.bac_tsm.specs.Client.{Client}
-use Rattle.bac_script.specs.declared.tracing.{TraceEnd.TraceEnd, TraceFault.TheVariants.{BadLine, LineTooLong}}
-use Rattle.bac_script.specs.declared.tracing.TraceFault.TheVariants.{ReadFailed, WriteFailed}
-use Rattle.bac_links.specs.{Answered.{answers_of, GoOnAlike}, declared.fault.ToolFault.TheVariants.ReceiveFailed}
-use Rattle.bac_links.specs.declared.fault.ToolFault.TheVariants.{SendFailed, TurnsSpent, WriteFailed as LinkNotWritten}
-use Rattle.bac_links.specs.History.{Entry, Posted, Unposted}
 use Rattle.bac_run.proofs.{Acts.{history-append, unsent_cut}, Ahead.{Ahead, fronts}, Alike.{aligned, Gets, gets_of}}
 use Rattle.bac_run.proofs.{Alike.{histories_cohere, moved_wider, wider}, Ends.{due_wider, more_none, wider_none}}
 use Rattle.bac_run.proofs.Unsent.{cut_never, cut_short, history_sure, lost-append, lost_in, same_unsent, unsent_some}
-use Rattle.bac_run.specs.{Course.{Aim, Goes, IsDue, moved, Stage, stage_after}, declared.fault.RunFault.RunFault}
-use Rattle.bac_run.specs.{declared.fault.RunFault.TheVariants.{Link, Script}, Journal.{Act, client_after, history_of}}
-use Rattle.bac_run.specs.{Replay.AskNext, Went.{IsAsked, IsUnsent}}
+use Rattle.bac_run.specs.{Act, Aim, AskNext, BadLine, client_after, Goes, history_of, IsAsked, IsDue, IsUnsent}
+use Rattle.bac_run.specs.{LineTooLong, Link, moved, ReadFailed, ReceiveFailed, RunFault, Script, SendFailed, Stage}
+use Rattle.bac_run.specs.{stage_after, TraceEnd, TurnsSpent}
+use Rattle.bac_script.specs.declared.tracing.TraceFault.TheVariants.{WriteFailed}
+use Rattle.bac_links.specs.{answers_of, Entry, Posted, Unposted, Answered.GoOnAlike}
+use Rattle.bac_links.specs.declared.fault.ToolFault.TheVariants.{WriteFailed as LinkNotWritten}
 
 pub all_due : {A : Type 0} (result : Result A RunFault) (client : Client) (acts : List Act) (gained : List Entry)
     → result ≢ Err (Script WriteFailed) → result ≢ Err (Link SendFailed) → IsAsked result client acts gained

@@ -1,12 +1,11 @@
 -- Sends that failed: each is the last thing that a run asked, and in the last of its acts.
 use Rattle.std.proofs.Common.{[], ap, append_assoc, arith, inl, inr, List, refl, subst, sym, ℕ, ◌++◌, ◌+◌, ◌∙◌, ◌∷◌}
 use Rattle.std.proofs.{Common.◌≡◌, lemmas.List.{append-nil, append_cancel_left}}
-use Rattle.bac_pdu.specs.Peer.{Station}
-use Rattle.bac_tsm.specs.{Client.Client, Events.Note}
-use Rattle.bac_links.specs.{Answered.answer_of, History.{Arrived, Entry, Posted, Timed, Unposted, Waited}}
+use Rattle.{bac_pdu.specs.Station, bac_tsm.specs.{Note, Client.Client}}
+use Rattle.bac_links.specs.{Arrived, Entry, Posted, Timed, Unposted, Waited, Answered.answer_of}
 use Rattle.bac_run.proofs.{Acts.unsent_cut, Alike.{moved_client, same_due, SameDue}, Ends.wider_none}
-use Rattle.bac_run.specs.{Course.{Goes, IsDue, moved, Stage}, Journal.{Act, Asked, asked_by, Came, client_after}}
-use Rattle.bac_run.specs.{Journal.{history_of, Passed, Paused, posts, Read, Told, turn_at}, Went.{IsCut, IsUnsent}}
+use Rattle.bac_run.specs.{Act, Asked, asked_by, Came, client_after, Goes, history_of, IsCut, IsDue, IsUnsent, moved}
+use Rattle.bac_run.specs.{Passed, Paused, posts, Read, Stage, Told, turn_at}
 
 -- ---- sends that failed
 

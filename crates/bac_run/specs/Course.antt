@@ -1,10 +1,10 @@
 -- The course of a run: what it is about, and which act is due by all that was done before.
-use Rattle.std.specs.{List.flat_map, Option.option_map_or, Prelude.{[], Bool, false, if◌then◌else◌, is_some, length}}
-use Rattle.std.specs.Prelude.{List, max, nat_le, nat_lt, Option, suc, true, ℕ, ⊤, ◌++◌, ◌+◌, ◌-◌, ◌/◌, ◌<◌, ◌==◌, ◌∷◌}
-use Rattle.std.specs.Prelude.{◌≡◌, ◌≤◌}
-use Rattle.bac_tsm.specs.{Client.Client, Events.Event, Lookahead.clock}
+use Rattle.std.specs.{List.flat_map, Option.option_map_or}
+use Rattle.std.specs.Prelude.{[], Bool, false, if◌then◌else◌, is_some, length, List, max, nat_le, nat_lt, Option, suc}
+use Rattle.std.specs.Prelude.{true, ℕ, ⊤, ◌++◌, ◌+◌, ◌-◌, ◌/◌, ◌<◌, ◌==◌, ◌∷◌, ◌≡◌, ◌≤◌}
+use Rattle.bac_tsm.specs.{clock, Event, Client.Client}
 use Rattle.bac_script.specs.declared.input.Reading.{Reading, TheVariants.Open}
-use Rattle.bac_links.specs.{History.{Arrived, Failure, Heard, Silence}, Limits.{most_turns, turn_wait}}
+use Rattle.bac_links.specs.{Arrived, Failure, Heard, most_turns, Silence, Limits.turn_wait}
 use Rattle.bac_run.specs.{declared.turns.Until.{Until, TheVariants.{FewOpen, TimeTold}}, Input.acts_of_line}
 use Rattle.bac_run.specs.Journal.{Act, Asked, Came, has_line, Passed, Paused, Read, Told, turn_at}
 

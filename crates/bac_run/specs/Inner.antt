@@ -2,3 +2,6 @@
 pub mod Went
 pub mod Run
 pub mod Examples
+unfoldable pub use Went.*
+unfoldable pub use Run.*
+unfoldable pub use Examples.*

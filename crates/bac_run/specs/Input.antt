@@ -2,12 +2,10 @@
 use Rattle.std.specs.{List.{AllByRecursion, concat, flat_map}, Prelude.{[], Bool, Err, false, if◌then◌else◌, is_some}}
 use Rattle.std.specs.Prelude.{length, List, None, Ok, Option, option_and_then, Result, Some, suc, unwrap_or, ℕ, ◌&&◌}
 use Rattle.std.specs.{Prelude.{◌++◌, ◌==◌, ◌||◌, ◌∷◌, ◌≡◌, ◌≢◌, ◌⊎◌}, Result.result_ok}
-use Rattle.bac_tsm.specs.Events.{Ask}
-use Rattle.bac_text.specs.Limits.{longest_line}
-use Rattle.bac_print.specs.{Checked.Gave, declared.checked.Checked.Checked}
-use Rattle.bac_script.specs.declared.{line.LineFault.{LineFault, TheVariants.TooLong}, tracing.TraceEnd.TraceEnd}
-use Rattle.bac_script.specs.{declared.tracing.TraceFault.{TraceFault, TheVariants.BadLine}, Line.{Happens, Nothing}}
-use Rattle.bac_script.specs.{Line.{Said, said}, Script.fault_at}
+use Rattle.{bac_tsm.specs.Ask, bac_text.specs.longest_line, bac_print.specs.{Gave, declared.checked.Checked.Checked}}
+use Rattle.bac_script.specs.{Happens, Nothing, Said, said, declared.line.LineFault.{LineFault, TheVariants.TooLong}}
+use Rattle.bac_script.specs.declared.tracing.{TraceEnd.TraceEnd, TraceFault.{TraceFault, TheVariants.BadLine}}
+use Rattle.bac_script.specs.Script.{fault_at}
 use Rattle.bac_run.specs.{declared.fault.RunFault.RunFault, Journal.{Act, Asked, ends_with_return, Paused}}
 
 -- The first octet of a line behind its blanks, spaces (32) and tabs (9), is # (35).

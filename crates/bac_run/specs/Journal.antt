@@ -1,13 +1,10 @@
 -- What a run does, one thing after another; its journal, what it asks of its link, and what `bactrace` prints of it.
 use Rattle.std.specs.{List.flat_map, Prelude.{[], Bool, codes, decimal, if◌then◌else◌, length, List, nat_le, nat_lt}}
 use Rattle.std.specs.Prelude.{None, slice_index, true, ℕ, ◌&&◌, ◌++◌, ◌-◌, ◌<◌, ◌==◌, ◌^◌, ◌∷◌, ◌≡◌}
-use Rattle.hex.specs.Hex.{encode_lower, IsBytes}
-use Rattle.bac_pdu.specs.Peer.{Station}
-use Rattle.bac_tsm.specs.{Client.{Client, keeping, rules_of}, Events.{Data, Event, Note, Sent, Tick}, Machine.initial}
-use Rattle.bac_tsm.specs.Machine.{step, Stepped}
-use Rattle.bac_print.specs.PeerTexts.{peer_text}
-use Rattle.bac_script.specs.{Line.ends_with_feed, Text.note_text}
-use Rattle.bac_links.specs.History.{Arrived, Entry, Heard, Posted, Timed, Waited}
+use Rattle.{hex.specs.Hex.{encode_lower, IsBytes}, bac_pdu.specs.Station}
+use Rattle.bac_tsm.specs.{Data, Event, initial, keeping, Note, rules_of, Sent, step, Stepped, Tick, Client.Client}
+use Rattle.{bac_print.specs.peer_text, bac_script.specs.{Line.ends_with_feed, Text.note_text}}
+use Rattle.bac_links.specs.{Arrived, Entry, Heard, Posted, Timed, Waited}
 
 -- One thing that a run does: a line of its input asks for a request; a line without words was waited for; a datagram is
 -- heard in a wait of so long, and handed to the client; a wait of so long hears nothing that is handed on; the time is

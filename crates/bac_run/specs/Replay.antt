@@ -1,14 +1,11 @@
 -- The journal as a script: what `bactrace` reads in its lines, and what it prints of them.
-use Rattle.std.specs.{List.AllByRecursion, Prelude.{[], Bool, Err, false, List, Ok, Result, true, ℕ, ⊤, ◌++◌, ◌∷◌, ◌≡◌}}
-use Rattle.std.specs.Prelude.{◌≢◌, ◌⊎◌}
-use Rattle.{
-  bac_pdu.specs.Peer.Station,
-  bac_tsm.specs.Events.{Data, Note, Sent, Tick},
-  bac_script.specs.{declared.tracing.TraceFault.TheVariants.WriteFailed, Line.{Happens, Nothing, Said, said, Settings}},
-  bac_links.specs.{Asking.question_of, declared.fault.ToolFault.TheVariants.SendFailed, History.{Entry, Posted}},
-  bac_run.specs.declared.{fault.RunFault.{RunFault, TheVariants.{Link, Script}}, session.Session.Session},
-  bac_run.specs.Journal.{Act, Asked, Came, line_of, Paused, settings_line, Told},
-}
+use Rattle.std.specs.List.{AllByRecursion}
+use Rattle.std.specs.Prelude.{[], Bool, Err, false, List, Ok, Result, true, ℕ, ⊤, ◌++◌, ◌∷◌, ◌≡◌, ◌≢◌, ◌⊎◌}
+use Rattle.{bac_pdu.specs.Station, bac_tsm.specs.{Data, Note, Sent, Tick}, bac_script.specs.Happens}
+use Rattle.bac_script.specs.{Nothing, Said, said, Settings, declared.tracing.TraceFault.TheVariants.WriteFailed}
+use Rattle.bac_links.specs.{Entry, Posted, Asking.question_of, declared.fault.ToolFault.TheVariants.SendFailed}
+use Rattle.bac_run.specs.declared.{fault.RunFault.{RunFault, TheVariants.{Link, Script}}, session.Session.Session}
+use Rattle.bac_run.specs.Journal.{Act, Asked, Came, line_of, Paused, settings_line, Told}
 
 -- The text is one line, with its only line feed (10) at its end, and says this. The flag says whether it may be
 -- settings.

@@ -1,16 +1,15 @@
 -- A whole run: its journal, and what it asked of its link.
-use Rattle.std.specs.{List.AllByRecursion, Prelude.{[], Err, length, List, None, Ok, Option, Result, Some, ℕ, ⊤, ◌++◌}}
-use Rattle.std.specs.Prelude.{◌∷◌, ◌≡◌}
-use Rattle.bac_print.specs.{Checked.octets_of, declared.checked.Checked.Checked, Page.{folded, folded_line, Writes}}
-use Rattle.bac_script.specs.{Alike.IsFrontOf, declared.input.Reading.{Reading, TheVariants.{AtEnd, Failed}}}
-use Rattle.bac_script.specs.declared.tracing.{TraceEnd.TraceEnd, TraceFault.TheVariants.{ReadFailed, WriteFailed}}
-use Rattle.bac_script.specs.{Input.ReaderStands, Script.lines}
-use Rattle.bac_links.specs.History.{Account}
+use Rattle.std.specs.List.{AllByRecursion}
+use Rattle.std.specs.Prelude.{[], Err, length, List, None, Ok, Option, Result, Some, ℕ, ⊤, ◌++◌, ◌∷◌, ◌≡◌}
+use Rattle.bac_print.specs.{folded_line, octets_of, Writes, declared.checked.Checked.Checked, Page.folded}
+use Rattle.bac_script.specs.{IsFrontOf, lines, ReaderStands}
+use Rattle.bac_script.specs.declared.{input.Reading.{Reading, TheVariants.{AtEnd, Failed}}, tracing.TraceEnd.TraceEnd}
+use Rattle.{bac_script.specs.declared.tracing.TraceFault.TheVariants.{ReadFailed, WriteFailed}, bac_links.specs.Account}
 use Rattle.bac_run.specs.Course.{Aim, aims_of_lines, Goes, Outside, ready, Stage, stage_after}
 use Rattle.bac_run.specs.declared.{fault.RunFault.{RunFault, TheVariants.{Link, Script}}, session.Session.Session}
-use Rattle.bac_run.specs.{Input.{fault_in, Takes}, Journal.{Act, Came, client_after, FitsLine, journal, new_client}}
-use Rattle.bac_run.specs.{Journal.{Passed, settings_line}, Replay.AreSettings, Went.{ComesTo, HasAsked, IsOver}}
-use Rattle.bac_run.specs.Went.{IsWithin}
+use Rattle.bac_run.specs.Input.{fault_in, Takes}
+use Rattle.bac_run.specs.Journal.{Act, Came, client_after, FitsLine, journal, new_client, Passed, settings_line}
+use Rattle.bac_run.specs.{Replay.AreSettings, Went.{ComesTo, HasAsked, IsOver, IsWithin}}
 
 -- The lines of a session's journal: its settings, and what it does.
 abbrev pub journal_lines : Session → List Act → List ℕ

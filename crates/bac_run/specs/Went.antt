@@ -1,13 +1,12 @@
 -- What a part of a run did to its client, its page and its link.
 use Rattle.std.specs.Prelude.{[], Err, List, Ok, Result, zero, ℕ, ⊤, ◌++◌, ◌<◌, ◌∷◌, ◌≡◌, ◌⊎◌}
-use Rattle.bac_pdu.specs.Peer.{Station}
-use Rattle.bac_tsm.specs.Client.{Client}
+use Rattle.{bac_pdu.specs.Station, bac_tsm.specs.Client.Client}
 use Rattle.bac_script.specs.declared.tracing.TraceFault.TheVariants.{WriteFailed}
+use Rattle.bac_links.specs.{Account, Entry, GainsAll, Posted, Unposted}
 use Rattle.bac_links.specs.declared.fault.ToolFault.TheVariants.{ReceiveFailed, SendFailed, TurnsSpent}
-use Rattle.bac_links.specs.History.{Account, Entry, GainsAll, Posted, Unposted}
-use Rattle.bac_run.specs.{Course.{Aim, Broken, open_in, Outside, Phase, Stage, Turns}, declared.fault.RunFault.RunFault}
-use Rattle.bac_run.specs.{declared.fault.RunFault.TheVariants.{Link, Script}, Journal.{Act, Asked, asked_by}}
-use Rattle.bac_run.specs.Journal.{client_after, history_of, posts, turn_at}
+use Rattle.bac_run.specs.Course.{Aim, Broken, open_in, Outside, Phase, Stage, Turns}
+use Rattle.bac_run.specs.declared.fault.RunFault.{RunFault, TheVariants.{Link, Script}}
+use Rattle.bac_run.specs.Journal.{Act, Asked, asked_by, client_after, history_of, posts, turn_at}
 
 -- A send of what is due failed: a link was asked all before it.
 abbrev pub IsCut : (due gained : List Entry) → Type 0

@@ -1,28 +1,16 @@
 //! Examples of what a run does, worked out by computation. They show what the definitions mean.
 
-ghost use Rattle.std.specs.Prelude.{◌≡◌, ◌^◌, ◌<◌, ℕ, List, [], ◌∷◌, ◌++◌, codes, replicate, false, Err};
-ghost use Rattle.bac_tsm.specs.Events.{Tick};
-ghost use Rattle.bac_script.specs.Line.{Happens, Nothing};
-ghost use Rattle.bac_script.specs.declared.input.Reading.TheVariants.{AtEnd, Failed, Open};
-ghost use Rattle.bac_script.specs.declared.line.LineFault.TheVariants.{TooLong};
-ghost use Rattle.bac_script.specs.declared.tracing.TraceFault.TheVariants.{BadLine, ReadFailed};
-ghost use Rattle.bac_links.specs.History.{Arrived, Posted, Silence, Timed, Unposted, Waited};
-ghost use Rattle.bac_links.specs.declared.fault.ToolFault.TheVariants.{ReceiveFailed, TurnsSpent};
-ghost use Rattle.bac_links.specs.Limits.{most_turns};
-ghost use Rattle.bac_print.specs.Checked.{fresh};
-ghost use Rattle.bac_run.specs.Course.{AreSteady, Does, Fresh, Goes, IsDue, Turns, aims_of_lines, room_for};
-ghost use Rattle.bac_run.specs.Fault.{write_failed};
-ghost use Rattle.bac_run.specs.Input.{EndsWithFeed, HasNoFeed, said_of};
-ghost use Rattle.bac_run.specs.Inner.Examples.{IsRunOf, about, answer, asked, at_rest, busy, deaf, desk, ended};
-ghost use Rattle.bac_run.specs.Inner.Examples.{filled, idle};
-ghost use Rattle.bac_run.specs.Inner.Examples.{long_answer, octets, one_by_one, read, read_line, sent, unsent, waiting};
-ghost use Rattle.bac_run.specs.Journal.{Asked, Came, FitsLine, Passed, Paused, Read, Told, history_of, journal};
-ghost use Rattle.bac_run.specs.Journal.{events_of, notes_of, time_line};
-ghost use Rattle.bac_run.specs.Replay.{AreSent, AskNext, IsLineOf, IsReadBack, posted_in, sent_in};
-ghost use Rattle.bac_run.specs.Run.{EndsAt, IsOut, journal_of};
-ghost use Rattle.bac_run.specs.Went.{IsAsked, IsWithin};
-ghost use Rattle.bac_run.specs.declared.fault.RunFault.TheVariants.{Link, Script};
-ghost use Rattle.bac_run.specs.declared.turns.Until.TheVariants.{FewOpen};
+ghost use Rattle.std.specs.Prelude.{[], codes, Err, false, List, replicate, ℕ, ◌++◌, ◌<◌, ◌^◌, ◌∷◌, ◌≡◌};
+ghost use Rattle.{bac_tsm.specs.Tick, bac_script.specs.{Happens, Nothing, declared.line.LineFault.TheVariants.TooLong}};
+ghost use Rattle.bac_run.specs.{aims_of_lines, AreSent, AreSteady, Asked, AskNext, AtEnd, BadLine, Came, Does, EndsAt};
+ghost use Rattle.bac_run.specs.{EndsWithFeed, events_of, Failed, FewOpen, FitsLine, Fresh, Goes, HasNoFeed, history_of};
+ghost use Rattle.bac_run.specs.{IsAsked, IsDue, IsLineOf, IsOut, IsReadBack, IsWithin, journal, journal_of, Link};
+ghost use Rattle.bac_run.specs.{notes_of, Open, Passed, Paused, posted_in, Read, ReadFailed, ReceiveFailed, room_for};
+ghost use Rattle.bac_run.specs.{said_of, Script, sent_in, time_line, Told, Turns, TurnsSpent, write_failed};
+ghost use Rattle.bac_run.specs.Inner.{about, answer, asked, at_rest, busy, deaf, desk, ended, filled, idle, IsRunOf};
+ghost use Rattle.bac_run.specs.Inner.{long_answer, octets, one_by_one, read, read_line, sent, unsent, waiting};
+ghost use Rattle.bac_links.specs.{Arrived, most_turns, Posted, Silence, Timed, Unposted, Waited};
+ghost use Rattle.bac_print.specs.{fresh};
 
 // Which act is due in a wait for what is open. The timeout is three seconds, so a turn waits for 50 milliseconds.
 #[tactic(auto, unfolding(bac_script::proofs::Computed::computed))]
@@ -178,7 +166,7 @@ fn examples_of_asking()
 {}
 
 // What `bactrace` reads in a line of the journal.
-#[tactic(auto, using(crate::proofs::ReadBack::time_read_back))]
+#[tactic(auto, using(crate::proofs::time_read_back))]
 fn examples_of_reading()
     ensures feed { EndsWithFeed (13 ∷ 10 ∷ []) }
     ensures feeds { EndsWithFeed (10 ∷ 10 ∷ []) → ⊥ }

@@ -1,7 +1,6 @@
 //! Why a run of many requests stopped.
 ghost use Rattle.std.specs.Prelude.{◌≡◌};
-ghost use Rattle.bac_print.specs.Message.{message_text};
-ghost use Rattle.bac_run.specs.Fault.{run_fault_text};
+ghost use Rattle.{bac_print.specs.message_text, bac_run.specs.run_fault_text};
 
 use bac_links::ToolFault;
 use bac_print::{Message, WriteFailed};

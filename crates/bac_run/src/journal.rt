@@ -1,17 +1,10 @@
 //! What is printed of a run: the lines of a script, and what the client tells as remarks.
 
-ghost use Rattle.std.specs.Prelude.{◌≡◌, [], ◌∷◌, ◌++◌, codes, decimal};
-ghost use Rattle.std.specs.List.{flat_map};
-ghost use Rattle.std.specs.Option.{option_map};
-ghost use Rattle.bac_pdu.specs.Peer.{station};
-ghost use Rattle.bac_tsm.specs.Events.{Refused, TimedOut};
-ghost use Rattle.bac_tsm.specs.Machine.{sent, due_notes, datagram_notes};
-ghost use Rattle.bac_tsm.specs.Client.{end_seen};
-ghost use Rattle.hex.specs.Hex.{encode_lower};
-ghost use Rattle.bac_print.specs.Page.{Prints};
-ghost use Rattle.bac_print.specs.PeerTexts.{peer_text};
-ghost use Rattle.bac_run.specs.Journal.{arrival_line, has_line, remark, remarks, settings_line, time_line};
-ghost use Rattle.bac_run.specs.Journal.{whole_line};
+ghost use Rattle.std.specs.{List.flat_map, Option.option_map, Prelude.{[], codes, decimal, ◌++◌, ◌∷◌, ◌≡◌}};
+ghost use Rattle.bac_pdu.specs.{station};
+ghost use Rattle.bac_tsm.specs.{due_notes, Refused, sent, Client.end_seen, Events.TimedOut, Machine.datagram_notes};
+ghost use Rattle.{hex.specs.Hex.encode_lower, bac_print.specs.{peer_text, Prints}};
+ghost use Rattle.bac_run.specs.{arrival_line, has_line, remark, remarks, settings_line, time_line, whole_line};
 
 use bac_pdu::Peer;
 use bac_print::Page;

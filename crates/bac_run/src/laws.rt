@@ -1,32 +1,15 @@
 //! What holds of every run. Each function has an empty body, and its clauses are the laws.
-ghost use Rattle.std.specs.Prelude.{◌≡◌, ◌≢◌, ◌⊎◌, ◌++◌, ◌+◌, ◌*◌, ◌<◌, ◌^◌, ◌≤◌, length, map, suc, true, false, ℕ};
-ghost use Rattle.std.specs.Prelude.{List, None, Result, Ok, Err};
-ghost use Rattle.std.specs.List.{flat_map};
-ghost use Rattle.bac_wire.specs.Copies.{EqualsBy, MakesCopies};
-ghost use Rattle.bac_print.specs.Checked.{fresh};
-ghost use Rattle.bac_print.specs.declared.checked.Checked.{Checked};
-ghost use Rattle.bac_script.specs.Alike.{GaveSame};
-ghost use Rattle.bac_script.specs.Script.{text, lines, first_fault};
-ghost use Rattle.bac_script.specs.Text.{notes_text};
-ghost use Rattle.bac_script.specs.declared.input.Reading.TheVariants.{AtEnd};
-ghost use Rattle.bac_script.specs.declared.tracing.TraceEnd.{TraceEnd};
-ghost use Rattle.bac_script.specs.Line.{Happens, Settings as SettingsSaid};
-ghost use Rattle.hex.specs.Hex.{IsBytes};
-ghost use Rattle.bac_tsm.specs.Client.{client_rules};
-ghost use Rattle.bac_tsm.specs.Events.{Data, Event};
-ghost use Rattle.bac_tsm.specs.Laws.{outputs, state_at};
-ghost use Rattle.bac_tsm.specs.Lookahead.{Accepted, clock, end};
-ghost use Rattle.bac_links.specs.Answered.{answers_of};
-ghost use Rattle.bac_links.specs.History.{Account, Entry};
-ghost use Rattle.bac_run.specs.Input.{EndsWithFeed, HasNoFeed, said_of};
-ghost use Rattle.bac_run.specs.Course.{AreSteady};
-ghost use Rattle.bac_run.specs.Fault.{write_failed};
-ghost use Rattle.bac_run.specs.Journal.{Act, Asked, Paused, Told, arrival_line, client_after, events_of, new_client};
-ghost use Rattle.bac_run.specs.Journal.{notes_of, settings_line};
-ghost use Rattle.bac_run.specs.Replay.{AreSent, AskNext, IsLineOf, IsReadBack, posted_in, sent_in};
-ghost use Rattle.bac_run.specs.Run.{Runs, journal_of};
-ghost use Rattle.bac_run.specs.declared.session.Session.{Session as Settings};
-ghost use Rattle.bac_run.specs.declared.fault.RunFault.{RunFault as Fault};
+ghost use Rattle.std.specs.{List.flat_map, Prelude.{Err, false, length, List, map, None, Ok, Result, suc, true, ℕ}};
+ghost use Rattle.std.specs.Prelude.{◌*◌, ◌++◌, ◌+◌, ◌<◌, ◌^◌, ◌≡◌, ◌≢◌, ◌≤◌, ◌⊎◌};
+ghost use Rattle.{bac_wire.specs.{EqualsBy, MakesCopies}, bac_print.specs.fresh};
+ghost use Rattle.bac_run.specs.{Act, AreSent, AreSteady, arrival_line, Asked, AskNext, AtEnd, Checked, client_after};
+ghost use Rattle.bac_run.specs.{EndsWithFeed, events_of, HasNoFeed, IsLineOf, IsReadBack, journal_of, new_client};
+ghost use Rattle.bac_run.specs.{notes_of, Paused, posted_in, RunFault as Fault, Runs, said_of, sent_in};
+ghost use Rattle.bac_run.specs.{Session as Settings, settings_line, Told, TraceEnd, write_failed};
+ghost use Rattle.bac_script.specs.{GaveSame, Happens, lines, Settings as SettingsSaid, Script.{first_fault, text}};
+ghost use Rattle.{bac_script.specs.Text.notes_text, hex.specs.Hex.IsBytes};
+ghost use Rattle.bac_tsm.specs.{Accepted, client_rules, clock, Data, end, Event, outputs, state_at};
+ghost use Rattle.bac_links.specs.{Account, answers_of, Entry};
 
 use crate::fault::RunFault;
 use crate::session::Session;
@@ -111,20 +94,20 @@ pub fn a_journal_is_a_script<L: Link, R: Read, W: Write>()
 {}
 
 /// `bactrace` reads the line of a time as that time.
-#[tactic(auto, using(crate::proofs::ReadBack::time_read_back))]
+#[tactic(auto, using(crate::proofs::time_read_back))]
 pub fn a_time_is_read_back()
     ensures { (time : ℕ) → time < 2 ^ 64 → IsReadBack (Told time) }
 {}
 
 /// `bactrace` reads the line of the settings as these settings.
-#[tactic(auto, using(crate::proofs::ReadBack::settings_read_back))]
+#[tactic(auto, using(crate::proofs::settings_read_back))]
 pub fn settings_are_read_back()
     ensures { (timeout retries : ℕ) → 0 < timeout → timeout < 2 ^ 32 → retries < 2 ^ 8
         → IsLineOf true (settings_line timeout retries) (SettingsSaid timeout retries 0) }
 {}
 
 /// `bactrace` reads the line of a datagram from a peer without a route as that datagram from that peer.
-#[tactic(auto, using(crate::proofs::ReadBack::arrival_read_back))]
+#[tactic(auto, using(crate::proofs::arrival_read_back))]
 pub fn an_arrival_is_read_back()
     ensures { (ip port : ℕ) (octets : List ℕ) → ip < 2 ^ 32 → port < 2 ^ 16 → IsBytes octets → 0 < length octets
         → length octets ≤ 2034
@@ -134,7 +117,7 @@ pub fn an_arrival_is_read_back()
 
 /// `bactrace` reads the line of a request, as it stands in the journal, as that request. (The last line of the input
 /// may lack its line feed.)
-#[tactic(auto, using(crate::proofs::Lines::empty_read_back))]
+#[tactic(auto, using(crate::proofs::empty_read_back))]
 pub fn a_request_is_read_back()
     ensures asked { (line : List ℕ) (event : Event) → EndsWithFeed line ⊎ HasNoFeed line
         → said_of line ≡ Ok (Happens event) → IsReadBack (Asked line event) }

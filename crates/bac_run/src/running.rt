@@ -1,25 +1,12 @@
 //! A run of many requests over one link.
 
-ghost use Rattle.std.specs.Prelude.{◌≡◌, ◌≢◌, ◌⊎◌, ◌↔◌, ◌-◌, ◌<◌, [], ◌∷◌, Some, false, true, Err, IfErr, IfOk};
-ghost use Rattle.bac_wire.specs.Steps.{result_seen};
-ghost use Rattle.bac_pdu.specs.Peer.{station};
-ghost use Rattle.bac_script.specs.LineSeen.{line_seen};
-ghost use Rattle.bac_tsm.specs.Events.{Ask};
-ghost use Rattle.bac_print.specs.Checked.{has_failed};
-ghost use Rattle.bac_print.specs.Page.{held, writer_of};
-ghost use Rattle.bac_run.specs.Fault.{is_of_link, write_failed};
-ghost use Rattle.bac_run.specs.Inner.Went.{send_failed};
-ghost use Rattle.bac_run.specs.Inner.Went.{stopped, IsNamed, IsOfWait, Opened, Went, WentFor, started};
-ghost use Rattle.bac_script.specs.declared.tracing.TraceFault.TheVariants.{WriteFailed};
-ghost use Rattle.bac_run.specs.Course.{Turns, open_in};
-ghost use Rattle.bac_run.specs.Input.{acts_of_line, is_remark, said_of, skipped};
-ghost use Rattle.bac_run.specs.Journal.{Asked};
-ghost use Rattle.bac_run.specs.Run.{Runs};
-ghost use Rattle.bac_run.specs.Inner.Run.{RunsOn};
-ghost use Rattle.bac_run.specs.Went.{IsOver, IsOverAt};
-ghost use Rattle.bac_run.specs.declared.fault.RunFault.TheVariants.{Script};
-ghost use Rattle.bac_run.specs.declared.turns.Until.TheVariants.{FewOpen};
-ghost use Rattle.bac_links.specs.Limits.{most_turns};
+ghost use Rattle.std.specs.Prelude.{[], Err, false, IfErr, IfOk, Some, true, ◌-◌, ◌<◌, ◌↔◌, ◌∷◌, ◌≡◌, ◌≢◌, ◌⊎◌};
+ghost use Rattle.{bac_wire.specs.result_seen, bac_pdu.specs.station};
+ghost use Rattle.bac_script.specs.{declared.tracing.TraceFault.TheVariants.WriteFailed, LineSeen.line_seen};
+ghost use Rattle.{bac_tsm.specs.Ask, bac_print.specs.{has_failed, held, writer_of}, bac_run.specs.acts_of_line};
+ghost use Rattle.bac_run.specs.{Asked, FewOpen, is_of_link, is_remark, IsOver, IsOverAt, open_in, Runs, said_of};
+ghost use Rattle.bac_run.specs.{Script, skipped, Turns, write_failed, Inner.{IsNamed, IsOfWait, Opened, RunsOn}};
+ghost use Rattle.{bac_run.specs.Inner.{send_failed, started, stopped, WentFor, Went.Went}, bac_links.specs.most_turns};
 
 use crate::fault::RunFault;
 use crate::journal::{print_line, print_settings, remark_refusal, remark_sent};

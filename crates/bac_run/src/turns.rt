@@ -1,18 +1,11 @@
 //! Turns of a run: what the link hears and the time are handed to the client, and what it sends is sent.
 
-ghost use Rattle.std.specs.Prelude.{◌≡◌, ◌≤◌, ℕ, List, [], ◌∷◌, false, true, Err, IfErr, IfOk};
-ghost use Rattle.std.specs.List.{flat_map};
-ghost use Rattle.bac_print.specs.Checked.{has_failed};
-ghost use Rattle.bac_print.specs.Page.{held, writer_of};
-ghost use Rattle.bac_tsm.specs.Machine.{sent, due_notes};
-ghost use Rattle.bac_links.specs.Limits.{most_turns};
-ghost use Rattle.bac_run.specs.Course.{Aim, Fresh, Turns, heard_at, is_reached, open_in, settled, wait_at};
-ghost use Rattle.bac_run.specs.Fault.{is_of_link, write_failed};
-ghost use Rattle.bac_run.specs.Inner.Went.{send_failed};
-ghost use Rattle.bac_run.specs.Inner.Went.{IsOfWait, Went, begins_turn, ends_turn, heard_until, hearing, looking};
-ghost use Rattle.bac_run.specs.Inner.Went.{outside, started, to_tell};
-ghost use Rattle.bac_run.specs.Journal.{posts};
-ghost use Rattle.bac_run.specs.Inner.Went.{GainsDue};
+ghost use Rattle.std.specs.{List.flat_map, Prelude.{[], Err, false, IfErr, IfOk, List, true, ℕ, ◌∷◌, ◌≡◌, ◌≤◌}};
+ghost use Rattle.bac_print.specs.{has_failed, held, writer_of};
+ghost use Rattle.{bac_tsm.specs.{due_notes, sent}, bac_links.specs.most_turns};
+ghost use Rattle.bac_run.specs.{Aim, Fresh, heard_at, is_of_link, is_reached, open_in, posts, settled, Turns, wait_at};
+ghost use Rattle.bac_run.specs.{write_failed, Inner.{begins_turn, ends_turn, GainsDue, heard_until, hearing, IsOfWait}};
+ghost use Rattle.bac_run.specs.Inner.{looking, outside, send_failed, started, to_tell, Went.Went};
 
 use crate::fault::RunFault;
 use crate::journal::{has_line, print_arrival, print_time, remark_due, remark_end};

@@ -1,10 +1,8 @@
 -- What the worked examples compute with, and what those of a device do: who unfolds `computed` unfolds all of it.
 use Rattle.std.specs.{Fmt.digits, Str.{chars, is_utf8}}
-use Rattle.hex.specs.Hex.{decode_pairs, encode_with}
-use Rattle.bac_wire.specs.DatumReading.{values_within}
-use Rattle.bac_pdu.specs.{PropertyReading.ack_of, ValueReading.{introduction_of, who_is_of}}
-use Rattle.bac_tsm.specs.{Answers.{answer_in_datagram, is_answer_to, same_station}, Lookahead.next_invoke_id}
-use Rattle.bac_tsm.specs.Lookahead.{refusal_of}
+use Rattle.{hex.specs.Hex.{decode_pairs, encode_with}, bac_wire.specs.values_within}
+use Rattle.bac_pdu.specs.{ack_of, ValueReading.{introduction_of, who_is_of}}
+use Rattle.bac_tsm.specs.{next_invoke_id, refusal_of, Answers.{answer_in_datagram, is_answer_to, same_station}}
 use Rattle.bac_device.{proofs.Computed.computed as replies, specs.{Device.add_point, Inner.Demo.with_row, Kind.kind_of}}
 use Rattle.bac_device.specs.{Places.place_at, Point.description_of, Reply.who_is_reply}
 use Rattle.bac_text.specs.ValueWords.{value_under}

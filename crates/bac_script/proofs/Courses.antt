@@ -1,30 +1,28 @@
 -- The course of a script, line after line: its text is what the look-ahead gives, and a function of its octets; what
 -- holds between two lines of a script, and where it stops.
+pub mod Chunks
 use Rattle.std.proofs.Common.{[], ap, append-nil, append_assoc, arith, Bool, drop, eqb-true, Err, false, IfOk, IfSome}
 use Rattle.std.proofs.Common.{if◌then◌else◌, inl, inr, length, length-append, List, MatchOption, nat_lt, None, Ok}
 use Rattle.std.proofs.Common.{ok_or, Option, option_map, refl, Result, slice_get, Some, subst, suc, sym, take}
 use Rattle.std.proofs.Common.{take-append-drop, true, zero, ℕ, ◌&&◌, ◌++◌, ◌+◌, ◌<◌, ◌==◌, ◌∙◌, ◌∷◌, ◌≡◌, ◌≢◌, ◌≤◌, ◌⊎◌}
-use Rattle.std.proofs.lemmas.{Bool.{Decides.nat_tests, eqb-false}, List.append_cancel_right}
+use Rattle.std.proofs.lemmas.{Bool.{eqb-false, Decides.nat_tests}, List.append_cancel_right}
 use Rattle.std.specs.{List.AllByRecursion, Option.option_map_or, Prelude.⊤, Result.result_ok}
-use Rattle.{bac_pdu.specs.Peer.Station, bac_tsm.proofs.Laws.{back_late, begins, by_invoke_id, few_open, one_step}}
-use Rattle.bac_tsm.specs.{Client.{Client, client_rules, keeping}, Events.{Event, Note}, Laws.InvokeIdsComeBackLate}
-use Rattle.bac_tsm.specs.{Laws.state_at, Limits.table_size, Lookahead.output, Machine.{State, Stepped}}
-use Rattle.bac_device.specs.{Demo.demo_points, Device.DeviceState, Places.Write, Turns.replies_to}
-use Rattle.{bac_text.specs.Limits.longest_line, bac_print.proofs.Printed.{all_written, finished, Gave-none}}
-use Rattle.bac_print.{proofs.Printed.{prints_nothing, ◌⨾◌}, specs.Checked.{ends_of, fresh, has_failed, last_of}}
-use Rattle.bac_print.specs.{Checked.{octets_of, reads_of}, declared.{checked.Checked.Checked, page.Page.Page}}
-use Rattle.bac_print.specs.Page.{held as on_page, laid_out, Prints, room_of, writer_of, Writes, Wrote}
-use Rattle.bac_script.proofs.Chunks.{ends_with_feed-none, further, lines-ended, lines-last, lines-rest, next_ended}
-use Rattle.bac_script.proofs.Chunks.{next_last, next_long, NextLine, pieces-open, said-long, said-whole_long}
-use Rattle.bac_script.{proofs.Chunks.{Takes-front, Takes-more}, specs.{all_said, AreAlike, arrivals_in, Asks, AtEnd}}
-use Rattle.bac_script.specs.declared.tracing.TraceFault.TheVariants.{BadLine, LineTooLong}
-use Rattle.bac_script.specs.{empty_reads, EndsAs, events_in, Failed, fault_at, fault_from, fault_or, first_fault}
-use Rattle.bac_script.specs.{GaveFront, GaveSame, Happens, HasNoFeed, Inner.{device_with, HasNotEnded, new_client, ran}}
-use Rattle.bac_script.specs.{Inner.{RunsOn, Stage, Stands, writes_with}, is_nothing, IsFrontOf, IsLineCut, IsToldFirst}
-use Rattle.bac_script.specs.{IsWrittenOf, LastIsNeeded, line_room, LineFault, lines, most_reads, notes_text, Nothing}
-use Rattle.bac_script.specs.{Open, printed, ReaderStands, ReadFailed, ReadForLine, Reading, ReadsNoMore, requests_in}
-use Rattle.bac_script.specs.{Runs, Said, said, said_by, said_from, said_in, Settings, small_device, TakesAndKeeps, text}
-use Rattle.bac_script.specs.{text_of, text_of_line, TraceEnd, TraceFault, Traces, WriteFailed}
+use Rattle.{bac_pdu.specs.Station, bac_tsm.proofs.Laws.{back_late, begins, by_invoke_id, few_open, one_step}}
+use Rattle.bac_tsm.specs.{client_rules, Event, keeping, Note, State, state_at, Stepped, Client.Client}
+use Rattle.bac_tsm.specs.{Laws.InvokeIdsComeBackLate, Limits.table_size, Lookahead.output}
+use Rattle.{bac_device.specs.{demo_points, DeviceState, replies_to, Write}, bac_text.specs.longest_line}
+use Rattle.bac_print.proofs.Printed.{all_written, finished, Gave-none, prints_nothing, ◌⨾◌}
+use Rattle.bac_print.specs.{ends_of, fresh, has_failed, held as on_page, last_of, octets_of, Prints, reads_of, room_of}
+use Rattle.bac_print.specs.{writer_of, Writes, Page.{laid_out, Wrote}}
+use Rattle.bac_script.specs.{all_said, AreAlike, arrivals_in, Asks, AtEnd, BadLine, Checked, empty_reads, EndsAs}
+use Rattle.bac_script.specs.{events_in, Failed, fault_at, fault_from, fault_or, first_fault, GaveFront, GaveSame}
+use Rattle.bac_script.specs.{Happens, HasNoFeed, is_nothing, IsFrontOf, IsLineCut, IsToldFirst, IsWrittenOf}
+use Rattle.bac_script.specs.{LastIsNeeded, line_room, LineFault, lines, LineTooLong, most_reads, notes_text, Nothing}
+use Rattle.bac_script.specs.{Open, Page, printed, ReaderStands, ReadFailed, ReadForLine, Reading, ReadsNoMore}
+use Rattle.bac_script.specs.{requests_in, Runs, Said, said, said_by, said_from, said_in, Settings, small_device}
+use Rattle.bac_script.specs.{TakesAndKeeps, text, text_of, text_of_line, TraceEnd, TraceFault, Traces, WriteFailed}
+use Rattle.bac_script.specs.Inner.{device_with, HasNotEnded, new_client, ran, RunsOn, Stage, Stands, writes_with}
+use Chunks.*
 
 -- What a script runs on before its first line.
 abbrev pub first_stage : Stage

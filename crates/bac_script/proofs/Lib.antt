@@ -1,3 +1,4 @@
-pub mod Chunks
 pub mod Courses
 pub mod Computed
+pub use Courses.*
+pub use Courses.Chunks.*

@@ -1,6 +1,6 @@
 -- That two runs of one script are alike.
-use Rattle.std.specs.Prelude.{◌≡◌, ◌≢◌, ℕ, List, ◌++◌, Result, Err}
-use Rattle.bac_print.specs.{Checked.{ends_of, octets_of}, declared.checked.Checked.Checked}
+use Rattle.std.specs.Prelude.{Err, List, Result, ℕ, ◌++◌, ◌≡◌, ◌≢◌}
+use Rattle.bac_print.specs.{ends_of, octets_of, declared.checked.Checked.Checked}
 use Rattle.bac_script.specs.declared.tracing.{TraceEnd.TraceEnd, TraceFault.{TraceFault, TheVariants.WriteFailed}}
 
 -- The first octets are the beginning of the second, or all of them.

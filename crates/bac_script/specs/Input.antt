@@ -1,7 +1,7 @@
 -- What is taken from a reader through a chunk of octets that were read and not yet taken.
-use Rattle.std.specs.{Io.KnownBytes.IsAtEnd, Prelude.{[], false, List, max, Option, true, ℕ, ◌+◌, ◌-◌, ◌^◌, ◌≡◌, ◌≤◌}}
-use Rattle.std.specs.Prelude.{◌⊎◌}
-use Rattle.bac_print.specs.Checked.{ends_of, has_ended, has_failed, inner_of, reads_of}
+use Rattle.std.specs.Io.KnownBytes.{IsAtEnd}
+use Rattle.std.specs.Prelude.{[], false, List, max, Option, true, ℕ, ◌+◌, ◌-◌, ◌^◌, ◌≡◌, ◌≤◌, ◌⊎◌}
+use Rattle.bac_print.specs.{ends_of, has_failed, reads_of, Checked.{has_ended, inner_of}}
 use Rattle.bac_print.specs.declared.checked.Checked.{Checked}
 use Rattle.bac_script.specs.declared.input.Reading.{Reading, TheVariants.{AtEnd, Failed, Open}}
 

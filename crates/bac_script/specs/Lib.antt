@@ -23,7 +23,9 @@ unfoldable pub use Running.*
 unfoldable pub use Script.*
 unfoldable pub use Tracing.*
 unfoldable pub use Alike.*
+pub use Rattle.bac_script.specs.Alike.{GaveSame, IsFrontOf}
 pub use Rattle.bac_script.specs.declared.input.Reading.{Reading, TheVariants.{AtEnd, Failed, Open}}
-pub use Rattle.bac_script.specs.declared.line.LineFault.{LineFault}
-pub use Rattle.bac_script.specs.declared.tracing.TraceEnd.{TraceEnd}
-pub use Rattle.bac_script.specs.declared.tracing.TraceFault.{TraceFault, TheVariants.{ReadFailed, WriteFailed}}
+pub use Rattle.bac_script.specs.declared.{line.LineFault.LineFault, tracing.{TraceEnd.TraceEnd, TraceFault.TraceFault}}
+pub use Rattle.bac_script.specs.declared.tracing.TraceFault.TheVariants.{BadLine, LineTooLong, ReadFailed, WriteFailed}
+pub use Rattle.bac_script.specs.{Input.ReaderStands, Line.{Happens, Nothing, Said, said, Settings}, Script.lines}
+pub use Rattle.bac_print.specs.declared.{checked.Checked.Checked, page.Page.Page}

@@ -1,6 +1,6 @@
 -- The limits of what is held of a script. The code has constants of the same numbers.
 use Rattle.std.specs.Prelude.{ℕ, ◌+◌}
-use Rattle.bac_text.specs.Limits.{longest_line}
+use Rattle.bac_text.specs.{longest_line}
 
 -- The octets of the longest line, with its line feed. So many octets without a line feed among them are too long.
 abbrev pub line_room : ℕ

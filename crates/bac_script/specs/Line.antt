@@ -1,13 +1,11 @@
 -- The lines of a script, and what each says.
-use Rattle.std.specs.Prelude.{ℕ, ◌-◌, ◌^◌, ◌==◌, ◌&&◌, Bool, nat_lt, List, [], ◌∷◌, length, take, slice_index}
-use Rattle.std.specs.Prelude.{bytes_eq, codes, Option, Some, None, option_map, Result, Ok, Err, ok_or, if◌then◌else◌}
+use Rattle.std.specs.Prelude.{[], Bool, bytes_eq, codes, Err, if◌then◌else◌, length, List, nat_lt, None, Ok, ok_or}
+use Rattle.std.specs.Prelude.{Option, option_map, Result, slice_index, Some, take, ℕ, ◌&&◌, ◌-◌, ◌==◌, ◌^◌, ◌∷◌}
 use Rattle.std.specs.{Result.result_ok, Str.{is_utf8, Lines.strip_carriage_return}}
-use Rattle.bac_wire.specs.{Identifier.Identifier, Steps.◌>>=◌}
-use Rattle.bac_pdu.specs.Property.{read_octets}
-use Rattle.bac_tsm.specs.Events.{Event, Ask, Data, Tick}
-use Rattle.bac_device.specs.Turns.{Arrival}
-use Rattle.bac_text.specs.{Address.{plain_peer_of, peer_of}, Words.{words_of, number_up_to, octets_of, next_as, at_end}}
-use Rattle.bac_text.specs.{Limits.longest_line, Parameters.{priority_from, write_index_of}, Pairs.whole_body_of}
+use Rattle.bac_wire.specs.{◌>>=◌, Identifier.Identifier}
+use Rattle.{bac_pdu.specs.read_octets, bac_tsm.specs.{Ask, Data, Event, Tick}, bac_device.specs.Arrival}
+use Rattle.bac_text.specs.{longest_line, plain_peer_of, whole_body_of, words_of, Address.peer_of}
+use Rattle.bac_text.specs.{Parameters.{priority_from, write_index_of}, Words.{at_end, next_as, number_up_to, octets_of}}
 use Rattle.bac_script.specs.declared.line.LineFault.{LineFault, TheVariants.{Bad, TooLong}}
 
 -- What a line says: nothing, the client's settings, an event of the client, or a datagram that the device is asked

@@ -1,7 +1,7 @@
 -- A line as the program keeps it, and what it says.
 use Rattle.std.specs.Prelude.{List, ℕ}
-use Rattle.{bac_wire.specs.Identifier.identifier, bac_pdu.specs.Peer.station, bac_tsm.specs.Events.{Ask, Data, Tick}}
-use Rattle.{bac_device.specs.Turns.Arrival, bac_text.specs.Pairs.whole_body_of}
+use Rattle.{bac_wire.specs.identifier, bac_pdu.specs.station, bac_tsm.specs.{Ask, Data, Tick}, bac_device.specs.Arrival}
+use Rattle.bac_text.specs.{whole_body_of}
 use Rattle.bac_script.specs.declared.{line.{Line.Line, Received.Received}, long_write.LongWrite.LongWrite}
 use Rattle.bac_script.specs.{Line.{Asks, Happens, Nothing, Said, Settings}, LongBody.octets_or_none}
 use Rattle.bac_script.specs.declared.line.Line.TheVariants as line

@@ -1,6 +1,6 @@
 -- A body that is too long to be sent.
-use Rattle.std.specs.Prelude.{ℕ, Bool, false, nat_lt, List, [], length, Result, Ok, Err}
-use Rattle.bac_pdu.specs.Apdu.{longest_body}
+use Rattle.std.specs.Prelude.{[], Bool, Err, false, length, List, nat_lt, Ok, Result, ℕ}
+use Rattle.bac_pdu.specs.{longest_body}
 
 abbrev pub octets_or_none : Result (List ℕ) ℕ → List ℕ
 octets_or_none (Ok body) = body

@@ -1,8 +1,8 @@
 -- How the lines of a script are cut from what its reader gave.
-use Rattle.std.specs.Prelude.{[], ◌*◌, ◌++◌, ◌+◌, ◌-◌, ◌<◌, ◌∷◌, ◌≡◌, ◌≤◌, ◌⊎◌, drop, false, length, List, Option, take}
-use Rattle.std.specs.Prelude.{ℕ}
-use Rattle.bac_print.specs.Checked.{Gave, has_failed, last_of, octets_of, reads_of}
-use Rattle.bac_print.specs.{declared.{checked.Checked.Checked, page.Page.Page}, Page.{held as on_page, writer_of}}
+use Rattle.std.specs.Prelude.{[], drop, false, length, List, Option, take, ℕ, ◌*◌, ◌++◌, ◌+◌, ◌-◌, ◌<◌, ◌∷◌, ◌≡◌, ◌≤◌}
+use Rattle.std.specs.Prelude.{◌⊎◌}
+use Rattle.bac_print.specs.{Gave, has_failed, held as on_page, last_of, octets_of, reads_of, writer_of}
+use Rattle.bac_print.specs.declared.{checked.Checked.Checked, page.Page.Page}
 use Rattle.bac_script.specs.declared.input.Reading.{Reading, TheVariants.{AtEnd, Failed, Open}}
 use Rattle.bac_script.specs.{Feeds.HasNoFeed, Input.{most_reads, ReaderStands}, Limits.{chunk_room, line_room}}
 

@@ -1,16 +1,15 @@
 -- A script as a whole: its lines, what they say, what is printed for them, and how it ends.
-use Rattle.std.specs.{List.{flat_map, onto_first}, Option.option_map_or, Result.result_ok}
-use Rattle.std.specs.Prelude.{[], ◌&&◌, ◌++◌, ◌+◌, ◌==◌, ◌||◌, ◌∷◌, ◌≡◌, Bool, Err, false, filter, if◌then◌else◌}
-use Rattle.std.specs.Prelude.{length, List, MatchOption, nat_lt, None, Ok, Option, Result, Some, suc, true, ℕ}
-use Rattle.bac_device.specs.{Demo.demo_points, Turns.{Arrival, replies_to}}
-use Rattle.bac_pdu.specs.Peer.{Station}
-use Rattle.bac_text.specs.Limits.{longest_line}
-use Rattle.bac_tsm.specs.{Client.client_rules, Events.{Event, Note, Rules}, Lookahead.{Accepted, accepted, output}}
-use Rattle.bac_script.specs.{declared.input.Reading.{Reading, TheVariants.{AtEnd, Failed, Open}}, Running.small_device}
-use Rattle.bac_script.specs.declared.{line.LineFault.{LineFault, TheVariants.{Bad, TooLong}}, tracing.TraceEnd.TraceEnd}
-use Rattle.bac_script.specs.{declared.tracing.TraceFault.TraceFault, Text.{notes_text, reply_text}}
+use Rattle.std.specs.{List.{flat_map, onto_first}, Option.option_map_or, Prelude.{[], Bool, Err, false, filter}}
+use Rattle.std.specs.Prelude.{if◌then◌else◌, length, List, MatchOption, nat_lt, None, Ok, Option, Result, Some, suc}
+use Rattle.std.specs.{Prelude.{true, ℕ, ◌&&◌, ◌++◌, ◌+◌, ◌==◌, ◌||◌, ◌∷◌, ◌≡◌}, Result.result_ok}
+use Rattle.{bac_device.specs.{Arrival, demo_points, replies_to}, bac_pdu.specs.Station, bac_text.specs.longest_line}
+use Rattle.bac_tsm.specs.{Accepted, client_rules, Event, Note, Rules, Lookahead.{accepted, output}}
+use Rattle.bac_script.specs.declared.input.Reading.{Reading, TheVariants.{AtEnd, Failed, Open}}
+use Rattle.bac_script.specs.declared.line.LineFault.{LineFault, TheVariants.{Bad, TooLong}}
+use Rattle.bac_script.specs.declared.tracing.{TraceEnd.TraceEnd, TraceFault.TraceFault}
 use Rattle.bac_script.specs.declared.tracing.TraceFault.TheVariants.{BadLine, LineTooLong, ReadFailed, WriteFailed}
-use Rattle.bac_script.specs.Line.{Asks, ends_with_feed, Happens, Nothing, Said, said, Settings}
+use Rattle.bac_script.specs.{Line.{Asks, ends_with_feed, Happens, Nothing, Said, said, Settings}, Running.small_device}
+use Rattle.bac_script.specs.Text.{notes_text, reply_text}
 
 -- The octets cut after each line feed; the last piece may lack one.
 abbrev pub pieces : List ℕ → List (List ℕ)

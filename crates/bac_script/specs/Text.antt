@@ -1,9 +1,8 @@
 -- What is printed of the client's notes, and of the device's replies.
-use Rattle.std.specs.{List.flat_map, Prelude.{[], ◌++◌, ◌∷◌, codes, decimal, List, None, Option, Some, ℕ}}
-use Rattle.{hex.specs.Hex.encode_lower, bac_pdu.specs.Peer.Station}
+use Rattle.std.specs.{List.flat_map, Prelude.{[], codes, decimal, List, None, Option, Some, ℕ, ◌++◌, ◌∷◌}}
+use Rattle.{hex.specs.Hex.encode_lower, bac_pdu.specs.Station, bac_tsm.specs.{Done, Dropped, Note, Refused, Sent}}
 use Rattle.bac_tsm.specs.declared.client.SubmitFault.{SubmitFault, TheVariants.{TableFull, TicketsSpent, TooLong}}
-use Rattle.bac_tsm.specs.Events.{Done, Dropped, Note, Refused, Sent, TimedOut}
-use Rattle.bac_print.specs.{Outcomes.outcome_text, PeerTexts.peer_text}
+use Rattle.{bac_tsm.specs.Events.TimedOut, bac_print.specs.{peer_text, Outcomes.outcome_text}}
 
 abbrev pub refusal_text : SubmitFault → List ℕ
 refusal_text TooLong = codes "too-long"

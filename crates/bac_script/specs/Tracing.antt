@@ -1,6 +1,6 @@
 -- What a run read, and what it wrote and answered.
-use Rattle.std.specs.Prelude.{[], ◌++◌, ◌+◌, ◌≡◌, ◌≤◌, ◌⊎◌, codes, decimal, length, List, None, Option, Result, ℕ}
-use Rattle.bac_print.specs.{Checked.{Gave, last_of, octets_of, reads_of, Took}, declared.checked.Checked.Checked}
+use Rattle.std.specs.Prelude.{[], codes, decimal, length, List, None, Option, Result, ℕ, ◌++◌, ◌+◌, ◌≡◌, ◌≤◌, ◌⊎◌}
+use Rattle.bac_print.specs.{Gave, last_of, octets_of, reads_of, Took, declared.checked.Checked.Checked}
 use Rattle.bac_script.specs.declared.input.Reading.{Reading, TheVariants.Open}
 use Rattle.bac_script.specs.declared.tracing.{TraceEnd.TraceEnd, TraceFault.TraceFault}
 use Rattle.bac_script.specs.declared.tracing.TraceFault.TheVariants.{BadLine, LineTooLong, ReadFailed, WriteFailed}

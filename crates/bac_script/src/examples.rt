@@ -1,14 +1,13 @@
 //! Examples of scripts, worked out by computation. They show what the definitions mean.
 
-ghost use Rattle.std.specs.Prelude.{[], ◌∷◌, ◌≡◌, codes, replicate};
-ghost use Rattle.{
-  bac_print.specs.Inner.Examples.{having, page, unasked, unknown},
-  bac_tsm.specs.{Client.client_rules, Events.{Ask, request_of, Tick}},
-  bac_script.specs.{AreAlike, AtEnd, Failed, GaveFront, GaveSame, Happens, IsFrontOf, IsNext, IsWrittenOf, most_reads},
-  bac_script.specs.{Open, ReaderStands, ReadFailed, ReadForLine, ReadsNoMore, requests_in, Runs, TakesAndKeeps, Traces},
-  bac_script.specs.{WriteFailed, declared.tracing.TraceFault.TheVariants.{BadLine, LineTooLong}},
-  bac_script.specs.Inner.{answer, broken, desk, ended, gave, has_read, IsTraced, read, sent},
-};
+ghost use Rattle.std.specs.Prelude.{[], codes, replicate, ◌∷◌, ◌≡◌};
+ghost use Rattle.bac_print.specs.Inner.Examples.{having, page, unasked, unknown};
+ghost use Rattle.bac_tsm.specs.{Ask, client_rules, Tick, Events.request_of};
+ghost use Rattle.bac_script.specs.{AreAlike, AtEnd, Failed, GaveFront, GaveSame, Happens, IsFrontOf, IsNext};
+ghost use Rattle.bac_script.specs.{IsWrittenOf, most_reads, Open, ReaderStands, ReadFailed, ReadForLine, ReadsNoMore};
+ghost use Rattle.bac_script.specs.{requests_in, Runs, TakesAndKeeps, Traces, WriteFailed};
+ghost use Rattle.bac_script.specs.declared.tracing.TraceFault.TheVariants.{BadLine, LineTooLong};
+ghost use Rattle.bac_script.specs.Inner.{answer, broken, desk, ended, gave, has_read, IsTraced, read, sent};
 
 // What is printed of a client's events.
 #[tactic(auto, unfolding(crate::proofs::Computed::computed))]

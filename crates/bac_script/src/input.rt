@@ -1,8 +1,8 @@
 //! The lines of a reader, one at a time.
 
-ghost use Rattle.std.specs.Prelude.{[], ◌++◌, ◌+◌, ◌<◌, ◌==◌, ◌≡◌, ◌≢◌, ◌≤◌, ◌⊎◌, drop, false, IfNone, length};
-ghost use Rattle.std.specs.Prelude.{MatchOption, MatchResult, position, take, true};
-ghost use Rattle.bac_print.specs.{Checked.{has_failed, last_of, reads_of}, Page.{Prints, writer_of}};
+ghost use Rattle.std.specs.Prelude.{[], drop, false, IfNone, length, MatchOption, MatchResult, position, take, true};
+ghost use Rattle.std.specs.Prelude.{◌++◌, ◌+◌, ◌<◌, ◌==◌, ◌≡◌, ◌≢◌, ◌≤◌, ◌⊎◌};
+ghost use Rattle.bac_print.specs.{has_failed, last_of, Prints, reads_of, writer_of};
 ghost use Rattle.bac_script.specs.{empty_reads, HasNoFeed, HasNoLine, IsLineCut, IsNext, IsUnread, may_read};
 ghost use Rattle.bac_script.specs.{most_to_come, ReaderStands, ReadForLine, ReadsNoMore, TakesAndKeeps};
 
@@ -121,7 +121,7 @@ impl Chunk {
     }
 
     /// Takes the first octets away.
-    #[tactic(auto, using(crate::proofs::Chunks::range_skipped))]
+    #[tactic(auto, using(crate::proofs::range_skipped))]
     pub fn skip(&mut self, count: usize)
         requires { count ≤ length self.old }
         ensures { self.new ≡ drop count self.old }
@@ -131,7 +131,7 @@ impl Chunk {
 
     // How many octets the next line has, where it is whole among those that are held. So many of the first were
     // searched before, and aren't searched again. Where none is whole, all have been searched.
-    #[tactic(auto, using(crate::proofs::Chunks::range_size, crate::proofs::Chunks::none_held))]
+    #[tactic(auto, using(crate::proofs::range_size, crate::proofs::none_held))]
     fn line_length(&self, searched: &mut usize) -> Option<usize>
         requires within { searched.old ≤ length self.now }
         requires few { searched.old < LINE_ROOM }

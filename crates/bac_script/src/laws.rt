@@ -1,11 +1,10 @@
 //! What holds of the definitions that the contracts cite. Each function has an empty body, and its clauses are
 //! the laws.
-ghost use Rattle.std.specs.Prelude.{◌≡◌, ◌≤◌, ◌⊎◌, List, Result, true, ℕ};
-ghost use Rattle.bac_print.specs.{Checked.{fresh, has_failed, octets_of, reads_of}, declared.checked.Checked.Checked};
+ghost use Rattle.std.specs.Prelude.{List, Result, true, ℕ, ◌≡◌, ◌≤◌, ◌⊎◌};
+ghost use Rattle.bac_print.specs.{fresh, has_failed, octets_of, reads_of, declared.checked.Checked.Checked};
 ghost use Rattle.bac_tsm.specs.{Laws.InvokeIdsComeBackLate, Limits.table_size};
-ghost use Rattle.bac_wire.specs.Copies.{EqualsBy, MakesCopies};
-ghost use Rattle.bac_script.specs.{all_said, AreAlike, GaveFront, GaveSame, IsFrontOf, IsWrittenOf, lines, most_reads};
-ghost use Rattle.bac_script.specs.{Reading, requests_in, Traces};
+ghost use Rattle.{bac_wire.specs.{EqualsBy, MakesCopies}, bac_script.specs.{all_said, AreAlike, GaveFront, GaveSame}};
+ghost use Rattle.bac_script.specs.{IsFrontOf, IsWrittenOf, lines, most_reads, Reading, requests_in, Traces};
 
 use crate::input::{Next, Reading as ReadingState};
 use crate::line::{LineFault, Received};
@@ -40,7 +39,7 @@ pub fn a_failed_read_has_a_cause<R: Read, W: Write>()
 {}
 
 /// Between two requests of a script with the same invoke id at least 192 others are accepted.
-#[tactic(auto, using(crate::proofs::Courses::requests_late))]
+#[tactic(auto, using(crate::proofs::requests_late))]
 pub fn invoke_ids_come_back_late()
     ensures { (octets : List ℕ) (reading : Reading)
         → InvokeIdsComeBackLate table_size (requests_in (all_said (lines octets reading))) }

@@ -1,13 +1,11 @@
 //! The lines of a script.
 
-ghost use Rattle.std.specs.{Prelude.{[], ◌≡◌, IfSome, MatchOption, MatchResult, option_map}, Str.is_utf8};
-ghost use Rattle.{
-  bac_pdu.specs.{Peer.station, Property.IsPriority},
-  bac_text.specs.{Address.{peer_of, plain_peer_of}, Parameters.write_index_of, Words.{next_as, octets_of}},
-  bac_wire.specs.{Identifier.identifier, Steps.result_seen},
-  bac_script.specs.{arrival_of, arrival_seen, Happens, index_in, is_nothing, line_seen, priority_of, property_in},
-  bac_script.specs.{reading_of, said, said_by, settings_of, text_of_line, tick_of, writing_of, Inner.IsLeft},
-};
+ghost use Rattle.std.specs.{Prelude.{[], IfSome, MatchOption, MatchResult, option_map, ◌≡◌}, Str.is_utf8};
+ghost use Rattle.bac_pdu.specs.{IsPriority, station};
+ghost use Rattle.bac_text.specs.{plain_peer_of, Address.peer_of, Parameters.write_index_of, Words.{next_as, octets_of}};
+ghost use Rattle.{bac_wire.specs.{identifier, result_seen}, bac_script.specs.{arrival_of, arrival_seen, Happens}};
+ghost use Rattle.bac_script.specs.{index_in, is_nothing, line_seen, priority_of, property_in, reading_of, said};
+ghost use Rattle.bac_script.specs.{said_by, settings_of, text_of_line, tick_of, writing_of, Inner.IsLeft};
 
 use crate::long_write::LongWrite;
 use bac_pdu::{Peer, READ_PROPERTY, ReadRequest, WRITE_PROPERTY};

@@ -1,8 +1,7 @@
 //! A request to write whose service body is too long to be sent.
 
 ghost use Rattle.std.specs.Prelude.{IsTrue};
-ghost use Rattle.{bac_text.specs.Pairs.whole_body_of, bac_wire.specs.Identifier.identifier};
-ghost use Rattle.bac_script.specs.LongBody.{is_long};
+ghost use Rattle.{bac_text.specs.whole_body_of, bac_wire.specs.identifier, bac_script.specs.LongBody.is_long};
 
 use bac_pdu::Peer;
 use bac_text::Words;

@@ -1,8 +1,8 @@
 //! What is printed of a client's notes, and of a device's replies.
 
-ghost use Rattle.std.specs.{List.flat_map, Prelude.{[], ◌++◌, ◌∷◌, option_map}};
-ghost use Rattle.{bac_pdu.specs.Peer.station, bac_print.specs.{Page.Prints, PeerTexts.peer_text}};
-ghost use Rattle.bac_tsm.specs.{Client.outcome_seen, Events.{Done, Refused, TimedOut}, Machine.{due_notes, sent}};
+ghost use Rattle.std.specs.{List.flat_map, Prelude.{[], option_map, ◌++◌, ◌∷◌}};
+ghost use Rattle.{bac_pdu.specs.station, bac_print.specs.{peer_text, Prints}};
+ghost use Rattle.bac_tsm.specs.{Done, due_notes, outcome_seen, Refused, sent, Events.TimedOut};
 ghost use Rattle.{hex.specs.Hex.encode_lower, bac_script.specs.{note_text, notes_text, reply_text}};
 
 use bac_pdu::Peer;

@@ -1,9 +1,8 @@
 //! The lines of a script, run on its client and its device one after another.
 
-ghost use Rattle.std.specs.Prelude.{[], ◌≡◌, List};
-ghost use Rattle.{bac_device.specs.Places.Write, bac_pdu.specs.Peer.station, bac_print.specs.Page.Prints};
-ghost use Rattle.bac_tsm.specs.{Client.keeping, Events.{Ask, Data, Tick}};
-ghost use Rattle.bac_script.specs.{arrival_seen, line_seen, notes_text};
+ghost use Rattle.std.specs.Prelude.{[], List, ◌≡◌};
+ghost use Rattle.{bac_device.specs.Write, bac_pdu.specs.station, bac_print.specs.Prints};
+ghost use Rattle.{bac_tsm.specs.{Ask, Data, keeping, Tick}, bac_script.specs.{arrival_seen, line_seen, notes_text}};
 ghost use Rattle.bac_script.specs.Inner.{device_with, ran, reply_after, Stage, Stands, step_of, writes_with};
 
 use crate::line::{Line, Received};

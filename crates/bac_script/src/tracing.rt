@@ -1,7 +1,7 @@
 //! A script, run as it is read.
 
-ghost use Rattle.std.specs.Prelude.{[], ◌↔◌, ◌≡◌, Err, false, true};
-ghost use Rattle.bac_print.specs.{Checked.has_failed, Message.message_text, Page.{held, room_of, writer_of}};
+ghost use Rattle.std.specs.Prelude.{[], Err, false, true, ◌↔◌, ◌≡◌};
+ghost use Rattle.bac_print.specs.{has_failed, held, message_text, room_of, writer_of};
 ghost use Rattle.bac_script.specs.{fault_at, trace_fault_text, Traces, Inner.{new_client, RunsOn}};
 
 use crate::input::{Chunk, Reading};

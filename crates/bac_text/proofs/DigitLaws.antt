@@ -3,19 +3,19 @@ use Rattle.std.proofs.Common.{[], add-one, ap, arith, bit_and, bit_or, Bool, con
 use Rattle.std.proofs.Common.{get_or-take, if◌then◌else◌, is_ok, IsTrue, length, length-take-le, List, map, nat_le}
 use Rattle.std.proofs.Common.{nat_lt, None, not, Ok, position, refl, Result, Some, subst, suc, sym, take, take_all}
 use Rattle.std.proofs.Common.{true, zero, ℕ, ◌%◌, ◌&&◌, ◌*◌, ◌++◌, ◌+◌, ◌-◌, ◌<◌, ◌==◌, ◌^◌, ◌||◌, ◌∙◌, ◌∷◌, ◌≡◌, ◌≤◌}
-use Rattle.std.proofs.lemmas.{Bool.{eq-eqb, not-true, Decides.nat_tests}, Int.Digits.digits_value_more, List.length-map}
-use Rattle.std.proofs.lemmas.List.{take_rest, Folds.{list_all_at, list_all_more}, Sums.AllPass-from_list_all}
-use Rattle.std.proofs.lemmas.List.Sums.{list_all-from_AllPass, position_or_len_is, prefix_len-le-length}
-use Rattle.std.proofs.lemmas.{List.Sums.{prefix_len_passes, prefix_len_stops}, Nat.and_mask, Simd.get_or-chunk}
-use Rattle.std.proofs.lemmas.Simd.{leading_from_mask_l, length-chunk, map-map, mask_l-mod, splat_is_map}
+use Rattle.std.proofs.lemmas.{Bool.{eq-eqb, not-true, Decides.nat_tests}, Int.Digits.digits_value_more}
+use Rattle.std.proofs.lemmas.List.{length-map, take_rest, Folds.{list_all_at, list_all_more}}
+use Rattle.std.proofs.lemmas.List.Sums.{AllPass-from_list_all, list_all-from_AllPass, position_or_len_is}
+use Rattle.std.proofs.lemmas.{List.Sums.{prefix_len-le-length, prefix_len_passes, prefix_len_stops}, Nat.and_mask}
+use Rattle.std.proofs.lemmas.Simd.{get_or-chunk, leading_from_mask_l, length-chunk, map-map, mask_l-mod, splat_is_map}
 use Rattle.std.proofs.lemmas.{Simd.{trailing_mask_l, zip2_of_maps, zip2_splat}, Str.Parse.digits_value-take-le}
 use Rattle.std.specs.{Char.{is_ascii_digit, is_ascii_hexdigit}, List.{list_all, position_or_len, prefix_len}}
 use Rattle.std.specs.{Result.result_ok, Str.{all_ascii_digits, Parse.digits_value}}
 use Rattle.hex.{proofs.HexLemmas.{decode_of-digits, decode_of-ok}, specs.declared.error.FromHexError.FromHexError}
 use Rattle.hex.specs.Hex.{decode_of, decode_pairs, hex_digit_value, is_hex_digit}
 use Rattle.bac_wire.proofs.DatumLaws.{one_more, same_below}
-use Rattle.bac_text.specs.{number_before_dot, number_up_to, octets_of, routable, short_number, Inner.{digit, first_set}}
-use Rattle.bac_text.specs.Inner.{IsLeading, IsRunIn, number_by_lane, octets_by_lanes, octets_in}
+use Rattle.bac_text.specs.{number_before_dot, number_up_to, octets_of, routable, short_number}
+use Rattle.bac_text.specs.Inner.{digit, first_set, IsLeading, IsRunIn, number_by_lane, octets_by_lanes, octets_in}
 use lib.{Lanes.{chunk, mask_l, put_chunk, top, zip2}, ListN.replicate}
 
 all_tested : (word : List ℕ) → all_ascii_digits word ≡ list_all is_ascii_digit word

@@ -1,2 +1,4 @@
 pub mod DigitLaws
 pub mod WordLaws
+pub use DigitLaws.*
+pub use WordLaws.*

@@ -3,26 +3,25 @@ use Rattle.std.proofs.Common.{[], ap, append-nil, append_assoc, arith, Bool, dro
 use Rattle.std.proofs.Common.{filter, flat_map, get_or, get_or-take, IfOk, IfSome, if◌then◌else◌, inl, length}
 use Rattle.std.proofs.Common.{length-append, length-take-le, List, map, MatchResult, None, not, Ok, Option, option_map}
 use Rattle.std.proofs.Common.{position, refl, Result, Some, subst, suc, sym, take, true, unwrap_or, ℕ, ◌%◌, ◌*◌, ◌++◌}
-use Rattle.std.proofs.{Common.{◌+◌, ◌-◌, ◌/◌, ◌<◌, ◌==◌, ◌^◌, ◌||◌, ◌∙◌, ◌∷◌, ◌≡◌, ◌≤◌}, lemmas.Bool.not-true}
-use Rattle.std.proofs.lemmas.{Bool.Decides.nat_tests, List.{drop_all, take_rest, FromFn.fill_by_all}}
-use Rattle.std.proofs.lemmas.List.{FromFn.length-map-range_with_len, Quantifiers.position-Some}
+use Rattle.std.proofs.Common.{◌+◌, ◌-◌, ◌/◌, ◌<◌, ◌==◌, ◌^◌, ◌||◌, ◌∙◌, ◌∷◌, ◌≡◌, ◌≤◌}
+use Rattle.std.proofs.lemmas.{Bool.{not-true, Decides.nat_tests}, List.{drop_all, take_rest}}
+use Rattle.std.proofs.lemmas.List.{FromFn.{fill_by_all, length-map-range_with_len}, Quantifiers.position-Some}
 use Rattle.std.proofs.lemmas.List.Splits.{length-slice_split, slice_split-cons_no, slice_split-cons_yes}
 use Rattle.std.proofs.lemmas.List.Sums.{count_by-le-length, length-filter, prefix_len-le-length}
 use Rattle.std.specs.{Char.is_ascii_hexdigit, Int.div_ceil, List.{AllByRecursion, list_all, onto_first}}
 use Rattle.std.specs.{List.{position_or_len, range_with_len, slice_split}, Result.result_ok, Str.Parse.digits_value}
 use Rattle.hex.proofs.HexLemmas.{decode_of-ok, decode_sized-ok, decode_sized-twice}
 use Rattle.hex.specs.{declared.error.FromHexError.FromHexError, Hex.{decode_of, decode_sized}}
-use Rattle.bac_wire.{proofs.DatumLaws.{plain_spells, read_all, written_datum}, specs.Datum.{bit_string, Datum, InRange}}
-use Rattle.bac_wire.specs.Datum.{IsDatum, octet_string, plain, plain_contents, signed, Spells, StandsFor, tag_before}
-use Rattle.bac_wire.specs.{Datum.tag_number, DatumReading.values_of, Front.{IsShortest, SpellsAll}}
-use Rattle.bac_wire.specs.{Identifier.{Identifier, IsIdentifier}, Region.{Counts, IsRegion, IsSequence, more, none}}
-use Rattle.bac_wire.specs.{Steps.result_seen, Tag.plain_tag}
-use Rattle.bac_pdu.{proofs.{BodyLaws.whole_spell, ShortestLaws.order_is_written}, specs.Parameter.IsParameter}
-use Rattle.bac_pdu.specs.{Parameter.{Parameter, plain_parameter}, Property.{IsPriority, IsWriteBody, Order}}
-use Rattle.bac_pdu.specs.Property.{reference_parameters, write_octets}
-use Rattle.bac_text.{proofs.DigitLaws.{digit_in, digits_decoded, position_is, position_none}, specs.{Bad, bits_in}}
-use Rattle.bac_text.specs.{bits_octet, bits_octets, body_of, is_blank, IsWritten, order_of, pairs_from, sendable}
-use Rattle.bac_text.specs.{signed_in, TooLong, value_before, value_in, value_under, values_in, words_of}
+use Rattle.bac_wire.{proofs.DatumLaws.{plain_spells, read_all, written_datum}, specs.{bit_string, IsIdentifier}}
+use Rattle.bac_wire.specs.{IsRegion, IsShortest, octet_string, plain, plain_tag, result_seen, signed, Spells, SpellsAll}
+use Rattle.bac_wire.specs.{values_of, Datum.{Datum, InRange, IsDatum, plain_contents, StandsFor, tag_before}}
+use Rattle.bac_wire.specs.{Datum.tag_number, Identifier.Identifier, Region.{Counts, IsSequence, more, none}}
+use Rattle.bac_pdu.proofs.{BodyLaws.whole_spell, ShortestLaws.order_is_written}
+use Rattle.bac_pdu.specs.{IsPriority, Order, plain_parameter, Parameter.{IsParameter, Parameter}}
+use Rattle.bac_pdu.specs.Property.{IsWriteBody, reference_parameters, write_octets}
+use Rattle.bac_text.proofs.DigitLaws.{digit_in, digits_decoded, position_is, position_none}
+use Rattle.bac_text.specs.{Bad, bits_in, bits_octet, bits_octets, body_of, is_blank, IsWritten, order_of, pairs_from}
+use Rattle.bac_text.specs.{sendable, signed_in, TooLong, value_before, value_in, value_under, values_in, words_of}
 use Rattle.bac_text.specs.declared.{pairs.PairFault.PairFault, value_words.ValueFault.TheVariants.TooLong}
 use Rattle.bac_text.specs.Inner.{appended, at_most, is_not_empty, IsFirstNumber, IsLeading, region_of, region_with}
 use Rattle.bac_text.specs.declared.value_words.ValueFault.TheVariants as faults

@@ -1,8 +1,7 @@
 -- A peer as it is written: four numbers joined by dots, a port after a colon, and a route after a slash.
-use Rattle.std.specs.Prelude.{ℕ, ◌+◌, ◌*◌, ◌==◌, nat_le, List, length, take, drop, Option, Some, None, option_map}
-use Rattle.std.specs.{Prelude.{position, codes, unwrap_or, if◌then◌else◌}, Option.option_map_or}
-use Rattle.bac_pdu.specs.{Peer.{NetworkAddress, Station}, DatagramReading.is_routable}
-use Rattle.bac_wire.specs.Steps.{◌>>=◌}
+use Rattle.std.specs.{Option.option_map_or, Prelude.{codes, drop, if◌then◌else◌, length, List, nat_le, None, Option}}
+use Rattle.std.specs.Prelude.{option_map, position, Some, take, unwrap_or, ℕ, ◌*◌, ◌+◌, ◌==◌}
+use Rattle.{bac_pdu.specs.{NetworkAddress, Station, DatagramReading.is_routable}, bac_wire.specs.◌>>=◌}
 use Rattle.bac_text.specs.Words.{number_up_to, octets_of}
 
 -- What stands before the first such octet and what stands behind it, if there is one.

@@ -15,4 +15,5 @@ unfoldable pub use ValueWords.*
 unfoldable pub use Parameters.*
 unfoldable pub use Pairs.*
 unfoldable pub use PairsInWords.*
-pub use Rattle.bac_text.specs.declared.pairs.PairFault.TheVariants.{Bad, TooLong}
+pub use Rattle.bac_text.specs.{Address.plain_peer_of, declared.pairs.PairFault.TheVariants.{Bad, TooLong}}
+pub use Rattle.bac_text.specs.{Limits.longest_line, Pairs.whole_body_of, Words.words_of}

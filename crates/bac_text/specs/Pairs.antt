@@ -1,8 +1,8 @@
 -- The words of a property's value: tags and values in turn, and the body of the request that writes them.
-use Rattle.std.specs.Prelude.{ℕ, ◌+◌, ◌*◌, nat_le, List, [], ◌∷◌, length, drop, Option, Some, None, Result, Ok, Err}
-use Rattle.std.specs.{Prelude.if◌then◌else◌, List.flat_map}
-use Rattle.bac_pdu.specs.{Property.{Order, write_octets}, Apdu.longest_body}
-use Rattle.bac_wire.specs.{Datum.{Datum, plain}, Identifier.Identifier, Steps.result_seen}
+use Rattle.std.specs.{List.flat_map, Prelude.{[], drop, Err, if◌then◌else◌, length, List, nat_le, None, Ok, Option}}
+use Rattle.std.specs.Prelude.{Result, Some, ℕ, ◌*◌, ◌+◌, ◌∷◌}
+use Rattle.bac_pdu.specs.{longest_body, Order, Property.write_octets}
+use Rattle.bac_wire.specs.{plain, result_seen, Datum.Datum, Identifier.Identifier}
 use Rattle.bac_text.specs.{declared.pairs.PairFault.{PairFault, TheVariants.{Bad, TooLong}}, ValueWords.value_in}
 
 -- The value of a pair and those of the pairs behind it, or the number of the first pair that has none.

@@ -1,7 +1,6 @@
 -- What the words of a property's value order, in the standard's words.
-use Rattle.std.specs.Prelude.{◌≡◌, List, Ok, Option, Some, ℕ}
-use Rattle.bac_wire.specs.Datum.{Datum, Spells}
-use Rattle.bac_wire.specs.{DatumReading.values_of, Front.{IsShortest, SpellsAll}, Identifier.Identifier}
+use Rattle.std.specs.Prelude.{List, Ok, Option, Some, ℕ, ◌≡◌}
+use Rattle.bac_wire.specs.{IsShortest, Spells, SpellsAll, values_of, Datum.Datum, Identifier.Identifier}
 use Rattle.{bac_pdu.specs.Property.IsWriteBody, bac_text.specs.Pairs.{order_of, values_in}}
 
 module _ (object : Identifier) (property : ℕ) (index priority : Option ℕ) (words : List (List ℕ)) where

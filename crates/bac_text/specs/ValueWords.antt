@@ -4,8 +4,8 @@ use Rattle.std.specs.Prelude.{Bool, bytes_eq, codes, drop, false, if◌then◌el
 use Rattle.std.specs.Prelude.{option_map, pos, slice_index, Some, true, ℕ, ℤ, ◌*◌, ◌-◌, ◌==◌, ◌^◌, ◌||◌}
 use Rattle.std.specs.{Result.result_ok, Str.Parse.starts_with_minus}
 use Rattle.hex.specs.Hex.{decode_of, decode_sized}
-use Rattle.bac_wire.specs.Datum.{bit_string, boolean, char_string, date, Datum, double, enumerated, null, object}
-use Rattle.bac_wire.specs.{Datum.{octet_string, real, signed, time, unsigned}, Identifier.Identifier, Steps.◌>>=◌}
+use Rattle.bac_wire.specs.{bit_string, boolean, char_string, enumerated, null, object, octet_string, real, signed}
+use Rattle.bac_wire.specs.{unsigned, ◌>>=◌, Datum.{date, Datum, double, time}, Identifier.Identifier}
 use Rattle.bac_text.specs.{Address.cut_at, Words.number_up_to}
 
 -- The words true and 1, or false and 0.

@@ -1,7 +1,7 @@
 //! The service bodies of requests.
-ghost use Rattle.std.specs.Prelude.{◌≡◌, ◌≤◌, IfOk, IfSome, length};
-ghost use Rattle.bac_pdu.specs.{Apdu.longest_body, Property.{IsPriority, read_octets, reference}};
-ghost use Rattle.{bac_wire.specs.{Identifier.identifier, Steps.result_seen}, bac_text.specs.{body_of, words_behind}};
+ghost use Rattle.std.specs.Prelude.{IfOk, IfSome, length, ◌≡◌, ◌≤◌};
+ghost use Rattle.bac_pdu.specs.{IsPriority, longest_body, read_octets, reference};
+ghost use Rattle.{bac_wire.specs.{identifier, result_seen}, bac_text.specs.{body_of, words_behind}};
 
 use crate::pairs::{PairFault, read_pairs};
 use crate::words::WordSource;

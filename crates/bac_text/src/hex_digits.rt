@@ -36,7 +36,7 @@ pub fn read_datagram<'r>(word: &[u8], room: &'r mut [u8; LONGEST_DATAGRAM]) -> O
 }
 
 /// The digits of a word, if it is nothing else.
-#[tactic(auto, using(crate::proofs::DigitLaws::digits_of_words))]
+#[tactic(auto, using(crate::proofs::digits_of_words))]
 pub(crate) fn read_hex(word: &[u8]) -> Option<HexDigits<'_>>
     ensures { option_map (λ hex. octets_in hex.digits.now) result ≡ octets_of word.now }
 {

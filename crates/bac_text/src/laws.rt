@@ -1,9 +1,8 @@
 //! What holds of the definitions that the contracts cite. Each function has an empty body, and its clauses are
 //! the laws.
-ghost use Rattle.std.specs.Prelude.{◌*◌, ◌<◌, ◌^◌, ◌≡◌, IfSome, List, Option, ℕ};
-ghost use Rattle.bac_pdu.specs.Property.{IsPriority};
-ghost use Rattle.bac_wire.specs.{Copies.{EqualsBy, MakesCopies}, Identifier.{Identifier, IsIdentifier}};
-ghost use Rattle.bac_text.specs.{body_of, IsWritten, longest_line};
+ghost use Rattle.std.specs.Prelude.{IfSome, List, Option, ℕ, ◌*◌, ◌<◌, ◌^◌, ◌≡◌};
+ghost use Rattle.{bac_pdu.specs.IsPriority, bac_wire.specs.{EqualsBy, IsIdentifier, MakesCopies}};
+ghost use Rattle.{bac_wire.specs.Identifier.Identifier, bac_text.specs.{body_of, IsWritten, longest_line}};
 
 use crate::hex_digits::{LONGEST_DATAGRAM, LONGEST_LINE};
 use crate::pairs::PairFault;
@@ -11,7 +10,7 @@ use crate::search::Delimiter;
 
 /// The body of a WriteProperty request gives the property the values that the words write, spelled one after another,
 /// and is read as these values.
-#[tactic(auto, using(crate::proofs::WordLaws::bodies_written))]
+#[tactic(auto, using(crate::proofs::bodies_written))]
 pub fn bodies_in_words()
     ensures { (object : Identifier) (property : ℕ) (index priority : Option ℕ) (words : List (List ℕ)) (body : List ℕ) →
         IsIdentifier object → property < 2 ^ 32 → IfSome index (λ n. n < 2 ^ 32) → IfSome priority IsPriority →

@@ -16,7 +16,7 @@ pub fn read_number(word: &[u8], most: u64) -> Option<u64>
 
 /// The number that the first digits write, of which no more than so many are looked at; and how many these are.
 #[inline(always)]
-#[tactic(auto, using(crate::proofs::DigitLaws::leading_numbers))]
+#[tactic(auto, using(crate::proofs::leading_numbers))]
 pub(crate) fn leading_number(text: &[u8], most: usize) -> (u32, usize)
     requires { most ≤ 5 }
     ensures { IsLeading text.now most result.0 result.1 }
@@ -30,7 +30,7 @@ pub(crate) fn leading_number(text: &[u8], most: usize) -> (u32, usize)
     (number, count)
 }
 
-#[tactic(auto, using(crate::proofs::DigitLaws::plain_numbers))]
+#[tactic(auto, using(crate::proofs::plain_numbers))]
 fn plain_number(word: &[u8]) -> Option<u64>
     ensures { result ≡ number_up_to (2 ^ 64 - 1) word.now }
 {

@@ -22,7 +22,7 @@ pub enum PairFault {
 ///
 /// `Bad` with the number of the first pair whose words are no tag and a value of it, or which lacks its value, or with
 /// 1 where there is no word; and then `TooLong` where a frame has no room for the values.
-#[tactic(auto, using(crate::proofs::WordLaws::progress))]
+#[tactic(auto, using(crate::proofs::progress))]
 pub(crate) fn read_pairs<'a, S: WordSource<'a>>(
     words: &mut S,
     region: &mut Frame,

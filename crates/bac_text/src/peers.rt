@@ -1,8 +1,7 @@
 //! A peer as it is written.
-ghost use Rattle.std.specs.Prelude.{◌≡◌, ◌≤◌, IfSome, option_map};
-ghost use Rattle.bac_pdu.specs.Peer.{network_address, station};
-ghost use Rattle.bac_text.specs.{address_of, cut_at, number_before_dot, peer_of, plain_peer_of, routable, route_of};
-ghost use Rattle.bac_text.specs.{short_number, Inner.{digit, octets_in}};
+ghost use Rattle.std.specs.Prelude.{IfSome, option_map, ◌≡◌, ◌≤◌};
+ghost use Rattle.{bac_pdu.specs.{network_address, station}, bac_text.specs.{address_of, cut_at, number_before_dot}};
+ghost use Rattle.bac_text.specs.{peer_of, plain_peer_of, routable, route_of, short_number, Inner.{digit, octets_in}};
 
 use crate::hex_digits::{HexDigits, read_hex};
 use crate::numbers::{leading_number, read_number};
@@ -120,7 +119,7 @@ fn read_route(text: &[u8]) -> Option<Route>
     route_to(network as u16, address)
 }
 
-#[tactic(auto, using(crate::proofs::DigitLaws::routable_digits))]
+#[tactic(auto, using(crate::proofs::routable_digits))]
 fn route_to(network: u16, address: HexDigits<'_>) -> Option<Route>
     ensures { option_map network_address result ≡
         routable (record { network = network; address = octets_in address.entry.digits.now }) }

@@ -1,10 +1,9 @@
 //! A value as two words: the number of its application tag, and the value by that number.
-ghost use Rattle.std.specs.{List.list_all, Prelude.slice_index, Result.result_ok};
-ghost use Rattle.std.specs.Prelude.{◌==◌, ◌||◌, ◌≡◌, ◌≢◌, ◌≤◌, IfSome, if◌then◌else◌, MatchResult, OnErr, option_map};
-ghost use Rattle.bac_wire.specs.{Datum.{datum, IsSound, octet_string}, Identifier.identifier};
-ghost use Rattle.hex.specs.Hex.{decode_of, decode_sized};
-ghost use Rattle.bac_text.specs.{bits_in, bits_octet, boolean_in, object_in, signed_in, value_in, value_under};
-ghost use Rattle.bac_text.specs.Inner.{appended};
+ghost use Rattle.std.specs.{List.list_all, Prelude.{IfSome, if◌then◌else◌, MatchResult, OnErr, option_map}};
+ghost use Rattle.std.specs.{Prelude.{slice_index, ◌==◌, ◌||◌, ◌≡◌, ◌≢◌, ◌≤◌}, Result.result_ok};
+ghost use Rattle.bac_wire.specs.{datum, identifier, IsSound, octet_string};
+ghost use Rattle.{hex.specs.Hex.{decode_of, decode_sized}, bac_text.specs.bits_in};
+ghost use Rattle.bac_text.specs.{bits_octet, boolean_in, object_in, signed_in, value_in, value_under, Inner.appended};
 
 use crate::hex_digits::is_hex;
 use crate::numbers::read_number;
@@ -26,7 +25,7 @@ pub(crate) enum ValueFault {
 ///
 /// `Bad` where the tag is no number up to 12 or the word no value of it, and then `TooLong` where the frame has no
 /// room.
-#[tactic(auto, unfolding(crate::specs::ValueWords::value_under))]
+#[tactic(auto, unfolding(crate::specs::value_under))]
 pub(crate) fn append_pair(region: &mut Frame, tag: &[u8], word: &[u8]) -> Result<(), ValueFault>
     ensures value { MatchResult result
         (λ _. appended region.old (value_in tag.now word.now) ≡ Ok region.new)
@@ -44,7 +43,7 @@ pub(crate) fn append_pair(region: &mut Frame, tag: &[u8], word: &[u8]) -> Result
 }
 
 // The value of a word under any tag but those of octet strings and bit strings, whose octets need room.
-#[tactic(auto, unfolding(crate::specs::ValueWords::value_under))]
+#[tactic(auto, unfolding(crate::specs::value_under))]
 fn read_value_word(number: u64, word: &[u8]) -> Option<Value<'_>>
     requires not_octets { number ≢ 6 }
     requires not_bits { number ≢ 8 }

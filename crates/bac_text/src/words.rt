@@ -88,7 +88,7 @@ impl<'a> WordSource<'a> for Words<'a> {
         }
     }
 
-    #[tactic(auto, using(crate::proofs::WordLaws::words_fewer))]
+    #[tactic(auto, using(crate::proofs::words_fewer))]
     fn are_countable(&self) {
         let _text = self.rest;
     }
@@ -101,7 +101,7 @@ pub(crate) fn is_blank(octet: u8) -> bool
 }
 
 // The first word and what follows it.
-#[tactic(auto, using(crate::proofs::WordLaws::first_words))]
+#[tactic(auto, using(crate::proofs::first_words))]
 fn first_word(text: &[u8]) -> Option<(&[u8], &[u8])>
     ensures { MatchOption result (words_of text.now ≡ [])
         (λ found. words_of text.now ≡ found.0.now ∷ words_of found.1.now) }

@@ -3,26 +3,21 @@ use Rattle.std.proofs.Common.{[], ap, arith, Err, inl, inr, is_some, IsErrAnd, I
 use Rattle.std.proofs.Common.{option_and_then, refl, Result, Some, subst, sym, ℕ, ◌++◌, ◌<◌, ◌∙◌, ◌∷◌, ◌≡◌, ◌≢◌, ◌⊎◌}
 use Rattle.std.specs.Result.{result_ok}
 use Rattle.{clap.specs.Words.{fault_of, Text}, bac_tsm.specs.declared.config.Config.Config}
-use Rattle.{bac_text.specs.declared.jobs.Call.Call, bac_print.specs.Checked.{fresh, octets_of}}
-use Rattle.{bac_print.specs.declared.checked.Checked.Checked, bac_script.proofs.Courses.{traces_alike, traces_front}}
-use Rattle.bac_script.specs.{Alike.GaveSame, declared.tracing.TraceEnd.TraceEnd}
+use Rattle.{bac_text.specs.declared.jobs.Call.Call, bac_print.specs.{fresh, octets_of}}
+use Rattle.bac_tools.specs.{AreAlike, AreGivenAlike, asked_by, Batch, Checked, Device, EndAlike, Exit, Gained, Help}
+use Rattle.bac_tools.specs.{is_socket, IsCutOff, IsCutShort, IsGiven, IsPrinted, IsSessionOf, Job, Link, Memory}
+use Rattle.bac_tools.specs.{NoSocket, Over, PrintAlike, ProgramRun, Read, Reading, report_of, Run, run_report, RunFault}
+use Rattle.bac_tools.specs.{RunsAsRead, RunsBatch, RunsOver, RunsScript, Script, Session, Tool, tool_report, ToolFault}
+use Rattle.bac_tools.specs.{ToolRuns, Trace, TraceEnd, UsageFault, WhoIs, Write, WriteFailed, Writing}
+use Rattle.bac_tools.specs.{declared.{program.Binding.Binding, report.Report.Report}, Outside.Outside, Runs.Runs}
+use Rattle.bac_script.{proofs.Courses.{traces_alike, traces_front}, specs.GaveSame}
 use Rattle.bac_links.proofs.{CallLaws.calls_so_far, Listening.{searches_so_far, servings_so_far}}
-use Rattle.bac_links.specs.{Answered.{answers_of, GoOnAlike, OneText, Printed}, Call.Tells}
-use Rattle.bac_links.specs.declared.{ending.Purpose.{Purpose, TheVariants.{Reading, Writing}}, exit.Exit.Exit}
-use Rattle.bac_links.specs.declared.{fault.ToolFault.{TheVariants.WriteFailed, ToolFault}, socket.NoSocket.NoSocket}
-use Rattle.{bac_links.specs.History.{Account, Entry}, bac_words.proofs.Tools.one_answer}
-use Rattle.bac_words.specs.{Command.bactool, declared.faults.UsageFault.{TheVariants.{Help, Memory, Words}, UsageFault}}
-use Rattle.bac_words.specs.declared.job.{Batch.Batch, Job.{Job, TheVariants.{Over, Run, Trace}}}
-use Rattle.bac_words.specs.declared.job.Tool.{TheVariants.{Device, Read, WhoIs, Write}, Tool}
-use Rattle.bac_words.specs.{Line.{Answers, IsRefusal}, Marks.marked_words}
+use Rattle.bac_links.specs.{Account, answers_of, Entry, Tells, Answered.{GoOnAlike, OneText, Printed}}
+use Rattle.bac_links.specs.declared.ending.Purpose.{Purpose}
+use Rattle.bac_words.{proofs.Tools.one_answer, specs.{Answers, IsRefusal, Command.bactool}}
+use Rattle.bac_words.specs.{declared.faults.UsageFault.TheVariants.Words, Marks.marked_words}
 use Rattle.bac_run.proofs.GoOn.{IsCutShort as IsBatchCut, IsTaken, one_text as one_journal, runs_on, taken}
-use Rattle.bac_run.{proofs.Standing.Meets, specs.declared.fault.RunFault.{RunFault, TheVariants.{Link, Script}}}
-use Rattle.bac_run.specs.{declared.session.Session.Session, Fault.write_failed, Run.{journal_of, Runs as Requested}}
-use Rattle.bac_tools.specs.Alike.{AreAlike, AreGivenAlike, EndAlike, Gained, is_socket, IsCutOff, IsCutShort, IsPrinted}
-use Rattle.bac_tools.specs.Alike.{PrintAlike, ProgramRun}
-use Rattle.bac_tools.specs.{Binding.asked_by, declared.{program.Binding.Binding, report.Report.Report}, Outside.Outside}
-use Rattle.bac_tools.specs.{Program.{IsGiven, RunsAsRead}, Report.{report_of, run_report, tool_report}}
-use Rattle.bac_tools.specs.Runs.{IsSessionOf, Runs, RunsBatch, RunsOver, RunsScript, ToolRuns}
+use Rattle.bac_run.{proofs.Standing.Meets, specs.{Fault.write_failed, Run.{journal_of, Runs as Requested}}}
 use denote.Struct.Props.{props}
 use Rattle.bac_script.specs.declared.tracing.TraceFault.TheVariants as stops
 use Rattle.bac_tools.specs.declared.report.Fault.TheVariants as faults

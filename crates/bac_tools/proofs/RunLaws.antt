@@ -2,26 +2,18 @@
 use Rattle.std.proofs.Common.{[], ap, arith, Bool, Err, IfNone, inl, inr, IsErrAnd, List, None, Ok, Option}
 use Rattle.std.proofs.Common.{option_and_then, refl, Result, Some, subst, ℕ, ◌≡◌, ◌⊎◌}
 use Rattle.std.specs.{declared.io.ErrorKind.ErrorKind, Result.result_ok}
-use Rattle.{
-  clap.specs.Words.Text,
-  bac_text.specs.declared.jobs.{Call.Call, Search.Search},
-  bac_print.specs.{Checked.{fresh, has_failed}, declared.checked.Checked.Checked},
-  bac_script.specs.declared.tracing.{TraceEnd.TraceEnd, TraceFault.TraceFault},
-  bac_links.specs.{Call.Tells, declared.{ending.Purpose.{Purpose, TheVariants.{Reading, Writing}}, exit.Exit.Exit}},
-  bac_links.specs.declared.fault.ToolFault.{ToolFault, TheVariants.{ReceiveFailed, SendFailed, TurnsSpent}},
-  bac_links.specs.{declared.{fault.ToolFault.TheVariants.WriteFailed, socket.NoSocket.NoSocket}, History.Account},
-  bac_links.specs.{History.{Entry, GainsAll}, Search.Searched, SystemCall.SystemCall},
-  bac_run.specs.declared.fault.RunFault.RunFault,
-  bac_words.specs.{Called.words_called, declared.{faults.UsageFault.{UsageFault, TheVariants.Memory}, job.Batch.Batch}},
-  bac_words.specs.declared.job.{Job.{Job, TheVariants.{Over, Run, Trace}}, Tool.{Tool, TheVariants.{Device, Read}}},
-  bac_words.specs.{declared.job.Tool.TheVariants.{WhoIs, Write}, Line.{Answers, IsRefusal}},
-  bac_tools.specs.{Alike.{Gained, ProgramRun}, Binding.asked_by, Calls.{AsksAtMostOnce, GiveNoJob, GivesSockets}},
-  bac_tools.specs.{Calls.{JobCalled, RunsAsCalls, RunsUnasked, RunsWithout}, declared.program.Binding.Binding},
-  bac_tools.specs.{declared.{program.Ran.Ran, report.{Fault.Fault, Report.Report}}, Outside.Outside, Program.IsCalled},
-  bac_tools.specs.{Program.{IsGiven, IsRun, Only, Program, RunsAsRead}, Report.{IsStatusOf, report_of, run_report}},
-  bac_tools.specs.{Report.{tool_report, trace_report}, Runs.{BatchRuns, Runs, RunsBatch, RunsOpened, RunsOver}},
-  bac_tools.specs.{Runs.ToolRuns, Telling.{IsTold, on_output, once_given}},
-}
+use Rattle.{clap.specs.Words.Text, bac_text.specs.declared.jobs.{Call.Call, Search.Search}}
+use Rattle.{bac_print.specs.{fresh, has_failed}, bac_tools.specs.{asked_by, AsksAtMostOnce, Batch, BatchRuns, Checked}}
+use Rattle.bac_tools.specs.{Device, Exit, Gained, GiveNoJob, GivesSockets, IsCalled, IsGiven, IsRun, IsStatusOf, IsTold}
+use Rattle.bac_tools.specs.{Job, JobCalled, Memory, NoSocket, on_output, once_given, Only, Over, ProgramRun, Ran, Read}
+use Rattle.bac_tools.specs.{Reading, ReceiveFailed, report_of, Run, run_report, RunFault, RunsAsCalls, RunsAsRead}
+use Rattle.bac_tools.specs.{RunsBatch, RunsOpened, RunsOver, RunsUnasked, RunsWithout, Tool, tool_report, ToolFault}
+use Rattle.bac_tools.specs.{ToolRuns, Trace, trace_report, TraceEnd, TraceFault, UsageFault, WhoIs, Write, WriteFailed}
+use Rattle.bac_tools.specs.{Writing, declared.{program.Binding.Binding, report.{Fault.Fault, Report.Report}}}
+use Rattle.bac_tools.specs.{Outside.Outside, Program.Program, Runs.Runs}
+use Rattle.bac_links.specs.{Account, Entry, GainsAll, Tells, declared.ending.Purpose.Purpose}
+use Rattle.bac_links.specs.{declared.fault.ToolFault.TheVariants.{SendFailed, TurnsSpent}, Search.Searched}
+use Rattle.{bac_links.specs.SystemCall.SystemCall, bac_words.specs.{Answers, IsRefusal, words_called}}
 use Rattle.bac_tools.specs.declared.report.Fault.TheVariants as faults
 
 -- The status of this report is that of its fault.

@@ -1,10 +1,9 @@
 -- What examples of runs have in common.
 use Rattle.std.proofs.Common.{[], ap, arith, false, length, List, Ok, Option, refl, Some, subst, sym, ℕ, ◌++◌, ◌≡◌, ◌≢◌}
 use Rattle.std.specs.declared.io.Error.{Error}
-use Rattle.bac_print.specs.{Checked.{calls_of, octets_of, passes_none}, Page.Writes}
-use Rattle.bac_links.specs.{Asking.{Move, next_move, Over, Plays}, History.Entry}
-use Rattle.bac_words.specs.Telling.{Line}
-use Rattle.bac_tools.specs.{Inner.Examples.{asked_so, having, no_contents, unasked}, Telling.IsTold}
+use Rattle.bac_print.specs.{octets_of, Writes, Checked.{calls_of, passes_none}}
+use Rattle.{bac_links.specs.{Entry, Asking.{Move, next_move, Over, Plays}}, bac_words.specs.Telling.Line}
+use Rattle.bac_tools.specs.{IsTold, Inner.{asked_so, having, no_contents, unasked}}
 
 -- A writer that took a text was given it.
 pub given : (text : List ℕ) → text ≢ [] → octets_of (having text) ≡ text → text ≡ text ++ []

@@ -2,13 +2,11 @@
 use Rattle.std.specs.{declared.io.ErrorKind.ErrorKind, Prelude.{[], Bool, false, is_some, IsErrAnd, IsTrue, List, Ok}}
 use Rattle.std.specs.{Prelude.{Option, option_and_then, Result, Some, ℕ, ⊤, ◌++◌, ◌<◌, ◌≡◌, ◌⊎◌}, Result.result_ok}
 use Rattle.clap.specs.Words.{Text}
-use Rattle.bac_print.specs.{Checked.{fresh, has_failed, octets_of, reads_of}, declared.checked.Checked.Checked}
-use Rattle.bac_script.specs.{Alike.{GaveFront, GaveSame, IsFrontOf}, Input.most_reads}
-use Rattle.bac_links.specs.{Answered.{answers_of, GoOnAlike}, declared.socket.NoSocket.NoSocket, History.Account}
-use Rattle.bac_links.specs.History.{Entry}
-use Rattle.bac_run.specs.declared.fault.RunFault.TheVariants.{Script}
+use Rattle.bac_print.specs.{fresh, has_failed, octets_of, reads_of, declared.checked.Checked.Checked}
+use Rattle.bac_script.specs.{GaveSame, IsFrontOf, Alike.GaveFront, Input.most_reads}
+use Rattle.bac_links.specs.{Account, answers_of, Entry, Answered.GoOnAlike, declared.socket.NoSocket.NoSocket}
+use Rattle.{bac_run.specs.declared.fault.RunFault.TheVariants.Script, bac_words.specs.IsRefusal}
 use Rattle.bac_words.specs.declared.{faults.UsageFault.{UsageFault, TheVariants.Memory}, job.Job.{Job, TheVariants.Run}}
-use Rattle.bac_words.specs.Line.{IsRefusal}
 use Rattle.bac_tools.specs.declared.{program.{Binding.Binding, Ran.Ran}, report.{Fault.Fault, Report.Report}}
 use Rattle.bac_tools.specs.{Outside.Outside, Program.{IsRun, Program}}
 use Rattle.bac_script.specs.declared.tracing.TraceFault.TheVariants as stops

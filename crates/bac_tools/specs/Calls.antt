@@ -1,19 +1,18 @@
 -- From the words to the calls of the system.
-use Rattle.std.specs.{declared.{io.ErrorKind.ErrorKind, net.socket_addr.SocketAddr.SocketAddr}, Prelude.{[], Err, List}}
-use Rattle.std.specs.Prelude.{Ok, Option, Result, Some, ℕ, ◌∷◌, ◌≡◌, ◌⊎◌}
-use Rattle.clap.specs.Words.{Text}
-use Rattle.bac_pdu.specs.Peer.{station}
-use Rattle.bac_print.specs.{Checked.has_failed, declared.checked.Checked.Checked}
+use Rattle.std.specs.declared.{io.ErrorKind.ErrorKind, net.socket_addr.SocketAddr.SocketAddr}
+use Rattle.std.specs.Prelude.{[], Err, List, Ok, Option, Result, Some, ℕ, ◌∷◌, ◌≡◌, ◌⊎◌}
+use Rattle.{clap.specs.Words.Text, bac_pdu.specs.station}
+use Rattle.bac_print.specs.{has_failed, declared.checked.Checked.Checked}
 use Rattle.bac_script.specs.{declared.tracing.{TraceEnd.TraceEnd, TraceFault.TraceFault}, Tracing.Traces}
+use Rattle.bac_links.specs.{Account, Bind, Binds, BindsAtMost, Entry}
 use Rattle.bac_links.specs.declared.{exit.Exit.Exit, fault.ToolFault.ToolFault, socket.NoSocket.NoSocket}
-use Rattle.bac_links.specs.{History.{Account, Entry}, Socket.{AreCallsFor, Binds, BindsAtMost, IsAddressOf, Logs}}
-use Rattle.bac_links.specs.SystemCall.{Bind, SystemCall}
+use Rattle.bac_links.specs.{Socket.{AreCallsFor, IsAddressOf, Logs}, SystemCall.SystemCall}
 use Rattle.bac_run.specs.declared.fault.RunFault.{RunFault}
-use Rattle.bac_words.specs.{Called.words_called, declared.{faults.UsageFault.UsageFault, job.{Batch.Batch, Job.Job}}}
-use Rattle.bac_words.specs.{declared.job.{Job.TheVariants.{Over, Run, Trace}, Tool.Tool}, Line.{Answers, IsRefusal}}
+use Rattle.bac_words.specs.{Answers, IsRefusal, words_called, declared.faults.UsageFault.UsageFault}
+use Rattle.bac_words.specs.declared.job.{Batch.Batch, Job.{Job, TheVariants.{Over, Run, Trace}}, Tool.Tool}
 use Rattle.bac_tools.specs.{Binding.asked_by, declared.{program.{Binding.Binding, Ran.Ran}, report.Report.Report}}
-use Rattle.bac_tools.specs.{Report.{report_of, run_report, tool_report, trace_report, unread_report}, Runs.BatchRuns}
-use Rattle.bac_tools.specs.{Runs.ToolRuns, Telling.{IsTold, on_error, on_output, once_given}}
+use Rattle.bac_tools.specs.Report.{report_of, run_report, tool_report, trace_report, unread_report}
+use Rattle.bac_tools.specs.{Runs.{BatchRuns, ToolRuns}, Telling.{IsTold, on_error, on_output, once_given}}
 use Rattle.bac_tools.specs.declared.report.Fault.TheVariants as faults
 
 -- A network gives sockets. Where it gives a link, the system was asked for a socket at the address, and for nothing

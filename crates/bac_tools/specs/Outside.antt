@@ -1,6 +1,6 @@
 -- What contracts see of a link, a reader and a writer.
-use Rattle.std.specs.Prelude.{ℕ, Bool, List, Option}
-use Rattle.bac_links.specs.History.{Account}
+use Rattle.std.specs.Prelude.{Bool, List, Option, ℕ}
+use Rattle.bac_links.specs.{Account}
 
 -- What is seen of a link: what it was asked, and whether it has failed; the octets that a reader has left, and those
 -- of a writer, where they are known.

@@ -1,16 +1,14 @@
 -- From the words to what is asked of the socket, what is printed, and the status.
 use Rattle.std.specs.declared.{io.{Error.Error, ErrorKind.ErrorKind}, string.String.String, vec.IntoIter.IntoIter}
 use Rattle.std.specs.{IoError.error_kind, Prelude.{Err, IfNone, IsErrAnd, IsSomeAnd, List, map, None, Ok, Option}}
-use Rattle.std.specs.{Prelude.{option_and_then, Result, Some, ℕ, ◌≡◌, ◌⊎◌}, Result.{result_map_both, result_ok}}
-use Rattle.std.specs.{String.string_bytes, Vec.Iter.into_iter_items}
-use Rattle.clap.specs.Words.{Text}
-use Rattle.bac_print.specs.{Checked.has_failed, declared.checked.Checked.Checked}
-use Rattle.bac_links.specs.declared.socket.NoSocket.{NoSocket}
-use Rattle.bac_words.specs.{Called.words_called, declared.faults.UsageFault.{UsageFault, TheVariants.Memory}}
-use Rattle.bac_words.specs.{declared.job.Job.Job, Line.{Answers, IsRefusal}}
+use Rattle.std.specs.Prelude.{option_and_then, Result, Some, ℕ, ◌≡◌, ◌⊎◌}
+use Rattle.std.specs.{Result.{result_map_both, result_ok}, String.string_bytes, Vec.Iter.into_iter_items}
+use Rattle.{clap.specs.Words.Text, bac_print.specs.{has_failed, declared.checked.Checked.Checked}}
+use Rattle.{bac_links.specs.declared.socket.NoSocket.NoSocket, bac_words.specs.{Answers, IsRefusal, words_called}}
+use Rattle.bac_words.specs.declared.{faults.UsageFault.{UsageFault, TheVariants.Memory}, job.Job.Job}
 use Rattle.bac_tools.specs.{Binding.asked_by, declared.{program.{Binding.Binding, Ran.Ran}, report.Report.Report}}
-use Rattle.bac_tools.specs.{Outside.Outside, Report.{report_of, unread_report}, Runs.Runs, Telling.{IsTold, on_error}}
-use Rattle.bac_tools.specs.Telling.{on_output, once_given}
+use Rattle.bac_tools.specs.{Outside.Outside, Report.{report_of, unread_report}, Runs.Runs}
+use Rattle.bac_tools.specs.Telling.{IsTold, on_error, on_output, once_given}
 use Rattle.bac_tools.specs.declared.report.Fault.TheVariants as faults
 
 -- The words that the system tells, or why it tells none.

@@ -1,17 +1,17 @@
 -- What a job prints, sends and leaves, and how the program ends: for each job by the definition of its tool.
 use Rattle.std.specs.Prelude.{[], Err, List, Ok, Option, Result, Some, true, ℕ, ◌↔◌, ◌≡◌, ◌≢◌}
-use Rattle.bac_device.specs.{Demo.demo_points, Device.{device_after, DeviceState}}
-use Rattle.bac_print.specs.{Checked.has_failed, declared.checked.Checked.Checked}
+use Rattle.bac_device.specs.{demo_points, device_after, DeviceState}
+use Rattle.bac_print.specs.{has_failed, declared.checked.Checked.Checked}
 use Rattle.bac_script.specs.{declared.tracing.{TraceEnd.TraceEnd, TraceFault.TraceFault}, Tracing.Traces}
-use Rattle.bac_links.specs.{Call.Tells, declared.{ending.Purpose.TheVariants.{Reading, Writing}, exit.Exit.Exit}}
-use Rattle.bac_links.specs.{declared.{fault.ToolFault.ToolFault, socket.NoSocket.NoSocket}, Fault.is_link_fault}
-use Rattle.bac_links.specs.{Fault.is_write_fault, History.Account, Search.Searched, Serve.Serves}
-use Rattle.bac_run.specs.{declared.{fault.RunFault.RunFault, session.Session.Session}, Fault.{is_of_link, write_failed}}
-use Rattle.bac_run.specs.Run.{Runs as Requested}
-use Rattle.bac_words.specs.declared.job.{Batch.Batch, Job.{Job, TheVariants.{Over, Run, Trace}}, Serve.Serve, Tool.Tool}
-use Rattle.bac_words.specs.declared.job.Tool.TheVariants.{Device, Read, WhoIs, Write}
-use Rattle.bac_tools.specs.{declared.report.Report.Report, Outside.Outside, Report.{report_of, run_report, tool_report}}
-use Rattle.bac_tools.specs.Report.{trace_report}
+use Rattle.bac_links.specs.{Account, Tells, declared.ending.Purpose.TheVariants.{Reading, Writing}}
+use Rattle.bac_links.specs.declared.{exit.Exit.Exit, fault.ToolFault.ToolFault, socket.NoSocket.NoSocket}
+use Rattle.bac_links.specs.{Fault.{is_link_fault, is_write_fault}, Search.Searched, Serve.Serves}
+use Rattle.bac_run.specs.declared.{fault.RunFault.RunFault, session.Session.Session}
+use Rattle.bac_run.specs.{Fault.{is_of_link, write_failed}, Run.Runs as Requested}
+use Rattle.bac_words.specs.declared.job.{Batch.Batch, Job.{Job, TheVariants.{Over, Run, Trace}}, Serve.Serve}
+use Rattle.bac_words.specs.declared.job.Tool.{Tool, TheVariants.{Device, Read, WhoIs, Write}}
+use Rattle.bac_tools.specs.{declared.report.Report.Report, Outside.Outside}
+use Rattle.bac_tools.specs.Report.{report_of, run_report, tool_report, trace_report}
 use Rattle.bac_script.specs.declared.tracing.TraceFault.TheVariants as stops
 use Rattle.bac_tools.specs.declared.report.Fault.TheVariants as faults
 

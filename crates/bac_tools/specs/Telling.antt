@@ -1,6 +1,6 @@
 -- What the standard streams are given, by the fault of a report.
-use Rattle.std.specs.Prelude.{[], ◌++◌, ◌≡◌, Bool, codes, Err, List, None, Option, Some, true, ℕ, ⊤}
-use Rattle.{bac_print.specs.{declared.checked.Checked.Checked, Page.Writes}, bac_script.specs.Tracing.trace_fault_text}
+use Rattle.std.specs.Prelude.{[], Bool, codes, Err, List, None, Option, Some, true, ℕ, ⊤, ◌++◌, ◌≡◌}
+use Rattle.{bac_print.specs.{Writes, declared.checked.Checked.Checked}, bac_script.specs.Tracing.trace_fault_text}
 use Rattle.bac_links.specs.{declared.fault.ToolFault.TheVariants.WriteFailed, Fault.{link_fault_text, tool_fault_text}}
 use Rattle.bac_run.specs.Fault.{run_fault_text}
 use Rattle.bac_words.specs.{declared.faults.UsageFault.TheVariants.Help, Fault.usage_told, Telling.{Line, Text, Told}}

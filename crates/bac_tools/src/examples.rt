@@ -1,33 +1,24 @@
 //! Examples of runs of the program and of its statuses. They show what the definitions mean.
 
-ghost use Rattle.std.specs.Prelude.{◌≡◌, ℕ, [], ◌∷◌, Some, None, Ok, Err, true, false, codes};
-ghost use Rattle.std.specs.declared.io.Error.{Error};
-ghost use Rattle.std.specs.declared.string.String.{String};
-ghost use Rattle.std.specs.declared.vec.IntoIter.{IntoIter};
-ghost use Rattle.std.specs.{IoError.error_kind, String.string_bytes, Vec.Iter.into_iter_items};
-ghost use Rattle.std.specs.declared.io.ErrorKind.TheVariants.{NotFound, OutOfMemory};
-ghost use Rattle.bac_links.specs.SystemCall.{Bind, Limit};
-ghost use Rattle.bac_links.specs.declared.exit.Exit.TheVariants.{Good, Bad};
+ghost use Rattle.std.specs.declared.io.{Error.Error, ErrorKind.TheVariants.{NotFound, OutOfMemory}};
+ghost use Rattle.std.specs.{declared.{string.String.String, vec.IntoIter.IntoIter}, IoError.error_kind};
+ghost use Rattle.std.specs.Prelude.{[], codes, Err, false, None, Ok, Some, true, ℕ, ◌∷◌, ◌≡◌};
+ghost use Rattle.std.specs.{String.string_bytes, Vec.Iter.into_iter_items};
+ghost use Rattle.bac_links.specs.{Bind, declared.exit.Exit.TheVariants.{Bad, Good}};
+ghost use Rattle.bac_links.specs.{declared.fault.ToolFault.TheVariants.SendFailed, SystemCall.Limit};
 ghost use Rattle.bac_script.specs.declared.tracing.TraceFault.TheVariants.{BadLine, ReadFailed};
-ghost use Rattle.bac_run.specs.declared.fault.RunFault.TheVariants.{Link, Script};
-ghost use Rattle.bac_links.specs.declared.fault.ToolFault.TheVariants.{ReceiveFailed, SendFailed};
-ghost use Rattle.bac_words.specs.Telling.{Line};
-ghost use Rattle.bac_words.specs.declared.faults.UsageFault.TheVariants.{BadMac, Memory};
-ghost use Rattle.bac_tools.specs.Alike.{AreAlike, AreGivenAlike, CalledRun, ProgramRun};
-ghost use Rattle.bac_tools.specs.Calls.{AsksAtMostOnce, GivesSockets, RunsAsCalls, RunsUnasked, RunsWithout};
-ghost use Rattle.bac_tools.specs.Program.{IsRun, Only, Program, texts_of};
-ghost use Rattle.bac_tools.specs.Report.{IsStatusOf, report_of};
-ghost use Rattle.bac_tools.specs.Runs.{BatchRuns, ToolRuns};
-ghost use Rattle.bac_tools.specs.Statuses.{fault_status, run_status_of, status_of, trace_status_of, usage_status_of};
+ghost use Rattle.bac_tools.specs.{AreAlike, AreGivenAlike, AsksAtMostOnce, BatchRuns, CalledRun, fault_status};
+ghost use Rattle.bac_tools.specs.{GivesSockets, IsRun, IsStatusOf, IsTold, Link, Memory, on_error, on_output};
+ghost use Rattle.bac_tools.specs.{once_given, Only, ProgramRun, ReceiveFailed, report_of, run_status_of, RunsAsCalls};
+ghost use Rattle.bac_tools.specs.{RunsUnasked, RunsWithout, Script, status_of, texts_of, ToolRuns, trace_status_of};
+ghost use Rattle.bac_tools.specs.{Usage, usage_status_of, declared.report.Fault.TheVariants.NoText};
+ghost use Rattle.bac_tools.specs.Inner.{any_at, asked_so, batch_of, deaf, deaf_calls, device, device_words, drained};
+ghost use Rattle.bac_tools.specs.Inner.{FailsAfter, forgotten, gives_none, GivesThat, having, no_bind, no_contents};
+ghost use Rattle.bac_tools.specs.Inner.{no_socket, no_text, not_received, nothing_asked, one_bind, one_time};
+ghost use Rattle.bac_tools.specs.Inner.{ran_without, read_to_end, settings_told, told_failed, told_no_socket};
+ghost use Rattle.bac_tools.specs.{Inner.{told_no_text, unasked, unknown}, Program.Program};
+ghost use Rattle.bac_words.specs.{declared.faults.UsageFault.TheVariants.BadMac, Telling.Line};
 ghost use Rattle.bac_tools.specs.declared.report.Fault.TheVariants as faults;
-ghost use Rattle.bac_tools.specs.Telling.{IsTold, on_error, on_output, once_given};
-ghost use Rattle.bac_tools.specs.declared.report.Fault.TheVariants.{NoText, Usage};
-ghost use Rattle.bac_tools.specs.Inner.Examples.{any_at, asked_so, batch_of, deaf, deaf_calls, device, device_words};
-ghost use Rattle.bac_tools.specs.Inner.Examples.{drained, forgotten, gives_none, having, no_bind, no_contents};
-ghost use Rattle.bac_tools.specs.Inner.Examples.{no_socket, no_text, not_received, nothing_asked, one_bind, one_time};
-ghost use Rattle.bac_tools.specs.Inner.Examples.{ran_without, read_to_end, settings_told, told_failed, told_no_socket};
-ghost use Rattle.bac_tools.specs.Inner.Examples.{told_no_text, unasked, unknown};
-ghost use Rattle.bac_tools.specs.Inner.Examples.{FailsAfter, GivesThat};
 
 // Two runs that lacked memory for their words: they were given alike what they asked for, which is nothing, and are
 // alike; they were not asked the time.

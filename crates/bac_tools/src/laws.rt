@@ -1,17 +1,11 @@
 //! What holds of the definitions that the contracts cite, and of the public types: the clause of a function with an
 //! empty body is the law.
-ghost use Rattle.std.specs.{Prelude.{◌≡◌, ◌⊎◌, List, Some, None, Result, Ok, Err}, declared.io.ErrorKind.ErrorKind};
-ghost use Rattle.{
-  clap.specs.Words.Text,
-  bac_wire.specs.Copies.MakesCopies,
-  bac_print.specs.{Checked.{fresh, has_failed}, declared.checked.Checked.Checked},
-  bac_links.specs.{declared.socket.NoSocket.NoSocket, History.Entry, SystemCall.SystemCall},
-  bac_words.specs.{Called.words_called, declared.faults.UsageFault.TheVariants.Memory},
-  bac_tools.specs.Alike.{AreAlike, AreGivenAlike, CalledRun, ProgramRun},
-  bac_tools.specs.Calls.{AsksAtMostOnce, GivesSockets, RunsAsCalls, RunsUnasked, RunsWithout},
-  bac_tools.specs.{declared.{program.Ran.Ran, report.Fault.TheVariants.Usage}, Program.{IsRun, Only, Program}},
-  bac_tools.specs.Report.{IsStatusOf, report_of},
-};
+ghost use Rattle.std.specs.{declared.io.ErrorKind.ErrorKind, Prelude.{Err, List, None, Ok, Result, Some, ◌≡◌, ◌⊎◌}};
+ghost use Rattle.{clap.specs.Words.Text, bac_wire.specs.MakesCopies, bac_print.specs.{fresh, has_failed}};
+ghost use Rattle.bac_tools.specs.{AreAlike, AreGivenAlike, AsksAtMostOnce, CalledRun, Checked, GivesSockets, IsRun};
+ghost use Rattle.bac_tools.specs.{IsStatusOf, Memory, NoSocket, Only, ProgramRun, Ran, report_of, RunsAsCalls};
+ghost use Rattle.bac_tools.specs.{RunsUnasked, RunsWithout, Usage, Program.Program};
+ghost use Rattle.{bac_links.specs.{Entry, SystemCall.SystemCall}, bac_words.specs.words_called};
 
 use crate::program::{Binding, Network};
 use std::io::{Read, Write};

@@ -1,12 +1,10 @@
 //! The program, from its words to its report.
-ghost use Rattle.std.specs.Prelude.{◌≡◌, false, map, None, Some, Ok, IfOk, IfErr, MatchResult, Result};
-ghost use Rattle.std.specs.{IoError.error_kind, String.string_bytes, declared.io.ErrorKind.TheVariants.OutOfMemory};
-ghost use Rattle.{clap.specs.Walk.texts, bac_print.specs.Checked.{fresh, has_failed}};
-ghost use Rattle.bac_links.specs.declared.socket.NoSocket.{NoSocket};
-ghost use Rattle.bac_words.specs.{declared.job.Job.TheVariants.Run, Job.CanOpen};
-ghost use Rattle.bac_tools.specs.{Binding.{binding_of, client_at}, declared.program.Binding.Binding};
-ghost use Rattle.bac_tools.specs.Inner.Program.{RunsJob};
-ghost use Rattle.bac_tools.specs.Program.{IsCalled, IsRun, Program, texts_of};
+ghost use Rattle.std.specs.{declared.io.ErrorKind.TheVariants.OutOfMemory, IoError.error_kind, Prelude.false};
+ghost use Rattle.std.specs.{Prelude.{IfErr, IfOk, map, MatchResult, None, Ok, Result, Some, ◌≡◌}, String.string_bytes};
+ghost use Rattle.{clap.specs.Walk.texts, bac_print.specs.{fresh, has_failed}};
+ghost use Rattle.bac_tools.specs.{binding_of, client_at, IsCalled, IsRun, NoSocket, Run, texts_of};
+ghost use Rattle.bac_tools.specs.{declared.program.Binding.Binding, Inner.RunsJob, Program.Program};
+ghost use Rattle.bac_words.specs.Job.{CanOpen};
 
 use crate::report::{Fault, Report};
 use crate::running::{run_batch, run_tool};

@@ -1,9 +1,9 @@
 //! How the program ends, and what it tells then.
-ghost use Rattle.std.specs.Prelude.{◌≡◌, option_map};
-ghost use Rattle.{bac_print.specs.Checked.has_failed, bac_words.specs.Telling.told_by};
-ghost use Rattle.bac_tools.specs.Report.{report_of, run_report, tool_report, trace_report, unread_report};
-ghost use Rattle.bac_tools.specs.Statuses.{fault_status, run_status_of, status_of, trace_status_of, usage_status_of};
-ghost use Rattle.bac_tools.specs.Telling.{fault_told, IsTold, on_error, on_output, once_given};
+ghost use Rattle.std.specs.Prelude.{option_map, ◌≡◌};
+ghost use Rattle.{bac_print.specs.has_failed, bac_words.specs.Telling.told_by};
+ghost use Rattle.bac_tools.specs.{fault_status, fault_told, IsTold, on_error, on_output, once_given, report_of};
+ghost use Rattle.bac_tools.specs.{run_report, run_status_of, status_of, tool_report, trace_report, trace_status_of};
+ghost use Rattle.bac_tools.specs.{unread_report, usage_status_of};
 
 use crate::telling::print_telling;
 use bac_links::{Exit, LinkFault, ToolFault};

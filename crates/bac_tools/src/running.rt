@@ -1,8 +1,8 @@
 //! The run of a tool, or of many requests, over the socket that it asked for.
-ghost use Rattle.std.specs.Prelude.{◌≡◌, ◌≢◌, ◌↔◌, false, true, Err};
-ghost use Rattle.{bac_print.specs.Checked.has_failed, bac_links.specs.Fault.{is_link_fault, is_write_fault}};
+ghost use Rattle.std.specs.Prelude.{Err, false, true, ◌↔◌, ◌≡◌, ◌≢◌};
+ghost use Rattle.{bac_print.specs.has_failed, bac_links.specs.Fault.{is_link_fault, is_write_fault}};
 ghost use Rattle.{bac_run.specs.Fault.{is_of_link, write_failed}, bac_words.specs.Job.{CanOpen, IsReady}};
-ghost use Rattle.bac_tools.specs.Runs.{BatchRuns, DevicePlays, IsSessionOf, ToolRuns};
+ghost use Rattle.bac_tools.specs.{BatchRuns, DevicePlays, IsSessionOf, ToolRuns};
 
 use bac_device::demo;
 use bac_links::{Exit, Link, ToolFault, run_read, run_whois, run_write, serve};

@@ -1,7 +1,6 @@
 //! What is told, printed on a page.
-ghost use Rattle.std.specs.Prelude.{◌++◌, ℕ, List, codes};
-ghost use Rattle.{bac_print.specs.{Message.message_text, Page.Prints}, bac_words.specs.Telling.told_by};
-ghost use Rattle.bac_tools.specs.Telling.{AreOctetsOf};
+ghost use Rattle.std.specs.Prelude.{codes, List, ℕ, ◌++◌};
+ghost use Rattle.{bac_print.specs.{message_text, Prints}, bac_words.specs.Telling.told_by, bac_tools.specs.AreOctetsOf};
 
 use arrayvec::ArrayVec;
 use bac_print::{Message, Page};

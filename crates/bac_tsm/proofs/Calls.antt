@@ -3,21 +3,20 @@ use Rattle.std.proofs.Common.{[], All, AllPairs, ap, append-nil, arith, Bool, eq
 use Rattle.std.proofs.Common.{flat_map, if◌then◌else◌, is_some, IsSome, length, List, map, max, nat_eq, None, not, Ok}
 use Rattle.std.proofs.Common.{Option, option_and_then, option_map, option_to_list, refl, Result, slice_get, Some, suc}
 use Rattle.std.proofs.Common.{sym, true, zero, ℕ, ◌%◌, ◌++◌, ◌+◌, ◌-◌, ◌<◌, ◌==◌, ◌^◌, ◌∙◌, ◌∷◌, ◌≡◌, ◌≤◌}
-use Rattle.std.proofs.lemmas.{Bool.{false≢true, Decides.nat_tests}, Grind.flat_map-append, List.get_or-map}
-use Rattle.std.proofs.lemmas.List.{length-map, nil_from_length, Elements.{All-append, All-cons, All-filter, All-head}}
-use Rattle.std.proofs.lemmas.{List.Elements.{All-nil, All-tail, All-weaker}, Option.none-some}
+use Rattle.std.proofs.lemmas.{Bool.{false≢true, Decides.nat_tests}, Grind.flat_map-append}
+use Rattle.std.proofs.lemmas.List.{get_or-map, length-map, nil_from_length, Elements.{All-append, All-cons, All-filter}}
+use Rattle.std.proofs.lemmas.{List.Elements.{All-head, All-nil, All-tail, All-weaker}, Option.none-some}
 use Rattle.std.{proofs.lemmas.Slice.Eq.bytes_eq-Decides, specs.{List.list_any, Option.option_map_or, Prelude.⊤}}
 use Rattle.bac_wire.proofs.TagLaws.{bind_some}
-use Rattle.bac_pdu.{proofs.{DatagramLaws.{apdu_is, carried_is}, DiscoveryLaws.error_is}, specs.Apdu.abort}
-use Rattle.bac_pdu.specs.{Apdu.{complex_ack, error, longest_body, Message, reject, simple_ack}, Failure.IsErrorBody}
-use Rattle.bac_pdu.specs.{Peer.Station, ValueReading.error_of}
-use Rattle.bac_tsm.{proofs.RequestLife.{step_back, turn_notes}, specs.{aborted, acknowledged, Answer, answer_in_apdu}}
-use Rattle.bac_tsm.specs.{answer_in_datagram, AnswersByInvokeId, client_rules, datagram, deliver, due_answer, due_notes}
-use Rattle.bac_tsm.specs.{DueEntry, Ends, failed, failed_unreadably, is_answer_to, is_due, IsAnsweredBy, keeping, kept}
-use Rattle.bac_tsm.specs.{next_invoke_id, opened, Outcome, outcome_of, outcome_of_answer, refusal_of, rejected, Request}
-use Rattle.bac_tsm.specs.{request_of, returned, Rules, rules_of, same_station, segmented, Sent, sent, State, submit}
-use Rattle.bac_tsm.specs.{SubmitFault, table_size, TakesStep, tick, Client.Client, Inner.{error_outcome, invoke_id_in}}
-use Rattle.bac_tsm.specs.{Inner.{IsTimely, ticket_in}, Machine.Waiting}
+use Rattle.bac_pdu.{proofs.{DatagramLaws.{apdu_is, carried_is}, DiscoveryLaws.error_is}, specs.{abort, complex_ack}}
+use Rattle.bac_pdu.specs.{error, error_of, longest_body, Message, reject, simple_ack, Station, Failure.IsErrorBody}
+use Rattle.bac_tsm.{proofs.WholeRun.RequestLife.{step_back, turn_notes}, specs.{aborted, acknowledged, Answer}}
+use Rattle.bac_tsm.specs.{answer_in_apdu, answer_in_datagram, AnswersByInvokeId, client_rules, datagram, deliver}
+use Rattle.bac_tsm.specs.{due_answer, due_notes, DueEntry, Ends, failed, failed_unreadably, is_answer_to, is_due}
+use Rattle.bac_tsm.specs.{IsAnsweredBy, keeping, kept, next_invoke_id, opened, Outcome, outcome_of, outcome_of_answer}
+use Rattle.bac_tsm.specs.{refusal_of, rejected, Request, request_of, returned, Rules, rules_of, same_station, segmented}
+use Rattle.bac_tsm.specs.{Sent, sent, State, submit, SubmitFault, table_size, TakesStep, tick, Client.Client}
+use Rattle.bac_tsm.specs.{Inner.{error_outcome, invoke_id_in, IsTimely, ticket_in}, Machine.Waiting}
 
 -- ---- a datagram answers only requests of one invoke id
 

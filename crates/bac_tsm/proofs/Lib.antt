@@ -1,6 +1,9 @@
 mod Calls
-mod RequestLife
 pub mod Laws
 mod WholeRun
-mod TableLaws
 mod TableTick
+pub use Calls.*
+pub use WholeRun.*
+pub use WholeRun.RequestLife.*
+pub use TableTick.*
+pub use TableTick.TableLaws.*

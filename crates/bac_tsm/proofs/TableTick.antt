@@ -1,22 +1,22 @@
 -- The loop over the open requests that are due at a tick.
+pub mod TableLaws
 use Rattle.std.proofs.Common.{[], add-one, All, AllPairs, ap, append-nil, append_assoc, arith, Bool, count_by, drop}
 use Rattle.std.proofs.Common.{false, filter, flat_map, get_or, if◌then◌else◌, length, length-append, List, map, nat_le}
 use Rattle.std.proofs.Common.{nat_lt, None, Option, refl, remove, set, slice_get, Some, suc, sym, take}
 use Rattle.std.proofs.Common.{take-append-drop, take_all, true, zero, ℕ, ◌++◌, ◌+◌, ◌-◌, ◌<◌, ◌∙◌, ◌∷◌, ◌≡◌, ◌≤◌}
-use Rattle.std.proofs.lemmas.{Bool.false≢true, Grind.{common_steps, flat_map-append}, List.{drop_all, drop_more}}
-use Rattle.std.proofs.lemmas.List.{get_or_default, length-map, same_lists, set_split, Elements.{All-append, All-drop}}
-use Rattle.std.proofs.lemmas.List.{Elements.{All-take, Contains-get_or}, Folds.{list_any_at, list_any_none}}
+use Rattle.std.proofs.lemmas.{Bool.false≢true, Grind.{common_steps, flat_map-append}, List.drop_all}
+use Rattle.std.proofs.lemmas.List.{drop_more, get_or_default, length-map, same_lists, set_split, Elements.All-append}
+use Rattle.std.proofs.lemmas.List.{Elements.{All-drop, All-take, Contains-get_or}, Folds.{list_any_at, list_any_none}}
 use Rattle.std.proofs.lemmas.List.{Kept.AllPairs-filter, Sorted.{Contains-permutation, IsPermutation-append_right}}
 use Rattle.std.proofs.lemmas.List.Sorted.{IsPermutation-middle, IsPermutation-trans, length_permutation}
 use Rattle.std.proofs.lemmas.List.{Sorted.sum_by-IsPermutation, Sums.{count_by-le-length, length-filter, sum_by-cons}}
-use Rattle.std.{proofs.lemmas.Option.{get_or_from_slice_get, slice_get_within}, specs.List.{list_any, refill}}
-use Rattle.std.specs.List.Sorted.{IsNonDecreasingBy, IsPermutation}
-use Rattle.bac_tsm.proofs.{Calls.{kept_of_one, pairs_map, TicketsRise}, TableLaws.{all_opened, changed_by, held_got}}
-use Rattle.bac_tsm.proofs.TableLaws.{itself, one_turn, open_below, open_read, queue-again, rank_of_slot, stands}
-use Rattle.bac_tsm.{proofs.TableLaws.{times_got, times_split, turn_lt}, specs.{AreBySend, due_answer, due_entry}}
+use Rattle.std.proofs.lemmas.Option.{get_or_from_slice_get, slice_get_within}
+use Rattle.std.specs.List.{list_any, refill, Sorted.{IsNonDecreasingBy, IsPermutation}}
+use Rattle.bac_tsm.{proofs.Calls.{kept_of_one, pairs_map, TicketsRise}, specs.{AreBySend, due_answer, due_entry}}
 use Rattle.bac_tsm.specs.{DueEntry, held_at, is_due, IsTable, IsWhole, kept, nothing, open_slots, Resend, Rules}
 use Rattle.bac_tsm.specs.{table_size, times_of_slot, declared.due.DueEntry.TheVariants.TimedOut as Expired}
 use Rattle.bac_tsm.specs.{Inner.{IsPassed, IsRankOf, Leaves, sent_at, ticket_of, waiting_in}, Machine.Waiting}
+use TableLaws.*
 
 -- ---- a list whose keys rise is what any sort by the key makes of its elements
 
@@ -131,9 +131,9 @@ module _ (rules : Rules) (clock : ℕ) where
         told_after : due_of after ≡ due_of (take rank ws) ++ due_of (drop (suc rank) ws)
         told_after = let (none, _) = again some w due in simp (to, flat_map-append, none)
 
-    pub passed : (entry : DueEntry) (after : List Waiting) → IsPassed rules clock ws entry after
+    pub is_passed : (entry : DueEntry) (after : List Waiting) → IsPassed rules clock ws entry after
         → HasTicked all kept_in_all (entries ++ entry ∷ []) after
-    passed _ _ (rank, lt, due, is, to) = one_more _ _ _ _ lt refl due is to
+    is_passed _ _ (rank, lt, due, is, to) = one_more _ _ _ _ lt refl due is to
 
     -- There is room for an entry, and fewer requests are due then.
     pub record LeavesFewer (after : List Waiting) : Type 0 where
@@ -143,7 +143,7 @@ module _ (rules : Rules) (clock : ℕ) where
     pub fewer : (entry : DueEntry) (after : List Waiting) → IsPassed rules clock ws entry after → LeavesFewer after
     fewer entry after is =
         let now = sym (length-append entries _) ∙ length_permutation _ _ h.told in
-        let next = sym (length-append _ (due_of after)) ∙ length_permutation _ _ (passed _ _ is).told in
+        let next = sym (length-append _ (due_of after)) ∙ length_permutation _ _ (is_passed _ _ is).told in
         let one = length-append entries (entry ∷ []) in
         record { room = omega arith; fewer = omega arith }
 

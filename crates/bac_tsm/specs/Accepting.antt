@@ -1,8 +1,8 @@
 -- What a new request gets, or why it is refused.
-use Rattle.std.specs.Prelude.{ℕ, ◌+◌, ◌-◌, ◌%◌, ◌^◌, List, length, Option, Some, None, not, nat_lt, nat_le, nat_eq}
-use Rattle.std.specs.{Prelude.{if◌then◌else◌, unwrap_or}, List.list_any}
-use Rattle.bac_pdu.specs.Apdu.{longest_body}
-use Rattle.bac_tsm.specs.declared.client.SubmitFault.{SubmitFault, TheVariants.{TooLong, TableFull, TicketsSpent}}
+use Rattle.std.specs.{List.list_any, Prelude.{if◌then◌else◌, length, List, nat_eq, nat_le, nat_lt, None, not, Option}}
+use Rattle.std.specs.Prelude.{Some, unwrap_or, ℕ, ◌%◌, ◌+◌, ◌-◌, ◌^◌}
+use Rattle.bac_pdu.specs.{longest_body}
+use Rattle.bac_tsm.specs.declared.client.SubmitFault.{SubmitFault, TheVariants.{TableFull, TicketsSpent, TooLong}}
 use Rattle.bac_tsm.specs.Positions.{first_within}
 
 -- The invoke id of a new request: the first one that is not taken, in the cycle of 256 from the one behind the last on.

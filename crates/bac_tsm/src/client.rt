@@ -1,9 +1,8 @@
 //! The client.
 
-ghost use Rattle.std.specs.Prelude.{◌≡◌, ◌≤◌, length, option_map};
-ghost use Rattle.bac_pdu.specs.Peer.{station};
-ghost use Rattle.bac_tsm.specs.{client_of, datagram, end_seen, initial, open_under, refusal_of, rules_of, submit};
-ghost use Rattle.bac_tsm.specs.{table_size, TakesStep, tick, to_send};
+ghost use Rattle.std.specs.Prelude.{length, option_map, ◌≡◌, ◌≤◌};
+ghost use Rattle.{bac_pdu.specs.station, bac_tsm.specs.{client_of, datagram, end_seen, initial, open_under}};
+ghost use Rattle.bac_tsm.specs.{refusal_of, rules_of, submit, table_size, TakesStep, tick, to_send};
 
 use crate::answer::read_answer;
 use crate::config::Config;
@@ -77,7 +76,7 @@ impl Client {
     ///
     /// A request that is refused leaves the client as it was. The first fault in the order of [`SubmitFault`] is
     /// answered.
-    #[tactic(auto, using(crate::proofs::TableLaws::invoke_id_unused), unfolding(crate::specs::Lookahead::refusal_of))]
+    #[tactic(auto, using(crate::proofs::invoke_id_unused), unfolding(crate::specs::refusal_of))]
     pub fn submit(&mut self, peer: Peer, service: u8, body: &[u8]) -> Result<u64, SubmitFault>
         ensures { TakesStep self.old
             (submit (rules_of self.old) self.old.state (station peer) service body.now) result self.new }
@@ -163,7 +162,7 @@ impl Client {
     }
 
     // The first reason against a request with this body.
-    #[tactic(auto, unfolding(crate::specs::Lookahead::refusal_of))]
+    #[tactic(auto, unfolding(crate::specs::refusal_of))]
     fn refusal(&self, body: &[u8]) -> Option<SubmitFault>
         ensures { result
             ≡ refusal_of table_size body.now (length self.now.state.waiting) self.now.state.next_ticket }

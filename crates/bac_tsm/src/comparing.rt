@@ -2,7 +2,7 @@
 //! function has an empty body, and its clauses are the laws.
 
 ghost use Rattle.std.specs.Prelude.{◌≡◌};
-ghost use Rattle.{bac_wire.specs.Copies.{EqualsBy, MakesCopies}, bac_tsm.specs.{end_seen, outcome_seen, table_size}};
+ghost use Rattle.{bac_wire.specs.{EqualsBy, MakesCopies}, bac_tsm.specs.{end_seen, outcome_seen, table_size}};
 
 use crate::client::SubmitFault;
 use crate::config::Config;

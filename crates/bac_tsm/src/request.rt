@@ -1,7 +1,7 @@
 //! An open request, with the datagram that it is sent as.
 
-ghost use Rattle.std.specs.Prelude.{◌<◌, ◌≡◌, ◌≤◌, length, suc};
-ghost use Rattle.bac_pdu.specs.{Apdu.longest_body, Peer.station};
+ghost use Rattle.std.specs.Prelude.{length, suc, ◌<◌, ◌≡◌, ◌≤◌};
+ghost use Rattle.bac_pdu.specs.{longest_body, station};
 ghost use Rattle.bac_tsm.specs.{client_rules, due_entry, is_due, octets_of, Inner.begun};
 
 use crate::config::Config;

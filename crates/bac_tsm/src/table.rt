@@ -2,12 +2,11 @@
 
 ghost use Rattle.std.specs.List.{All, AllPairs, filter, find, flat_map, list_any};
 ghost use Rattle.std.specs.{List.Sorted.{IsNonDecreasingBy, IsPermutation}, Option.{option_copied, option_to_list}};
-ghost use Rattle.std.specs.Prelude.{[], ◌++◌, ◌<◌, ◌∷◌, ◌≡◌, ◌≤◌, get_or, length, map, nat_eq, None, not, position};
-ghost use Rattle.std.specs.Prelude.{remove, replicate, set, slice_get, Some, true, ℕ};
-ghost use Rattle.bac_pdu.specs.Apdu.{longest_body};
-ghost use Rattle.bac_tsm.specs.{client_rules, due_answer, is_answer_to, is_due, kept, next_invoke_id, nothing};
-ghost use Rattle.bac_tsm.specs.{table_size, times, times_of_slot, Inner.{ticket_in, ticket_of}};
-ghost use Rattle.bac_tsm.specs.Inner.{answer_seen, begun, invoke_id_in, IsPassed, IsRankOf, IsTakenOut, sent_at};
+ghost use Rattle.std.specs.Prelude.{[], get_or, length, map, nat_eq, None, not, position, remove, replicate, set};
+ghost use Rattle.std.specs.Prelude.{slice_get, Some, true, ℕ, ◌++◌, ◌<◌, ◌∷◌, ◌≡◌, ◌≤◌};
+ghost use Rattle.{bac_pdu.specs.longest_body, bac_tsm.specs.{client_rules, due_answer, is_answer_to, is_due, kept}};
+ghost use Rattle.bac_tsm.specs.{next_invoke_id, nothing, table_size, times, times_of_slot, Inner.{answer_seen, begun}};
+ghost use Rattle.bac_tsm.specs.Inner.{invoke_id_in, IsPassed, IsRankOf, IsTakenOut, sent_at, ticket_in, ticket_of};
 
 use crate::answer::Answer;
 use crate::config::Config;
@@ -78,7 +77,7 @@ impl Table {
     }
 
     /// The first invoke id of the cycle after the last one that no open request has.
-    #[tactic(auto, using(crate::proofs::TableLaws::free_is, crate::proofs::TableLaws::taken_on, crate::proofs::TableLaws::last_is))]
+    #[tactic(auto, using(crate::proofs::free_is, crate::proofs::taken_on, crate::proofs::last_is))]
     pub(crate) fn free_invoke_id(&self, last: u8) -> u8
         ensures { result ≡ next_invoke_id last (map (λ w. w.request.invoke_id) self.now) }
     {
@@ -160,7 +159,7 @@ impl Table {
     }
 
     // The request at this rank.
-    #[tactic(auto, using(crate::proofs::TableLaws::read_within, crate::proofs::TableLaws::read_held, crate::proofs::TableLaws::rank_within))]
+    #[tactic(auto, using(crate::proofs::read_within, crate::proofs::read_held, crate::proofs::rank_within))]
     fn at(&self, rank: usize) -> &OpenRequest
         requires { rank < length self.now }
         ensures { result.now ≡ get_or self.now rank nothing }
@@ -285,7 +284,7 @@ fn held(slots: &[OpenRequest; PLACES], slot: u8) -> &OpenRequest
 }
 
 // The answer is to the request.
-#[tactic(auto, using(bac_pdu::proofs::DatagramLaws::peer_decides, crate::proofs::Calls::same_station_is, crate::proofs::Calls::same_station_refl), unfolding(crate::specs::Answers::is_answer_to))]
+#[tactic(auto, using(bac_pdu::proofs::DatagramLaws::peer_decides, crate::proofs::same_station_is, crate::proofs::same_station_refl), unfolding(crate::specs::is_answer_to))]
 fn is_answered_by(request: &OpenRequest, answer: &Answer<'_>) -> bool
     ensures { result ≡ is_answer_to request.now.request (answer_seen answer.now) }
 {

@@ -1,11 +1,11 @@
 //! The laws of the client: what its machine does is what the look-ahead says.
 
-ghost use Rattle.std.specs.{List.AllPairs, Prelude.ℕ};
-ghost use Rattle.std.specs.Prelude.{◌++◌, ◌+◌, ◌<◌, ◌↔◌, ◌∷◌, ◌≡◌, ◌≢◌, ◌≤◌, IsSomeAnd, length, List, suc, take, true};
-ghost use Rattle.bac_pdu.specs.Peer.{Station};
-ghost use Rattle.bac_tsm.specs.{Accepted, accepted, AnswersByInvokeId, client_rules, due, end, Event, IsAnsweredBy};
-ghost use Rattle.bac_tsm.specs.{InvokeIdsComeBackLate, last_of, MachineIsLookahead, open_among, open_at, Outcome};
-ghost use Rattle.bac_tsm.specs.{outcome_of, output, PassedAreHeld, Request, Rules, same_station, sends, TimeoutsPass};
+ghost use Rattle.std.specs.{List.AllPairs, Prelude.IsSomeAnd};
+ghost use Rattle.std.specs.Prelude.{length, List, suc, take, true, ℕ, ◌++◌, ◌+◌, ◌<◌, ◌↔◌, ◌∷◌, ◌≡◌, ◌≢◌, ◌≤◌};
+ghost use Rattle.{bac_pdu.specs.Station, bac_tsm.specs.Accepted};
+ghost use Rattle.bac_tsm.specs.{accepted, AnswersByInvokeId, client_rules, due, end, Event, InvokeIdsComeBackLate};
+ghost use Rattle.bac_tsm.specs.{IsAnsweredBy, last_of, MachineIsLookahead, open_among, open_at, Outcome, outcome_of};
+ghost use Rattle.bac_tsm.specs.{output, PassedAreHeld, Request, Rules, same_station, sends, TimeoutsPass};
 
 /// The machine tells, at each position, the notes that the look-ahead gives there, and keeps what it says is open: for
 /// any rules by which at most 255 requests may be open, and those that one datagram answers have the same invoke id.
@@ -26,7 +26,7 @@ pub fn answers_are_by_invoke_id()
 {}
 
 /// The table of answers takes two stations for the same exactly where address, port and route are.
-#[tactic(auto, using(crate::proofs::Calls::same_station_is, crate::proofs::Calls::same_station_refl))]
+#[tactic(auto, using(crate::proofs::same_station_is, crate::proofs::same_station_refl))]
 pub fn stations_are_compared_whole()
     ensures { (a b : Station) → (same_station a b ≡ true) ↔ (a ≡ b) }
 {}
@@ -39,7 +39,7 @@ pub fn answers_in_words()
 
 /// At each position at most as many requests are open as may be, under different invoke ids and in the order of their
 /// tickets; each is sent at most once more than the retries.
-#[tactic(auto, using(crate::proofs::RequestLife::roomy, crate::proofs::RequestLife::tickets_rise, crate::proofs::RequestLife::few_sends))]
+#[tactic(auto, using(crate::proofs::roomy, crate::proofs::tickets_rise, crate::proofs::few_sends))]
 pub fn table_is_bounded()
     ensures few { (rules : Rules) (first_ticket : ℕ) (events : List Event) (n : ℕ) →
         rules.most_open ≤ 255 → length (open_at rules first_ticket events n) ≤ rules.most_open }
@@ -52,7 +52,7 @@ pub fn table_is_bounded()
 {}
 
 /// What is told at a position rests on nothing that comes after it.
-#[tactic(auto, using(crate::proofs::WholeRun::looks_back, crate::proofs::WholeRun::reaches))]
+#[tactic(auto, using(crate::proofs::looks_back, crate::proofs::reaches))]
 pub fn output_looks_back()
     ensures { (rules : Rules) (first_ticket : ℕ) (events others : List Event) (n : ℕ) →
         n < length events → take (suc n) events ≡ take (suc n) others →
@@ -60,7 +60,7 @@ pub fn output_looks_back()
 {}
 
 /// Between two requests with the same invoke id, at least 256 others are accepted, less as many as may be open at once.
-#[tactic(auto, using(crate::proofs::RequestLife::back_late))]
+#[tactic(auto, using(crate::proofs::back_late))]
 pub fn invoke_ids_come_back_late()
     ensures { (rules : Rules) (first_ticket : ℕ) (events : List Event) (n : ℕ) →
         rules.most_open ≤ 255 → InvokeIdsComeBackLate rules.most_open (accepted rules first_ticket events n) }

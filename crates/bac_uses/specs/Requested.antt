@@ -1,11 +1,9 @@
 -- Many requests over a link that were all asked, with a timeout of three seconds and three retries.
 use Rattle.std.specs.{List.{AllByRecursion, concat, flat_map}, Prelude.{length, List, map, Option, ℕ, ◌≡◌}}
-use Rattle.bac_tsm.specs.{Client.client_rules, Events.Note, Laws.outputs}
-use Rattle.bac_print.specs.{Checked.{Gave, Took}, declared.checked.Checked.Checked}
+use Rattle.{bac_tsm.specs.{client_rules, Note, outputs}, bac_print.specs.{Gave, Took, declared.checked.Checked.Checked}}
 use Rattle.bac_script.specs.{declared.input.Reading.TheVariants.AtEnd, Script.text, Text.notes_text}
-use Rattle.bac_links.specs.History.{Account, Entry, GainsAll}
-use Rattle.bac_run.specs.{Input.{acts_or_none, inputs_in, IsGood}, Journal.{Act, events_of}, Replay.posted_in}
-use Rattle.bac_run.specs.Replay.{sent_in}
+use Rattle.{bac_links.specs.{Account, Entry, GainsAll}, bac_run.specs.Input.{acts_or_none, inputs_in, IsGood}}
+use Rattle.bac_run.specs.{Journal.{Act, events_of}, Replay.{posted_in, sent_in}}
 
 -- The reader gave lines of which none is bad, and nothing else; what they ask for was done, in their order. The client
 -- told what the look-ahead gives for what it was handed. What the writer took is a script by which `bactrace` prints

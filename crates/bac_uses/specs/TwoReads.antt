@@ -1,8 +1,7 @@
 -- Two reads of analog input 5, and what a tick says of each once a datagram was heard.
 use Rattle.std.specs.{Option.option_map_or, Prelude.{[], List, ℕ, ◌+◌, ◌∷◌}}
-use Rattle.bac_pdu.specs.Peer.{Station}
-use Rattle.bac_tsm.specs.{Answers.outcome_of, Client.client_rules, declared.due.DueEntry.{DueEntry, TheVariants.Resend}}
-use Rattle.bac_tsm.specs.Events.{Request, request_of, Rules}
+use Rattle.{bac_pdu.specs.Station, bac_tsm.specs.{client_rules, Rules, Answers.outcome_of}}
+use Rattle.bac_tsm.specs.{declared.due.DueEntry.{DueEntry, TheVariants.Resend}, Events.{Request, request_of}}
 
 -- A timeout of three seconds, and three retries.
 abbrev pub usual : Rules

@@ -1,7 +1,7 @@
 //! Two reads of one device, open at once.
 
-ghost use Rattle.std.specs.{Prelude.{◌≡◌, [], ◌∷◌}, List.flat_map};
-ghost use Rattle.{bac_pdu.specs.Peer.station, bac_uses.specs.TwoReads.{again_unless, read_of}};
+ghost use Rattle.std.specs.{List.flat_map, Prelude.{[], ◌∷◌, ◌≡◌}};
+ghost use Rattle.{bac_pdu.specs.station, bac_uses.specs.TwoReads.{again_unless, read_of}};
 
 use bac_pdu::{Peer, READ_PROPERTY};
 use bac_tsm::{Client, Config, Due};

@@ -1,8 +1,8 @@
 //! A device with one valve, and what comes of a datagram.
 
-ghost use Rattle.std.specs.{Prelude.{◌≡◌, [], ◌∷◌, Some}, Option.option_map};
-ghost use Rattle.bac_pdu.specs.Peer.{station};
-ghost use Rattle.bac_device.specs.{Device.{present_after, device_after}, Reply.{reply_to, writes_after}};
+ghost use Rattle.std.specs.{Option.option_map, Prelude.{[], Some, ◌∷◌, ◌≡◌}};
+ghost use Rattle.bac_pdu.specs.{station};
+ghost use Rattle.bac_device.specs.{device_after, Device.present_after, Reply.{reply_to, writes_after}};
 ghost use Rattle.bac_uses.specs.Heating.{heating, valve};
 
 use bac_device::{Device, DeviceInfo, Point};

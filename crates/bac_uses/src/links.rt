@@ -1,13 +1,10 @@
 //! A read over a socket, and how it ended.
 
-ghost use Rattle.std.specs.Prelude.{◌≡◌, ◌<◌, false, [], List, Option, IfErr, IfOk};
-ghost use Rattle.{
-  bac_tsm.specs.Events.Outcome,
-  bac_print.specs.Checked.{has_failed, Took},
-  bac_links.specs.{Call.Tells, declared.{ending.Purpose.TheVariants.Reading, udp.OnRefusal.TheVariants.Fails}},
-  bac_links.specs.{Ending.{ending_line, exit_of}, Socket.{account_over, Binds, BindsAtMost}, SystemCall.SystemCall},
-  bac_uses.specs.Anywhere.anywhere,
-};
+ghost use Rattle.std.specs.Prelude.{[], false, IfErr, IfOk, List, Option, ◌<◌, ◌≡◌};
+ghost use Rattle.{bac_tsm.specs.Outcome, bac_print.specs.{has_failed, Took}};
+ghost use Rattle.bac_links.specs.{Binds, BindsAtMost, Tells, declared.ending.Purpose.TheVariants.Reading};
+ghost use Rattle.bac_links.specs.{declared.udp.OnRefusal.TheVariants.Fails, Ending.{ending_line, exit_of}};
+ghost use Rattle.{bac_links.specs.{Socket.account_over, SystemCall.SystemCall}, bac_uses.specs.Anywhere.anywhere};
 
 use bac_links::{Exit, Link, NoSocket, OnRefusal, SystemSocket, ToolFault, UdpLink, run_read};
 use bac_pdu::Peer;

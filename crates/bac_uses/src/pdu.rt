@@ -1,8 +1,7 @@
 //! A request, from its words to the octets of its datagram.
 
-ghost use Rattle.std.specs.Prelude.{◌≡◌, None, true};
-ghost use Rattle.bac_wire.specs.Identifier.{identifier};
-ghost use Rattle.bac_pdu.specs.{Apdu.{confirmed, laid_out}, Datagram.wrapped, Peer.station, Property.read_octets};
+ghost use Rattle.std.specs.Prelude.{None, true, ◌≡◌};
+ghost use Rattle.{bac_wire.specs.identifier, bac_pdu.specs.{confirmed, laid_out, read_octets, station, wrapped}};
 
 use bac_pdu::{Apdu, Peer, READ_PROPERTY, ReadRequest, wrap, write_apdu, write_read};
 use bac_wire::{Frame, ObjectId};

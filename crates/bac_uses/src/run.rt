@@ -1,7 +1,7 @@
 //! Many requests over a link, and the journal of them.
 
-ghost use Rattle.std.specs.Prelude.{◌≡◌, false, IfOk};
-ghost use Rattle.{bac_print.specs.Checked.has_failed, bac_uses.specs.Requested.AllRequested};
+ghost use Rattle.std.specs.Prelude.{false, IfOk, ◌≡◌};
+ghost use Rattle.{bac_print.specs.has_failed, bac_uses.specs.Requested.AllRequested};
 
 use bac_links::Link;
 use bac_print::Checked;

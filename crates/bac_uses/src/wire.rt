@@ -1,7 +1,7 @@
 //! A value, written and read back.
 
-ghost use Rattle.std.specs.Prelude.{◌≡◌, ◌<◌, [], IfOk, IfErr, length};
-ghost use Rattle.bac_wire.specs.{Datum.{datum, plain, IsSound}, Limits.frame_room};
+ghost use Rattle.std.specs.Prelude.{[], IfErr, IfOk, length, ◌<◌, ◌≡◌};
+ghost use Rattle.bac_wire.specs.{datum, frame_room, IsSound, plain};
 
 use bac_wire::{Frame, Full, Value, read_value, write_value};
 

@@ -3,11 +3,11 @@ use Rattle.std.proofs.Common.{[], ap, append-nil, append_assoc, arith, Bool, con
 use Rattle.std.proofs.Common.{get_or, inl, inr, length, length-append, length-take-le, List, ltb, map, negsuc, None}
 use Rattle.std.proofs.Common.{Option, option_map, pos, refl, slice_index_or, Some, subst, suc, sym, take, take-add}
 use Rattle.std.proofs.Common.{take-append-drop, take-take, take_at, zero, ℕ, ℤ, ◌%◌, ◌*◌, ◌++◌, ◌+◌, ◌-◌, ◌<◌, ◌^◌, ◌↔◌}
-use Rattle.std.proofs.{Common.{◌∙◌, ◌∷◌, ◌≡◌, ◌≤◌}, lemmas.Bool.{eq-eqb, eqb-false, eqb-true, le-ltb, lt-ltb}}
-use Rattle.std.proofs.lemmas.{Bool.{ltb-false, Decides.nat_tests}, Grind.common_steps, Int.ints, List.nil_from_length}
-use Rattle.std.proofs.lemmas.{List.FromFn.get_or-map-range_with_len, Option.{none-some, same_Some, some_pair_parts}}
-use Rattle.std.{proofs.{lemmas.Simd.take_more_put_chunk, Math.Seq.take-append_seam}, specs.Int.w64}
-use Rattle.std.specs.List.{range_with_len}
+use Rattle.std.proofs.Common.{◌∙◌, ◌∷◌, ◌≡◌, ◌≤◌}
+use Rattle.std.proofs.lemmas.Bool.{eq-eqb, eqb-false, eqb-true, le-ltb, lt-ltb, ltb-false, Decides.nat_tests}
+use Rattle.std.proofs.lemmas.{Grind.common_steps, Int.ints, List.{nil_from_length, FromFn.get_or-map-range_with_len}}
+use Rattle.std.proofs.lemmas.{Option.{none-some, same_Some, some_pair_parts}, Simd.take_more_put_chunk}
+use Rattle.std.{proofs.Math.Seq.take-append_seam, specs.{Int.w64, List.range_with_len}}
 use Rattle.byteorder.{proofs.Bytes.pow256, specs.Endian.{big_bytes, big_number, low_bytes, twos_complement}}
 use Rattle.byteorder.specs.Numbers.{big_from-lt, big_number-reads_back, length-bytes_high_first}
 use Rattle.bac_wire.proofs.TagLaws.{begins_read, behind, bind_some, chosen, found_at, one_front, plain_tag_spells}

@@ -7,16 +7,16 @@ use Rattle.std.proofs.lemmas.{Grind.common_steps, List.{append_cancel_left, appe
 use Rattle.std.proofs.lemmas.Option.{cond_some, none-some, same_Some, some_pair_parts}
 use Rattle.bac_wire.proofs.DatumLaws.{count_fits, count_four, count_low, same_identifier, value_reader, within_again}
 use Rattle.bac_wire.proofs.{DatumLaws.within_takes, TagLaws.{begins_read, bind_some, chosen, found_at, only_if}}
-use Rattle.bac_wire.{proofs.TagLaws.{plain_tag_spells, reader_of, tag_reader, take_front, Took, unless}, specs.App}
-use Rattle.bac_wire.specs.{Begins, behind_closing, behind_count, behind_item, behind_items, behind_opening, behind_tag}
-use Rattle.bac_wire.specs.{behind_tag_found, closing_of, closing_tag, context_at, context_octets, context_tag}
-use Rattle.bac_wire.specs.{counted_of, Counts, datum, enclosed_at, enclosed_octets, enumerated, enumerated_in}
-use Rattle.bac_wire.specs.{FindsFront, FindsRegion, HasEnded, here, into, IsBracketed, IsClosedRegion, IsIdentifier}
-use Rattle.bac_wire.specs.{IsItem, IsPrimitive, IsReadBack, IsReader, IsRegion, IsSequence, kind_at, LeavesRest, more}
-use Rattle.bac_wire.specs.{none, number_at, number_octets, object_at, object_in, object_octets, Opening, opening_of}
-use Rattle.bac_wire.specs.{opening_tag, Opens, past, region_at, Shape, Spells, SpellsClosed, SpellsContext}
-use Rattle.bac_wire.specs.{SpellsEnclosed, SpellsIn, SpellsTag, StandsFor, tag_at, unsigned, unsigned_in, value_at}
-use Rattle.bac_wire.specs.{◌>>=◌, Datum.Datum, declared.tag.{Shape.TheVariants.{Closing, Context}, Tag.Tag}}
+use Rattle.bac_wire.proofs.TagLaws.{plain_tag_spells, reader_of, tag_reader, take_front, Took, unless}
+use Rattle.bac_wire.specs.{App, Begins, behind_closing, behind_count, behind_item, behind_items, behind_opening}
+use Rattle.bac_wire.specs.{behind_tag, behind_tag_found, closing_of, closing_tag, context_at, context_octets}
+use Rattle.bac_wire.specs.{context_tag, counted_of, Counts, datum, enclosed_at, enclosed_octets, enumerated}
+use Rattle.bac_wire.specs.{enumerated_in, FindsFront, FindsRegion, HasEnded, here, into, IsBracketed, IsClosedRegion}
+use Rattle.bac_wire.specs.{IsIdentifier, IsItem, IsPrimitive, IsReadBack, IsReader, IsRegion, IsSequence, kind_at}
+use Rattle.bac_wire.specs.{LeavesRest, more, none, number_at, number_octets, object_at, object_in, object_octets}
+use Rattle.bac_wire.specs.{Opening, opening_of, opening_tag, Opens, past, region_at, Shape, Spells, SpellsClosed}
+use Rattle.bac_wire.specs.{SpellsContext, SpellsEnclosed, SpellsIn, SpellsTag, StandsFor, tag_at, unsigned, unsigned_in}
+use Rattle.bac_wire.specs.{value_at, ◌>>=◌, Datum.Datum, declared.tag.{Shape.TheVariants.{Closing, Context}, Tag.Tag}}
 use Rattle.bac_wire.specs.{declared.value.Value.Value, Identifier.Identifier, Inner.{CountsBehind, Finds, LeavesBehind}}
 use Rattle.bac_wire.specs.Datum as values
 

@@ -2,3 +2,6 @@ pub mod TagLaws
 pub mod DatumLaws
 pub mod ItemLaws
 pub mod Walks
+pub use TagLaws.*
+pub use DatumLaws.*
+pub use ItemLaws.*

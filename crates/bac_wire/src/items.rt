@@ -82,7 +82,7 @@ fn behind_octets(octets: &[u8], count: u32) -> Option<&[u8]>
 }
 
 // The octets behind the closing tag of this number.
-#[tactic(auto, unfolding(crate::specs::ItemReading::behind_closing))]
+#[tactic(auto, unfolding(crate::specs::behind_closing))]
 fn behind_closing<'a>(octets: &'a [u8], number: u8, work: &mut Work) -> Option<&'a [u8]>
     ensures found { option_map (λ r. r.now) result ≡ behind_closing number octets.now }
     ensures shorter { IfSome result (λ r. length r.now < length octets.now) }
@@ -96,7 +96,7 @@ fn behind_closing<'a>(octets: &'a [u8], number: u8, work: &mut Work) -> Option<&
 }
 
 // The tag that begins the octets, and those behind it, counted.
-#[tactic(auto, using(crate::proofs::ItemLaws::after_shorter))]
+#[tactic(auto, using(crate::proofs::after_shorter))]
 #[inline(always)]
 fn next_tag<'a>(octets: &'a [u8], work: &mut Work) -> Option<(Tag, &'a [u8])>
     ensures tag { option_map (λ x. (x.0, x.1.now)) result ≡ tag_at octets.now }

@@ -36,7 +36,7 @@ pub fn values()
 {}
 
 /// A region is read as the values whose spellings it is, one after another and nothing else (clause 20.2.1).
-#[tactic(auto, using(crate::proofs::DatumLaws::are_spelled))]
+#[tactic(auto, using(crate::proofs::are_spelled))]
 pub fn values_in_words()
     ensures { (region : List ℕ) (values : List Datum) →
         (values_of region ≡ Some values) ↔ SpellsAll Spells region values }
@@ -44,7 +44,7 @@ pub fn values_in_words()
 
 /// Items: none begins another, whatever depth is allowed to either, and none begins with a closing tag. In a region no
 /// more opening tags are open at once than its depth allows, wherever one stops to count.
-#[tactic(auto, using(crate::proofs::ItemLaws::one_item, crate::proofs::ItemLaws::item_opens, crate::proofs::ItemLaws::nesting))]
+#[tactic(auto, using(crate::proofs::one_item, crate::proofs::item_opens, crate::proofs::nesting))]
 pub fn items()
     ensures one { (depth other : ℕ) (a b u v : List ℕ) → IsItem depth a → IsItem other b → a ++ u ≡ b ++ v → a ≡ b }
     ensures opens { (depth number : ℕ) (item closing u v : List ℕ) → IsItem depth item

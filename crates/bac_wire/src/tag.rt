@@ -40,7 +40,7 @@ pub fn read_tag(octets: &[u8]) -> Option<(Tag, usize)>
 }
 
 /// The tag that begins the input, and the octets behind it; `None` where `read_tag` gives none.
-#[tactic(auto, unfolding(crate::specs::TagReading::tag_at))]
+#[tactic(auto, unfolding(crate::specs::tag_at))]
 #[inline(always)]
 pub fn tag_and_rest(octets: &[u8]) -> Option<(Tag, &[u8])>
     ensures { option_map (λ x. (x.0, x.1.now)) result ≡ tag_at octets.now }
@@ -68,7 +68,7 @@ pub fn write_tag(frame: &mut Frame, tag: Tag) -> Result<(), Full>
 pub(crate) type Head = ArrayVec<u8, 15>;
 
 /// The shortest spelling of the tag.
-#[tactic(auto, unfolding(crate::specs::Tag::plain_tag))]
+#[tactic(auto, unfolding(crate::specs::plain_tag))]
 pub(crate) fn shortest(tag: Tag) -> Head
     requires { tag.number < 255 }
     ensures octets { result.items ≡ plain_tag tag }
@@ -95,7 +95,7 @@ pub(crate) fn shortest(tag: Tag) -> Head
 }
 
 // The tag's number, by the high half of the initial octet: 15 there says that the next octet holds it.
-#[tactic(auto, unfolding(crate::specs::TagReading::tag_number_at))]
+#[tactic(auto, unfolding(crate::specs::tag_number_at))]
 fn number_and_rest(high: u8, octets: &[u8]) -> Option<(u8, &[u8])>
     requires { high < 16 }
     ensures { option_map (λ x. (x.0, x.1.now)) result ≡ tag_number_at high octets.now }
@@ -110,7 +110,7 @@ fn number_and_rest(high: u8, octets: &[u8]) -> Option<(u8, &[u8])>
 }
 
 // The tag's shape, by the low half of the initial octet: 8 is the class bit, and the rest the length or a bracket.
-#[tactic(auto, unfolding(crate::specs::TagReading::shape_at))]
+#[tactic(auto, unfolding(crate::specs::shape_at))]
 fn shape_and_rest(low: u8, octets: &[u8]) -> Option<(Shape, &[u8])>
     requires { low < 16 }
     ensures { option_map (λ x. (x.0, x.1.now)) result ≡ shape_at low octets.now }
@@ -130,7 +130,7 @@ fn shape_and_rest(low: u8, octets: &[u8]) -> Option<(Shape, &[u8])>
 }
 
 // The length, by the three low bits: 5 there says that it follows.
-#[tactic(auto, unfolding(crate::specs::TagReading::length_at))]
+#[tactic(auto, unfolding(crate::specs::length_at))]
 fn length_and_rest(low: u8, octets: &[u8]) -> Option<(u32, &[u8])>
     ensures { option_map (λ x. (x.0, x.1.now)) result ≡ length_at low octets.now }
 {
@@ -142,7 +142,7 @@ fn length_and_rest(low: u8, octets: &[u8]) -> Option<(u32, &[u8])>
 }
 
 // A length that follows: one octet, or two behind 254, or four behind 255.
-#[tactic(auto, unfolding(crate::specs::TagReading::long_length_at))]
+#[tactic(auto, unfolding(crate::specs::long_length_at))]
 #[cold]
 #[inline(never)]
 fn long_length_and_rest(octets: &[u8]) -> Option<(u32, &[u8])>

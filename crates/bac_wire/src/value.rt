@@ -63,7 +63,7 @@ pub fn read_value(octets: &[u8]) -> Option<(Value<'_>, usize)>
 }
 
 /// The value that begins the input, and the octets behind it; `None` where `read_value` gives none.
-#[tactic(auto, unfolding(crate::specs::DatumReading::value_at))]
+#[tactic(auto, unfolding(crate::specs::value_at))]
 pub fn value_and_rest(octets: &[u8]) -> Option<(Value<'_>, &[u8])>
     ensures { option_map (λ x. (datum x.0, x.1.now)) result ≡ value_at octets.now }
 {
@@ -114,7 +114,7 @@ pub fn octet_count(n: u64) -> usize
 }
 
 // The value that the contents stand for, by the number of the tag before them.
-#[tactic(auto, unfolding(crate::specs::DatumReading::contents_of))]
+#[tactic(auto, unfolding(crate::specs::contents_of))]
 fn value_of(number: u8, contents: &[u8]) -> Option<Value<'_>>
     ensures { option_map datum result ≡ contents_of number contents.now }
 {
@@ -187,7 +187,7 @@ fn bits_of(contents: &[u8]) -> Option<Value<'_>>
     value.sound().then_some(value)
 }
 
-#[tactic(auto, unfolding(crate::specs::Datum::plain, crate::specs::Inner::Datum::tagged))]
+#[tactic(auto, unfolding(crate::specs::plain, crate::specs::Inner::tagged))]
 #[inline(always)]
 fn append_value(frame: &mut Frame, value: &Value<'_>) -> Result<(), Full>
     requires { IsSound (datum value.now) }
@@ -212,14 +212,14 @@ fn append_value(frame: &mut Frame, value: &Value<'_>) -> Result<(), Full>
     }
 }
 
-#[tactic(auto, unfolding(crate::specs::Datum::plain, crate::specs::Tag::plain_tag))]
+#[tactic(auto, unfolding(crate::specs::plain, crate::specs::plain_tag))]
 fn append_null(frame: &mut Frame) -> Result<(), Full>
     ensures { Appends frame.old (plain null) frame.new result }
 {
     frame.append(&[0])
 }
 
-#[tactic(auto, unfolding(crate::specs::Datum::plain, crate::specs::Tag::plain_tag))]
+#[tactic(auto, unfolding(crate::specs::plain, crate::specs::plain_tag))]
 fn append_boolean(frame: &mut Frame, value: bool) -> Result<(), Full>
     ensures { Appends frame.old (plain (boolean value)) frame.new result }
 {
@@ -240,7 +240,7 @@ fn append_number(frame: &mut Frame, number: u8, n: u64) -> Result<(), Full>
 }
 
 // Appends a tag of one octet, and a number in one octet.
-#[tactic(auto, using(crate::proofs::DatumLaws::one_tagged))]
+#[tactic(auto, using(crate::proofs::one_tagged))]
 fn append_octet(frame: &mut Frame, number: u8, n: u8) -> Result<(), Full>
     requires { number < 15 }
     ensures { Appends frame.old (tagged number (big_bytes (octet_count n) n)) frame.new result }
@@ -248,7 +248,7 @@ fn append_octet(frame: &mut Frame, number: u8, n: u8) -> Result<(), Full>
     frame.append(&[16 * number + 1, n])
 }
 
-#[tactic(auto, using(crate::proofs::DatumLaws::bytes_taken))]
+#[tactic(auto, using(crate::proofs::bytes_taken))]
 fn append_signed(frame: &mut Frame, n: i64) -> Result<(), Full>
     ensures { Appends frame.old (tagged 3 (big_bytes (signed_count n) (low_bytes w64 (signed_count n) n)))
         frame.new result }
@@ -278,7 +278,7 @@ fn append_object(frame: &mut Frame, id: ObjectId) -> Result<(), Full>
 }
 
 // Appends a tag of one octet, and the four octets that it counts.
-#[tactic(auto, using(crate::proofs::DatumLaws::four_tagged))]
+#[tactic(auto, using(crate::proofs::four_tagged))]
 #[inline(always)]
 fn append_four(frame: &mut Frame, number: u8, contents: &[u8; 4]) -> Result<(), Full>
     requires { number < 15 }
@@ -291,7 +291,7 @@ fn append_four(frame: &mut Frame, number: u8, contents: &[u8; 4]) -> Result<(), 
 }
 
 // Appends the tag of the contents, which are in two parts, and the contents.
-#[tactic(auto, unfolding(crate::specs::Inner::Datum::tagged))]
+#[tactic(auto, unfolding(crate::specs::Inner::tagged))]
 fn append_tagged(frame: &mut Frame, number: u8, first: &[u8], rest: &[u8]) -> Result<(), Full>
     requires number { number < 255 }
     requires first { length first.now ≤ 8 }

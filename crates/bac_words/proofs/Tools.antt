@@ -5,17 +5,16 @@ use Rattle.std.proofs.Common.{option_map, refl, Result, Some, subst, sym, true, 
 use Rattle.std.proofs.{Common.{◌≤◌, ◌⊎◌}, lemmas.{Bool.false≢true, List.{drop_all, length-map}, Option.same_Some}}
 use Rattle.std.{proofs.{lemmas.Slice.Eq.bytes_eq-Decides, Math.Bool.or-false}, specs.Borrow.Bor}
 use Rattle.clap.{proofs.WalkLemmas.first_value-rows, specs.declared.error.{Error.Error, kind.ErrorKind.ErrorKind}}
-use Rattle.clap.specs.{Faults.{fault_of, is_simple_and_free, level_fault}, Kinds.{HasKind, IsAmong}, Simple.built}
-use Rattle.clap.specs.{Simple.{is_simple, label_of, rows_at, Shape, subcommand_of}, Values.kind_of, Walk.answers_to}
-use Rattle.clap.specs.{Walk.{nothing_held, Row, Rule, Text, texts}, Words.Text}
-use Rattle.bac_wire.specs.Steps.{◌>>=◌}
-use Rattle.bac_pdu.specs.{declared.{peer.Peer.Peer, route.Route.Route}, Peer.{network_address, Station, station}}
-use Rattle.bac_text.specs.Address.{address_of, cut_at, plain_peer_of, short_number, station_at}
+use Rattle.clap.specs.{Faults.{fault_of, is_simple_and_free, level_fault}, Kinds.{HasKind, IsAmong}}
+use Rattle.clap.specs.{Simple.{built, is_simple, label_of, rows_at, Shape, subcommand_of}, Values.kind_of}
+use Rattle.{clap.specs.{Walk.{answers_to, nothing_held, Row, Rule, Text, texts}, Words.Text}, bac_wire.specs.◌>>=◌}
+use Rattle.bac_words.specs.{Answers, bacrp, bacrun, bactool, bacwi, bacwp, IsRefusal, marked_words, Peer, peer_in}
+use Rattle.bac_words.specs.{unmarked, declared.{faults.UsageFault.UsageFault, job.Job.Job}, Inner.bounds}
+use Rattle.bac_words.specs.Inner.{fault_by, fault_from, IsClient, IsGiven, IsNumberWord, IsRequest, IsSender, IsTool}
+use Rattle.bac_pdu.specs.{network_address, Station, station, declared.route.Route.Route}
+use Rattle.bac_text.specs.{plain_peer_of, Address.{address_of, cut_at, short_number, station_at}}
 use Rattle.clap_laws.{proofs.Parsed.{enters, level_taken, needed, when_found}, specs.Entering.asks_for_help}
 use Rattle.clap_laws.specs.{Inner.{Commands.rules_of, Numbers.{bounds_in, FitsWord, is_needed}}, Passes.IsTaken}
-use Rattle.bac_words.specs.{Answers, bacrp, bacrun, bactool, bacwi, bacwp, IsRefusal, marked_words, peer_in, unmarked}
-use Rattle.bac_words.specs.{declared.{faults.UsageFault.UsageFault, job.Job.Job}, Inner.{bounds, fault_by, fault_from}}
-use Rattle.bac_words.specs.Inner.{IsClient, IsGiven, IsNumberWord, IsRequest, IsSender, IsTool}
 use Rattle.clap.specs.declared.error.kind.ErrorKind.TheVariants as kind
 
 abbrev AllOf : (Shape → Type 0) → List Shape → Type 0

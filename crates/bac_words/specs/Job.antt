@@ -1,13 +1,11 @@
 -- What the words of a tool ask for, and the first thing that is wrong with them.
-use Rattle.std.specs.Prelude.{[], ◌<◌, codes, if◌then◌else◌, List, map, None, Ok, ok_or, Option, option_and_then}
-use Rattle.std.specs.{Prelude.{option_map, Result, Some, unwrap_or, ℕ, ⊤}, Result.result_map_both, Str.bytes_eq}
-use Rattle.arrayvec.specs.ArrayVec.{ArrayVec}
+use Rattle.std.specs.Prelude.{[], codes, if◌then◌else◌, List, map, None, Ok, ok_or, Option, option_and_then, option_map}
+use Rattle.std.specs.{Prelude.{Result, Some, unwrap_or, ℕ, ⊤, ◌<◌}, Result.result_map_both, Str.bytes_eq}
+use Rattle.{arrayvec.specs.ArrayVec.ArrayVec, bac_pdu.specs.{read_octets, Reference, ◌>>=◌}}
 use Rattle.bac_pdu.specs.declared.{discovery.WhoIs.{WhoIs, TheVariants.{All, Range}}, peer.Peer.Peer}
-use Rattle.bac_pdu.specs.{Property.{read_octets, Reference}, Steps.◌>>=◌}
-use Rattle.bac_text.specs.{Address.plain_peer_of, declared.{jobs.Call.Call, pairs.PairFault.PairFault}, Pairs.body_of}
-use Rattle.bac_text.specs.Parameters.{priority_from, write_index_of}
-use Rattle.{bac_wire.specs.Identifier.Identifier, clap.specs.Words.{all_of, first_of, Row, Text}}
-use Rattle.clap_laws.specs.Numbers.{number_of}
+use Rattle.bac_text.specs.{plain_peer_of, declared.{jobs.Call.Call, pairs.PairFault.PairFault}, Pairs.body_of}
+use Rattle.{bac_text.specs.Parameters.{priority_from, write_index_of}, bac_wire.specs.Identifier.Identifier}
+use Rattle.{clap.specs.Words.{all_of, first_of, Row, Text}, clap_laws.specs.Numbers.number_of}
 use Rattle.bac_words.specs.declared.faults.UsageFault.{UsageFault, TheVariants.{BadIndex, BadMac}}
 use Rattle.bac_words.specs.{declared.job.{Batch.Batch, Job.Job, Tool.Tool}, Fault.usage_of, Marks.unmarked}
 use Rattle.bac_words.specs.declared.job.Job.TheVariants as job

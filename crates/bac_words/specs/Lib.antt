@@ -13,3 +13,5 @@ unfoldable pub use Fault.*
 unfoldable pub use Marks.*
 unfoldable pub use Job.*
 unfoldable pub use Line.*
+pub use Rattle.bac_words.specs.Called.{words_called}
+pub use Rattle.{bac_words.specs.Line.{Answers, IsRefusal}, bac_pdu.specs.declared.peer.Peer.Peer}

@@ -1,6 +1,6 @@
 -- What is told of a fault.
 use Rattle.std.specs.Prelude.{List, None, Option, Some, ℕ}
-use Rattle.{clap.specs.declared.error.Error.Error, bac_print.specs.Message.message_text}
+use Rattle.{clap.specs.declared.error.Error.Error, bac_print.specs.message_text}
 use Rattle.bac_words.specs.declared.telling.Telling.{Telling}
 use Rattle.bac_words.specs.declared.telling.Telling.TheVariants as telling
 

@@ -28,7 +28,7 @@ pub(crate) fn marked_words<'a>(
 }
 
 /// The word of an argument, as it was typed, where it is given.
-#[tactic(auto, using(crate::proofs::Tools::first_words))]
+#[tactic(auto, using(crate::proofs::first_words))]
 pub(crate) fn typed_word<'a>(matches: &ArgMatches<'a>, id: &str) -> Option<&'a str>
     ensures { option_map (λ word. word.now) result ≡ typed_word id.now (rows_of (found_of matches.now)) }
 {
@@ -54,7 +54,7 @@ impl<'w, 'a> TypedWords<'w, 'a> {
 impl<'w, 'a> WordSource<'a> for TypedWords<'w, 'a> {
     ghost left = { λ typed. map unmarked (texts (drop typed.taken typed.words.now)) };
 
-    #[tactic(auto, using(crate::proofs::Tools::typed_next, crate::proofs::Tools::typed_end))]
+    #[tactic(auto, using(crate::proofs::typed_next, crate::proofs::typed_end))]
     fn next_word(&mut self) -> Option<&'a [u8]> {
         if self.taken < self.words.len() {
             let word = self.words[self.taken];
@@ -64,7 +64,7 @@ impl<'w, 'a> WordSource<'a> for TypedWords<'w, 'a> {
         None
     }
 
-    #[tactic(auto, using(crate::proofs::Tools::typed_fewer))]
+    #[tactic(auto, using(crate::proofs::typed_fewer))]
     fn are_countable(&self) {}
 }
 

@@ -1,17 +1,15 @@
 //! From the words to the job.
 
-ghost use Rattle.std.specs.Prelude.{◌<◌, ◌≡◌, ◌≤◌, ◌⊎◌, codes, IfOk, IfSome, IsErrAnd, IsSomeAnd, length, option_map};
-ghost use Rattle.{
-  bac_pdu.specs.Property.{IsPriority, read_octets, reference},
-  bac_text.specs.Parameters.priority_from,
-  bac_wire.specs.{Identifier.identifier, Steps.result_seen},
-  clap.specs.{Walk.texts, Words.{found_of, rows_of, subcommand_rows_of}},
-  clap_laws.specs.{Numbers.number_of, Passes.IsTaken, Inner.{Commands.rules_of, Numbers.IsWithin}},
-  bac_words.specs.{Answers, bacdev, bacrp, bacrun, bacwi, bacwp, body_given, call_given, CanRun, index_given},
-  bac_words.specs.{IsRefusal, limits, needed_number, object_given, order_of, peer_given, peer_in, port_given},
-  bac_words.specs.{read_order, retries_given, run_order, search_order, serve_order, timeout_given, write_order},
-  bac_words.specs.Inner.{bounds, IsClient, IsGiven, IsNumberWord, IsRequest, IsSender, IsTool},
-};
+ghost use Rattle.std.specs.Prelude.{codes, IfOk, IfSome, IsErrAnd, IsSomeAnd, length, option_map, ◌<◌, ◌≡◌, ◌≤◌, ◌⊎◌};
+ghost use Rattle.{bac_pdu.specs.{IsPriority, read_octets, reference}, bac_text.specs.Parameters.priority_from};
+ghost use Rattle.bac_wire.specs.{identifier, result_seen};
+ghost use Rattle.clap.specs.{Walk.texts, Words.{found_of, rows_of, subcommand_rows_of}};
+ghost use Rattle.clap_laws.specs.{Inner.{Commands.rules_of, Numbers.IsWithin}, Numbers.number_of, Passes.IsTaken};
+ghost use Rattle.bac_words.specs.{Answers, bacdev, bacrp, bacrun, bacwi, bacwp, body_given, call_given, CanRun};
+ghost use Rattle.bac_words.specs.{index_given, IsRefusal, limits, needed_number, object_given, order_of, peer_given};
+ghost use Rattle.bac_words.specs.{peer_in, port_given, read_order, retries_given, run_order, search_order, serve_order};
+ghost use Rattle.bac_words.specs.{timeout_given, write_order};
+ghost use Rattle.bac_words.specs.Inner.{bounds, IsClient, IsGiven, IsNumberWord, IsRequest, IsSender, IsTool};
 
 use crate::command::bactool;
 use crate::faults::UsageFault;
@@ -62,7 +60,7 @@ fn job(matches: &ArgMatches<'_>) -> Result<Job, UsageFault>
     }
 }
 
-#[tactic(auto, using(crate::proofs::Tools::of_tool, crate::proofs::Tools::given_to_tool))]
+#[tactic(auto, using(crate::proofs::of_tool, crate::proofs::given_to_tool))]
 fn read_job(matches: &ArgMatches<'_>) -> Result<Job, UsageFault>
     requires { IsTaken (rules_of bacrp) (rows_of (found_of matches.now)) }
     ensures job { result ≡ read_order (rows_of (found_of matches.now)) }
@@ -94,7 +92,7 @@ fn write_job(matches: &ArgMatches<'_>) -> Result<Job, UsageFault>
     Ok(Job::Over(Tool::Write(call(matches, to, body))))
 }
 
-#[tactic(auto, using(crate::proofs::Tools::of_tool, crate::proofs::Tools::given_to_tool))]
+#[tactic(auto, using(crate::proofs::of_tool, crate::proofs::given_to_tool))]
 fn search_job(matches: &ArgMatches<'_>) -> Result<Job, UsageFault>
     requires { IsTaken (rules_of bacwi) (rows_of (found_of matches.now)) }
     ensures job { result ≡ search_order (rows_of (found_of matches.now)) }
@@ -113,7 +111,7 @@ fn search_job(matches: &ArgMatches<'_>) -> Result<Job, UsageFault>
     })))
 }
 
-#[tactic(auto, using(crate::proofs::Tools::of_tool, crate::proofs::Tools::given_to_tool))]
+#[tactic(auto, using(crate::proofs::of_tool, crate::proofs::given_to_tool))]
 fn serve_job(matches: &ArgMatches<'_>) -> Result<Job, UsageFault>
     requires { IsTaken (rules_of bacdev) (rows_of (found_of matches.now)) }
     ensures job { result ≡ serve_order (rows_of (found_of matches.now)) }
@@ -126,7 +124,7 @@ fn serve_job(matches: &ArgMatches<'_>) -> Result<Job, UsageFault>
     Ok(Job::Over(Tool::Device(Serve { info, port, count })))
 }
 
-#[tactic(auto, using(crate::proofs::Tools::of_tool, crate::proofs::Tools::given_to_tool))]
+#[tactic(auto, using(crate::proofs::of_tool, crate::proofs::given_to_tool))]
 fn run_job(matches: &ArgMatches<'_>) -> Result<Job, UsageFault>
     requires { IsTaken (rules_of bacrun) (rows_of (found_of matches.now)) }
     ensures job { result ≡ run_order (rows_of (found_of matches.now)) }
@@ -165,7 +163,7 @@ fn read_body(request: &ReadRequest) -> ArrayVec<u8, LONGEST_BODY>
 }
 
 // The body of a write, whose values are the pairs as they were typed.
-#[tactic(auto, using(crate::proofs::Tools::of_tool, crate::proofs::Tools::given_to_tool))]
+#[tactic(auto, using(crate::proofs::of_tool, crate::proofs::given_to_tool))]
 fn write_body(
     matches: &ArgMatches<'_>,
     index: Option<u32>,
@@ -210,7 +208,7 @@ fn limits(least: Option<u32>, most: Option<u32>) -> WhoIs
 }
 
 // The peer of `--mac`, which has no route. Nobody types a mark in front of one, so none is taken off.
-#[tactic(auto, using(crate::proofs::Tools::first_words))]
+#[tactic(auto, using(crate::proofs::first_words))]
 fn peer(matches: &ArgMatches<'_>) -> Option<Peer>
     ensures { result ≡ peer_given (rows_of (found_of matches.now)) }
 {
@@ -218,7 +216,7 @@ fn peer(matches: &ArgMatches<'_>) -> Option<Peer>
 }
 
 // The peer that a word names, as it stands.
-#[tactic(auto, using(crate::proofs::Tools::peer_named))]
+#[tactic(auto, using(crate::proofs::peer_named))]
 fn peer_of(word: &str) -> Option<Peer>
     ensures { result ≡ peer_in word.now }
 {
@@ -233,7 +231,7 @@ fn index(matches: &ArgMatches<'_>) -> Option<Option<u32>>
 }
 
 // The object of a request.
-#[tactic(auto, using(crate::proofs::Tools::of_request, crate::proofs::Tools::given_to_request))]
+#[tactic(auto, using(crate::proofs::of_request, crate::proofs::given_to_request))]
 fn object(matches: &ArgMatches<'_>) -> ObjectId
     requires { IsRequest (rows_of (found_of matches.now)) }
     ensures { identifier result ≡ object_given (rows_of (found_of matches.now)) }
@@ -244,7 +242,7 @@ fn object(matches: &ArgMatches<'_>) -> ObjectId
 }
 
 // The milliseconds of a timeout, 3 seconds where none is given.
-#[tactic(auto, using(crate::proofs::Tools::of_client))]
+#[tactic(auto, using(crate::proofs::of_client))]
 fn timeout(matches: &ArgMatches<'_>) -> u32
     requires { IsClient (rows_of (found_of matches.now)) }
     ensures value { result ≡ timeout_given (rows_of (found_of matches.now)) }
@@ -254,7 +252,7 @@ fn timeout(matches: &ArgMatches<'_>) -> u32
 }
 
 // How often a request is sent again, three times where it isn't said.
-#[tactic(auto, using(crate::proofs::Tools::of_sender))]
+#[tactic(auto, using(crate::proofs::of_sender))]
 fn retries(matches: &ArgMatches<'_>) -> u8
     requires { IsSender (rows_of (found_of matches.now)) }
     ensures { result ≡ retries_given (rows_of (found_of matches.now)) }
@@ -263,7 +261,7 @@ fn retries(matches: &ArgMatches<'_>) -> u8
 }
 
 // The port to send from, any where none is given.
-#[tactic(auto, using(crate::proofs::Tools::of_client))]
+#[tactic(auto, using(crate::proofs::of_client))]
 fn port(matches: &ArgMatches<'_>) -> u16
     requires { IsClient (rows_of (found_of matches.now)) }
     ensures { result ≡ port_given (rows_of (found_of matches.now)) }
@@ -272,7 +270,7 @@ fn port(matches: &ArgMatches<'_>) -> u16
 }
 
 // The priority of a write.
-#[tactic(auto, using(crate::proofs::Tools::of_tool, crate::proofs::Tools::given_to_tool))]
+#[tactic(auto, using(crate::proofs::of_tool, crate::proofs::given_to_tool))]
 fn priority(matches: &ArgMatches<'_>) -> Option<u8>
     requires { IsTaken (rules_of bacwp) (rows_of (found_of matches.now)) }
     ensures value { result ≡ priority_from (needed_number (codes "priority") (rows_of (found_of matches.now))) }

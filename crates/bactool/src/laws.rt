@@ -1,8 +1,7 @@
 //! What holds of the program over the sockets of this machine: the clause of a function with an empty body is the law.
-ghost use Rattle.std.specs.{Prelude.{◌≡◌, ℕ, List, Some, None, Result, Ok, Err}, declared.io.ErrorKind.ErrorKind};
+ghost use Rattle.std.specs.{declared.io.ErrorKind.ErrorKind, Prelude.{Err, List, None, Ok, Result, Some, ℕ, ◌≡◌}};
 ghost use Rattle.bac_print.specs.declared.checked.Checked.{Checked};
-ghost use Rattle.bac_links.specs.{Socket.OverSocket, declared.socket.NoSocket.NoSocket};
-ghost use Rattle.bac_words.specs.Called.{words_called};
+ghost use Rattle.{bac_links.specs.{declared.socket.NoSocket.NoSocket, Socket.OverSocket}, bac_words.specs.words_called};
 ghost use Rattle.bac_tools.specs.{Calls.{RunsAsCalls, RunsUnasked, RunsWithout}, Program.IsRun};
 
 use crate::sockets::Sockets;

@@ -1,8 +1,8 @@
 //! The program: its words, UDP sockets, standard input, output and error.
 #![tactic(auto)]
 
-ghost use Rattle.std.specs.{Prelude.{◌≡◌}, Process.exit_status};
-ghost use Rattle.{bac_print.specs.Checked.fresh, bac_tools.specs.Program.{IsRun, texts_of}};
+ghost use Rattle.std.specs.{Prelude.◌≡◌, Process.exit_status};
+ghost use Rattle.{bac_print.specs.fresh, bac_tools.specs.Program.{IsRun, texts_of}};
 
 mod laws;
 mod sockets;

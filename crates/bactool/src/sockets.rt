@@ -1,7 +1,7 @@
 //! The sockets of the system, which own the runtime.
 
-ghost use Rattle.std.specs.Prelude.{◌≡◌, [], false, IfOk, IfErr};
-ghost use Rattle.bac_links.specs.Socket.{Binds, BindsAtMost, account_over};
+ghost use Rattle.std.specs.Prelude.{[], false, IfErr, IfOk, ◌≡◌};
+ghost use Rattle.bac_links.specs.{Binds, BindsAtMost, Socket.account_over};
 
 use bac_tools::{Binding, Link, Network, NoSocket, SystemSocket, UdpLink};
 use std::alloc::Global;

@@ -10,7 +10,7 @@ ghost use Rattle.clap.specs.Walk.{nothing_held, rows_after, Text};
 ghost use Rattle.clap_laws.specs.{Enters, IsPlainLevel, IsTaken};
 
 /// Words that a program takes, where it wants a subcommand, name one other than `help`, which takes the words after it.
-#[tactic(auto, using(crate::proofs::Parsed::enters))]
+#[tactic(auto, using(crate::proofs::enters))]
 pub fn words_enter()
     ensures { (a : App) (words : List Text) → (built a).top.subcommand_required ≡ true → fault_of a words ≡ []
         → Enters a words }
@@ -18,7 +18,7 @@ pub fn words_enter()
 
 /// Where a command without subcommands takes words, each value passed its argument's rules, and what is required was
 /// given.
-#[tactic(auto, using(crate::proofs::Parsed::level_taken))]
+#[tactic(auto, using(crate::proofs::level_taken))]
 pub fn levels_pass()
     ensures { (s : Shape) (words : List Text) → IsPlainLevel s.rules → s.subcommand_negates_reqs ≡ false
         → level_fault s [] nothing_held words false [] ≡ [] → IsTaken s.rules (rows_after s.rules [] words) }

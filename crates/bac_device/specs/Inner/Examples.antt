@@ -1,7 +1,6 @@
 -- Requests to the demonstration device, for examples of what it replies.
 use Rattle.std.specs.Prelude.{[], codes, length, List, map, None, replicate, Some, ℕ, ◌++◌, ◌+◌, ◌∷◌, ◌≡◌}
-use Rattle.bac_wire.specs.Identifier.{Identifier}
-use Rattle.bac_pdu.specs.Peer.{Station}
+use Rattle.{bac_wire.specs.Identifier.Identifier, bac_pdu.specs.Station}
 use Rattle.bac_device.specs.{Demo.demo_points, Device.{device_after, DeviceState}, Info.Info, Places.Write, Point.Given}
 use Rattle.bac_device.specs.Turns.{Arrival, replies_to}
 

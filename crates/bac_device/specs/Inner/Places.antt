@@ -1,5 +1,5 @@
 -- A write as the code keeps it.
-use Rattle.{bac_wire.specs.Identifier.identifier, bac_pdu.specs.Property.IsPriority}
+use Rattle.{bac_wire.specs.identifier, bac_pdu.specs.IsPriority}
 use Rattle.bac_device.specs.{declared.write.PlaceWrite.PlaceWrite, Places.Write}
 
 -- The write is at a priority that there is.

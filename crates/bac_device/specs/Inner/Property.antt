@@ -1,9 +1,9 @@
 -- A property as the code keeps it.
-use Rattle.std.specs.Prelude.{false, [], ◌∷◌, map}
-use Rattle.bac_wire.specs.{Identifier.identifier, Datum.{datum, object, IsSound}}
+use Rattle.std.specs.Prelude.{[], false, map, ◌∷◌}
+use Rattle.bac_wire.specs.{datum, identifier, IsSound, object}
 use Rattle.bac_device.specs.declared.property.Property.{Property as AnyProperty}
-use Rattle.bac_device.specs.declared.property.Property.TheVariants.{Single, EmptyList, ObjectList, PriorityArray}
-use Rattle.bac_device.specs.{Kind.place_value, Property.{Property, single, array, point_objects}}
+use Rattle.bac_device.specs.declared.property.Property.TheVariants.{EmptyList, ObjectList, PriorityArray, Single}
+use Rattle.bac_device.specs.{Kind.place_value, Property.{array, point_objects, Property, single}}
 
 -- A property as the code has it, without where its parts lie in memory.
 abbrev pub property_seen : AnyProperty → Property

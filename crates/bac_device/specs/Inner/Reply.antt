@@ -1,10 +1,8 @@
 -- The reply and the write, from the octets of an APDU down to the body of a WriteProperty, as the code finds them.
-use Rattle.std.specs.{Prelude.{ℕ, ◌==◌, ◌&&◌, Bool, if◌then◌else◌, List, Option, Some, None, is_none}, Result.result_ok}
-use Rattle.bac_wire.specs.Steps.{◌>>=◌}
-use Rattle.bac_pdu.specs.{declared.apdu.Part.Part, Apdu.{Message, laid_out}, ApduReading.apdu_of}
-use Rattle.bac_pdu.specs.PropertyReading.{write_of}
-use Rattle.bac_device.specs.{Places.Write, Device.DeviceState, Access.accepted_write, declared.reply.Request.Request}
-use Rattle.bac_device.specs.Reply.{reply_message, full_reply, order_in}
+use Rattle.std.specs.{Prelude.{Bool, if◌then◌else◌, is_none, List, None, Option, Some, ℕ, ◌&&◌, ◌==◌}, Result.result_ok}
+use Rattle.{bac_wire.specs.◌>>=◌, bac_pdu.specs.{apdu_of, laid_out, Message, write_of, declared.apdu.Part.Part}}
+use Rattle.bac_device.specs.{Access.accepted_write, declared.reply.Request.Request, Device.DeviceState, Places.Write}
+use Rattle.bac_device.specs.Reply.{full_reply, order_in, reply_message}
 
 -- The octets of the reply to the octets of an APDU.
 unfoldable pub reply_apdu : DeviceState → Bool → List ℕ → Option (List ℕ)

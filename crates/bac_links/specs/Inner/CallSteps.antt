@@ -1,13 +1,12 @@
 -- One turn of a call, by the steps of the client.
-use Rattle.std.specs.{List.{All, flat_map}, Prelude.{[], Bool, false, length, List, None, Option, Some, true, ℕ, ◌++◌}}
-use Rattle.std.specs.Prelude.{◌-◌, ◌∷◌, ◌≡◌, ◌≢◌, ◌≤◌}
-use Rattle.bac_pdu.specs.{Apdu.longest_body, Peer.{Station, station}}
-use Rattle.bac_tsm.specs.{Client.{Client, keeping, rules_of}, Events.{Ask, Data, Done, Dropped, Event, Note, Outcome}}
-use Rattle.bac_tsm.specs.{Events.{Refused, Rules, Sent, Tick, TimedOut}, Laws.state_at, Lookahead.send_notes}
-use Rattle.bac_tsm.specs.Machine.{State, step, Stepped, Waiting}
-use Rattle.bac_text.specs.declared.jobs.Call.{Call}
-use Rattle.bac_links.specs.{Asking.{Asks, Follows, Move, next_move, question_of, turn_after, waits_in}, Call.asked}
-use Rattle.bac_links.specs.{Call.{Comes, end_in, move, rules_for, service_of}, declared.ending.Purpose.Purpose}
+use Rattle.std.specs.List.{All, flat_map}
+use Rattle.std.specs.Prelude.{[], Bool, false, length, List, None, Option, Some, true, ℕ, ◌++◌, ◌-◌, ◌∷◌, ◌≡◌, ◌≢◌, ◌≤◌}
+use Rattle.bac_pdu.specs.{longest_body, Station, station}
+use Rattle.bac_tsm.specs.{Ask, Data, Done, Dropped, Event, keeping, Note, Outcome, Refused, Rules, rules_of, Sent}
+use Rattle.bac_tsm.specs.{State, state_at, step, Stepped, Tick, Client.Client, Events.TimedOut, Lookahead.send_notes}
+use Rattle.{bac_tsm.specs.Machine.Waiting, bac_text.specs.declared.jobs.Call.Call}
+use Rattle.bac_links.specs.Asking.{Asks, Follows, Move, next_move, question_of, turn_after, waits_in}
+use Rattle.bac_links.specs.{Call.{asked, Comes, end_in, move, rules_for, service_of}, declared.ending.Purpose.Purpose}
 use Rattle.bac_links.specs.{Handed.handed, History.{Account, Arrived, Entry, Failure, Gains, GainsAll, Heard, Posted}}
 use Rattle.bac_links.specs.{History.{Silence, Timed, Unposted, Waited}, Limits.turn_wait}
 

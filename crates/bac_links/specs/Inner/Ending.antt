@@ -1,6 +1,6 @@
 -- The end of a request, as a value.
 use Rattle.std.specs.Prelude.{None, Option, Some}
-use Rattle.{bac_tsm.specs.{Client.outcome_seen, Events.Outcome}, bac_links.specs.declared.ending.Ending.Ending}
+use Rattle.{bac_tsm.specs.{Outcome, outcome_seen}, bac_links.specs.declared.ending.Ending.Ending}
 use Rattle.bac_links.specs.declared.ending.Ending.TheVariants as lent
 
 -- How a request ended, with the octets that this lends: the outcome of an answer, or none where the time ran out.

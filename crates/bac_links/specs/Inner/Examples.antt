@@ -1,15 +1,14 @@
 -- Entries, clocks, results, links and calls, for examples of what is said of them.
-use Rattle.std.specs.{declared.net.socket_addr.SocketAddr.{SocketAddr, TheVariants.V4}, Prelude.{[], Err, List, None}}
-use Rattle.std.specs.Prelude.{Ok, Option, Result, Some, ℕ, ◌*◌, ◌∷◌, ◌≡◌}
-use Rattle.bac_pdu.specs.{declared.{discovery.WhoIs.TheVariants.All, peer.Peer.Peer}, Peer.Station}
-use Rattle.bac_tsm.specs.Events.{Ask, Event, Tick}
-use Rattle.bac_device.specs.Device.{device_after, DeviceState}
+use Rattle.std.specs.declared.net.socket_addr.SocketAddr.{SocketAddr, TheVariants.V4}
+use Rattle.std.specs.Prelude.{[], Err, List, None, Ok, Option, Result, Some, ℕ, ◌*◌, ◌∷◌, ◌≡◌}
+use Rattle.bac_pdu.specs.{Station, declared.{discovery.WhoIs.TheVariants.All, peer.Peer.Peer}}
+use Rattle.{bac_tsm.specs.{Ask, Event, Tick}, bac_device.specs.{device_after, DeviceState}}
 use Rattle.bac_text.specs.declared.jobs.{Call.Call, Search.Search}
-use Rattle.bac_links.specs.declared.{exit.Exit.{Exit, TheVariants.{Bad, Good}}, fault.ToolFault.ToolFault}
-use Rattle.bac_links.specs.declared.{fault.ToolFault.TheVariants.{SendFailed, WriteFailed}, memory.Kept.Kept}
-use Rattle.bac_links.specs.{declared.memory.Kept.TheVariants.Quiet, History.{Account, Arrived, Entry, Failure, Posted}}
-use Rattle.bac_links.specs.{History.{Silence, Timed, Unposted, Waited}, Memory.account_of, Played.Scene}
-use Rattle.bac_links.specs.{Search.who_is_to, SystemCall.SystemCall}
+use Rattle.bac_links.specs.declared.exit.Exit.{Exit, TheVariants.{Bad, Good}}
+use Rattle.bac_links.specs.declared.fault.ToolFault.{ToolFault, TheVariants.{SendFailed, WriteFailed}}
+use Rattle.bac_links.specs.declared.memory.Kept.{Kept, TheVariants.Quiet}
+use Rattle.bac_links.specs.History.{Account, Arrived, Entry, Failure, Posted, Silence, Timed, Unposted, Waited}
+use Rattle.bac_links.specs.{Memory.account_of, Played.Scene, Search.who_is_to, SystemCall.SystemCall}
 
 -- 127.0.0.1, port 47808.
 abbrev pub desk : Station

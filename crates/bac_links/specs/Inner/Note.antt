@@ -1,6 +1,6 @@
 -- The entry that a note stands for.
-use Rattle.bac_pdu.specs.Peer.{station}
-use Rattle.bac_links.specs.{History.{Entry, Waited, Timed, heard_by, posted}, declared.history.EntryNote.EntryNote}
+use Rattle.bac_pdu.specs.{station}
+use Rattle.bac_links.specs.{declared.history.EntryNote.EntryNote, History.{Entry, heard_by, posted, Timed, Waited}}
 use Rattle.bac_links.specs.declared.history.EntryNote.TheVariants as note
 
 abbrev pub entry_of : EntryNote → Entry

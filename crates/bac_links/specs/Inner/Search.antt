@@ -1,7 +1,7 @@
 -- The datagram that asks for devices.
-use Rattle.std.specs.Prelude.{ℕ, false, List}
-use Rattle.bac_pdu.specs.{declared.discovery.WhoIs.WhoIs, Peer.Station}
-use Rattle.bac_pdu.specs.{Apdu.{laid_out, unconfirmed}, Datagram.wrapped, Discovery.who_is_octets}
+use Rattle.std.specs.Prelude.{false, List, ℕ}
+use Rattle.bac_pdu.specs.{laid_out, Station, unconfirmed, wrapped, declared.discovery.WhoIs.WhoIs}
+use Rattle.bac_pdu.specs.Discovery.{who_is_octets}
 
 -- A Who-Is (8) to this peer (clause 16.10).
 abbrev pub who_is_datagram : Station → WhoIs → List ℕ

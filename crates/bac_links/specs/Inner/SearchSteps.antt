@@ -1,9 +1,8 @@
 -- One turn of a search.
-use Rattle.std.specs.{List.flat_map, Prelude.{[], Bool, Err, length, List, nat_lt, Ok, Option, Result, ℕ, ◌++◌, ◌∷◌}}
-use Rattle.std.specs.Prelude.{◌≡◌, ◌≢◌}
-use Rattle.bac_pdu.specs.{declared.discovery.WhoIs.WhoIs, Found.Found}
-use Rattle.bac_text.specs.declared.jobs.Search.{Search}
-use Rattle.bac_print.specs.{Checked.Took, declared.checked.Checked.Checked}
+use Rattle.std.specs.List.{flat_map}
+use Rattle.std.specs.Prelude.{[], Bool, Err, length, List, nat_lt, Ok, Option, Result, ℕ, ◌++◌, ◌∷◌, ◌≡◌, ◌≢◌}
+use Rattle.{bac_pdu.specs.{declared.discovery.WhoIs.WhoIs, Found.Found}, bac_text.specs.declared.jobs.Search.Search}
+use Rattle.bac_print.specs.{Took, declared.checked.Checked.Checked}
 use Rattle.bac_links.specs.declared.fault.ToolFault.{ToolFault, TheVariants.{ReceiveFailed, SendFailed, TurnsSpent}}
 use Rattle.bac_links.specs.{declared.fault.ToolFault.TheVariants.WriteFailed, History.{Account, Failure, Gains, Heard}}
 use Rattle.bac_links.specs.{History.Waited, Limits.turn_wait, Search.{found_by, found_line}}

@@ -1,12 +1,11 @@
 -- One wait of a server, and the answer to what it brings.
-use Rattle.std.specs.{List.flat_map, Option.option_to_list, Prelude.{[], Err, length, List, map, Ok, Option, Result}}
-use Rattle.std.specs.Prelude.{Some, ℕ, ◌∷◌, ◌≡◌, ◌≢◌}
-use Rattle.bac_pdu.specs.Peer.{Station}
-use Rattle.bac_device.specs.{Device.DeviceState, Turns.Arrival}
-use Rattle.bac_links.specs.declared.fault.ToolFault.{ToolFault, TheVariants.{ReceiveFailed, SendFailed, TurnsSpent}}
-use Rattle.bac_links.specs.{declared.fault.ToolFault.TheVariants.WriteFailed, History.{Account, Entry, Failure, Gains}}
-use Rattle.bac_links.specs.{History.{GainsAll, Heard, Posted, Unposted, Waited}, Limits.serve_wait, Serve.came_by}
-use Rattle.bac_links.specs.Serve.{device_behind, replies_of}
+use Rattle.std.specs.{List.flat_map, Option.option_to_list}
+use Rattle.std.specs.Prelude.{[], Err, length, List, map, Ok, Option, Result, Some, ℕ, ◌∷◌, ◌≡◌, ◌≢◌}
+use Rattle.{bac_pdu.specs.Station, bac_device.specs.{Arrival, DeviceState}}
+use Rattle.bac_links.specs.declared.fault.ToolFault.{ToolFault}
+use Rattle.bac_links.specs.declared.fault.ToolFault.TheVariants.{ReceiveFailed, SendFailed, TurnsSpent, WriteFailed}
+use Rattle.bac_links.specs.History.{Account, Entry, Failure, Gains, GainsAll, Heard, Posted, Unposted, Waited}
+use Rattle.bac_links.specs.{Limits.serve_wait, Serve.{came_by, device_behind, replies_of}}
 
 -- The datagram that a wait brings which heard this, if it brings one.
 abbrev pub brought_by : Heard → List Arrival

@@ -1,6 +1,6 @@
 -- A parameter that may be left out.
-use Rattle.std.specs.{Prelude.{ℕ, List, [], Option, Some, None}, Option.{option_map, option_to_list}}
-use Rattle.bac_wire.specs.Parameter.{number_octets}
+use Rattle.std.specs.{Option.{option_map, option_to_list}, Prelude.{[], List, None, Option, Some, ℕ}}
+use Rattle.bac_wire.specs.{number_octets}
 
 -- The parameter, where there is a value for it; else none.
 abbrev pub optional : {A B : Type 0} → (A → B) → Option A → List B

@@ -1,7 +1,6 @@
 -- The call that is noted of a reader or a writer; and what no write changes.
-use Rattle.std.specs.Prelude.{◌≡◌, length, take}
-use Rattle.bac_wire.specs.Steps.{result_seen}
-use Rattle.bac_print.specs.declared.{checked.Checked.Checked, noted.Made.Made}
+use Rattle.std.specs.Prelude.{length, take, ◌≡◌}
+use Rattle.{bac_wire.specs.result_seen, bac_print.specs.declared.{checked.Checked.Checked, noted.Made.Made}}
 use Rattle.bac_print.specs.StreamCall.{FlushCall, ReadCall, StreamCall, WriteCall}
 use Rattle.bac_print.specs.declared.noted.Made.TheVariants as made
 

@@ -1,8 +1,7 @@
 -- The octets, the peers, the streams and the pages of examples.
-use Rattle.std.specs.Prelude.{[], ◌∷◌, ◌≡◌, codes, Err, false, length, List, None, Ok, Option, Result, Some, ℕ}
-use Rattle.bac_pdu.specs.Peer.{Station}
-use Rattle.bac_print.specs.{Checked.fresh, declared.{checked.Checked.Checked, page.Page.Page}, StreamCall.WriteCall}
-use Rattle.bac_print.specs.Values.{region_text}
+use Rattle.std.specs.Prelude.{[], codes, Err, false, length, List, None, Ok, Option, Result, Some, ℕ, ◌∷◌, ◌≡◌}
+use Rattle.{bac_pdu.specs.Station, bac_print.specs.{Checked.fresh, declared.{checked.Checked.Checked, page.Page.Page}}}
+use Rattle.bac_print.specs.{StreamCall.WriteCall, Values.region_text}
 use Prim.Native.String.{String}
 
 -- These octets are printed so.

@@ -1,13 +1,12 @@
 -- Clients, stages, results and whole runs, for examples of what is said of runs.
 use Rattle.std.specs.Prelude.{[], codes, Err, false, length, List, None, Ok, Option, replicate, Result, ℕ, ◌++◌, ◌<◌}
 use Rattle.std.specs.Prelude.{◌∷◌}
-use Rattle.bac_pdu.specs.Peer.{Station}
-use Rattle.bac_tsm.specs.{Client.Client, Events.{Ask, Event, Note, Sent}}
-use Rattle.bac_print.specs.{Checked.fresh, declared.checked.Checked.Checked, StreamCall.{ReadCall, WriteCall}}
+use Rattle.{bac_pdu.specs.Station, bac_tsm.specs.{Ask, Event, Note, Sent, Client.Client}}
+use Rattle.bac_print.specs.{fresh, declared.checked.Checked.Checked, StreamCall.{ReadCall, WriteCall}}
 use Rattle.bac_script.specs.declared.tracing.TraceEnd.{TraceEnd}
-use Rattle.bac_links.specs.{declared.fault.ToolFault.TheVariants.SendFailed, History.{Account, Entry}}
-use Rattle.bac_run.specs.{Course.{Aim, Broken, Outside, Stage, Turns}, declared.fault.RunFault.RunFault}
-use Rattle.bac_run.specs.declared.{fault.RunFault.TheVariants.Link, session.Session.Session}
+use Rattle.bac_links.specs.{Account, Entry, declared.fault.ToolFault.TheVariants.SendFailed}
+use Rattle.bac_run.specs.Course.{Aim, Broken, Outside, Stage, Turns}
+use Rattle.bac_run.specs.declared.{fault.RunFault.{RunFault, TheVariants.Link}, session.Session.Session}
 use Rattle.bac_run.specs.{declared.turns.Until.TheVariants.FewOpen, Journal.{Act, Asked, new_client, turn_at}, Run.Runs}
 
 -- 127.0.0.1, port 47808.

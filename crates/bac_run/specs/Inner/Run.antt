@@ -1,11 +1,10 @@
 -- A run of which some of the journal may still be on the page.
 use Rattle.std.specs.{List.AllByRecursion, Prelude.{List, Option, Result, ℕ, ◌++◌, ◌∷◌, ◌≡◌}}
-use Rattle.bac_print.specs.{declared.{checked.Checked.Checked, page.Page.Page}, Page.{Prints, writer_of}}
-use Rattle.bac_script.specs.declared.tracing.TraceEnd.{TraceEnd}
-use Rattle.bac_links.specs.History.{Account}
-use Rattle.bac_run.specs.{declared.{fault.RunFault.RunFault, session.Session.Session}, Inner.Went.HasPassed}
-use Rattle.bac_run.specs.{Input.Takes, Journal.{Act, client_after, FitsLine, new_client}, Run.{IsCourse, IsWait}}
-use Rattle.bac_run.specs.{Run.journal_lines, Went.{HasAsked, IsOver, IsWithin}}
+use Rattle.bac_print.specs.{Prints, writer_of, declared.{checked.Checked.Checked, page.Page.Page}}
+use Rattle.{bac_script.specs.declared.tracing.TraceEnd.TraceEnd, bac_links.specs.Account}
+use Rattle.bac_run.specs.declared.{fault.RunFault.RunFault, session.Session.Session}
+use Rattle.bac_run.specs.{Inner.Went.HasPassed, Input.Takes, Journal.{Act, client_after, FitsLine, new_client}}
+use Rattle.bac_run.specs.{Run.{IsCourse, IsWait, journal_lines}, Went.{HasAsked, IsOver, IsWithin}}
 
 -- The same, while some of the journal may still be on the page.
 pub record RunsOn {Origin R W : Type 0} (remaining : R → Option (List ℕ)) (contents : W → Option (List ℕ))

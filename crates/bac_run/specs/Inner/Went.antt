@@ -1,16 +1,15 @@
 -- What a part of a run did to its client, its page and its link.
 use Rattle.std.specs.{List.AllByRecursion, Prelude.{[], Bool, Err, false, if◌then◌else◌, List, None, Ok, Option}}
 use Rattle.std.specs.Prelude.{Result, Some, suc, unwrap_or, ℕ, ⊤, ◌++◌, ◌∷◌, ◌≡◌}
-use Rattle.bac_tsm.specs.{Client.Client, Events.Event}
-use Rattle.bac_print.specs.{Checked.{has_failed, octets_of}, declared.{checked.Checked.Checked, page.Page.Page}}
-use Rattle.bac_print.specs.Page.{held, laid_out, Prints, room_of, writer_of}
-use Rattle.bac_script.specs.{Alike.IsFrontOf, declared.tracing.TraceFault.TheVariants.WriteFailed}
-use Rattle.bac_links.specs.{declared.fault.ToolFault.TheVariants.SendFailed, History.{Account, Entry, GainsAll}}
+use Rattle.{bac_tsm.specs.{Event, Client.Client}, bac_print.specs.{has_failed, held, octets_of, Prints, room_of}}
+use Rattle.bac_print.specs.{writer_of, declared.{checked.Checked.Checked, page.Page.Page}, Page.laid_out}
+use Rattle.bac_script.specs.{IsFrontOf, declared.tracing.TraceFault.TheVariants.WriteFailed}
+use Rattle.bac_links.specs.{Account, Entry, GainsAll, declared.fault.ToolFault.TheVariants.SendFailed}
 use Rattle.bac_run.specs.Course.{Aim, aims_for, Goes, Looked, Outside, settled, Stage, stage_after, telling, Turns}
 use Rattle.bac_run.specs.declared.{fault.RunFault.{RunFault, TheVariants.{Link, Script}}, turns.{Run.Run, Until.Until}}
-use Rattle.bac_run.specs.{Input.{acts_of_line, fault_of_line, inputs_in}, Journal.{Act, at_event, client_after}}
-use Rattle.bac_run.specs.{Journal.{FitsLine, journal, posts, remarks}, Run.IsWait, Went.{ComesTo, HasAsked, IsCut}}
-use Rattle.bac_run.specs.Went.{IsWithin}
+use Rattle.bac_run.specs.Input.{acts_of_line, fault_of_line, inputs_in}
+use Rattle.bac_run.specs.{Journal.{Act, at_event, client_after, FitsLine, journal, posts, remarks}, Run.IsWait}
+use Rattle.bac_run.specs.Went.{ComesTo, HasAsked, IsCut, IsWithin}
 
 -- It stopped.
 abbrev pub stopped : RunFault → Result (Unit {0}) RunFault

@@ -1,9 +1,9 @@
 -- The scripts of examples, whose peers are all at 127.0.0.1; and readers.
 use Rattle.std.specs.Prelude.{[], Bool, codes, false, List, None, Ok, Result, true, ℕ, ◌++◌, ◌∷◌}
-use Rattle.bac_pdu.specs.Peer.{Station}
+use Rattle.bac_pdu.specs.{Station}
 use Rattle.bac_print.specs.{declared.checked.Checked.Checked, StreamCall.{ReadCall, StreamCall}}
-use Rattle.bac_script.specs.declared.{input.Reading.TheVariants.AtEnd, tracing.TraceEnd.TraceEnd}
-use Rattle.bac_script.specs.{declared.tracing.TraceFault.TraceFault, Script.Runs}
+use Rattle.bac_script.specs.declared.input.Reading.TheVariants.{AtEnd}
+use Rattle.bac_script.specs.{declared.tracing.{TraceEnd.TraceEnd, TraceFault.TraceFault}, Script.Runs}
 use Prim.Native.String.{String}
 
 -- Each line with its line feed.

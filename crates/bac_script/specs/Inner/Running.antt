@@ -1,10 +1,9 @@
 -- One line's step of a script's client and device.
-use Rattle.std.specs.Prelude.{◌≡◌, ℕ, List, []}
-use Rattle.bac_tsm.specs.{Events.Event, Machine.{Stepped, initial, step}, Client.{Client, rules_of, keeping}}
-use Rattle.bac_device.specs.{Places.Write, Demo.demo_points}
-use Rattle.bac_device.specs.{Device.{DeviceState, device_after}, Reply.{reply_to, writes_after}, Turns.Arrival}
-use Rattle.bac_script.specs.Line.{Said, Nothing, Settings, Happens, Asks}
-use Rattle.bac_script.specs.{Text.{notes_text, reply_text}, Running.small_device}
+use Rattle.std.specs.Prelude.{[], List, ℕ, ◌≡◌}
+use Rattle.bac_tsm.specs.{Event, initial, keeping, rules_of, step, Stepped, Client.Client}
+use Rattle.bac_device.specs.{Arrival, demo_points, device_after, DeviceState, Write, Reply.{reply_to, writes_after}}
+use Rattle.bac_script.specs.{Line.{Asks, Happens, Nothing, Said, Settings}, Running.small_device}
+use Rattle.bac_script.specs.Text.{notes_text, reply_text}
 
 -- What a script runs on: its client, and its device, as the writes that the device has accepted.
 pub record Stage : Type 0 where

@@ -1,6 +1,6 @@
 -- A script whose text is still on its way to the writer.
 use Rattle.std.specs.Prelude.{List, Option, Result, ℕ}
-use Rattle.bac_print.specs.{declared.{checked.Checked.Checked, page.Page.Page}, Page.{Prints, writer_of}}
+use Rattle.bac_print.specs.{Prints, writer_of, declared.{checked.Checked.Checked, page.Page.Page}}
 use Rattle.bac_script.specs.declared.{input.Reading.Reading, tracing.{TraceEnd.TraceEnd, TraceFault.TraceFault}}
 use Rattle.bac_script.specs.{Script.Runs, Tracing.{HasRead, IsToldFirst}}
 

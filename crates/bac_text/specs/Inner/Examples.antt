@@ -1,9 +1,8 @@
 -- The words of examples.
-use Rattle.std.specs.Prelude.{◌≡◌, ℕ, List, [], ◌∷◌, codes, Some, None, Result, Ok}
+use Rattle.std.specs.Prelude.{[], codes, List, None, Ok, Result, Some, ℕ, ◌∷◌, ◌≡◌}
+use Rattle.{bac_wire.specs.Identifier.Identifier, bac_pdu.specs.Station}
+use Rattle.bac_text.specs.{declared.pairs.PairFault.PairFault, Inner.Pairs.region_of, Pairs.body_of}
 use Prim.Native.String.{String}
-use Rattle.bac_wire.specs.Identifier.{Identifier}
-use Rattle.bac_pdu.specs.Peer.{Station}
-use Rattle.bac_text.specs.{declared.pairs.PairFault.PairFault, Pairs.body_of, Inner.Pairs.region_of}
 
 -- A tag's number and a word write these octets.
 abbrev pub WritesPair : String → String → List ℕ → Type 0

@@ -1,6 +1,6 @@
 -- The region that the words of a property's value write.
-use Rattle.std.specs.{Prelude.{ℕ, List, Result, Ok, Err}, List.flat_map}
-use Rattle.bac_wire.specs.{Limits.frame_room, Datum.{Datum, plain}}
+use Rattle.std.specs.{List.flat_map, Prelude.{Err, List, Ok, Result, ℕ}}
+use Rattle.bac_wire.specs.{frame_room, plain, Datum.Datum}
 use Rattle.bac_text.specs.declared.pairs.PairFault.{PairFault, TheVariants.{Bad, TooLong}}
 use Rattle.bac_text.specs.{Inner.ValueWords.at_most, Pairs.values_in}
 

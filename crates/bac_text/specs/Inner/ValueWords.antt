@@ -1,6 +1,6 @@
 -- A value that is appended to others.
-use Rattle.std.specs.Prelude.{ℕ, nat_le, List, ◌++◌, length, Option, Some, None, Result, Ok, Err, if◌then◌else◌}
-use Rattle.bac_wire.specs.{Datum.{Datum, plain}, Limits.frame_room}
+use Rattle.std.specs.Prelude.{Err, if◌then◌else◌, length, List, nat_le, None, Ok, Option, Result, Some, ℕ, ◌++◌}
+use Rattle.bac_wire.specs.{frame_room, plain, Datum.Datum}
 use Rattle.bac_text.specs.declared.value_words.ValueFault.{ValueFault, TheVariants.{Bad, TooLong}}
 
 -- Octets, where they are at most so many, else the fault.

@@ -1,15 +1,13 @@
 -- Runs of the program, for examples of what is said of it: words, networks, streams and reports.
-use Rattle.std.specs.{declared.net.socket_addr.SocketAddr.{SocketAddr, TheVariants.V4}, Prelude.{[], codes, Err, false}}
-use Rattle.std.specs.Prelude.{length, List, None, Ok, Option, refl, Result, Some, ℕ, ◌∷◌, ◌≡◌}
-use Rattle.clap.specs.Words.{Text}
-use Rattle.bac_text.specs.Words.{words_of}
-use Rattle.bac_print.specs.{Checked.fresh, declared.checked.Checked.Checked, StreamCall.{ReadCall, WriteCall}}
-use Rattle.bac_script.specs.declared.tracing.TraceEnd.{TraceEnd}
-use Rattle.bac_links.specs.declared.{fault.ToolFault.TheVariants.ReceiveFailed, socket.NoSocket.NoSocket}
-use Rattle.bac_links.specs.{History.{Account, Entry, Failure, Timed, Waited}, SystemCall.{Bind, Limit, SystemCall}}
-use Rattle.bac_run.specs.declared.fault.RunFault.{RunFault}
-use Rattle.bac_words.specs.declared.{faults.UsageFault.TheVariants.Memory, job.{Batch.Batch, Tool.Tool}}
-use Rattle.bac_words.specs.declared.job.Tool.TheVariants.{Device}
+use Rattle.std.specs.declared.net.socket_addr.SocketAddr.{SocketAddr, TheVariants.V4}
+use Rattle.std.specs.Prelude.{[], codes, Err, false, length, List, None, Ok, Option, refl, Result, Some, ℕ, ◌∷◌, ◌≡◌}
+use Rattle.{clap.specs.Words.Text, bac_text.specs.words_of}
+use Rattle.bac_print.specs.{fresh, declared.checked.Checked.Checked, StreamCall.{ReadCall, WriteCall}}
+use Rattle.{bac_script.specs.declared.tracing.TraceEnd.TraceEnd, bac_links.specs.{Account, Bind, Entry, Failure, Timed}}
+use Rattle.bac_links.specs.{Waited, declared.{fault.ToolFault.TheVariants.ReceiveFailed, socket.NoSocket.NoSocket}}
+use Rattle.{bac_links.specs.SystemCall.{Limit, SystemCall}, bac_run.specs.declared.fault.RunFault.RunFault}
+use Rattle.bac_words.specs.declared.faults.UsageFault.TheVariants.{Memory}
+use Rattle.bac_words.specs.declared.job.{Batch.Batch, Tool.{Tool, TheVariants.Device}}
 use Rattle.bac_tools.specs.{Alike.ProgramRun, declared.{program.{Binding.Binding, Ran.Ran}, report.Report.Report}}
 use Rattle.bac_tools.specs.{Outside.Outside, Report.{report_of, tool_report}}
 use mathlib.Core.Logic.{inl}

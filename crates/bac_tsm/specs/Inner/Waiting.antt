@@ -1,7 +1,6 @@
 -- A request as it begins to wait, and as it waits on.
-use Rattle.std.specs.Prelude.{ℕ, suc, List}
-use Rattle.bac_pdu.specs.Peer.{station}
-use Rattle.bac_tsm.specs.{declared.request.Asked.Asked, Machine.Waiting, Answers.octets_of}
+use Rattle.std.specs.Prelude.{List, suc, ℕ}
+use Rattle.{bac_pdu.specs.station, bac_tsm.specs.{Answers.octets_of, declared.request.Asked.Asked, Machine.Waiting}}
 
 -- The ticket of a request that waits.
 abbrev pub ticket_in : Waiting → ℕ

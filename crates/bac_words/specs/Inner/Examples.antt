@@ -1,7 +1,6 @@
 -- Command lines, for examples of what their words order.
-use Rattle.std.specs.Prelude.{ℕ, List, None, Result}
-use Rattle.bac_pdu.specs.declared.peer.Peer.{Peer}
-use Rattle.bac_text.specs.{Words.words_of, declared.jobs.Call.Call}
+use Rattle.std.specs.Prelude.{List, None, Result, ℕ}
+use Rattle.{bac_pdu.specs.declared.peer.Peer.Peer, bac_text.specs.{words_of, declared.jobs.Call.Call}}
 use Rattle.bac_words.specs.{declared.{faults.UsageFault.UsageFault, job.Job.Job}, Line.Answers}
 
 -- `clap` takes the words of this line, and they order this job; or this is wrong with them.

@@ -1,8 +1,7 @@
 -- `begin` picks that nothing was read. A proof by hand, as `Walks` of `bac_wire` says.
-use Rattle.bac_wire.proofs.Walks.{[], ◌$◌, ◌∵◌, ◌∷◌, !, agg, alloc_all, done, drop, ends_at, enter, fjoin, free_all}
-use Rattle.bac_wire.proofs.Walks.{look_at, no_more, none, none_made, nothing, on_entry, pass_all, proved, qed, raw}
-use Rattle.bac_wire.proofs.Walks.{refl, returns, says, sets, suffices}
-use Rattle.bac_work.proofs.begin.Statement.{statement}
+use Rattle.bac_wire.proofs.Walks.{[], !, agg, alloc_all, done, drop, ends_at, enter, fjoin, free_all, look_at, no_more}
+use Rattle.bac_wire.proofs.Walks.{none, none_made, nothing, on_entry, pass_all, proved, qed, raw, refl, returns, says}
+use Rattle.{bac_wire.proofs.Walks.{sets, suffices, ◌$◌, ◌∵◌, ◌∷◌}, bac_work.proofs.begin.Statement.statement}
 use Rattle.bac_work.specs.contracts.begin as f
 use Rattle.bac_work.proofs.begin.Code as code
 

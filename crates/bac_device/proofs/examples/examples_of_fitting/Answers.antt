@@ -1,10 +1,10 @@
 -- A reply that fits holds the one APDU that it takes to the desk; what is too long for it does not.
 use Rattle.std.proofs.Common.{arith, false, inl, inr, List, None, refl, Some, subst, sym, ℕ, ◌≡◌}
 use Rattle.std.proofs.lemmas.Option.{same_Some}
-use Rattle.bac_pdu.{proofs.DatagramLaws.{apdu_is, carried_is, one_taken, wrapped_takes}, specs.Apdu.confirmed}
-use Rattle.bac_pdu.specs.{Apdu.{IsLaidOut, Message}, Datagram.{Carries, Delivery, Takes}}
-use Rattle.bac_device.{proofs.Computed.computed, specs.{FitsRequest, ReplyFits, Inner.{aborted, asked, datagram, desk}}}
-use Rattle.bac_device.specs.Inner.{fifty, fifty_one, long_named, of, read_for_50}
+use Rattle.bac_pdu.proofs.DatagramLaws.{apdu_is, carried_is, one_taken, wrapped_takes}
+use Rattle.bac_pdu.specs.{Carries, confirmed, Delivery, IsLaidOut, Message, Datagram.Takes}
+use Rattle.bac_device.{proofs.Computed.computed, specs.{FitsRequest, ReplyFits}}
+use Rattle.bac_device.specs.Inner.{aborted, asked, datagram, desk, fifty, fifty_one, long_named, of, read_for_50}
 use Rattle.bac_device.proofs.examples.examples_of_fitting.Goals as goal
 
 -- what the desk asks: a request whose code is 0

@@ -1,5 +1,5 @@
 -- For one datagram, and then for a list of them, by induction.
-use Rattle.bac_device.proofs.StateLaws.{replies_fit, reply_fits}
+use Rattle.bac_device.proofs.{replies_fit, reply_fits}
 use Rattle.bac_device.proofs.laws.replies_fit.Goals as goal
 
 pub returns-clause-fits : goal.returns-clause-fits

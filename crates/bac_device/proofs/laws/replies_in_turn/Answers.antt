@@ -1,5 +1,5 @@
 -- The law is a lemma.
-use Rattle.bac_device.proofs.StateLaws.{in_turn}
+use Rattle.bac_device.proofs.{in_turn}
 use Rattle.bac_device.proofs.laws.replies_in_turn.Goals as goal
 
 pub returns : goal.returns

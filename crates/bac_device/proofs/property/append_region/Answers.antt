@@ -2,8 +2,7 @@
 use Rattle.std.proofs.Common.{[], arith, flat_map, length, List, slice_get, Some, sym, take, ℕ, ◌++◌, ◌+◌, ◌∙◌, ◌∷◌}
 use Rattle.std.proofs.{Common.{◌≡◌, ◌≤◌}, lemmas.{Grind.common_steps, List.{take_more, Folds.length-flat_map-take}}}
 use Rattle.std.proofs.lemmas.Option.{get_or_from_slice_get, none-some, slice_get-get_or, slice_get_within}
-use Rattle.bac_wire.specs.Datum.{Datum, null, plain}
-use Rattle.bac_device.specs.Inner.{property_seen}
+use Rattle.{bac_wire.specs.{null, plain, Datum.Datum}, bac_device.specs.Inner.property_seen}
 use Rattle.bac_device.proofs.property.append_region.Goals as goal
 
 -- One value more, and its octets among all.

@@ -1,6 +1,5 @@
 use Rattle.std.proofs.Common.{flat_map, take, ◌++◌, ◌≡◌}
-use Rattle.bac_wire.specs.Datum.{plain}
-use Rattle.bac_device.specs.Inner.{property_seen}
+use Rattle.{bac_wire.specs.plain, bac_device.specs.Inner.property_seen}
 use Rattle.bac_device.proofs.property.append_region.Given as goal
 
 abbrev pub invariant-loop-position : goal.invariant-loop-position

@@ -1,6 +1,6 @@
 -- Each way out of the loop ends the call that goes so far in another way.
 use Rattle.std.proofs.{Common.{add-one, arith, refl}, lemmas.Result.err_from_is_err_and}
-use Rattle.bac_links.{proofs.CallTurns.{fails_so, shown_so, spent}, specs.Inner.Ending.ending_seen}
+use Rattle.bac_links.{proofs.{fails_so, shown_so, spent}, specs.Inner.ending_seen}
 use Rattle.bac_links.proofs.call.run.Goals as goal
 
 pub returns-in_err-client-clause-told : goal.returns-in_err-client-clause-told

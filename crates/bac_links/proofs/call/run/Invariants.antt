@@ -1,5 +1,5 @@
 use Rattle.std.proofs.Common.{false, ◌≡◌}
-use Rattle.bac_links.specs.Inner.CallSteps.{Underway}
+use Rattle.bac_links.specs.Inner.{Underway}
 use Rattle.bac_links.proofs.call.run.Given as goal
 
 abbrev pub invariant-loop-turn : goal.invariant-loop-turn

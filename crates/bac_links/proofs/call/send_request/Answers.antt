@@ -1,6 +1,6 @@
 -- What could not be sent is the one datagram that was due.
 use Rattle.std.proofs.Common.{rules}
-use Rattle.bac_links.proofs.CallTurns.{one_post}
+use Rattle.bac_links.proofs.{one_post}
 use Rattle.bac_links.proofs.call.send_request.Goals as goal
 
 pub returns-then-is_err-clause-lost : goal.returns-then-is_err-clause-lost

@@ -1,11 +1,8 @@
 -- Each computes once the definitions that read and write a datagram are opened. What is not so, a run's end tells.
 use Rattle.std.proofs.Common.{arith, Ok, refl, Some, sym, ◌∙◌, ◌≡◌}
-use Rattle.bac_pdu.specs.{ApduReading.{apdu_of, parts_at}, Datagram.wrapped, DatagramReading.{address_at, carried}}
-use Rattle.bac_pdu.specs.DatagramReading.{header_at, link_at}
-use Rattle.bac_tsm.specs.{Answers.{answer_in_datagram, is_answer_to, same_station}, Events.Simple}
-use Rattle.bac_tsm.specs.Lookahead.{next_invoke_id, refusal_of}
-use Rattle.bac_links.{proofs.Worked.ends, specs.{Asking.{next_move, Over}, Call.move}}
-use Rattle.bac_links.specs.{declared.ending.Purpose.TheVariants.Writing, Inner.Examples.{answered, call, lost}}
+use Rattle.bac_pdu.specs.{address_at, apdu_of, carried, header_at, link_at, parts_at, wrapped}
+use Rattle.bac_tsm.specs.{next_invoke_id, refusal_of, Simple, Answers.{answer_in_datagram, is_answer_to, same_station}}
+use Rattle.bac_links.{proofs.Worked.ends, specs.{move, next_move, Over, Writing, Inner.{answered, call, lost}}}
 use Rattle.bac_links.proofs.examples.examples_of_calls.Goals as goal
 
 -- The answer is that the write is done.

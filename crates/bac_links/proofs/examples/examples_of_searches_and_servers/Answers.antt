@@ -1,7 +1,7 @@
 -- Each computes; what is not so the end of the run tells.
 use Rattle.std.{proofs.Common.{[], ap, arith, None, refl, subst, sym, ◌∙◌, ◌≡◌}, specs.List.last_or}
-use Rattle.{bac_pdu.specs.Datagram.wrapped, bac_links.proofs.{CallTurns.last_push, Worked.{ends, gained, nothing}}}
-use Rattle.bac_links.specs.{Inner.Examples.{deaf, device, unsearched}, Serve.{arrivals_in, device_behind}}
+use Rattle.{bac_pdu.specs.wrapped, bac_links.proofs.{CallTurns.last_push, Worked.{ends, gained, nothing}}}
+use Rattle.bac_links.specs.{arrivals_in, device_behind, Inner.{deaf, device, unsearched}}
 use Rattle.bac_links.proofs.examples.examples_of_searches_and_servers.Goals as goal
 
 pub returns : goal.returns

@@ -2,9 +2,8 @@
 use Rattle.std.proofs.Common.{[], ap, arith, Err, inl, inr, List, None, Ok, refl, Some, subst, sym, ◌∷◌}
 use Rattle.std.specs.declared.{io.ErrorKind.TheVariants.TimedOut, net.socket_addr.SocketAddr.SocketAddr}
 use Rattle.std.specs.Net.Addr.{ipv4_bits, IsIpv4OfBits}
-use Rattle.bac_links.specs.{declared.udp.OnRefusal.TheVariants.Fails, History.Silence, Inner.Examples.{desk, local}}
-use Rattle.bac_links.specs.{Inner.Examples.to_desk, Socket.{BindsAtMost, IsAddressOf, Waits}, SystemCall.Bind}
-use Rattle.bac_links.specs.SystemCall.{Elapsed, Receive, SendTo, SystemCall}
+use Rattle.bac_links.specs.{Bind, BindsAtMost, Elapsed, Fails, IsAddressOf, Receive, SendTo, Silence, Waits}
+use Rattle.bac_links.specs.{Inner.{desk, local, to_desk}, SystemCall.SystemCall}
 use Rattle.bac_links.proofs.examples.examples_of_sockets.Goals as goal
 
 -- The address in the first of these calls.

@@ -1,8 +1,7 @@
 -- What two tools asked is read off what their links gained.
 use Rattle.std.proofs.Common.{[], ap, arith, List, refl, sym, ℕ, ◌++◌, ◌∙◌, ◌∷◌, ◌≡◌}
-use Rattle.bac_print.specs.{Checked.Took, Inner.Examples.{having, unasked, unknown}}
-use Rattle.bac_links.specs.{Answered.{answers_of, GoOnAlike}, History.{Entry, Posted, Timed}, Inner.Examples.asked_so}
-use Rattle.bac_links.specs.Inner.Examples.{desk, NoCut, Same}
+use Rattle.bac_print.specs.{Took, Inner.Examples.{having, unasked, unknown}}
+use Rattle.bac_links.specs.{answers_of, Entry, GoOnAlike, Posted, Timed, Inner.{asked_so, desk, NoCut, Same}}
 use Rattle.bac_links.proofs.examples.examples_of_tools.Goals as goal
 
 -- Who both asked the time once, and were told the same, ended with the same.

@@ -1,5 +1,5 @@
 -- Two histories are compared as far as they were answered alike.
-use Rattle.bac_links.proofs.CallLaws.{calls_so_far}
+use Rattle.bac_links.proofs.{calls_so_far}
 use Rattle.bac_links.proofs.laws.a_call_is_a_function.Goals as goal
 
 pub returns : goal.returns

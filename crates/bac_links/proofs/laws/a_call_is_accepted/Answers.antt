@@ -1,8 +1,8 @@
 -- Whoever asks anything first but the time does not follow the moves of a call.
 use Rattle.std.proofs.Common.{arith, length, List, ◌∷◌, ◌≤◌}
-use Rattle.{bac_pdu.specs.Apdu.longest_body, bac_text.specs.declared.jobs.Call.Call, bac_links.proofs.CallLaws.went}
-use Rattle.bac_links.{proofs.CallTurns.{is_accepted, plays_all, PlaysAll, quiet_handed}, specs.Call.Comes}
-use Rattle.bac_links.specs.{Call.{events_of, IsAccepted, move}, declared.ending.Purpose.Purpose, History.{Entry, Timed}}
+use Rattle.{bac_pdu.specs.longest_body, bac_text.specs.declared.jobs.Call.Call}
+use Rattle.bac_links.proofs.{is_accepted, plays_all, PlaysAll, quiet_handed, went}
+use Rattle.bac_links.specs.{Comes, Entry, events_of, IsAccepted, move, Purpose, Timed}
 use Rattle.bac_links.proofs.laws.a_call_is_accepted.Goals as goal
 
 module _ (purpose : Purpose) (call : Call) where

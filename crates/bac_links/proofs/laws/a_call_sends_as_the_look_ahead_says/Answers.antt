@@ -1,5 +1,5 @@
 -- The law is a lemma.
-use Rattle.bac_links.proofs.Listening.{told_sent}
+use Rattle.bac_links.proofs.{told_sent}
 use Rattle.bac_links.proofs.laws.a_call_sends_as_the_look_ahead_says.Goals as goal
 
 pub returns : goal.returns

@@ -1,5 +1,5 @@
 -- That a link plays its steps is an invariant of its type.
-use Rattle.bac_links.proofs.LinkLaws.{played_so}
+use Rattle.bac_links.proofs.{played_so}
 use Rattle.bac_links.proofs.laws.a_memory_link_plays_its_steps.Goals as goal
 
 pub returns : goal.returns

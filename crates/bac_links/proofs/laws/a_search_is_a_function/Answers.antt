@@ -1,5 +1,5 @@
 -- Two histories are compared as far as they were answered alike.
-use Rattle.bac_links.proofs.Listening.{searches_so_far}
+use Rattle.bac_links.proofs.{searches_so_far}
 use Rattle.bac_links.proofs.laws.a_search_is_a_function.Goals as goal
 
 pub returns : goal.returns

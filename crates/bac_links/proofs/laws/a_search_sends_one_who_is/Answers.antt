@@ -1,5 +1,5 @@
 -- The law is a lemma.
-use Rattle.bac_links.proofs.Listening.{one_sent}
+use Rattle.bac_links.proofs.{one_sent}
 use Rattle.bac_links.proofs.laws.a_search_sends_one_who_is.Goals as goal
 
 pub returns : goal.returns

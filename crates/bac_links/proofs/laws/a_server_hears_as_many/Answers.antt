@@ -1,5 +1,5 @@
 -- What was heard was played, so the lemma counts it.
-use Rattle.bac_links.proofs.{CallTurns.plays_all, Listening.as_many}
+use Rattle.bac_links.proofs.{as_many, plays_all}
 use Rattle.bac_links.proofs.laws.a_server_hears_as_many.Goals as goal
 
 pub returns : goal.returns

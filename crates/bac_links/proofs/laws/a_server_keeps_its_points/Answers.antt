@@ -1,8 +1,7 @@
 -- Each datagram may write, and no write changes a point.
 use Rattle.std.proofs.{Common.{[], arith, List, map, None, Option, refl, Some, ◌∙◌, ◌∷◌, ◌≡◌}, lemmas.Bool.cases_Bool}
-use Rattle.bac_device.specs.{Device.{DeviceState, points_of}, Places.{put, Standing, Write}, Reply.with_write}
-use Rattle.bac_device.specs.{Reply.write_in_datagram, Turns.Arrival}
-use Rattle.bac_links.specs.Serve.{device_behind, device_next}
+use Rattle.bac_device.specs.{Arrival, DeviceState, Write, Device.points_of, Places.{put, Standing}}
+use Rattle.{bac_device.specs.Reply.{with_write, write_in_datagram}, bac_links.specs.{device_behind, device_next}}
 use Rattle.bac_links.proofs.laws.a_server_keeps_its_points.Goals as goal
 
 record Keeps (before after : DeviceState) : Type 0 where

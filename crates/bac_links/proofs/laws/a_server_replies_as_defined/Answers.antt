@@ -1,7 +1,7 @@
 -- What came is told by the history, and the definition goes by what came.
 use Rattle.std.proofs.Common.{ap, List, subst, sym, ◌∙◌}
-use Rattle.{bac_device.specs.Turns.AreDefined, bac_links.proofs.{CallTurns.played, Listening.defined}}
-use Rattle.bac_links.specs.{History.Entry, Serve.{arrivals_in, device_behind, replies_of}}
+use Rattle.bac_device.specs.Turns.{AreDefined}
+use Rattle.bac_links.{proofs.{defined, played}, specs.{arrivals_in, device_behind, Entry, replies_of}}
 use Rattle.bac_links.proofs.laws.a_server_replies_as_defined.Goals as goal
 
 pub returns : goal.returns

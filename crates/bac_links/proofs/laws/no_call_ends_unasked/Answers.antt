@@ -1,5 +1,5 @@
 -- A call that asked nothing has not ended by its moves.
-use Rattle.bac_links.proofs.CallLaws.{not_ended}
+use Rattle.bac_links.proofs.{not_ended}
 use Rattle.bac_links.proofs.laws.no_call_ends_unasked.Goals as goal
 
 pub returns : goal.returns

@@ -1,8 +1,6 @@
 -- What was heard is what the history gained, with the octets that the room holds now.
 use Rattle.std.proofs.{Common.{append-nil, refl}, lemmas.Result.err_from_is_err_and}
-use Rattle.bac_pdu.specs.{Found.found_seen, Peer.station}
-use Rattle.bac_print.proofs.Printed.{Took-none}
-use Rattle.bac_links.specs.History.{Arrived}
+use Rattle.{bac_pdu.specs.{station, Found.found_seen}, bac_print.proofs.Printed.Took-none, bac_links.specs.Arrived}
 use Rattle.bac_links.proofs.search.listen.Goals as goal
 
 pub returns-in_ok-show_found-in-Some-clause-told : goal.returns-in_ok-show_found-in-Some-clause-told

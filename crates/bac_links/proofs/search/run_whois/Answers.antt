@@ -1,21 +1,20 @@
 -- Each way out of the loop ends the search that goes so far in another way.
 use Rattle.std.proofs.{Common.{add-one, arith, refl, ◌∙◌}, lemmas.Result.err_from_is_err_and}
-use Rattle.bac_links.proofs.Listening.{begun, ended, fails, goes_on, spent, unbegun}
-use Rattle.bac_links.specs.declared.exit.Exit.TheVariants.{Bad, Good}
+use Rattle.bac_links.{proofs.{ended, fails, goes_on, search_begun, search_spent, search_unbegun}, specs.{Bad, Good}}
 use Rattle.bac_links.proofs.search.run_whois.Goals as goal
 
 pub returns-in_err-ask-clause-told : goal.returns-in_err-ask-clause-told
 returns-in_err-ask-clause-told g c =
     let (_, was, same) = err_from_is_err_and c.from_residual.result c.from_residual.ensures.1 in
     rw (was, same, c.in_err-ask.ensures.err)
-    (unbegun c.args.search.now c.now-first.result c.now-first.ensures.told c.in_err-ask.ensures.told)
+    (search_unbegun c.args.search.now c.now-first.result c.now-first.ensures.told c.in_err-ask.ensures.told)
 
 pub loop-turn-init : goal.loop-turn-init
 loop-turn-init g c = record {
   sound = c.in_ok-ask.ensures.fault;
   unfailed = c.requires.writer;
   later = omega arith;
-  goes = begun c.args.search.now c.now-first.result c.now-first.ensures.told c.in_ok-ask.ensures.told;
+  goes = search_begun c.args.search.now c.now-first.result c.now-first.ensures.told c.in_ok-ask.ensures.told;
 }
 
 pub returns-in_err-any-clause-told : goal.returns-in_err-any-clause-told
@@ -55,4 +54,4 @@ loop-turn-preserved g c =
     }
 
 pub returns-clause-told : goal.returns-clause-told
-returns-clause-told g c = spent c.loop-turn._turn (omega arith) c.loop-turn.invariant.goes
+returns-clause-told g c = search_spent c.loop-turn._turn (omega arith) c.loop-turn.invariant.goes

@@ -1,5 +1,5 @@
 use Rattle.std.proofs.Common.{false, ◌≡◌, ◌≤◌}
-use Rattle.{bac_print.specs.Checked.has_failed, bac_links.proofs.Listening.SearchGoes}
+use Rattle.{bac_print.specs.has_failed, bac_links.proofs.SearchGoes}
 use Rattle.bac_links.proofs.search.run_whois.Given as goal
 
 abbrev pub invariant-loop-turn : goal.invariant-loop-turn

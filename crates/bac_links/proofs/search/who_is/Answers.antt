@@ -1,9 +1,8 @@
 -- The datagram always fits, since a Who-Is is short.
 use Rattle.std.proofs.Common.{[], ap, arith, Err, length, length-append, List, None, Ok, OnErr, OnOk, refl, Result, ℕ}
 use Rattle.std.proofs.Common.{◌++◌, ◌<◌, ◌∙◌, ◌∷◌, ◌≡◌, ◌≤◌}
-use Rattle.bac_wire.specs.{Parameter.{number_octets, object_octets}, Tag.plain_tag}
-use Rattle.bac_pdu.{proofs.ShortestLaws.read_octets_short, specs.{Datagram.wrapped, declared.discovery.WhoIs.WhoIs}}
-use Rattle.bac_pdu.specs.{Discovery.who_is_octets, Parameter.plain_parameter, Peer.station}
+use Rattle.{bac_wire.specs.{number_octets, object_octets, plain_tag}, bac_pdu.proofs.ShortestLaws.read_octets_short}
+use Rattle.{bac_pdu.specs.{plain_parameter, station, wrapped, Discovery.who_is_octets}, bac_links.specs.WhoIs}
 use Rattle.bac_pdu.specs.declared.discovery.WhoIs.TheVariants as limits
 use Rattle.bac_links.proofs.search.who_is.Goals as goal
 

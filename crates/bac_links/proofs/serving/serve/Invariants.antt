@@ -1,5 +1,5 @@
 use Rattle.std.proofs.Common.{false, ◌<◌, ◌≡◌}
-use Rattle.bac_links.proofs.Listening.{ServeGoes}
+use Rattle.bac_links.proofs.{ServeGoes}
 use Rattle.bac_links.proofs.serving.serve.Given as goal
 
 abbrev pub invariant-loop-turn : goal.invariant-loop-turn

@@ -1,7 +1,6 @@
 -- What came is told by the room that holds it, and the reply could not be sent.
 use Rattle.std.proofs.Common.{[], refl, ◌∷◌}
-use Rattle.bac_pdu.specs.Peer.{station}
-use Rattle.bac_links.{proofs.CallTurns.gains_both, specs.{History.{Arrived, Waited}, Limits.serve_wait}}
+use Rattle.{bac_pdu.specs.station, bac_links.{proofs.gains_both, specs.{Arrived, serve_wait, Waited}}}
 use Rattle.bac_links.proofs.serving.serve_turn.Goals as goal
 
 pub returns-in-Err-send-clause-told : goal.returns-in-Err-send-clause-told

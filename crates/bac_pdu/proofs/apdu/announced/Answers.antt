@@ -1,6 +1,6 @@
 -- The sixteen codes: those above five announce as much as five does.
 use Rattle.std.proofs.{Common.{arith, bit_and, ◌%◌, ◌≡◌}, lemmas.Nat.and_mask}
-use Rattle.bac_pdu.proofs.DatagramLaws.{announced_other}
+use Rattle.bac_pdu.proofs.{announced_other}
 use Rattle.bac_pdu.proofs.apdu.announced.Goals as goal
 
 pub returns-in_default : goal.returns-in_default

@@ -1,6 +1,6 @@
 -- An APDU that was written reads back, by the lemma over all kinds.
 use Rattle.std.proofs.lemmas.Result.{on_ok_weaker}
-use Rattle.bac_pdu.proofs.DatagramLaws.{apdu_back}
+use Rattle.bac_pdu.proofs.{apdu_back}
 use Rattle.bac_pdu.proofs.apdu.write_apdu.Goals as goal
 
 pub returns-clause-read_back : goal.returns-clause-read_back

@@ -1,6 +1,6 @@
 -- What was appended is the shortest spelling.
 use Rattle.std.proofs.lemmas.Result.{on_ok_weaker}
-use Rattle.bac_pdu.proofs.ShortestLaws.{i_am_shortest}
+use Rattle.bac_pdu.proofs.{i_am_shortest}
 use Rattle.bac_pdu.proofs.discovery.append_introduction.Goals as goal
 
 pub returns-clause-shortest : goal.returns-clause-shortest

@@ -1,9 +1,8 @@
 -- What a body says is what is read of it, which computes once the definitions that read are opened.
 use Rattle.std.proofs.Common.{[], arith, Err, List, Ok, refl, ℕ, ◌++◌, ◌∷◌}
-use Rattle.bac_wire.{proofs.ItemLaws.whole_is, specs.{DatumReading.{contents_of, value_at}, ItemReading.behind_closing}}
-use Rattle.bac_wire.specs.{ItemReading.{behind_items, region_at}, ParameterReading.{behind_opening, context_at}}
-use Rattle.bac_wire.specs.{ParameterReading.{enclosed_at, kind_at, number_at, object_at}, Tag.plain_tag}
-use Rattle.bac_wire.specs.TagReading.{length_at, long_length_at, shape_at, tag_at, tag_number_at}
+use Rattle.bac_wire.{proofs.ItemLaws.whole_is, specs.{behind_closing, behind_items, behind_opening, contents_of}}
+use Rattle.bac_wire.specs.{context_at, enclosed_at, kind_at, length_at, long_length_at, number_at, object_at, plain_tag}
+use Rattle.bac_wire.specs.{region_at, shape_at, tag_at, tag_number_at, value_at}
 use Rattle.bac_pdu.proofs.{BodyLaws.{ack_is, read_is, write_is}, DiscoveryLaws.{error_is, introduction_is, who_is_is}}
 use Rattle.bac_pdu.specs.{ack_of, error_of, introduction_of, OutOfRange, plain_parameter, Range, read_of, reference_at}
 use Rattle.bac_pdu.specs.{TooMany, who_is_of, write_of, Inner.{present_octets, present_value, release}}

@@ -1,9 +1,8 @@
 -- Each row computes once the definitions that read and write it are opened.
 use Rattle.std.proofs.Common.{arith}
-use Rattle.bac_wire.specs.{ParameterReading.{context_at, number_at, object_at}, Tag.plain_tag, TagReading.length_at}
-use Rattle.bac_wire.specs.TagReading.{long_length_at, shape_at, tag_at, tag_number_at}
-use Rattle.bac_pdu.specs.{address_at, apdu_of, carried, header_at, link_at, parts_at, plain_parameter, read_of}
-use Rattle.bac_pdu.specs.{reference_at, wrapped}
+use Rattle.bac_wire.specs.{context_at, length_at, long_length_at, number_at, object_at, plain_tag, shape_at, tag_at}
+use Rattle.{bac_wire.specs.tag_number_at, bac_pdu.specs.{address_at, apdu_of, carried, header_at, link_at, parts_at}}
+use Rattle.bac_pdu.specs.{plain_parameter, read_of, reference_at, wrapped}
 use Rattle.bac_pdu.proofs.examples.examples_of_datagrams.Goals as goal
 
 pub returns : goal.returns

@@ -1,10 +1,8 @@
 -- Each row computes once the definitions that read and write it are opened.
 use Rattle.std.proofs.Common.{arith}
-use Rattle.bac_wire.specs.{Datum.plain, DatumReading.{contents_of, value_at}, ParameterReading.{context_at, kind_at}}
-use Rattle.bac_wire.specs.{ParameterReading.number_at, Tag.plain_tag, TagReading.{length_at, long_length_at, shape_at}}
-use Rattle.bac_wire.specs.TagReading.{tag_at, tag_number_at}
-use Rattle.bac_pdu.specs.{address_at, apdu_of, carried, found_of, header_at, introduction_of, link_at, parts_at}
-use Rattle.bac_pdu.specs.{who_is_of, wrapped}
+use Rattle.bac_wire.specs.{contents_of, context_at, kind_at, length_at, long_length_at, number_at, plain, plain_tag}
+use Rattle.{bac_wire.specs.{shape_at, tag_at, tag_number_at, value_at}, bac_pdu.specs.address_at}
+use Rattle.bac_pdu.specs.{apdu_of, carried, found_of, header_at, introduction_of, link_at, parts_at, who_is_of, wrapped}
 use Rattle.bac_pdu.proofs.examples.examples_of_discovery.Goals as goal
 
 pub returns : goal.returns

@@ -1,7 +1,7 @@
 -- What octets are is what is read of them, which computes once the definitions that read are opened.
 use Rattle.std.proofs.Common.{[], arith, List, refl, Some, true, ℕ, ◌∷◌}
-use Rattle.bac_pdu.{proofs.DatagramLaws.apdu_is, specs.{abort, apdu_of, complex_ack, parts_at, simple_ack}}
-use Rattle.bac_pdu.specs.Inner.{last_part, second_part}
+use Rattle.bac_pdu.proofs.DatagramLaws.{apdu_is}
+use Rattle.bac_pdu.specs.{abort, apdu_of, complex_ack, parts_at, simple_ack, Inner.{last_part, second_part}}
 use Rattle.bac_pdu.proofs.examples.examples_of_layouts.Goals as goal
 
 -- a part of a ComplexACK with this first octet

@@ -1,6 +1,6 @@
 -- What was written is the shortest spelling, and reads back.
 use Rattle.std.proofs.{Common.arith, lemmas.Result.on_ok_weaker}
-use Rattle.bac_pdu.proofs.ShortestLaws.{error_is_back}
+use Rattle.bac_pdu.proofs.{error_is_back}
 use Rattle.bac_pdu.proofs.failure.write_error.Goals as goal
 
 pub returns-clause-read_back : goal.returns-clause-read_back

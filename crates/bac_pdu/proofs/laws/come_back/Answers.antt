@@ -1,7 +1,7 @@
 -- Each clause is the lemma of its file.
 use Rattle.std.proofs.Common.{refl}
-use Rattle.bac_pdu.proofs.{DatagramLaws.{apdu_back, taken_carries}, ShortestLaws.{ack_back, error_back}}
-use Rattle.bac_pdu.{proofs.ShortestLaws.{introduction_back, read_back, who_is_back, write_back}, specs.who_is_of}
+use Rattle.bac_pdu.proofs.{ack_back, apdu_back, error_back, introduction_back, read_back, taken_carries, who_is_back}
+use Rattle.bac_pdu.{proofs.write_back, specs.who_is_of}
 use Rattle.bac_pdu.proofs.laws.come_back.Goals as goal
 
 pub returns : goal.returns

@@ -1,7 +1,7 @@
 -- A derived `==` compares field by field; here all fields together are the value.
 use Rattle.std.proofs.{Common.{arith, eqb, Option, true, ℕ, ◌↔◌, ◌≡◌}, lemmas.Bool.{and_parts, eq-eqb, eqb-true}}
 use Rattle.std.specs.{Cmp.Lexicographic.bytes_decides, Option.option_eq}
-use Rattle.bac_pdu.proofs.DatagramLaws.{peer_decides, route_decides}
+use Rattle.bac_pdu.proofs.{peer_decides, route_decides}
 use Rattle.bac_pdu.proofs.laws.equals.Goals as goal
 
 pub returns-clause-peer : goal.returns-clause-peer

@@ -1,6 +1,5 @@
 -- Each clause is the lemma of its file.
-use Rattle.bac_pdu.proofs.{BodyLaws.{ack_is, read_is, write_is}, DatagramLaws.{apdu_is, carried_is}}
-use Rattle.bac_pdu.proofs.DiscoveryLaws.{error_is, introduction_is, who_is_is}
+use Rattle.bac_pdu.proofs.{ack_is, apdu_is, carried_is, error_is, introduction_is, read_is, who_is_is, write_is}
 use Rattle.bac_pdu.proofs.laws.in_words.Goals as goal
 
 pub returns : goal.returns

@@ -1,5 +1,5 @@
 -- Each clause is a lemma.
-use Rattle.bac_pdu.proofs.{DatagramLaws.{count_wrapped, one_taken, wrapped_takes}, ShortestLaws.ack_parts}
+use Rattle.bac_pdu.proofs.{ack_parts, count_wrapped, one_taken, wrapped_takes}
 use Rattle.bac_pdu.proofs.laws.wrapped_round.Goals as goal
 
 pub returns : goal.returns

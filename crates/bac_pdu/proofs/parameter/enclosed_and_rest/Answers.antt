@@ -1,6 +1,6 @@
 -- The region ends where its closing tag begins, so that tag and the rest are what stands behind it.
 use Rattle.std.proofs.Common.{refl}
-use Rattle.bac_wire.{proofs.ItemLaws.{no_region, region_found}, specs.ParameterReading.enclosed_at}
+use Rattle.bac_wire.{proofs.ItemLaws.{no_region, region_found}, specs.enclosed_at}
 use Rattle.bac_pdu.proofs.parameter.enclosed_and_rest.Goals as goal
 
 pub returns-in_err-region-clause-found : goal.returns-in_err-region-clause-found

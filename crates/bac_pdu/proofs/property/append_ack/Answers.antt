@@ -1,6 +1,5 @@
 -- A reference and then the values: where one is full, the frame has a front of all.
-use Rattle.bac_wire.proofs.TagLaws.{stops, then_appends, written_as}
-use Rattle.bac_pdu.proofs.ShortestLaws.{ack_written}
+use Rattle.{bac_wire.proofs.TagLaws.{stops, then_appends, written_as}, bac_pdu.proofs.ack_written}
 use Rattle.bac_pdu.proofs.property.append_ack.Goals as goal
 
 pub returns-in_err-append_reference-clause-appended : goal.returns-in_err-append_reference-clause-appended

@@ -1,7 +1,7 @@
 -- A reference, a value and a priority: where one is full, the frame has a front of all.
 use Rattle.std.proofs.Common.{arith, ◌≡◌}
 use Rattle.bac_wire.proofs.TagLaws.{front, stops, then_appends, written_as}
-use Rattle.bac_pdu.{proofs.ShortestLaws.write_written, specs.order}
+use Rattle.bac_pdu.{proofs.write_written, specs.order}
 use Rattle.bac_pdu.proofs.property.append_order.Goals as goal
 
 pub returns-in_err-append_reference-clause-appended : goal.returns-in_err-append_reference-clause-appended

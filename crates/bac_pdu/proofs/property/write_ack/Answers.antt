@@ -1,6 +1,6 @@
 -- What was appended is known, and so shortest and read back.
 use Rattle.std.proofs.lemmas.Result.{on_ok_weaker}
-use Rattle.bac_pdu.{proofs.ShortestLaws.{ack_back, ack_known, ack_shortest}, specs.ack_seen}
+use Rattle.bac_pdu.{proofs.{ack_back, ack_known, ack_shortest}, specs.ack_seen}
 use Rattle.bac_pdu.proofs.property.write_ack.Goals as goal
 
 pub returns-clause-shortest : goal.returns-clause-shortest

@@ -1,6 +1,6 @@
 -- What was appended is known, and so shortest and read back.
 use Rattle.std.proofs.lemmas.Result.{on_ok_weaker}
-use Rattle.bac_pdu.proofs.ShortestLaws.{read_back, read_shortest}
+use Rattle.bac_pdu.proofs.{read_back, read_shortest}
 use Rattle.bac_pdu.proofs.property.write_read.Goals as goal
 
 pub returns-clause-shortest : goal.returns-clause-shortest

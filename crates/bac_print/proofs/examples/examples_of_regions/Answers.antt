@@ -1,8 +1,7 @@
 -- The texts are computed, so what is not open elsewhere is opened here.
 use Rattle.std.{proofs.Common.arith, specs.Fmt.digits}
-use Rattle.hex.specs.Hex.{encode_with}
-use Rattle.bac_wire.specs.{DatumReading.{contents_of, value_at, values_within}, TagReading.{length_at, long_length_at}}
-use Rattle.bac_wire.specs.TagReading.{shape_at, tag_at, tag_number_at}
+use Rattle.{hex.specs.Hex.encode_with, bac_wire.specs.contents_of}
+use Rattle.bac_wire.specs.{length_at, long_length_at, shape_at, tag_at, tag_number_at, value_at, values_within}
 use Rattle.bac_print.proofs.examples.examples_of_regions.Goals as goal
 
 pub returns : goal.returns

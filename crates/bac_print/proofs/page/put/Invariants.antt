@@ -1,5 +1,5 @@
 use Rattle.std.proofs.Common.{false, length, ◌≡◌}
-use Rattle.bac_print.{proofs.Printed.Sent, specs.{has_failed, Inner.HasNotRead}}
+use Rattle.bac_print.{proofs.Sent, specs.{has_failed, Inner.HasNotRead}}
 use Rattle.bac_print.proofs.page.put.Given as goal
 
 abbrev pub invariant-loop-rest : goal.invariant-loop-rest

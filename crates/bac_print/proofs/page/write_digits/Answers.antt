@@ -1,7 +1,7 @@
 -- The digits are written from the last to the first, so a part of the number is behind those that are still to come.
 use Rattle.std.proofs.Common.{ap, append_assoc, arith, decimal, length, length-append, length-set, sym, ℕ, ◌+◌, ◌/◌}
-use Rattle.std.proofs.{Common.{◌<◌, ◌^◌, ◌∙◌, ◌≡◌, ◌≤◌}, lemmas.Fmt.{decimal_digit, decimal_nonempty, decimal_step}}
-use Rattle.std.proofs.lemmas.List.{drop-set}
+use Rattle.std.proofs.Common.{◌<◌, ◌^◌, ◌∙◌, ◌≡◌, ◌≤◌}
+use Rattle.std.proofs.lemmas.{Fmt.{decimal_digit, decimal_nonempty, decimal_step}, List.drop-set}
 use Rattle.bac_print.proofs.page.write_digits.Goals as goal
 
 -- All but the last digit are those of a tenth of the number.

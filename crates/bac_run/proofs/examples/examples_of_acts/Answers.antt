@@ -1,9 +1,8 @@
 -- What could not be sent, and what was before it.
 use Rattle.std.proofs.Common.{[], inr, List, refl, subst, ◌++◌, ◌∷◌, ◌≡◌}
-use Rattle.bac_script.proofs.Computed.{computed}
-use Rattle.bac_links.specs.History.{Entry, Posted, Unposted}
-use Rattle.bac_run.{proofs.Unsent.unsent_some, specs.{Inner.Examples.{asked, desk, idle, octets}, Journal.Act}}
-use Rattle.bac_run.specs.{Journal.{history_of, Read}, Went.IsUnsent}
+use Rattle.{bac_script.proofs.Computed.computed, bac_links.specs.{Entry, Posted, Unposted}}
+use Rattle.bac_run.proofs.Unsent.{unsent_some}
+use Rattle.bac_run.specs.{Act, history_of, IsUnsent, Read, Inner.{asked, desk, idle, octets}}
 use Rattle.bac_run.proofs.examples.examples_of_acts.Goals as goal
 
 unsent : IsUnsent idle (asked ∷ []) (Unposted desk octets ∷ [])

@@ -1,6 +1,6 @@
 -- A text of two line feeds would be a line feed behind the first.
 use Rattle.std.proofs.{Common.{[], arith, List, refl, subst, sym, ℕ, ◌++◌, ◌∷◌, ◌≡◌}, lemmas.List.append_cancel_right}
-use Rattle.bac_run.{proofs.ReadBack.time_read_back, specs.Input.HasNoFeed}
+use Rattle.bac_run.{proofs.ReadBack.time_read_back, specs.HasNoFeed}
 use Rattle.bac_run.proofs.examples.examples_of_reading.Goals as goal
 
 stops : HasNoFeed (10 ∷ []) → ⊥

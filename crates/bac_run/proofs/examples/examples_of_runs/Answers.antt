@@ -1,15 +1,13 @@
 -- A run is computed; where its input is a remark no act is due.
 use Rattle.std.proofs.Common.{[], ap, arith, inl, List, nat_lt, refl, rules, subst, sym, true, ℕ, ◌++◌, ◌∙◌, ◌∷◌, ◌≡◌}
 use Rattle.std.{proofs.lemmas.Bool.Decides.nat_tests, specs.{List.list_all, Prelude.{codes, length, Ok}}}
-use Rattle.bac_print.specs.{Checked.octets_of, StreamCall.WriteCall}
-use Rattle.bac_script.{proofs.Computed.computed, specs.{Alike.IsFrontOf, declared.input.Reading.Reading}}
-use Rattle.bac_script.specs.{declared.input.Reading.TheVariants.AtEnd, Script.lines}
-use Rattle.bac_links.specs.{History.{Account, Arrived, Entry, Posted, Silence, Timed, Waited}, Limits.most_turns}
-use Rattle.bac_run.{proofs.{Out.journal_front, ReadBack.settings_read_back}, specs.Course.{aims_of_lines, Does, Goes}}
-use Rattle.bac_run.specs.{Course.{ready, room_for, Turns}, declared.turns.Until.TheVariants.FewOpen}
-use Rattle.bac_run.specs.Inner.Examples.{about, answer, asked, desk, drained, idle, IsRunOf, octets, one_by_one}
-use Rattle.bac_run.specs.{Inner.Examples.read_line, Input.HasNoFeed, Journal.{Act, Asked, Came, history_of, Passed}}
-use Rattle.bac_run.specs.{Journal.{Paused, Read, Told}, Run.journal_of}
+use Rattle.bac_print.specs.{octets_of, StreamCall.WriteCall}
+use Rattle.bac_script.{proofs.Computed.computed, specs.{IsFrontOf, lines}}
+use Rattle.bac_run.proofs.{Out.journal_front, ReadBack.settings_read_back}
+use Rattle.bac_run.specs.{Act, aims_of_lines, Asked, AtEnd, Came, Does, FewOpen, Goes, HasNoFeed, history_of}
+use Rattle.bac_run.specs.{journal_of, Passed, Paused, Read, Reading, ready, room_for, Told, Turns}
+use Rattle.bac_run.specs.Inner.{about, answer, asked, desk, drained, idle, IsRunOf, octets, one_by_one, read_line}
+use Rattle.bac_links.specs.{Account, Arrived, Entry, most_turns, Posted, Silence, Timed, Waited}
 use Rattle.bac_run.proofs.examples.examples_of_runs.Goals as goal
 
 feedless : (xs : List ℕ) → list_all (nat_lt 10) xs ≡ true → HasNoFeed xs

@@ -1,7 +1,5 @@
 use Rattle.std.{proofs.Common.take, specs.List.flat_map}
-use Rattle.bac_tsm.specs.Machine.{due_notes}
-use Rattle.bac_print.specs.Page.{Prints}
-use Rattle.bac_run.specs.Journal.{remarks}
+use Rattle.{bac_tsm.specs.due_notes, bac_print.specs.Prints, bac_run.specs.remarks}
 use Rattle.bac_run.proofs.journal.remark_due.Given as goal
 
 abbrev pub invariant-loop-entry : goal.invariant-loop-entry

@@ -1,5 +1,5 @@
 -- Each line of the journal is read back, and its remarks are passed over.
-use Rattle.bac_run.proofs.{Readable.run_back, Replays.{no_fault, replays}}
+use Rattle.bac_run.proofs.{no_fault, replays, run_back}
 use Rattle.bac_run.proofs.laws.a_journal_is_a_script.Goals as goal
 
 pub returns-clause-text : goal.returns-clause-text

@@ -1,6 +1,5 @@
 -- By what the look-ahead says of a request that is open.
-use Rattle.bac_tsm.specs.Client.{client_rules}
-use Rattle.bac_run.proofs.Lookahead.{open_in_time}
+use Rattle.{bac_tsm.specs.client_rules, bac_run.proofs.open_in_time}
 use Rattle.bac_run.proofs.laws.a_request_ends_in_time.Goals as goal
 
 pub returns : goal.returns

@@ -1,6 +1,5 @@
 -- A lemma says so of what any line says.
-use Rattle.bac_script.specs.Line.{Happens}
-use Rattle.bac_run.proofs.Lines.{line_read_back}
+use Rattle.{bac_script.specs.Happens, bac_run.proofs.line_read_back}
 use Rattle.bac_run.proofs.laws.a_request_is_read_back.Goals as goal
 
 pub returns-clause-asked : goal.returns-clause-asked

@@ -1,6 +1,6 @@
 -- Which act is due is a function of what was done and answered.
 use Rattle.std.proofs.Common.{inl}
-use Rattle.bac_run.proofs.GoOn.{asks_next, runs_on}
+use Rattle.bac_run.proofs.{asks_next, runs_on}
 use Rattle.bac_run.proofs.laws.a_run_asks_by_its_answers.Goals as goal
 
 pub returns : goal.returns

@@ -1,5 +1,5 @@
 -- By the acts of the run.
-use Rattle.bac_run.proofs.Sends.{all_sent}
+use Rattle.bac_run.proofs.{all_sent}
 use Rattle.bac_run.proofs.laws.a_run_sends_what_it_remarks.Goals as goal
 
 pub returns : goal.returns

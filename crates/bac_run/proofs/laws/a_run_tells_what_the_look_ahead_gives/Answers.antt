@@ -1,5 +1,5 @@
 -- By what is proved of every client.
-use Rattle.bac_run.{proofs.Lookahead.{kept_ahead, told_ahead}, specs.Journal.events_of}
+use Rattle.bac_run.{proofs.{kept_ahead, told_ahead}, specs.events_of}
 use Rattle.bac_run.proofs.laws.a_run_tells_what_the_look_ahead_gives.Goals as goal
 
 pub returns-clause-notes : goal.returns-clause-notes

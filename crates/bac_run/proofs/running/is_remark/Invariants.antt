@@ -1,5 +1,5 @@
-use Rattle.std.proofs.Common.{◌≡◌, drop}
-use Rattle.bac_run.specs.Input.{is_remark}
+use Rattle.std.proofs.Common.{drop, ◌≡◌}
+use Rattle.bac_run.specs.{is_remark}
 use Rattle.bac_run.proofs.running.is_remark.Given as goal
 
 abbrev pub invariant-loop-octet : goal.invariant-loop-octet

@@ -1,13 +1,11 @@
 -- Each way out of the loop ends the run that stands so far in another way.
 use Rattle.std.proofs.Common.{arith, length-drop, refl, rules, sym, ◌∙◌, ◌∷◌, ◌≡◌, ◌≢◌}
 use Rattle.std.proofs.lemmas.Result.{err_from_is_err_and}
-use Rattle.bac_script.specs.{contracts.input.Reading.the_type, declared.input.Reading.TheVariants.{AtEnd, Failed}}
-use Rattle.bac_links.specs.Limits.{most_turns}
-use Rattle.bac_run.proofs.Cut.{at_end, at_last, can_read, cut_next, cut_so, failed_lines, last_line, none_left}
-use Rattle.bac_run.proofs.{Cut.{open_cut, open_stands, still_stands}, Parts.{went_at, went_more}, Runs.ends_behind}
-use Rattle.bac_run.proofs.Runs.{ends_unread, roomed, so_far_more, so_far_none, stops_last, stops_line, stops_reading}
-use Rattle.bac_run.{proofs.Runs.{stops_unread, stops_waiting}, specs.Course.Turns}
-use Rattle.bac_run.specs.declared.turns.Until.TheVariants.{FewOpen}
+use Rattle.bac_script.specs.contracts.input.Reading.{the_type}
+use Rattle.bac_run.proofs.{at_end, at_last, can_read, cut_next, cut_so, ends_behind, ends_unread, failed_lines}
+use Rattle.bac_run.proofs.{last_line, none_left, open_cut, open_stands, roomed, so_far_more, so_far_none, still_stands}
+use Rattle.bac_run.proofs.{stops_last, stops_line, stops_reading, stops_unread, stops_waiting, went_at, went_more}
+use Rattle.{bac_run.specs.{AtEnd, Failed, FewOpen, Turns}, bac_links.specs.most_turns}
 use denote.Enum.Bare.{same_true}
 use Rattle.bac_run.proofs.running.run_lines.Goals as goal
 

@@ -1,7 +1,6 @@
 use Rattle.std.proofs.Common.{false, ◌*◌, ◌+◌, ◌≡◌, ◌≤◌}
-use Rattle.bac_print.specs.Checked.{has_failed}
-use Rattle.bac_script.specs.{Input.most_reads, Limits.chunk_room, NextLine.most_to_come}
-use Rattle.bac_run.proofs.Runs.{SoFar}
+use Rattle.{bac_print.specs.has_failed, bac_script.specs.{Input.most_reads, Limits.chunk_room, NextLine.most_to_come}}
+use Rattle.bac_run.proofs.{SoFar}
 use Rattle.bac_run.proofs.running.run_lines.Given as goal
 
 abbrev pub invariant-lines : goal.invariant-lines

@@ -1,6 +1,6 @@
 -- Where a send failed those behind it were not made.
 use Rattle.std.proofs.{Common.arith, lemmas.Result.err_from_is_err_and}
-use Rattle.bac_run.proofs.Acts.{due_some}
+use Rattle.bac_run.proofs.{due_some}
 use Rattle.bac_run.proofs.turns.send_due.Goals as goal
 
 pub returns-in_err-send_entry-clause-sent : goal.returns-in_err-send_entry-clause-sent

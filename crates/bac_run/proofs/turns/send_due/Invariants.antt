@@ -1,6 +1,5 @@
 use Rattle.std.{proofs.Common.{false, take, ◌≡◌}, specs.List.flat_map}
-use Rattle.bac_tsm.specs.Machine.{due_notes}
-use Rattle.bac_run.{proofs.Acts.done, specs.{Inner.Went.GainsDue, Journal.posts}}
+use Rattle.{bac_tsm.specs.due_notes, bac_run.{proofs.done, specs.{posts, Inner.GainsDue}}}
 use Rattle.bac_run.proofs.turns.send_due.Given as goal
 
 abbrev pub invariant-loop-entry : goal.invariant-loop-entry

@@ -1,7 +1,6 @@
 -- Each computes; what is not so is told by a field.
 use Rattle.std.proofs.Common.{[], arith, inl, inr, List, refl, ℕ, ◌++◌, ◌∷◌, ◌≡◌}
-use Rattle.bac_tsm.specs.Lookahead.{next_invoke_id, refusal_of}
-use Rattle.bac_print.specs.Inner.Examples.{page, unasked, unknown}
+use Rattle.{bac_tsm.specs.{next_invoke_id, refusal_of}, bac_print.specs.Inner.Examples.{page, unasked, unknown}}
 use Rattle.bac_script.specs.{IsNext, Open, ReadForLine, Inner.gave}
 use Rattle.bac_script.proofs.examples.examples_of_lines.Goals as goal
 

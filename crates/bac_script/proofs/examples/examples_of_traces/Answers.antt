@@ -1,10 +1,9 @@
 -- What the reader gave is read off it, and with it the text and the end of the script.
 use Rattle.std.proofs.Common.{[], ap, arith, inl, inr, length, length-append, List, refl, Result, subst, sym, ℕ, ◌++◌}
 use Rattle.std.proofs.Common.{◌∙◌, ◌∷◌, ◌≡◌}
-use Rattle.bac_print.specs.{Checked.{octets_of, Took}, declared.checked.Checked.Checked, Inner.Examples.unasked}
-use Rattle.bac_print.specs.Inner.Examples.{unknown}
-use Rattle.bac_script.{proofs.Computed.computed, specs.{AtEnd, Failed, IsToldFirst, Open, ReaderStands, Reading, Runs}}
-use Rattle.bac_script.specs.{TraceEnd, TraceFault, Traces, Inner.{ended, gave}}
+use Rattle.bac_print.specs.{octets_of, Took, Inner.Examples.{unasked, unknown}}
+use Rattle.bac_script.{proofs.Computed.computed, specs.{AtEnd, Checked, Failed, IsToldFirst, Open, ReaderStands}}
+use Rattle.bac_script.specs.{Reading, Runs, TraceEnd, TraceFault, Traces, Inner.{ended, gave}}
 use Rattle.bac_script.proofs.examples.examples_of_traces.Goals as goal
 
 nothing : Took unknown unasked unasked []

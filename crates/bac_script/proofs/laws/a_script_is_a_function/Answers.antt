@@ -1,5 +1,5 @@
 -- Two runs are compared by what their readers gave, however each was cut into reads.
-use Rattle.bac_script.proofs.Courses.{traces_alike, traces_front}
+use Rattle.bac_script.proofs.{traces_alike, traces_front}
 use Rattle.bac_script.proofs.laws.a_script_is_a_function.Goals as goal
 
 pub returns-clause-alike : goal.returns-clause-alike

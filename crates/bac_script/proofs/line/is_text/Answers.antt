@@ -2,7 +2,7 @@
 use Rattle.std.proofs.Common.{arith, Err, is_ok, IsUtf8, List, MatchResult, nat_lt, None, Ok, position, Result, sym, ℕ}
 use Rattle.std.proofs.{Common.{◌∙◌, ◌≡◌}, lemmas.{Bool.false_from_ne_true, List.get_or_past, Str.is_utf8-from_IsUtf8}}
 use Rattle.std.{proofs.lemmas.Str.{IsUtf8-from_ascii, IsUtf8-from_is_utf8}, specs.Str.{is_utf8, IsAscii}}
-use Rattle.bac_script.proofs.Chunks.{none_passes}
+use Rattle.bac_script.proofs.{none_passes}
 use Rattle.bac_script.proofs.line.is_text.Goals as goal
 
 all_ascii : (octets : List ℕ) → position (λ octet. nat_lt 127 octet) octets ≡ None → IsAscii octets

@@ -1,6 +1,6 @@
 -- A line is refused for the first of its faults.
 use Rattle.std.proofs.{Common.{ap, arith, None, ok_or, Option, option_map, refl, Some, ◌≡◌}, lemmas.Grind.common_steps}
-use Rattle.bac_wire.specs.Steps.{result_seen}
+use Rattle.bac_wire.specs.{result_seen}
 use Rattle.bac_script.specs.{line_seen, LineFault, said_in, declared.line.{Line.Line, LineFault.TheVariants.Bad}}
 use Rattle.bac_script.proofs.line.read_line.Goals as goal
 

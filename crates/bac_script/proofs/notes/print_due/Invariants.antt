@@ -1,7 +1,5 @@
 use Rattle.std.proofs.Common.{flat_map, take}
-use Rattle.bac_tsm.specs.Machine.{due_notes}
-use Rattle.bac_print.specs.Page.{Prints}
-use Rattle.bac_script.specs.{notes_text}
+use Rattle.{bac_tsm.specs.due_notes, bac_print.specs.Prints, bac_script.specs.notes_text}
 use Rattle.bac_script.proofs.notes.print_due.Given as goal
 
 abbrev pub invariant-loop-entry : goal.invariant-loop-entry

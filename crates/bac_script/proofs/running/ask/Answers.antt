@@ -1,9 +1,7 @@
 -- The device of a script stands as its accepted writes made it.
 use Rattle.std.proofs.Common.{ap, List, option_map, ℕ, ◌∙◌}
-use Rattle.bac_pdu.specs.Peer.{station}
-use Rattle.bac_device.{proofs.Answering.next_after, specs.Demo.demo_points}
-use Rattle.bac_print.proofs.Printed.{printed_as}
-use Rattle.bac_script.specs.{reply_text, small_device}
+use Rattle.{bac_pdu.specs.station, bac_device.{proofs.Answering.next_after, specs.demo_points}}
+use Rattle.{bac_print.proofs.Printed.printed_as, bac_script.specs.{reply_text, small_device}}
 use Rattle.bac_script.proofs.running.ask.Goals as goal
 
 pub returns-clause-device : goal.returns-clause-device

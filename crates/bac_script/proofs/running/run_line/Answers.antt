@@ -1,14 +1,11 @@
 -- A request to write that is too long is seen by its words alone, since its body is never made.
 use Rattle.std.proofs.Common.{[], ap, arith, Err, IsTrue, length, List, nat_lt, Ok, refl, Result, rules, subst, sym}
 use Rattle.std.proofs.{Common.{true, ℕ, ◌∙◌, ◌∷◌, ◌≡◌}, lemmas.Bool.Decides.nat_tests}
-use Rattle.bac_wire.specs.Identifier.{identifier}
-use Rattle.bac_pdu.specs.Apdu.{longest_body}
-use Rattle.bac_tsm.specs.{declared.client.SubmitFault.TheVariants.TooLong, Events.Refused, Lookahead.refusal_of}
-use Rattle.bac_text.specs.Pairs.{whole_body_of}
-use Rattle.bac_print.proofs.Printed.{printed_as}
-use Rattle.bac_script.specs.{is_long, line_seen, notes_text, octets_or_none, declared.line.Line.Line}
-use Rattle.bac_script.specs.declared.{line.Line.TheVariants.LongWrite, long_write.LongWrite.LongWrite as Write}
-use Rattle.bac_script.specs.Inner.{ran, Stage, Stands, Turn}
+use Rattle.{bac_wire.specs.identifier, bac_pdu.specs.longest_body}
+use Rattle.bac_tsm.specs.{refusal_of, Refused, declared.client.SubmitFault.TheVariants.TooLong}
+use Rattle.{bac_text.specs.whole_body_of, bac_print.proofs.Printed.printed_as, bac_script.specs.is_long}
+use Rattle.bac_script.specs.{line_seen, notes_text, octets_or_none, declared.line.Line.{Line, TheVariants.LongWrite}}
+use Rattle.bac_script.specs.{declared.long_write.LongWrite.LongWrite as Write, Inner.{ran, Stage, Stands, Turn}}
 use Rattle.bac_script.proofs.running.run_line.Goals as goal
 
 past : (whole : Result (List ℕ) ℕ) → IsTrue (is_long whole) → nat_lt longest_body (length (octets_or_none whole)) ≡ true

@@ -1,8 +1,8 @@
 -- Each way out of the loop ends the run that stands so far in another way.
 use Rattle.std.proofs.Common.{ap, arith, length-drop, length-take-le, refl, rules, sym, ◌&&◌, ◌∙◌, ◌≡◌}
-use Rattle.{bac_wire.specs.Steps.result_seen, bac_script.proofs.Courses.{faulty, goes_on, SoFar-none, to_end, to_last}}
-use Rattle.bac_script.proofs.{Courses.{unread, unwritten}, tracing.run_script.Goals.{else-is_first, then-is_first}}
-use Rattle.bac_script.specs.{contracts.input.Reading.the_type, is_nothing, line_seen, Open, said}
+use Rattle.{bac_wire.specs.result_seen, bac_script.proofs.{faulty, goes_on, SoFar-none, to_end, to_last, unread}}
+use Rattle.bac_script.proofs.{unwritten, tracing.run_script.Goals.{else-is_first, then-is_first}}
+use Rattle.bac_script.specs.{is_nothing, line_seen, Open, said, contracts.input.Reading.the_type}
 use denote.Enum.Bare.{same_true}
 use Rattle.bac_script.proofs.tracing.run_script.Goals as goal
 

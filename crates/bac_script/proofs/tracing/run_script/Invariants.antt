@@ -1,5 +1,5 @@
 use Rattle.std.proofs.Common.{◌*◌, ◌+◌, ◌≤◌}
-use Rattle.bac_script.{proofs.Courses.SoFar, specs.{chunk_room, most_reads, most_to_come}}
+use Rattle.bac_script.{proofs.SoFar, specs.{chunk_room, most_reads, most_to_come}}
 use Rattle.bac_script.proofs.tracing.run_script.Given as goal
 
 abbrev pub invariant-loop-next : goal.invariant-loop-next

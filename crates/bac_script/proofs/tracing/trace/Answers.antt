@@ -1,6 +1,6 @@
 -- What is left on the page in the end goes out, or the run is cut off there.
 use Rattle.std.proofs.Common.{rules}
-use Rattle.bac_script.proofs.Courses.{trace_cut, traces_all}
+use Rattle.bac_script.proofs.{trace_cut, traces_all}
 use Rattle.bac_script.proofs.tracing.trace.Goals as goal
 
 pub returns-in_err-finish-clause-script : goal.returns-in_err-finish-clause-script

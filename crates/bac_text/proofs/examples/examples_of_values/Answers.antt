@@ -1,7 +1,6 @@
 -- Each row computes once the definitions that read and write it are opened.
 use Rattle.std.{proofs.Common.arith, specs.Fmt.digits}
-use Rattle.hex.specs.Hex.{decode_pairs}
-use Rattle.bac_wire.specs.{Datum.plain, Inner.Datum.tagged, Tag.plain_tag}
+use Rattle.{hex.specs.Hex.decode_pairs, bac_wire.specs.{plain, plain_tag, Inner.Datum.tagged}}
 use Rattle.bac_text.specs.{value_under}
 use Rattle.bac_text.proofs.examples.examples_of_values.Goals as goal
 

@@ -1,9 +1,7 @@
 -- Each row computes once the definitions that read it are opened.
 use Rattle.std.{proofs.Common.arith, specs.Fmt.digits}
-use Rattle.hex.specs.Hex.{decode_pairs, encode_with}
-use Rattle.bac_wire.specs.{Datum.plain, Inner.Datum.tagged, Tag.plain_tag}
-use Rattle.bac_pdu.specs.Parameter.{plain_parameter}
-use Rattle.bac_text.specs.{value_under}
+use Rattle.{hex.specs.Hex.{decode_pairs, encode_with}, bac_wire.specs.{plain, plain_tag, Inner.Datum.tagged}}
+use Rattle.{bac_pdu.specs.plain_parameter, bac_text.specs.value_under}
 use Rattle.bac_text.proofs.examples.examples_of_words.Goals as goal
 
 pub returns : goal.returns

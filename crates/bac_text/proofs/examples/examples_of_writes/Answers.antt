@@ -2,14 +2,13 @@
 use Rattle.std.proofs.Common.{[], ap, arith, codes, Err, List, None, Ok, Result, Some, subst, sym, ℕ, ◌∷◌, ◌≡◌}
 use Rattle.std.specs.Fmt.{digits}
 use Rattle.hex.specs.Hex.{decode_pairs, encode_with}
-use Rattle.bac_wire.specs.{Datum.{Datum, plain}, DatumReading.{contents_of, value_at, values_of, values_within}}
-use Rattle.bac_wire.specs.{Inner.Datum.tagged, ItemReading.{behind_closing, behind_items, region_at}}
-use Rattle.bac_wire.specs.ParameterReading.{behind_opening, context_at, enclosed_at, number_at, object_at}
-use Rattle.bac_wire.specs.{Tag.plain_tag, TagReading.{length_at, long_length_at, shape_at, tag_at, tag_number_at}}
-use Rattle.bac_pdu.{proofs.BodyLaws.write_again, specs.declared.reject.RejectReason.RejectReason}
-use Rattle.bac_pdu.specs.{Parameter.plain_parameter, Property.Order, PropertyReading.{reference_at, write_of}}
-use Rattle.bac_text.{proofs.WordLaws.bodies_written, specs.{IsWritten, value_under, values_in, Inner.minus_five}}
-use Rattle.bac_text.specs.Inner.{value}
+use Rattle.bac_wire.specs.{behind_closing, behind_items, behind_opening, contents_of, context_at, enclosed_at}
+use Rattle.bac_wire.specs.{length_at, long_length_at, number_at, object_at, plain, plain_tag, region_at, shape_at}
+use Rattle.bac_wire.specs.{tag_at, tag_number_at, value_at, values_of, values_within, Datum.Datum, Inner.Datum.tagged}
+use Rattle.bac_pdu.{proofs.BodyLaws.write_again, specs.{Order, plain_parameter, write_of}}
+use Rattle.bac_pdu.specs.{declared.reject.RejectReason.RejectReason, PropertyReading.reference_at}
+use Rattle.bac_text.proofs.WordLaws.{bodies_written}
+use Rattle.bac_text.specs.{IsWritten, value_under, values_in, Inner.{minus_five, value}}
 use Rattle.bac_text.proofs.examples.examples_of_writes.Goals as goal
 
 written : IsWritten value 85 None (Some 16) (codes "3" ∷ codes "-5" ∷ []) minus_five

@@ -1,6 +1,6 @@
 -- Each of the eight lanes is the octet of its two digits.
 use Rattle.std.proofs.{Common.{[], get_or, refl, ℕ, ◌∷◌}, lemmas.{List.FromFn.fill_by_all, Simd.length-chunk}}
-use Rattle.bac_text.{proofs.DigitLaws.octet_is, specs.Inner.octets_by_lanes}
+use Rattle.bac_text.{proofs.octet_is, specs.Inner.octets_by_lanes}
 use lib.Lanes.{chunk}
 use Rattle.bac_text.proofs.hex_lanes.eight_octets.Goals as goal
 

@@ -1,6 +1,5 @@
 use Rattle.std.proofs.Common.{false, get_or, length, not, take, ℕ, ◌*◌, ◌-◌, ◌<◌, ◌≡◌, ◌≤◌}
-use Rattle.hex.specs.Hex.{is_hex_digit}
-use Rattle.bac_text.specs.Inner.{octets_by_lanes}
+use Rattle.{hex.specs.Hex.is_hex_digit, bac_text.specs.Inner.octets_by_lanes}
 use Rattle.bac_text.proofs.hex_lanes.octets_from.Given as goal
 
 abbrev pub invariant-loop-start : goal.invariant-loop-start

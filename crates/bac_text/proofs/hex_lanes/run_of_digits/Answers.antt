@@ -1,6 +1,6 @@
 -- A lane stops just where there is no digit.
 use Rattle.std.proofs.{Common.arith, lemmas.Simd.length-chunk}
-use Rattle.bac_text.proofs.DigitLaws.{other_is, other_lanes, run_in}
+use Rattle.bac_text.proofs.{other_is, other_lanes, run_in}
 use lib.Lanes.{chunk}
 use Rattle.bac_text.proofs.hex_lanes.run_of_digits.Goals as goal
 

@@ -1,5 +1,5 @@
 use Rattle.std.{proofs.Common.{length, take, true, ◌-◌, ◌≡◌, ◌≤◌}, specs.Str.{all_ascii_digits, Parse.digits_value}}
-use Rattle.bac_text.proofs.DigitLaws.{most_with}
+use Rattle.bac_text.proofs.{most_with}
 use Rattle.bac_text.proofs.numbers.leading_number.Given as goal
 
 abbrev pub invariant-loop-count : goal.invariant-loop-count

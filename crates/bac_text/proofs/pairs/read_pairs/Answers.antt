@@ -1,6 +1,6 @@
 -- Where the words end, what was read so far is the region of all pairs.
 use Rattle.std.proofs.Common.{ap, Bool, drop, List, subst, sym, ℕ, ◌∙◌}
-use Rattle.bac_text.proofs.WordLaws.{pair_behind, Progress, progress-empty, progress-none}
+use Rattle.bac_text.proofs.{pair_behind, Progress, progress-empty, progress-none}
 use Rattle.bac_text.proofs.pairs.read_pairs.Goals as goal
 
 pub returns-then-is_empty : goal.returns-then-is_empty

@@ -1,5 +1,5 @@
 use Rattle.std.proofs.Common.{length, ◌<◌, ◌^◌}
-use Rattle.bac_text.proofs.WordLaws.{Progress}
+use Rattle.bac_text.proofs.{Progress}
 use Rattle.bac_text.proofs.pairs.read_pairs.Given as goal
 
 abbrev pub invariant-loop-tag : goal.invariant-loop-tag

@@ -1,6 +1,6 @@
 -- One, two or three digits before a dot, against the definition that reads any number of them.
 use Rattle.std.proofs.Common.{arith}
-use Rattle.bac_text.proofs.DigitLaws.{one_digit, three_digits, three_digits_too_big, two_digits}
+use Rattle.bac_text.proofs.{one_digit, three_digits, three_digits_too_big, two_digits}
 use Rattle.bac_text.proofs.peers.number_before_dot.Goals as goal
 
 -- One digit before the dot.

@@ -1,5 +1,5 @@
 -- No digit, more behind the digits, or a number past the limit: in each case the definition reads none.
-use Rattle.bac_text.proofs.DigitLaws.{short_big, short_empty, short_long}
+use Rattle.bac_text.proofs.{short_big, short_empty, short_long}
 use Rattle.bac_text.proofs.peers.short_number.Goals.{then-count-eq0-via-else-count-eq0+else-count-text+then-number-limit}
 use Rattle.bac_text.proofs.peers.short_number.Goals.{then-count-eq0-via-else-count-eq0+then-count-text}
 use Rattle.bac_text.proofs.peers.short_number.Goals.{then-count-eq0-via-then-count-eq0}

@@ -1,6 +1,6 @@
 -- The last load may go back over some octets; none before it ends the piece.
 use Rattle.std.proofs.Common.{arith}
-use Rattle.bac_text.proofs.DigitLaws.{position_is, position_none}
+use Rattle.bac_text.proofs.{position_is, position_none}
 use Rattle.bac_text.proofs.search.position_by.Goals as goal
 
 pub returns-then-run : goal.returns-then-run

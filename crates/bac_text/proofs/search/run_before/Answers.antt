@@ -1,9 +1,8 @@
 -- What ends a piece, three ways: in each a lane stops just where the octet ends it.
-use Rattle.std.proofs.{Common.{ap, subst, sym, ◌∙◌}, lemmas.Simd.{length-chunk, zip2_of_maps, zip2_splat}}
-use Rattle.std.proofs.lemmas.Simd.{zip2_splat_left}
-use Rattle.bac_text.proofs.{DigitLaws.{lane_is, lanes_are, run_in}, search.run_before.Goals.{in-At, in-Blank}}
-use Rattle.bac_text.{proofs.search.run_before.Goals.in-PastAscii, specs.{ends_at, declared.search.Delimiter.Delimiter}}
-use Rattle.bac_text.specs.Inner.{first_set, IsRunIn}
+use Rattle.std.proofs.Common.{ap, subst, sym, ◌∙◌}
+use Rattle.std.proofs.lemmas.Simd.{length-chunk, zip2_of_maps, zip2_splat, zip2_splat_left}
+use Rattle.bac_text.proofs.{lane_is, lanes_are, run_in, search.run_before.Goals.{in-At, in-Blank, in-PastAscii}}
+use Rattle.bac_text.specs.{ends_at, declared.search.Delimiter.Delimiter, Inner.{first_set, IsRunIn}}
 use lib.Lanes.{chunk}
 use Rattle.bac_text.proofs.search.run_before.Goals as goal
 

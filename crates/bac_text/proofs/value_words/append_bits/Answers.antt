@@ -1,7 +1,7 @@
 -- Eight digits an octet; those of the last that are not there are the unused bits.
 use Rattle.std.proofs.Common.{ap, arith, drop, length, length-set, refl, sym, ◌*◌, ◌<◌, ◌∙◌, ◌≡◌}
 use Rattle.std.proofs.lemmas.List.{take_rest, Edits.fill_by_more}
-use Rattle.bac_text.{proofs.WordLaws.{bits-long, bits-written}, specs.bits_octet}
+use Rattle.bac_text.{proofs.{bits-long, bits-written}, specs.bits_octet}
 use Rattle.bac_text.proofs.value_words.append_bits.Goals as goal
 
 pub returns-then-count-gt-FRAME_OCTETS-clause-value : goal.returns-then-count-gt-FRAME_OCTETS-clause-value

@@ -1,6 +1,6 @@
 -- An odd number of digits, others than digits, too many: in each case the definition refuses as well.
 use Rattle.std.proofs.Common.{arith, sym, ◌∙◌}
-use Rattle.bac_text.proofs.{DigitLaws.others_refused, WordLaws.{octets-decoded, octets-long}}
+use Rattle.bac_text.proofs.{octets-decoded, octets-long, others_refused}
 use Rattle.bac_text.proofs.value_words.append_octets.Goals as goal
 
 pub returns-then-digits-eq1-clause-value : goal.returns-then-digits-eq1-clause-value

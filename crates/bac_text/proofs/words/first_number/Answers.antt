@@ -1,6 +1,6 @@
 -- The digits end at the text's end or at a blank, so they are its first word.
 use Rattle.std.proofs.{Common.arith, lemmas.List.take_rest}
-use Rattle.bac_text.proofs.WordLaws.{first_number_is}
+use Rattle.bac_text.proofs.{first_number_is}
 use Rattle.bac_text.proofs.words.first_number.Goals as goal
 
 pub returns : goal.returns

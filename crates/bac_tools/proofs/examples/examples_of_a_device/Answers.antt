@@ -2,12 +2,10 @@
 use Rattle.std.proofs.{Common.{[], arith, codes, Err, false, inl, inr, None, Ok, refl, ◌∷◌}, Math.Logic.∥∥₁_elim}
 use Rattle.std.specs.Net.Addr.{IsIpv4OfBits}
 use Rattle.clap.specs.{Faults.{defaults_fault, walk_fault}, Walk.walked}
-use Rattle.bac_pdu.specs.{declared.peer.Peer.Peer, Peer.station}
-use Rattle.bac_links.specs.declared.{fault.ToolFault.TheVariants.ReceiveFailed, udp.OnRefusal.TheVariants.IsLost}
-use Rattle.bac_links.specs.{Socket.IsAddressOf, SystemCall.Limit}
-use Rattle.bac_words.specs.{declared.job.Job.TheVariants.Over, Line.Answers}
-use Rattle.bac_tools.{proofs.Worked.{ends, given, silent, untaken}, specs.Inner.Examples.{any_at, asked_so, deaf}}
-use Rattle.bac_tools.specs.{Inner.Examples.{device, device_words, no_contents, unasked}, Runs.ToolRuns}
+use Rattle.bac_pdu.specs.{station, declared.peer.Peer.Peer}
+use Rattle.bac_tools.{proofs.Worked.{ends, given, silent, untaken}, specs.{IsLost, Over, ReceiveFailed, ToolRuns}}
+use Rattle.bac_tools.specs.Inner.{any_at, asked_so, deaf, device, device_words, no_contents, unasked}
+use Rattle.{bac_links.specs.{Socket.IsAddressOf, SystemCall.Limit}, bac_words.specs.Answers}
 use Rattle.bac_tools.proofs.examples.examples_of_a_device.Goals as goal
 
 runs : ToolRuns no_contents unasked unasked (asked_so []) (asked_so deaf) (Err ReceiveFailed) device

@@ -1,9 +1,8 @@
 -- A run without an input is computed; its lines and its settings tell what is not so.
 use Rattle.std.proofs.Common.{[], arith, length, List, refl, subst, sym, ℕ, ◌<◌, ◌≡◌}
-use Rattle.bac_script.{proofs.Computed.computed, specs.declared.input.Reading.{Reading, TheVariants.AtEnd}}
-use Rattle.bac_script.specs.Script.{lines}
-use Rattle.bac_run.{proofs.{Out.out_nothing, ReadBack.settings_read_back}, specs.declared.session.Session.Session}
-use Rattle.bac_tools.{proofs.Worked.given, specs.Inner.Examples.{settings_told, unasked}}
+use Rattle.bac_script.{proofs.Computed.computed, specs.{lines, declared.input.Reading.{Reading, TheVariants.AtEnd}}}
+use Rattle.bac_run.proofs.{Out.out_nothing, ReadBack.settings_read_back}
+use Rattle.bac_tools.{proofs.Worked.given, specs.{Session, Inner.{settings_told, unasked}}}
 use Rattle.bac_tools.proofs.examples.examples_of_many_requests.Goals as goal
 
 abbrev session : 0 < 3000 → 0 < 1 → Session

@@ -1,7 +1,7 @@
 -- Each computes; what is not so a socket tells.
 use Rattle.std.{proofs.Common.{[], arith, inl, inr, None, refl, subst, sym, ◌∷◌}, specs.Net.Addr.IsIpv4OfBits}
-use Rattle.bac_links.specs.{declared.udp.OnRefusal.TheVariants.IsLost, Socket.{Binds, BindsAtMost}, SystemCall.Bind}
-use Rattle.bac_tools.specs.{declared.program.Binding.Binding, Inner.Examples.{any_at, one_bind}}
+use Rattle.bac_tools.specs.{IsLost, declared.program.Binding.Binding, Inner.{any_at, one_bind}}
+use Rattle.bac_links.specs.{Bind, Binds, BindsAtMost}
 use Rattle.bac_tools.proofs.examples.examples_of_networks.Goals as goal
 
 abbrev there : Binding

@@ -1,16 +1,11 @@
 -- A run that was told no words reports that alone, and its report and its writers tell what is not so.
 use Rattle.std.proofs.Common.{ap, arith, codes, Err, false, inl, inr, None, Ok, Option, option_and_then, refl, Result}
-use Rattle.std.{proofs.Common.{Some, subst, sym, ℕ, ◌∙◌, ◌≡◌}, specs.declared.io.ErrorKind.TheVariants.NotFound}
-use Rattle.std.specs.Result.{result_ok}
-use Rattle.bac_print.specs.declared.checked.Checked.{Checked}
-use Rattle.bac_script.specs.declared.tracing.{TraceEnd.TraceEnd, TraceFault.TraceFault}
-use Rattle.bac_links.specs.declared.socket.NoSocket.{NoSocket}
-use Rattle.bac_words.specs.declared.{faults.UsageFault.UsageFault, job.Job.{Job, TheVariants.{Over, Run, Trace}}}
-use Rattle.bac_tools.{proofs.Worked.{given, silent, untaken}, specs.{Binding.asked_by, Calls.RunsUnasked}}
-use Rattle.bac_tools.specs.{declared.program.Ran.Ran, Inner.Examples.{forgotten, gives_none, no_contents, no_socket}}
-use Rattle.bac_tools.specs.Inner.Examples.{no_text, ran_without, told_no_socket, told_no_text, unasked, unknown}
-use Rattle.bac_tools.specs.{Program.{IsGiven, IsRun, RunsAsRead}, Report.trace_report, Telling.{IsTold, on_output}}
-use Rattle.bac_tools.specs.Telling.{once_given}
+use Rattle.std.proofs.Common.{Some, subst, sym, ℕ, ◌∙◌, ◌≡◌}
+use Rattle.std.specs.{declared.io.ErrorKind.TheVariants.NotFound, Result.result_ok}
+use Rattle.bac_tools.{proofs.Worked.{given, silent, untaken}, specs.{asked_by, Checked, IsGiven, IsRun, IsTold, Job}}
+use Rattle.bac_tools.specs.{NoSocket, on_output, once_given, Over, Ran, Run, RunsAsRead, RunsUnasked, Trace}
+use Rattle.bac_tools.specs.{trace_report, TraceEnd, TraceFault, UsageFault, Inner.{forgotten, gives_none, no_contents}}
+use Rattle.bac_tools.specs.Inner.{no_socket, no_text, ran_without, told_no_socket, told_no_text, unasked, unknown}
 use Rattle.bac_tools.proofs.examples.examples_of_no_words.Goals as goal
 
 -- A run that was told no words, since they were not found.

@@ -1,5 +1,5 @@
 -- It is a lemma.
-use Rattle.bac_tools.proofs.RunLaws.{runs_typed}
+use Rattle.bac_tools.proofs.{runs_typed}
 use Rattle.bac_tools.proofs.laws.a_call_runs_its_words.Goals as goal
 
 pub returns : goal.returns

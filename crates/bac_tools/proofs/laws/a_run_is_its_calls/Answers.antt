@@ -1,5 +1,5 @@
 -- Where there was a socket, where there was none, and where none was asked for, a lemma says so.
-use Rattle.bac_tools.proofs.RunLaws.{run_so, run_unasked, run_without}
+use Rattle.bac_tools.proofs.{run_so, run_unasked, run_without}
 use Rattle.bac_tools.proofs.laws.a_run_is_its_calls.Goals as goal
 
 pub returns-clause-had : goal.returns-clause-had

@@ -1,6 +1,6 @@
 -- One part is a lemma; in the other both programs report the same.
 use Rattle.std.proofs.Common.{sym, ◌∙◌}
-use Rattle.bac_tools.{proofs.Alike.runs_alike, specs.Telling.once_given}
+use Rattle.bac_tools.{proofs.runs_alike, specs.once_given}
 use Rattle.bac_tools.proofs.laws.the_program_is_a_function.Goals as goal
 
 pub returns-clause-words : goal.returns-clause-words

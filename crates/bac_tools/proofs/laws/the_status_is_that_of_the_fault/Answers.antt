@@ -1,5 +1,5 @@
 -- However the words were run, a lemma of `Statuses` says so.
-use Rattle.bac_tools.proofs.RunLaws.{program_status, run_status}
+use Rattle.bac_tools.proofs.{program_status, RunLaws.run_status}
 use Rattle.bac_tools.proofs.laws.the_status_is_that_of_the_fault.Goals as goal
 
 pub returns-clause-run : goal.returns-clause-run

@@ -1,7 +1,6 @@
 -- Reader and writers are fresh before the words are run, and each is told what the report has for it.
 use Rattle.std.proofs.Common.{subst}
-use Rattle.bac_print.specs.{Checked.fresh, declared.checked.Checked.Checked}
-use Rattle.bac_tools.specs.{Outside.Outside, Program.{IsCalled, texts_of}}
+use Rattle.{bac_print.specs.fresh, bac_tools.specs.{Checked, IsCalled, texts_of, Outside.Outside}}
 use Rattle.bac_tools.proofs.program.run_program.Goals as goal
 
 pub returns : goal.returns

@@ -1,6 +1,6 @@
 -- A tool was run over the socket that it asked for, or was told that there is none.
 use Rattle.std.proofs.Common.{Err, Ok, refl, Some}
-use Rattle.bac_words.specs.declared.job.Job.TheVariants.{Over, Run}
+use Rattle.bac_tools.specs.{Over, Run}
 use Rattle.bac_tools.proofs.program.run_words.Goals as goal
 
 pub returns-in-Ok : goal.returns-in-Ok

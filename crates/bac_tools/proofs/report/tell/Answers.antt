@@ -1,6 +1,6 @@
 -- What was printed on the page is what the writer was given.
 use Rattle.std.proofs.Common.{[], rules, subst}
-use Rattle.bac_print.{proofs.Printed.finished, specs.{declared.checked.Checked.Checked, Page.Writes}}
+use Rattle.{bac_print.{proofs.Printed.finished, specs.Writes}, bac_tools.specs.Checked}
 use Rattle.bac_tools.proofs.report.tell.Goals as goal
 
 pub returns-in-Some : goal.returns-in-Some

@@ -1,6 +1,6 @@
 -- What is served is the device that `demo` makes.
 use Rattle.std.proofs.Common.{subst}
-use Rattle.{bac_device.specs.Device.DeviceState, bac_links.specs.Serve.Serves}
+use Rattle.{bac_device.specs.DeviceState, bac_links.specs.Serve.Serves}
 use Rattle.bac_tools.proofs.running.play.Goals as goal
 
 pub returns-clause-plays : goal.returns-clause-plays

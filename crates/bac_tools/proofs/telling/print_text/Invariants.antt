@@ -1,5 +1,5 @@
 use Rattle.std.proofs.Common.{List, ℕ, ◌-◌, ◌^◌}
-use Rattle.bac_print.specs.Page.{Prints}
+use Rattle.bac_print.specs.{Prints}
 use Rattle.bac_tools.proofs.telling.print_text.Given as goal
 
 abbrev pub invariant-parts : goal.invariant-parts

@@ -1,7 +1,6 @@
 -- Each row computes once the definitions that read a datagram are opened.
 use Rattle.std.proofs.Common.{arith, refl}
-use Rattle.bac_pdu.specs.{ApduReading.{apdu_of, parts_at}, Datagram.wrapped, DatagramReading.{address_at, carried}}
-use Rattle.bac_pdu.specs.DatagramReading.{header_at, link_at}
+use Rattle.bac_pdu.specs.{address_at, apdu_of, carried, header_at, link_at, parts_at, wrapped}
 use Rattle.bac_tsm.specs.{answer_in_datagram, is_answer_to, next_invoke_id, refusal_of, same_station}
 use Rattle.bac_tsm.proofs.examples.examples_of_calls.Goals as goal
 

@@ -1,10 +1,9 @@
 -- Each row computes once the definitions that read a datagram are opened, or is a law at one list of events.
 use Rattle.std.proofs.Common.{[], ap, arith, length, length-append, List, refl, suc, zero, ◌++◌, ◌+◌, ◌∷◌, ◌≡◌, ◌≤◌}
-use Rattle.bac_pdu.specs.{ApduReading.{apdu_of, parts_at}, Datagram.wrapped, DatagramReading.{address_at, carried}}
-use Rattle.bac_pdu.specs.DatagramReading.{header_at, link_at}
-use Rattle.bac_tsm.{proofs.{Calls.{answered, answers, by_invoke_id, few_open}, WholeRun.is_lookahead}, specs.Accepted}
-use Rattle.bac_tsm.specs.{answer_in_datagram, is_answer_to, next_invoke_id, PassedAreHeld, refusal_of, same_station}
-use Rattle.bac_tsm.specs.Inner.{device, under}
+use Rattle.bac_pdu.specs.{address_at, apdu_of, carried, header_at, link_at, parts_at, wrapped}
+use Rattle.bac_tsm.proofs.{Calls.{answered, answers, by_invoke_id, few_open}, WholeRun.is_lookahead}
+use Rattle.bac_tsm.specs.{Accepted, answer_in_datagram, is_answer_to, next_invoke_id, PassedAreHeld, refusal_of}
+use Rattle.bac_tsm.specs.{same_station, Inner.{device, under}}
 use Rattle.bac_tsm.proofs.examples.examples_of_laws.Goals as goal
 
 -- between two of these three requests that have one invoke id stands another

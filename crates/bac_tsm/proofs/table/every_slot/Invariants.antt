@@ -1,4 +1,4 @@
-use Rattle.bac_tsm.proofs.TableLaws.{IsUpTo}
+use Rattle.bac_tsm.proofs.{IsUpTo}
 use Rattle.bac_tsm.proofs.table.every_slot.Given as goal
 
 abbrev pub invariant-loop-slot : goal.invariant-loop-slot

@@ -1,6 +1,6 @@
 -- That the slot was there says that the search finds a rank, and that at this rank the slot stands.
 use Rattle.std.proofs.{Common.{arith, eqb-true}, lemmas.List.Quantifiers.position-Some}
-use Rattle.bac_tsm.proofs.TableLaws.{found_at}
+use Rattle.bac_tsm.proofs.{found_at}
 use Rattle.bac_tsm.proofs.table.take_out.Goals as goal
 
 pub returns-in-Some : goal.returns-in-Some

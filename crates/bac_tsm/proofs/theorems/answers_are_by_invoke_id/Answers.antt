@@ -1,5 +1,5 @@
 -- The law is a lemma.
-use Rattle.bac_tsm.proofs.Calls.{by_invoke_id}
+use Rattle.bac_tsm.proofs.{by_invoke_id}
 use Rattle.bac_tsm.proofs.theorems.answers_are_by_invoke_id.Goals as goal
 
 pub returns : goal.returns

@@ -1,5 +1,5 @@
 -- The two directions are lemmas; no tactic takes an equivalence apart.
-use Rattle.bac_tsm.proofs.Calls.{answered, answers}
+use Rattle.bac_tsm.proofs.{answered, answers}
 use Rattle.bac_tsm.proofs.theorems.answers_in_words.Goals as goal
 
 pub returns : goal.returns

@@ -1,5 +1,5 @@
 -- The law of any rules, whose two premises hold of a client.
-use Rattle.bac_tsm.proofs.{Calls.{by_invoke_id, few_open}, WholeRun.is_lookahead}
+use Rattle.bac_tsm.proofs.{by_invoke_id, few_open, is_lookahead}
 use Rattle.bac_tsm.proofs.theorems.client_is_lookahead.Goals as goal
 
 pub returns : goal.returns

@@ -1,5 +1,5 @@
 -- The induction over the accepted requests says more; this is a part of it.
-use Rattle.bac_tsm.proofs.RequestLife.{passed}
+use Rattle.bac_tsm.proofs.{passed}
 use Rattle.bac_tsm.proofs.theorems.passed_invoke_ids_are_held.Goals as goal
 
 pub returns : goal.returns

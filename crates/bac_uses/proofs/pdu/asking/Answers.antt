@@ -1,7 +1,7 @@
 -- A body has at most 45 octets, for which there is room in an empty frame.
 use Rattle.std.{proofs.Common.{[], arith, Err, List, None, Ok, Result, ℕ, ◌≡◌}, specs.Result.IsOk}
-use Rattle.bac_wire.specs.{Identifier.identifier, Writing.Appends}
-use Rattle.bac_pdu.{proofs.ShortestLaws.read_octets_short, specs.Property.{read_octets, Reference}}
+use Rattle.bac_wire.specs.{Appends, identifier}
+use Rattle.bac_pdu.{proofs.ShortestLaws.read_octets_short, specs.{read_octets, Reference}}
 use Rattle.bac_uses.proofs.pdu.asking.Goals as goal
 
 has_room : {A E : Type 0} (result : Result A E) (before after : List ℕ) (r : Reference) → before ≡ []

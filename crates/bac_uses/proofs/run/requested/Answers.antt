@@ -1,10 +1,10 @@
 -- A run that ended well was printed whole.
-use Rattle.std.proofs.Common.{[], ◌++◌, ◌∙◌, ◌≡◌, ap, arith, Err, false, IfOk, inl, inr, length, List, map, Ok, Option}
-use Rattle.std.proofs.{Common.{refl, Result, rules, subst, sym, ℕ}, lemmas.{Bool.cases_Bool, List.append-nil}}
+use Rattle.std.proofs.Common.{[], ap, arith, Err, false, IfOk, inl, inr, length, List, map, Ok, Option, refl, Result}
+use Rattle.std.proofs.{Common.{rules, subst, sym, ℕ, ◌++◌, ◌∙◌, ◌≡◌}, lemmas.{Bool.cases_Bool, List.append-nil}}
 use Rattle.std.specs.List.{concat, flat_map}
-use Rattle.bac_tsm.specs.{Client.client_rules, Events.Event, Laws.outputs}
-use Rattle.bac_print.specs.{Checked.{Gave, has_failed, Took}, declared.checked.Checked.Checked, Page.Writes}
-use Rattle.{bac_script.specs.declared.tracing.TraceEnd.TraceEnd, bac_links.specs.History.{Account, Entry, GainsAll}}
+use Rattle.bac_tsm.specs.{client_rules, Event, outputs}
+use Rattle.bac_print.specs.{Gave, has_failed, Took, Writes, declared.checked.Checked.Checked}
+use Rattle.{bac_script.specs.declared.tracing.TraceEnd.TraceEnd, bac_links.specs.{Account, Entry, GainsAll}}
 use Rattle.bac_run.specs.{declared.fault.RunFault.RunFault, Input.AllDone, Journal.{events_of, new_client, notes_of}}
 use Rattle.bac_run.specs.{Replay.{AreSent, posted_in, sent_in}, Run.journal_of}
 use Rattle.bac_uses.proofs.run.requested.Goals as goal

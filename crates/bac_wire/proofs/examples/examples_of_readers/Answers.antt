@@ -1,8 +1,8 @@
 -- Each is shown by what it says of one list of octets.
 use Rattle.std.proofs.Common.{[], arith, List, refl, Some, ℕ, ◌<◌, ◌∷◌, ◌≡◌}
-use Rattle.bac_wire.{proofs.TagLaws.{is_spelled, plain_tag_shortest, spelled_back, tag_reader}, specs.AreOctets}
-use Rattle.bac_wire.specs.{length_at, long_length_at, plain_tag, shape_at, tag_at, tag_number_at, Inner.first_at}
-use Rattle.bac_wire.specs.Inner.{unsigned_tag}
+use Rattle.bac_wire.proofs.TagLaws.{is_spelled, plain_tag_shortest, spelled_back, tag_reader}
+use Rattle.bac_wire.specs.{AreOctets, length_at, long_length_at, plain_tag, shape_at, tag_at, tag_number_at}
+use Rattle.bac_wire.specs.Inner.{first_at, unsigned_tag}
 use Rattle.bac_wire.proofs.examples.examples_of_readers.Goals as goal
 
 first_takes : (octets : List ℕ) (x : ℕ) (rest : List ℕ) → first_at octets ≡ Some (x, rest) → octets ≡ x ∷ rest

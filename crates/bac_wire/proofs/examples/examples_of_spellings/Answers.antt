@@ -1,7 +1,7 @@
 -- What is spelled is what a reader finds, which computes once the definitions that read are opened.
 use Rattle.std.proofs.Common.{arith, refl}
-use Rattle.bac_wire.{proofs.{DatumLaws.value_reader, TagLaws.{is_read, is_spelled, tag_reader}}, specs.contents_of}
-use Rattle.bac_wire.specs.{length_at, long_length_at, shape_at, tag_at, tag_number_at, value_at}
+use Rattle.bac_wire.proofs.{DatumLaws.value_reader, TagLaws.{is_read, is_spelled, tag_reader}}
+use Rattle.bac_wire.specs.{contents_of, length_at, long_length_at, shape_at, tag_at, tag_number_at, value_at}
 use Rattle.bac_wire.proofs.examples.examples_of_spellings.Goals as goal
 
 pub returns : goal.returns

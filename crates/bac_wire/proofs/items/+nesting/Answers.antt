@@ -1,8 +1,8 @@
 -- Each way out of an item, and out of the items, is a step of the reading on lists.
-use Rattle.std.proofs.{Common.{arith, inl, None, refl, Some, sym, ◌∙◌, ◌≡◌}, lemmas.Bool.{eqb-false, eqb-true, ne_eqb}}
-use Rattle.std.proofs.lemmas.List.{nil_from_length}
-use Rattle.bac_wire.proofs.ItemLaws.{behind_shorter, count_reads, ended_again, ended_since, found_by, item_found}
-use Rattle.bac_wire.proofs.ItemLaws.{opening_found, rest_found, rest_none, rest_step}
+use Rattle.std.proofs.Common.{arith, inl, None, refl, Some, sym, ◌∙◌, ◌≡◌}
+use Rattle.std.proofs.lemmas.{Bool.{eqb-false, eqb-true, ne_eqb}, List.nil_from_length}
+use Rattle.bac_wire.proofs.{behind_shorter, count_reads, ended_again, ended_since, found_by, item_found, opening_found}
+use Rattle.bac_wire.proofs.{rest_found, rest_none, rest_step}
 use Rattle.bac_wire.proofs.items.+nesting.Goals as goal
 
 pub behind_item-returns-in_err-checked_sub-in-Opening-clause-found

@@ -1,5 +1,5 @@
 use Rattle.std.proofs.Common.{length, ◌*◌, ◌+◌, ◌≡◌, ◌≤◌}
-use Rattle.bac_wire.proofs.ItemLaws.{rest_of}
+use Rattle.bac_wire.proofs.{rest_of}
 use Rattle.bac_wire.proofs.items.+nesting.Given as goal
 
 abbrev pub decreases-behind_item : goal.decreases-behind_item

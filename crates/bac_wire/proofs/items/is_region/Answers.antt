@@ -1,6 +1,6 @@
 -- Octets are a region where their items leave nothing.
 use Rattle.std.proofs.{Common.arith, lemmas.Bool.eqb-true}
-use Rattle.bac_wire.proofs.ItemLaws.{one_left, region_whole, whole_region}
+use Rattle.bac_wire.proofs.{one_left, region_whole, whole_region}
 use Rattle.bac_wire.proofs.items.is_region.Goals as goal
 
 pub returns-in-Some-clause-found : goal.returns-in-Some-clause-found

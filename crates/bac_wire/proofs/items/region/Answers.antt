@@ -1,6 +1,6 @@
 -- Items leave one rest, so a region that is found is the only one.
 use Rattle.std.proofs.Common.{None}
-use Rattle.bac_wire.proofs.ItemLaws.{closing_reads, finds_by, region_finds, region_leaves}
+use Rattle.bac_wire.proofs.{closing_reads, finds_by, region_finds, region_leaves}
 use Rattle.bac_wire.proofs.items.region.Goals as goal
 
 pub returns-in_err-rest-clause-found : goal.returns-in_err-rest-clause-found

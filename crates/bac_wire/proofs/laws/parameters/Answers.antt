@@ -1,6 +1,6 @@
 -- The parts of the law are lemmas.
-use Rattle.bac_wire.proofs.ItemLaws.{context_reader, enclosed_reader, enclosed_spells, number_reader, number_spells}
-use Rattle.bac_wire.proofs.ItemLaws.{object_reader, object_spells}
+use Rattle.bac_wire.proofs.{context_reader, enclosed_reader, enclosed_spells, number_reader, number_spells}
+use Rattle.bac_wire.proofs.{object_reader, object_spells}
 use Rattle.bac_wire.proofs.laws.parameters.Goals as goal
 
 pub returns : goal.returns

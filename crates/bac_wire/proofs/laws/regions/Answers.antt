@@ -1,5 +1,5 @@
 -- The parts of the law are lemmas.
-use Rattle.bac_wire.proofs.ItemLaws.{items_is, one_region, region_reader, whole_is}
+use Rattle.bac_wire.proofs.{items_is, one_region, region_reader, whole_is}
 use Rattle.bac_wire.proofs.laws.regions.Goals as goal
 
 pub returns : goal.returns

@@ -1,5 +1,5 @@
 -- The parts of the law are lemmas.
-use Rattle.bac_wire.proofs.TagLaws.{one_tag, plain_tag_shortest, plain_tag_spells, spelled_back, tag_reader}
+use Rattle.bac_wire.proofs.{one_tag, plain_tag_shortest, plain_tag_spells, spelled_back, tag_reader}
 use Rattle.bac_wire.proofs.laws.tags.Goals as goal
 
 pub returns : goal.returns

@@ -1,6 +1,5 @@
 -- The parts of the law are lemmas.
-use Rattle.bac_wire.proofs.DatumLaws.{held_sound, one_value, plain_shortest, plain_spells, value_reader}
-use Rattle.bac_wire.proofs.TagLaws.{spelled_back}
+use Rattle.bac_wire.proofs.{held_sound, one_value, plain_shortest, plain_spells, spelled_back, value_reader}
 use Rattle.bac_wire.proofs.laws.values.Goals as goal
 
 pub returns : goal.returns

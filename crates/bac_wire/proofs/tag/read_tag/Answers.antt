@@ -1,5 +1,5 @@
 -- The spelling is what is left of the octets without the rest.
-use Rattle.bac_wire.proofs.TagLaws.{found_front, none_front, tag_reader}
+use Rattle.bac_wire.proofs.{found_front, none_front, tag_reader}
 use Rattle.bac_wire.proofs.tag.read_tag.Goals as goal
 
 pub returns-in_err-tag : goal.returns-in_err-tag

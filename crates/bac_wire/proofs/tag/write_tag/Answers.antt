@@ -1,6 +1,6 @@
 -- What was appended is the shortest spelling, and reads back.
 use Rattle.std.proofs.lemmas.Result.{on_ok_weaker}
-use Rattle.bac_wire.{proofs.TagLaws.{plain_tag_shortest, plain_tag_spells, spelled_back}, specs.SpellsTag}
+use Rattle.bac_wire.{proofs.{plain_tag_shortest, plain_tag_spells, spelled_back}, specs.SpellsTag}
 use Rattle.bac_wire.proofs.tag.write_tag.Goals as goal
 
 pub returns-clause-shortest : goal.returns-clause-shortest

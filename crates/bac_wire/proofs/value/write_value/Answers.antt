@@ -1,7 +1,6 @@
 -- What was appended is the shortest spelling, and reads back.
 use Rattle.std.proofs.lemmas.Result.{on_ok_weaker}
-use Rattle.bac_wire.proofs.{DatumLaws.{plain_shortest, plain_spells, written_datum}, TagLaws.spelled_back}
-use Rattle.bac_wire.specs.{Spells}
+use Rattle.bac_wire.{proofs.{plain_shortest, plain_spells, spelled_back, written_datum}, specs.Spells}
 use Rattle.bac_wire.proofs.value.write_value.Goals as goal
 
 pub returns-clause-shortest : goal.returns-clause-shortest

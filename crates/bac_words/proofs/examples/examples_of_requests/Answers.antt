@@ -1,9 +1,7 @@
 -- Each is computed: that its words are taken, and the job that they ask for.
 use Rattle.std.proofs.Common.{refl}
 use Rattle.clap.specs.{Faults.{defaults_fault, walk_fault}, Walk.walked}
-use Rattle.bac_wire.specs.{Datum.plain, Tag.plain_tag}
-use Rattle.bac_pdu.specs.Parameter.{plain_parameter}
-use Rattle.bac_text.specs.ValueWords.{value_under}
+use Rattle.{bac_wire.specs.{plain, plain_tag}, bac_pdu.specs.plain_parameter, bac_text.specs.ValueWords.value_under}
 use Rattle.bac_words.proofs.examples.examples_of_requests.Goals as goal
 
 pub returns : goal.returns

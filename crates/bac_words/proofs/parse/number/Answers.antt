@@ -1,7 +1,6 @@
 -- What `clap` hands out of such an argument is a number within its limits.
 use Rattle.std.proofs.Common.{IfSome, Option, subst, sym, ℕ}
-use Rattle.clap.specs.Words.{found_of}
-use Rattle.clap_laws.{proofs.Parsed.getter, specs.Inner.Numbers.{FitsWord, IsWithin}}
+use Rattle.{clap.specs.Words.found_of, clap_laws.{proofs.Parsed.getter, specs.Inner.Numbers.{FitsWord, IsWithin}}}
 use Rattle.bac_words.proofs.parse.number.Goals as goal
 
 pub returns : goal.returns

@@ -3,8 +3,8 @@ use Rattle.std.proofs.Common.{[], ap, inl, inr, IsSomeAnd, List, map, Option, op
 use Rattle.std.specs.Cow.{cow_str_bytes}
 use Rattle.clap.specs.{Faults.{fault_of, is_simple_and_free}, Kinds.HasKind, Simple.{App, is_simple, subcommand_of}}
 use Rattle.clap.specs.Walk.{Row, Text, texts}
-use Rattle.bac_words.{proofs.Tools.{bactool_is_free, bactool_is_simple, refused, tool_met}, specs.bactool}
-use Rattle.bac_words.specs.{marked_words, order_of, Inner.IsTool}
+use Rattle.bac_words.proofs.{bactool_is_free, bactool_is_simple, refused, tool_met}
+use Rattle.bac_words.specs.{bactool, marked_words, order_of, Inner.IsTool}
 use Rattle.bac_words.proofs.parse.parse_words.Goals as goal
 
 pub returns-in_err-matches-clause-answer : goal.returns-in_err-matches-clause-answer

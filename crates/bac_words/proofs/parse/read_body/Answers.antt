@@ -1,6 +1,6 @@
 -- There is always room for the body of a ReadProperty.
 use Rattle.std.proofs.Common.{ap, arith, length, ◌∙◌}
-use Rattle.bac_pdu.{proofs.ShortestLaws.{read_alone, read_octets_short}, specs.Property.reference}
+use Rattle.bac_pdu.{proofs.ShortestLaws.{read_alone, read_octets_short}, specs.reference}
 use Rattle.bac_words.proofs.parse.read_body.Goals as goal
 
 pub copy_of-requires : goal.copy_of-requires

@@ -2,7 +2,7 @@
 use Rattle.std.proofs.Common.{[], ap, codes, List, map, Option, refl, unwrap_or, ◌∙◌}
 use Rattle.std.{proofs.lemmas.Result.err_from_is_err_and, specs.Borrow.Bor}
 use Rattle.clap.{proofs.WalkLemmas.raw_values-rows, specs.{Walk.{Text, texts}, Words.found_of}}
-use Rattle.bac_words.{proofs.Tools.pairs_typed, specs.unmarked}
+use Rattle.bac_words.{proofs.pairs_typed, specs.unmarked}
 use Rattle.bac_words.proofs.parse.write_body.Goals as goal
 
 pub returns-in_err-body : goal.returns-in_err-body

@@ -1,6 +1,6 @@
 -- What a link over a socket keeps of its history is what the program's sockets give.
 use Rattle.std.proofs.{Common.{ap, subst, ◌∙◌}, Math.Logic.∥∥₁_map}
-use Rattle.bac_links.specs.{History.Account, Socket.{AreCallsFor, Logs, OverSocket}}
+use Rattle.bac_links.specs.{Account, Socket.{AreCallsFor, Logs, OverSocket}}
 use Rattle.bac_tools.proofs.RunLaws.{run_so, run_unasked, run_without}
 use Rattle.bactool.proofs.laws.the_program_is_its_calls.Goals as goal
 

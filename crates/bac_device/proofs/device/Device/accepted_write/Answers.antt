@@ -1,7 +1,6 @@
 -- The code looks for the point first, and the definition for the property.
 use Rattle.std.proofs.Common.{arith, Err, if◌then◌else◌, is_some, Ok, refl, Some, sym, ◌≡◌}
-use Rattle.bac_wire.specs.Datum.{Datum}
-use Rattle.bac_pdu.specs.Property.{Order, order}
+use Rattle.{bac_wire.specs.Datum.Datum, bac_pdu.specs.{Order, Property.order}}
 use Rattle.bac_device.specs.{accepted_write, commanded_point, DeviceState, ordered_write, property_of, single, Standing}
 use Rattle.bac_device.specs.declared.failure.Failure.TheVariants.{NotAnArray}
 use Rattle.bac_device.proofs.device.Device.accepted_write.Goals as goal

@@ -1,5 +1,5 @@
 -- What holds of the definition's reply holds of the one that was written.
-use Rattle.{bac_pdu.specs.Peer.station, bac_device.{proofs.StateLaws.{of_reply, reply_fits}, specs.ReplyFits}}
+use Rattle.{bac_pdu.specs.station, bac_device.{proofs.{of_reply, reply_fits}, specs.ReplyFits}}
 use Rattle.bac_device.proofs.device.Device.answer.Goals as goal
 
 pub returns-clause-fits : goal.returns-clause-fits

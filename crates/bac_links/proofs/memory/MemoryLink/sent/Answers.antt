@@ -1,5 +1,5 @@
 -- What was sent is told by the history, and the code has its own list.
-use Rattle.bac_links.proofs.LinkLaws.{sent_so}
+use Rattle.bac_links.proofs.{sent_so}
 use Rattle.bac_links.proofs.memory.MemoryLink.sent.Goals as goal
 
 pub returns : goal.returns

@@ -1,6 +1,6 @@
 -- The steps that were played are those of the history, which gains an entry.
 use Rattle.std.proofs.Math.Logic.{∥∥₁_map}
-use Rattle.bac_links.proofs.LinkLaws.{stands_timed}
+use Rattle.bac_links.proofs.{stands_timed}
 use Rattle.bac_links.proofs.memory.MemoryLinkLink.now.Goals as goal
 
 pub invariant_of-self : goal.invariant_of-self

@@ -1,7 +1,6 @@
 -- The steps that were played are those of the history, which gains an entry.
 use Rattle.std.proofs.{lemmas.List.length-map, Math.Logic.∥∥₁_map}
-use Rattle.bac_pdu.specs.Peer.{station}
-use Rattle.bac_links.proofs.LinkLaws.{sent_so, stands_sent}
+use Rattle.{bac_pdu.specs.station, bac_links.proofs.{sent_so, stands_sent}}
 use Rattle.bac_links.proofs.memory.MemoryLinkLink.send.Goals as goal
 
 pub invariant_of-self : goal.invariant_of-self

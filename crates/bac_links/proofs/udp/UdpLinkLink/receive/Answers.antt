@@ -1,6 +1,6 @@
 -- The log grows by the calls for what the history gains.
 use Rattle.std.proofs.Math.Logic.{∥∥₁_map}
-use Rattle.bac_links.proofs.LinkLaws.{keeps_waited}
+use Rattle.bac_links.proofs.{keeps_waited}
 use Rattle.bac_links.proofs.udp.UdpLinkLink.receive.Goals as goal
 
 pub invariant_of-self : goal.invariant_of-self

@@ -1,7 +1,6 @@
 -- The log grows by the calls for what the history gains.
 use Rattle.std.proofs.Math.Logic.{∥∥₁_map}
-use Rattle.bac_pdu.specs.Peer.{station}
-use Rattle.bac_links.proofs.LinkLaws.{keeps_sent}
+use Rattle.{bac_pdu.specs.station, bac_links.proofs.keeps_sent}
 use Rattle.bac_links.proofs.udp.UdpLinkLink.send.Goals as goal
 
 pub invariant_of-self : goal.invariant_of-self

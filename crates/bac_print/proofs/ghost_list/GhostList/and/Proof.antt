@@ -1,5 +1,5 @@
 -- `and` picks the items, and what the note tells behind them.
-use Rattle.bac_wire.proofs.Walks.{ !, [], a_type, agg, alive, alloc_all, and_then, bounded, dcons, dnil, done, ends_at}
+use Rattle.bac_wire.proofs.Walks.{[], !, a_type, agg, alive, alloc_all, and_then, bounded, dcons, dnil, done, ends_at}
 use Rattle.bac_wire.proofs.Walks.{enter, fjoin, free_all, get, Goes-dropped, inst_fn, keep, look_at, move, named}
 use Rattle.bac_wire.proofs.Walks.{no_more, nothing, owns, param, pass_all, plain, proved, qed, RattleType, raw, refl}
 use Rattle.bac_wire.proofs.Walks.{RefOf, returns, says, sets, shr_Tells, shr_vals, split, stay_dropped, Stays, suffices}

@@ -1,8 +1,8 @@
 -- `new` picks no items.
-use Rattle.bac_wire.proofs.Walks.{ !, [], a_type, agg, alive, alloc_all, and_then, done, ends_at, enter, fjoin}
-use Rattle.bac_wire.proofs.Walks.{free_all, get, inst_fn, keep, layouts, look_at, move, no_more, nothing, owns, param}
-use Rattle.bac_wire.proofs.Walks.{pass_all, proved, qed, raw, refl, returns, says, sets, split, suffices, types_at, ‵}
-use Rattle.bac_wire.proofs.Walks.{◌$◌, ◌∵◌, ◌∷◌, ◌⊛◌}
+use Rattle.bac_wire.proofs.Walks.{[], !, a_type, agg, alive, alloc_all, and_then, done, ends_at, enter, fjoin, free_all}
+use Rattle.bac_wire.proofs.Walks.{get, inst_fn, keep, layouts, look_at, move, no_more, nothing, owns, param, pass_all}
+use Rattle.bac_wire.proofs.Walks.{proved, qed, raw, refl, returns, says, sets, split, suffices, types_at, ‵, ◌$◌, ◌∵◌}
+use Rattle.bac_wire.proofs.Walks.{◌∷◌, ◌⊛◌}
 use Rattle.bac_print.proofs.{ghost_list.GhostList.new.Statement.statement, Walks.{marked, marked_made}}
 use Rattle.bac_print.specs.contracts.ghost_list.GhostList.new as f
 use Rattle.bac_print.proofs.ghost_list.GhostList.new.Code as code

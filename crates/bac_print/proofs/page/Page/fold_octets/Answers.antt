@@ -1,6 +1,6 @@
 -- One more octet is folded behind the others.
 use Rattle.std.proofs.{Common.arith, lemmas.List.take_more}
-use Rattle.bac_print.proofs.Printed.{folds_more, folds_none}
+use Rattle.bac_print.proofs.{folds_more, folds_none}
 use Rattle.bac_print.proofs.page.Page.fold_octets.Goals as goal
 
 pub loop-octet-init : goal.loop-octet-init

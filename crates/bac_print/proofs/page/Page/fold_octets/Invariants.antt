@@ -1,5 +1,5 @@
 use Rattle.std.proofs.Common.{take}
-use Rattle.bac_print.proofs.Printed.{FoldsTo}
+use Rattle.bac_print.proofs.{FoldsTo}
 use Rattle.bac_print.proofs.page.Page.fold_octets.Given as goal
 
 abbrev pub invariant-loop-octet : goal.invariant-loop-octet

@@ -1,5 +1,5 @@
 -- A page that is turned in is given the text after that.
-use Rattle.bac_print.proofs.Printed.{held_past}
+use Rattle.bac_print.proofs.{held_past}
 use Rattle.bac_print.proofs.page.Page.hold_past.Goals as goal
 
 pub returns : goal.returns

@@ -1,5 +1,5 @@
 -- Where the page folds its lines, the text was put on it folded; else as it is.
-use Rattle.bac_print.proofs.Printed.{printed_folded, printed_whole}
+use Rattle.bac_print.proofs.{printed_folded, printed_whole}
 use Rattle.bac_print.proofs.page.Page.print.Goals as goal
 
 pub returns-in-None : goal.returns-in-None

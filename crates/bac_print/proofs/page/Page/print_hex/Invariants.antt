@@ -1,5 +1,5 @@
 use Rattle.std.proofs.Common.{length}
-use Rattle.bac_print.proofs.Printed.{PrintsHex}
+use Rattle.bac_print.proofs.{PrintsHex}
 use Rattle.bac_print.proofs.page.Page.print_hex.Given as goal
 
 abbrev pub invariant-loop-rest : goal.invariant-loop-rest

@@ -1,6 +1,6 @@
 -- What is printed goes by how many values the region is, where it is values at all.
 use Rattle.std.proofs.Common.{arith, false, ◌==◌, ◌≡◌}
-use Rattle.bac_print.proofs.Printed.{printed_in_braces, printed_octets}
+use Rattle.bac_print.proofs.{printed_in_braces, printed_octets}
 use Rattle.bac_print.proofs.page.Page.print_region.Goals as goal
 
 pub returns-in-Some : goal.returns-in-Some

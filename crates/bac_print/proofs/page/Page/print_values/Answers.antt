@@ -1,6 +1,6 @@
 -- The values that are printed are a front of the region: one more is printed, and its comma.
 use Rattle.std.proofs.Common.{sym}
-use Rattle.bac_print.proofs.Printed.{front_more}
+use Rattle.bac_print.proofs.{front_more}
 use Rattle.bac_print.proofs.page.Page.print_values.Goals as goal
 
 pub loop-value-preserved : goal.loop-value-preserved

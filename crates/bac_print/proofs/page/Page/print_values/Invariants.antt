@@ -1,5 +1,5 @@
 use Rattle.std.proofs.Common.{length}
-use Rattle.bac_print.proofs.Printed.{PrintsFront}
+use Rattle.bac_print.proofs.{PrintsFront}
 use Rattle.bac_print.proofs.page.Page.print_values.Given as goal
 
 abbrev pub invariant-loop-value : goal.invariant-loop-value

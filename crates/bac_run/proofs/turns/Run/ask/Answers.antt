@@ -1,10 +1,8 @@
 -- The time is told, and the request is asked for.
 use Rattle.std.proofs.{Common.{[], ap, arith, List, refl, sym, ◌<◌, ◌∷◌}, lemmas.Result.err_from_is_err_and}
-use Rattle.bac_pdu.specs.Peer.{station}
-use Rattle.bac_tsm.specs.{Client.Client, Events.Ask}
-use Rattle.bac_run.proofs.Parts.{comes_sent, for_front, for_whole, quiet_went, went_asked, went_at, went_failed}
-use Rattle.bac_run.{proofs.Parts.{went_more, within_asked, within_both}, specs.Course.{Aim, Does, open_in, ready}}
-use Rattle.bac_run.specs.Journal.{Asked}
+use Rattle.{bac_pdu.specs.station, bac_tsm.specs.{Ask, Client.Client}}
+use Rattle.bac_run.proofs.{comes_sent, for_front, for_whole, quiet_went, went_asked, went_at, went_failed, went_more}
+use Rattle.bac_run.{proofs.{within_asked, within_both}, specs.{Aim, Asked, Does, open_in, ready}}
 use Rattle.bac_run.proofs.turns.Run.ask.Goals as goal
 
 pub returns-in_err-freshen-clause-went : goal.returns-in_err-freshen-clause-went

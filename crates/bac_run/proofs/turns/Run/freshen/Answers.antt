@@ -1,9 +1,8 @@
 -- The time before a request.
 use Rattle.std.proofs.Common.{ap, arith, false, nat_lt, refl, sym, true, ℕ, ◌-◌, ◌/◌, ◌==◌, ◌∷◌, ◌≡◌}
 use Rattle.std.proofs.lemmas.Bool.Decides.{nat_tests}
-use Rattle.bac_links.specs.Limits.{most_turns}
-use Rattle.bac_run.{proofs.Parts.{went_more, went_read}, specs.Course.{open_in, ready, Turns}}
-use Rattle.bac_run.specs.declared.turns.Until.TheVariants.{TimeTold}
+use Rattle.bac_links.specs.{most_turns}
+use Rattle.bac_run.{proofs.{went_more, went_read}, specs.{open_in, ready, TimeTold, Turns}}
 use Rattle.bac_run.proofs.turns.Run.freshen.Goals as goal
 
 pub returns-then-open_count-eq0-clause-went : goal.returns-then-open_count-eq0-clause-went

@@ -1,10 +1,9 @@
 -- What a wait brought.
 use Rattle.std.proofs.Common.{ap, arith, false, length, None, option_map, refl, rules, sym, true, ◌∙◌, ◌≡◌}
-use Rattle.bac_pdu.specs.Peer.{network_address, station}
-use Rattle.bac_tsm.specs.Client.{Client}
-use Rattle.bac_links.specs.History.{Arrived, Failure, Silence}
-use Rattle.bac_run.{proofs.{Counts.datagram_open, Parts.{went_came, went_ok, went_passed}}, specs.Course.heard_at}
-use Rattle.bac_run.specs.{Course.{Outside, settled}, declared.turns.Run.Run, Journal.has_line}
+use Rattle.{bac_pdu.specs.{network_address, station}, bac_tsm.specs.Client.Client}
+use Rattle.bac_links.specs.{Arrived, Failure, Silence}
+use Rattle.bac_run.proofs.{datagram_open, went_came, went_ok, went_passed}
+use Rattle.bac_run.specs.{has_line, heard_at, Outside, settled, declared.turns.Run.Run}
 use Rattle.bac_run.proofs.turns.Run.hear.Goals as goal
 
 pub returns-in-Ok-None-clause-went : goal.returns-in-Ok-None-clause-went

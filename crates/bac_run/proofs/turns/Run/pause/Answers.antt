@@ -1,7 +1,7 @@
 -- A line without words.
 use Rattle.std.proofs.{Common.{[], arith, refl, Some, ◌∷◌}, lemmas.Result.err_from_is_err_and}
-use Rattle.bac_run.proofs.{Acts.due_nothing, Parts.{for_front, for_quiet, for_same, went_at, went_failed, went_more}}
-use Rattle.bac_run.{proofs.Parts.{went_nothing, went_one}, specs.{Course.Does, Journal.Paused}}
+use Rattle.bac_run.proofs.{due_nothing, for_front, for_quiet, for_same, went_at, went_failed, went_more, went_nothing}
+use Rattle.bac_run.{proofs.went_one, specs.{Does, Paused}}
 use Rattle.bac_run.proofs.turns.Run.pause.Goals as goal
 
 pub returns-in_err-wait-clause-went : goal.returns-in_err-wait-clause-went

@@ -1,5 +1,5 @@
 -- A wait, and then the fault.
-use Rattle.bac_run.proofs.Parts.{went_more, went_stopped}
+use Rattle.bac_run.proofs.{went_more, went_stopped}
 use Rattle.bac_run.proofs.turns.Run.stop.Goals as goal
 
 pub returns-in-Ok-clause-went : goal.returns-in-Ok-clause-went

@@ -2,14 +2,10 @@
 use Rattle.std.proofs.Common.{[], ap, arith, Err, IsTrue, length, List, None, Ok, refl, Result, rules, Some, sym, ℕ}
 use Rattle.std.proofs.{Common.{◌<◌, ◌∷◌, ◌≡◌}, lemmas.{Bool.Decides.nat_tests, Result.err_from_is_err_and}}
 use Rattle.std.specs.{Prelude.option_and_then, Result.result_ok}
-use Rattle.bac_wire.specs.Identifier.{identifier}
-use Rattle.bac_pdu.specs.{Apdu.longest_body, Peer.station}
-use Rattle.bac_tsm.specs.Events.{Ask}
-use Rattle.bac_text.specs.Pairs.{whole_body_of}
-use Rattle.bac_script.specs.{declared.line.LineFault.LineFault, Line.{Happens, Nothing, Said}, LineSeen.long_body}
-use Rattle.bac_script.specs.LongBody.{is_long, octets_or_none}
-use Rattle.bac_run.{proofs.Parts.{for_front, for_refused, for_same, went_at, went_failed}, specs.Course.Does}
-use Rattle.bac_run.specs.{Input.{acts_of_line, acts_of_said, said_of}, Journal.Asked}
+use Rattle.{bac_wire.specs.identifier, bac_pdu.specs.{longest_body, station}, bac_tsm.specs.Ask}
+use Rattle.{bac_text.specs.whole_body_of, bac_run.proofs.{for_front, for_refused, for_same, went_at, went_failed}}
+use Rattle.bac_run.specs.{acts_of_line, acts_of_said, Asked, Does, LineFault, said_of}
+use Rattle.bac_script.specs.{Happens, Nothing, Said, LineSeen.long_body, LongBody.{is_long, octets_or_none}}
 use Rattle.bac_run.proofs.turns.Run.take_line.Goals as goal
 
 past : (whole : Result (List ℕ) ℕ) → IsTrue (is_long whole) → longest_body < length (octets_or_none whole)

@@ -1,8 +1,7 @@
 -- What is told at a time.
 use Rattle.std.proofs.Common.{ap, arith, false, length, nat_lt, refl, rules, sym, true, ◌∙◌, ◌≡◌}
 use Rattle.std.proofs.lemmas.Bool.Decides.{nat_tests}
-use Rattle.bac_tsm.specs.Client.{Client}
-use Rattle.bac_run.{proofs.{Counts.tick_open, Parts.{comes_sent, went_still, went_told}}, specs.Course.ready}
+use Rattle.{bac_tsm.specs.Client.Client, bac_run.{proofs.{comes_sent, tick_open, went_still, went_told}, specs.ready}}
 use Rattle.bac_run.proofs.turns.Run.tell.Goals as goal
 
 pub returns-then-now-clock-clause-went : goal.returns-then-now-clock-clause-went

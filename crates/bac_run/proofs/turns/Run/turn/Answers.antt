@@ -1,8 +1,8 @@
 -- A turn: the time is read, a wait, and what is told behind it.
 use Rattle.std.proofs.{Common.{refl, ◌∷◌}, lemmas.Result.err_from_is_err_and}
 use Rattle.bac_script.specs.declared.tracing.TraceFault.TheVariants.{WriteFailed}
-use Rattle.bac_run.proofs.Parts.{went_at, went_failed, went_more, went_ok, went_read, went_stopped, went_to}
-use Rattle.bac_run.{proofs.Parts.went_turned, specs.{Course.Turns, Fault.write_failed}}
+use Rattle.bac_run.proofs.{went_at, went_failed, went_more, went_ok, went_read, went_stopped, went_to, went_turned}
+use Rattle.bac_run.specs.{Turns, write_failed}
 use Rattle.bac_run.proofs.turns.Run.turn.Goals as goal
 
 pub returns-then-failed-clause-went : goal.returns-then-failed-clause-went

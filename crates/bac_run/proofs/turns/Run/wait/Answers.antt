@@ -1,7 +1,7 @@
 -- One turn after another.
 use Rattle.std.proofs.{Common.{ap, arith, false, refl, sym, true, ℕ, ◌-◌, ◌∷◌, ◌≡◌}, lemmas.Result.err_from_is_err_and}
-use Rattle.bac_run.proofs.Parts.{begun, reached, spent, went_at, went_failed, went_more, went_spent, went_still}
-use Rattle.bac_run.{proofs.Parts.went_to, specs.{Course.{is_reached, Turns}, Inner.Went.started}}
+use Rattle.bac_run.proofs.{begun, reached, spent, went_at, went_failed, went_more, went_spent, went_still, went_to}
+use Rattle.bac_run.specs.{is_reached, Turns, Inner.started}
 use Rattle.bac_run.proofs.turns.Run.wait.Goals as goal
 
 pub turns-init : goal.turns-init

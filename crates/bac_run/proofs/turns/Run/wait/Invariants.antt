@@ -1,7 +1,6 @@
 -- One turn after another.
 use Rattle.std.proofs.Common.{[], false, ◌∷◌, ◌≡◌, ◌≤◌}
-use Rattle.bac_links.specs.Limits.{most_turns}
-use Rattle.bac_run.{proofs.Acts.done, specs.{Course.{open_in, Turns}, Inner.Went.{started, Went}}}
+use Rattle.{bac_links.specs.most_turns, bac_run.{proofs.done, specs.{open_in, Turns, Inner.{started, Went.Went}}}}
 use Rattle.bac_run.proofs.turns.Run.wait.Given as goal
 
 abbrev pub invariant-turns : goal.invariant-turns

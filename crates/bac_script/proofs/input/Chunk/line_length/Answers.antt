@@ -1,6 +1,6 @@
 -- What is searched is a part of the chunk, and its positions are not those of what is held.
 use Rattle.std.proofs.Common.{arith, sym, ◌∙◌}
-use Rattle.bac_script.proofs.Chunks.{cut_as_long, cut_behind}
+use Rattle.bac_script.proofs.{cut_as_long, cut_behind}
 use Rattle.bac_script.proofs.input.Chunk.line_length.Goals as goal
 
 pub returns-in-Some-clause-line : goal.returns-in-Some-clause-line

@@ -1,7 +1,6 @@
 use Rattle.std.proofs.Common.{[], false, length, ◌+◌, ◌≡◌, ◌≤◌}
-use Rattle.bac_print.specs.{Checked.{has_failed, reads_of}, Page.Prints}
-use Rattle.bac_script.{proofs.Chunks.IsSearched, specs.{may_read, most_to_come, ReadForLine, ReadsNoMore}}
-use Rattle.bac_script.specs.{TakesAndKeeps, Inner.HasNotEnded}
+use Rattle.{bac_print.specs.{has_failed, Prints, reads_of}, bac_script.proofs.IsSearched}
+use Rattle.bac_script.specs.{may_read, most_to_come, ReadForLine, ReadsNoMore, TakesAndKeeps, Inner.HasNotEnded}
 use Rattle.bac_script.proofs.input.Chunk.next_line.Given as goal
 
 abbrev pub invariant-loop-length : goal.invariant-loop-length

@@ -1,8 +1,7 @@
 -- The chunk is read into behind what is held, which may have been moved to the front before.
 use Rattle.std.proofs.Common.{ap, arith, inr, take, ◌∙◌}
-use Rattle.bac_script.proofs.Chunks.{last_none, last_on, Placed, placed_moved, read_ended, read_none, read_on}
-use Rattle.bac_script.proofs.{Chunks.still_held, input.Chunk.read_more.{Given.Over, Goals.{After-read, else-self}}}
-use Rattle.bac_script.proofs.input.Chunk.read_more.Goals.{then-self}
+use Rattle.bac_script.proofs.{last_none, last_on, Placed, placed_moved, read_ended, read_none, read_on, still_held}
+use Rattle.bac_script.proofs.input.Chunk.read_more.{Given.Over, Goals.{After-read, else-self, then-self}}
 use Rattle.bac_script.proofs.input.Chunk.read_more.Goals as goal
 
 -- The chunk as it is read into: what is held was moved to the front, or there was room.

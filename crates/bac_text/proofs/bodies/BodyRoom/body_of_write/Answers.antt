@@ -1,7 +1,6 @@
 -- The pairs are a region of values, as the writer of the request requires, or their fault is the body's.
 use Rattle.std.proofs.Common.{arith, subst, sym}
-use Rattle.bac_wire.specs.Region.{IsRegion}
-use Rattle.bac_text.proofs.WordLaws.{body-fault, region_written, values_are_region}
+use Rattle.{bac_wire.specs.IsRegion, bac_text.proofs.{body-fault, region_written, values_are_region}}
 use Rattle.bac_text.proofs.bodies.BodyRoom.body_of_write.Goals as goal
 
 pub returns-in_err-read_pairs : goal.returns-in_err-read_pairs

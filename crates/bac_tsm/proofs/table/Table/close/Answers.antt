@@ -1,6 +1,6 @@
 -- The entry of an invoke id leads to the one request that an answer may be to, or to none.
 use Rattle.std.proofs.Common.{arith, sym, ◌∙◌}
-use Rattle.bac_tsm.proofs.TableLaws.{closed_none, closed_not, closed_some_turn, closed_that, named_below}
+use Rattle.bac_tsm.proofs.{closed_none, closed_not, closed_some_turn, closed_that, named_below}
 use Rattle.bac_tsm.specs.Inner.{answer_seen}
 use Rattle.bac_tsm.proofs.table.Table.close.Goals as goal
 

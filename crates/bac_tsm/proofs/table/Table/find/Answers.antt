@@ -1,6 +1,6 @@
 -- No rank means that no request has the ticket, so the definition finds none either.
 use Rattle.std.proofs.Common.{sym}
-use Rattle.bac_tsm.proofs.Calls.{find_none}
+use Rattle.bac_tsm.proofs.{find_none}
 use Rattle.bac_tsm.proofs.table.Table.find.Goals as goal
 
 pub returns-in_err-rank : goal.returns-in_err-rank

@@ -1,6 +1,6 @@
 -- Where the request that was sent longest ago is not due, none is, since the others were sent later.
 use Rattle.std.proofs.Common.{◌∙◌}
-use Rattle.bac_tsm.{proofs.{TableLaws.rising, TableTick.{front_below, some_due}}, specs.client_rules}
+use Rattle.bac_tsm.{proofs.{front_below, rising, some_due}, specs.client_rules}
 use Rattle.bac_tsm.proofs.table.Table.is_due.Goals as goal
 
 pub held-requires : goal.held-requires

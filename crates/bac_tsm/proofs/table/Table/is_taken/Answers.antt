@@ -1,6 +1,6 @@
 -- The entry of an invoke id says whether an open request has it, which is an invariant of the table.
 use Rattle.std.proofs.Common.{◌∙◌}
-use Rattle.bac_tsm.proofs.TableLaws.{taken}
+use Rattle.bac_tsm.proofs.{taken}
 use Rattle.bac_tsm.proofs.table.Table.is_taken.Goals as goal
 
 pub returns : goal.returns

@@ -1,5 +1,5 @@
 -- The empty table keeps to its invariant: no entry, no ticket, and each slot free.
-use Rattle.bac_tsm.proofs.TableLaws.{empty_queue, empty_table}
+use Rattle.bac_tsm.proofs.{empty_queue, empty_table}
 use Rattle.bac_tsm.proofs.table.Table.new.Goals as goal
 
 pub invariant_of-result : goal.invariant_of-result

@@ -1,7 +1,7 @@
 -- Each turn passes one request; what is told in that order, sorted by ticket, is what the definition tells.
 use Rattle.std.proofs.{Common.{arith, List, subst, sym, ◌∙◌}, lemmas.List.Sorted.IsPermutation-trans}
 use Rattle.std.specs.List.Sorted.{IsPermutation}
-use Rattle.bac_tsm.{proofs.TableTick.{all_passed, few_due, fewer, passed, refilled}, specs.{client_rules, DueEntry}}
+use Rattle.bac_tsm.{proofs.{all_passed, few_due, fewer, is_passed, refilled}, specs.{client_rules, DueEntry}}
 use Rattle.bac_tsm.proofs.table.Table.pass_all.Goals as goal
 
 pub put_last-requires : goal.put_last-requires
@@ -19,7 +19,7 @@ loop-is_due-smaller c =
 pub loop-is_due-preserved : goal.loop-is_due-preserved
 loop-is_due-preserved c = record {
   ticked = rw c.put_last.ensures
-      (passed _ c.args.clock c.args.config.positive c.loop-is_due.invariant.ticked _ _ c.pass-entry.ensures);
+      (is_passed _ c.args.clock c.args.config.positive c.loop-is_due.invariant.ticked _ _ c.pass-entry.ensures);
   due = c.is_due-is_due.ensures.due;
 }
 

@@ -1,5 +1,5 @@
 use Rattle.std.{proofs.Common.{length, ◌≡◌}, specs.List.list_any}
-use Rattle.bac_tsm.{proofs.TableTick.{due_of, HasTicked, kept_of}, specs.{client_rules, is_due}}
+use Rattle.bac_tsm.{proofs.{due_of, HasTicked, kept_of}, specs.{client_rules, is_due}}
 use Rattle.bac_tsm.proofs.table.Table.pass_all.Given as goal
 
 abbrev pub invariant-loop-is_due : goal.invariant-loop-is_due

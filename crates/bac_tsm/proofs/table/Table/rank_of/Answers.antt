@@ -1,8 +1,8 @@
 -- `rank_of` looks at one rank first; if that is another ticket's, it searches the rising tickets.
 use Rattle.std.proofs.Common.{arith, get_or, IfSome, is_some, length, List, ltb-true, nat_lt, None, Option}
-use Rattle.std.proofs.{Common.{option_copied, slice_get, Some, sym, ℕ, ◌∙◌, ◌≡◌}, lemmas.Option.none-some}
-use Rattle.std.{proofs.lemmas.Option.slice_get-get_or, specs.Borrow.Bor}
-use Rattle.bac_tsm.proofs.TableLaws.{likely_rank, searched_rank}
+use Rattle.std.proofs.Common.{option_copied, slice_get, Some, sym, ℕ, ◌∙◌, ◌≡◌}
+use Rattle.std.{proofs.lemmas.Option.{none-some, slice_get-get_or}, specs.Borrow.Bor}
+use Rattle.bac_tsm.proofs.{likely_rank, searched_rank}
 use Rattle.bac_tsm.proofs.table.Table.rank_of.Goals as goal
 
 got : (r : Option (Bor ℕ)) (xs : List ℕ) (i ticket : ℕ) → is_some r ≡ nat_lt i (length xs)

@@ -5,17 +5,18 @@ use Rattle.std.proofs.Common.{if◌then◌else◌, is_some, length, length-appen
 use Rattle.std.proofs.Common.{ltb-false, map, MatchResult, nat_eq, nat_lt, ne_eqb, None, not, Ok, Option, refl, remove}
 use Rattle.std.proofs.Common.{replicate, Result, set, slice_get, Some, subst, suc, sym, take, take-append-drop, take_at}
 use Rattle.std.proofs.Common.{true, unwrap_or, zero, ℕ, ◌%◌, ◌++◌, ◌+◌, ◌<◌, ◌∙◌, ◌∷◌, ◌≡◌, ◌≤◌}
-use Rattle.std.proofs.lemmas.{Bool.Decides.nat_tests, Grind.{common_steps, take_at_read}, List.{drop-map, get_or-map}}
-use Rattle.std.proofs.lemmas.List.{get_or-replicate, get_or_default, length-map, map-append, take-map}
-use Rattle.std.proofs.lemmas.List.{Edits.{length-remove, remove-append_left}, Elements.filter-append}
+use Rattle.std.proofs.lemmas.{Bool.Decides.nat_tests, Grind.{common_steps, take_at_read}}
+use Rattle.std.proofs.lemmas.List.{drop-map, get_or-map, get_or-replicate, get_or_default, length-map, map-append}
+use Rattle.std.proofs.lemmas.List.{take-map, Edits.{length-remove, remove-append_left}, Elements.filter-append}
 use Rattle.std.proofs.lemmas.List.{Quantifiers.{all_pairs_push, all_pairs_remove}, Sorted.searched, Sums.length-filter}
 use Rattle.std.proofs.lemmas.{List.Sums.sum_by-remove, Option.{get_or_from_slice_get, slice_get_within}, Simd.map-map}
 use Rattle.std.specs.{List.{list_any, position_or_len, Sorted.IsBinarySearchResult}, Ordering.nat_cmp, Result.result_ok}
-use Rattle.bac_tsm.proofs.{Calls.{by_ticket, pairs_tail, TicketsRise}, RequestLife.{a_step, first_at, first_from}}
-use Rattle.bac_tsm.{proofs.RequestLife.{is_free, NotBefore}, specs.{Answer, AreBySend, AreNamed, first_within, held_at}}
-use Rattle.bac_tsm.specs.{is_answer_to, IsTable, Names, next_invoke_id, nothing, open_slots, table_size, times}
-use Rattle.bac_tsm.specs.{times_of_slot, declared.request.Asked.Asked, Inner.{begun, invoke_id_at, invoke_id_in}}
-use Rattle.bac_tsm.specs.{Inner.{IsRankOf, IsTakenOut, Leaves, ticket_in, waiting_in}, Machine.Waiting}
+use Rattle.bac_tsm.proofs.Calls.{by_ticket, pairs_tail, TicketsRise}
+use Rattle.bac_tsm.{proofs.WholeRun.RequestLife.{a_step, first_at, first_from, is_free, NotBefore}, specs.Answer}
+use Rattle.bac_tsm.specs.{AreBySend, AreNamed, first_within, held_at, is_answer_to, IsTable, Names, next_invoke_id}
+use Rattle.bac_tsm.specs.{nothing, open_slots, table_size, times, times_of_slot, declared.request.Asked.Asked}
+use Rattle.bac_tsm.specs.Inner.{begun, invoke_id_at, invoke_id_in, IsRankOf, IsTakenOut, Leaves, ticket_in, waiting_in}
+use Rattle.bac_tsm.specs.Machine.{Waiting}
 
 -- ---- how often a number is among those of a list's elements
 

@@ -8,14 +8,13 @@ use Rattle.std.proofs.lemmas.{Grind.common_steps, List.{drop-append-le, drop_all
 use Rattle.std.proofs.lemmas.List.{Edits.take-paste, Quantifiers.position-Some, Sums.fails_before_first}
 use Rattle.std.proofs.{lemmas.Slice.{between_is, take-put_mid}, Math.Seq.take-append-add}
 use Rattle.std.specs.{Io.KnownBytes.{Consumes, Keeps}, List.{copy_within, onto_first}}
-use Rattle.bac_text.specs.Limits.{longest_line}
-use Rattle.bac_print.{proofs.Printed.{laid_out-none, ◌⨾◌}, specs.Checked.{has_failed, inner_of, last_of, octets_of}}
-use Rattle.bac_print.specs.{Checked.reads_of, declared.{checked.Checked.Checked, page.Page.Page}, Page.held as on_page}
-use Rattle.bac_print.specs.Page.{Prints, room_of, writer_of, Wrote}
-use Rattle.bac_script.specs.{AtEnd, chunk_room, ends_with_feed, Failed, HasNoFeed, HasNoLine, is_line, IsLineCut}
-use Rattle.bac_script.specs.{IsNext, IsTurnedIn, IsUnread, line_room, lines, Open, pieces, ReaderStands, ReadForLine}
-use Rattle.bac_script.specs.{Reading, said, TakesAndKeeps, without_feed, declared.line.LineFault.TheVariants.TooLong}
-use Rattle.bac_script.specs.Inner.{HasNotEnded}
+use Rattle.bac_text.specs.{longest_line}
+use Rattle.bac_print.{proofs.Printed.{laid_out-none, ◌⨾◌}, specs.{has_failed, held as on_page, last_of, octets_of}}
+use Rattle.bac_print.specs.{Prints, reads_of, room_of, writer_of, Checked.inner_of, Page.Wrote}
+use Rattle.bac_script.specs.{AtEnd, Checked, chunk_room, ends_with_feed, Failed, HasNoFeed, HasNoLine, is_line}
+use Rattle.bac_script.specs.{IsLineCut, IsNext, IsTurnedIn, IsUnread, line_room, lines, Open, Page, pieces}
+use Rattle.bac_script.specs.{ReaderStands, ReadForLine, Reading, said, TakesAndKeeps, without_feed}
+use Rattle.bac_script.specs.{declared.line.LineFault.TheVariants.TooLong, Inner.HasNotEnded}
 use borrow.Rule.Slice.PartMut.{put_mid}
 
 pub pieces-line : (text more : List ℕ) → HasNoFeed text → pieces (text ++ 10 ∷ more) ≡ (text ++ 10 ∷ []) ∷ pieces more
