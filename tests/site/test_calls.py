@@ -164,9 +164,9 @@ class Calls(harness.SiteTest):
         self.assertEqual(len(device.asked), 1)
 
     def test_a_slow_controller_is_given_time(self):
-        device = self.stand_in({(0, 1, 85): real("42290000")}, kind=LateStandIn, delay=0.5)
+        device = self.stand_in({(0, 1, 85): real("42290000")}, kind=LateStandIn, delay=1.2)
         path = self.path("slow", "p HERE 0 1 85\n" * 6)
-        self.assertEqual(self.run_site("poll", path)[0], 0)
+        self.assertEqual(self.run_site("poll", "--apdu-timeout", "800", path)[0], 0)
         self.assertEqual(device.heard, 7, "the first request alone is sent twice")
 
     def test_a_fast_controller_keeps_the_time(self):
