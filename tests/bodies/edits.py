@@ -1,7 +1,7 @@
 """What a wrong body is: a file NAME.edit in crates/CRATE/must-fail, with lines as `rt must-fail` reads them, or an
 entry of crates/CRATE/wrong/FILE.edits, which holds those of src/FILE.rt: a line `[NAME]` and the lines below it.
-CONTRIBUTING.md (A wrong body) says what the lines `file:`, `in:`, `old:`, `new:`, `body:`, `clause:`, `twin:`, `at:`,
-`by:` and `hole:` are, and what is tried in its function's place, or beside it.
+CONTRIBUTING.md (A wrong body) says what the lines `file:`, `in:`, `old:`, `new:`, `body:`, `clause:`, `goal:`, `twin:`,
+`at:`, `by:` and `hole:` are, and what is tried in its function's place, or beside it.
 """
 import collections
 import functools
@@ -228,6 +228,7 @@ class Edit:
         self.has_twin, self.calls_right, self.condition = TWIN in said, "body" in said, said.get("at", "")
         self.wrong, self.hole, self.by = said.get("body", said.get("new", "")), said.get("hole", ""), said.get("by", "")
         self.promised, self.bare = said.get("clause", "").split(), said.get("bare", "")
+        self.goals = said["goal"].split(", ") if "goal" in said and part in (WRONG, TWIN) else []
         if part == CONTROL:
             path, within, _, _ = self.pairs[0]
             right = body_of(crate, path, within)
@@ -283,6 +284,9 @@ class Edit:
             yield "it has an `at:`, and not `in:` and one clause that it is to leave false"
         if self.promised and not (self.is_wide or (self.is_beside() and not self.answers())):
             yield "it has a `clause:`, and its function has answers, or it may call that"
+        is_searched = self.has_twin and not self.is_wide and self.is_beside() and not self.answers()
+        if self.goals and (INVARIANT in self.promised or not is_searched):
+            yield "it has a `goal:`, and no twin, or answers, or is not tried beside its function"
         if not set(self.promised) <= {*self.clauses(), INVARIANT}:
             yield "its `clause:` names what is not ensured"
 

@@ -31,13 +31,21 @@ pub(crate) fn never() -> ! {
 # An answer to a goal that there is none of. Beside it `rattle` does not look for the beginning of an answer to what is
 # left open of a function, which takes up to a third of a check and more. And a hole for the invariant of a method's
 # type, whose search to the end may take as long, and which the fault hides.
-FAULT = f"""use Rattle.{{}}.proofs.{{}}.Goals as {PLACE}
-
+FAULTS = ("fault", "invariant_of-self")
+FAULT = f"""
 pub fault : {PLACE}.{PLACE}
 fault = ?
 
 pub invariant_of-self : {PLACE}.invariant_of-self
 invariant_of-self = ?
+"""
+# An answer by the first two of the searches that `rattle` makes for one; six of them take twice as long and more.
+SEARCHED = f"""
+pub {{}} : {PLACE}.{{}}
+{{}} = first_of (search rules, grind (arith, common_steps) steps 2000000)
+"""
+USED = f"""use Rattle.std.proofs.{{{{Common.{{{{arith, rules}}}}, lemmas.Grind.common_steps}}}}
+use Rattle.{{}}.proofs.{{}}.Goals as {PLACE}
 """
 LINKED = "//bazel/native:glibc"
 
@@ -81,8 +89,10 @@ def put_answers(crate, home, answers, place):
             write(f"{home}/proofs/{'/'.join(place)}/{it}", re.sub(rf"\b{re.escape(named)}", own, text_of(file)))
 
 
-def put_fault(crate, home, place):
-    """Gives what a check has at this place of the crate in this folder a fault for an answer, where it has none."""
+def put_searches(crate, home, place, goals, is_spoilt):
+    """Gives what a check has at this place of the crate in this folder, where it has no answers, two searches for each
+    of these goals, which stand with the names of what they are given; and a fault for one more answer."""
     file = f"{home}/proofs/{'/'.join(place)}/Answers.antt"
     if not os.path.exists(file):
-        write(file, FAULT.format(crate, ".".join(place)))
+        texts = [SEARCHED.format(*[it.split(" ")[0]] * 2, it) for it in goals]
+        write(file, "".join([USED.format(crate, ".".join(place)), *[FAULT] * is_spoilt, *texts]))

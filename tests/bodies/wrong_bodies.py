@@ -34,7 +34,7 @@ sys.path.insert(0, os.path.dirname(__file__) + "/..")
 import twins
 from edits import CONTROL, EMPTIED, GHOST, GHOSTS, INVARIANT, NEVER, REFUTED, ROOT, TWIN, WRONG
 from edits import IMPL, Edit, entries_of, functions_of, home_of, module_of, sources_of, symbol_of
-from stubs import LINKED, PLACE, put_answers, put_fault, put_stubs
+from stubs import FAULTS, LINKED, PLACE, put_answers, put_searches, put_stubs
 from tree import all_crates, copy_crate, crates_below, end_by_signals, files, free_memory, processors, ran
 
 KINDS = ["clause", "safety", "step", "PROVED", "bad"]
@@ -115,6 +115,9 @@ class Body(Edit):
             self.kind = "PROVED"  # of a law other edits may leave open other clauses
         elif self.tries > 1:
             self.kind, self.why = "bad", ["no contract was tried: " + "; ".join(row["verdict"] for row in mine)]
+        names = lambda goals: {it.split(" ")[0] for it in goals}
+        if self.part == WRONG and self.goals and found and names(self.why) != names(self.goals):
+            self.kind, self.why = "bad", [f"its `goal:` names other goals than {'; '.join(self.why)}"]
 
     def is_well(self):
         is_right = self.part in (TWIN, REFUTED) or bool(self.hole)
@@ -175,7 +178,7 @@ def rows_of(said, crate):
         if note:
             how = "false" if "goal is false" in note[2] else "limit" if "gave up" in note[2] else "open"
             found.append((kind_of(note[1]), f"{note[1]} {how}"))
-        elif answer and PLACE not in line:
+        elif answer and not (PLACE in line and answer[2] in FAULTS):
             answers.append((f"{crate}::" + answer[1].replace("/", "::"), answer[2] or "", answer[3]))
         elif verdict and PLACE not in line:
             # Where there are many goals, some stand here alone.
@@ -225,7 +228,7 @@ class Round:
         texts = self.texts if edit.copy else edit.applied(self.texts)
         # a right text is no law's to refuse, nor is a ghost clause alone; what is wrong in its place spoils its callers
         spoils = lambda it: not (it.copy or it.is_wide or it.part or it.hole)
-        kind = lambda it: (it.is_wide and it.part != TWIN, it.part == GHOST, spoils(it))
+        kind = lambda it: (it.is_wide and it.part not in (TWIN, GHOST), it.part == GHOST or spoils(it))
         is_like = all(kind(it) == kind(edit) for it in self.edits)
         most = 1 if edit.tries or any(it.tries for it in self.edits) else LARGEST
         if texts is None or not is_like or keys & self.keys or len(self.edits) >= most:
@@ -245,8 +248,8 @@ class Round:
             for it in self.edits:
                 if it.copy and (answers := it.answers()):
                     put_answers(self.crate, here, answers, it.place())
-                if it.may_be_spoilt():
-                    put_fault(self.crate, here, it.place())
+                if it.goals or it.may_be_spoilt():
+                    put_searches(self.crate, here, it.place(), it.goals, it.may_be_spoilt())
             names = sorted({name for it in self.edits for name in it.asked()})
             words = [*command(self.crate, over), *(f"--only={name}" for name in names)]
             return ran(*words, cwd=here).stdout, texts
