@@ -420,6 +420,7 @@ def options_of(words):
     flag("--goals", help="print each refusal, and by what it is shown")
     flag("--clauses", help="print the clauses of public functions that no body leaves open")
     flag("--sample", help=f"take {SAMPLE} of each crate that values show wrong, in one check, those of must-fail first")
+    flag("--whole", help="make all searches for a proof, also where a line `goal:` gives a body two of them")
     word("--only", default="", metavar="PATTERN", help="take the bodies whose CRATE/NAME the pattern is found in")
     word("--over", metavar="TREE", help="take the crates below from this tree, each once `rt ci` has put it there")
     jobs = max(1, min(processors(), free_memory() // CHECK_MEMORY))
@@ -444,6 +445,8 @@ def main(words):
     chosen = [it for it in crates_below() if not options.crates or it in options.crates]
     tried = {crate: edits for crate in chosen if (edits := edits_of(crate, options.only))}
     edits = [it for group in tried.values() for it in group]
+    for it in edits if options.whole else ():
+        it.goals = []
     unfit = unfit_of(edits)
     print("".join(f"{it}\n" for it in unfit), end="")
     if options.list or unfit or not edits:
