@@ -2,14 +2,15 @@
 # make try: runs a first script by the toolchain's runner, in a minute or two; nothing is proved yet
 # make program: proves and builds the program: 8 to 20 minutes the first time, then only what has changed
 # make demo: the same, and shows what it does, with a small device on this machine
-# make check: proves every crate, without tests and wrong bodies, over what earlier checks kept; for daily work
-# make test: over what make demo keeps, the tests of the crates, some wrong bodies, make examples and make lint; minutes
+# make check: proves every crate, without tests and mutants, over what earlier checks kept; for daily work
+# make test: over what make demo keeps, the tests of the crates, some mutants, make examples and make lint; minutes
 # make gate: what a change has to pass: proves and tries everything from nothing; three quarters of an hour to an hour
 #     with four processors, two with two
 # make examples: runs examples/, the program's own tests, those of bacsite and the guide. Two minutes
 # make forget: takes away what the prover keeps, 3.2 GB, but not the program; the next check proves from nothing
-# make documents: compares the documents, the reading lists and what reads the rules back with the tree. Seconds
-# make reading: writes docs/reading/ anew, and the sizes of its lists in README.md. Seconds
+# make documents: compares the documents, the reading lists, the list of public signatures and what reads the rules
+#     back with the tree. Seconds
+# make reading: writes docs/reading/ anew, the sizes of its lists in README.md, and docs/API.txt. Seconds
 # All but try, check, test, forget, documents and reading build the program first, where it is not as the sources.
 
 PROGRAM = crates/bactool/out/bactool
@@ -36,10 +37,10 @@ check:
 	rt all check
 
 test: program
-	@tests/parts.py test
+	@tests/suite.py test
 
 gate:
-	@tests/parts.py gate
+	@tests/suite.py gate
 
 examples: program guide
 	@python3 tests/tree.py examples/demo.sh $(PROGRAM) | sed -E 's/(--port |127\.0\.0\.1:)[0-9]+/\147808/' | \
@@ -48,7 +49,7 @@ examples: program guide
 	@tests/program/sockets.py $(PROGRAM)
 	@tests/program/rows.py $(PROGRAM)
 	@tests/program/runs.py $(PROGRAM)
-	@tests/program/failing.py $(PROGRAM)
+	@tests/program/fault_injection.py $(PROGRAM)
 	@tests/site/run.py $(PROGRAM)
 
 forget:
@@ -57,9 +58,11 @@ forget:
 documents:
 	@tests/documents/documents.py
 	@tests/documents/reading.py
+	@tests/documents/api.py
 
 reading:
 	@tests/documents/reading.py --write
+	@tests/documents/api.py --write
 
 try check test gate bench: kit
 

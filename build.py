@@ -4,10 +4,10 @@
 With --tests it runs the tests of the trials, over what is kept of the crates below. Those of tool_trials take long to
 prove, and are run as the sources stand, by `rt try`, until `rt test` was run there.
 
-Crates that don't rest on one another are proved side by side, as many as there are processors (as taskset leaves them)
-and memory for. `rt` lets nobody else into a crate that it works in, nor into the crates below. So each crate is proved
-in a room of its own, out/build/CRATE: a copy of the sources, with links to what is built of the crates below. What is
-kept of the crate goes there and comes back. What the prover says of a crate goes to out/build/CRATE.log.
+Crates that don't rest on one another are proved at the same time, as many as there are processors (as taskset leaves
+them) and memory for. `rt` lets nobody else into a crate that it works in, nor into the crates below. So each crate is
+proved in a room of its own, out/build/CRATE: a copy of the sources, with links to what is built of the crates below.
+The proofs that are kept of the crate go there and come back. The prover's output for a crate is in out/build/CRATE.log.
 """
 import fcntl
 import os
@@ -21,7 +21,7 @@ from tests import tree
 PROGRAM = "bactool"
 TRIALS = ["bac_trials", "tool_trials"]
 ROOMS = "out/build"
-CRATE_MEMORY = 2 << 30  # what a crate takes while it is proved, in octets
+CRATE_MEMORY = 2 << 30  # the memory for the proof of a crate, in octets
 PROCESS_CODE = 9000  # octets of code for each process: each loads the proofs of the crates below anew
 COST = """From nothing this takes 15 to 50 minutes of processor time, as fast as the machine is: 8 to 20 minutes of the
 clock with four processors, longer with two. Memory: up to 2.5 GB for each crate at work. Disk: 3.2 GB, which are kept,
@@ -29,7 +29,7 @@ so that the next build proves only what has changed."""
 
 
 def size(crate):
-    """The octets of its code: a measure of how long it takes to prove. Lemmas take little."""
+    """The octets of a crate's code: a measure of the time that its proof takes. Lemmas take little."""
     return sum(map(os.path.getsize, tree.files(f"crates/{crate}/src/**")))
 
 
@@ -39,7 +39,7 @@ class Work(tree.Job):
     def __init__(self, crate, below, jobs):
         self.crate, self.jobs, self.home, self.room = crate, jobs, f"crates/{crate}", f"{ROOMS}/{crate}"
         self.held = os.open(self.home, os.O_RDONLY)
-        fcntl.flock(self.held, fcntl.LOCK_EX)  # as rt does, so that it waits
+        fcntl.flock(self.held, fcntl.LOCK_EX)  # as rt does, so that rt waits
         self.enter(below)
         self.is_proved = crate != "tool_trials" or os.path.isfile(f"{self.room}/{self.home}/out/{crate}_tests")
         verb = "test" if crate in TRIALS else "run" if crate == PROGRAM else "lib"
@@ -63,7 +63,7 @@ class Work(tree.Job):
         shutil.rmtree(self.room, ignore_errors=True)
 
     def came(self):
-        """What came of it, once it has ended; "" where it is not well."""
+        """Returns the result of the process, once it has ended; "" if it failed."""
         tests = re.findall(r"^test result: ok\. ([1-9]\d*) passed; 0 failed", self.said(), re.M)
         if self.process.returncode or (self.crate in TRIALS and not tests):
             return ""
@@ -76,7 +76,7 @@ class Work(tree.Job):
 
 
 def build(crates, below, done):
-    """Builds these crates, each once those below it are done. Answers whether each was proved."""
+    """Builds these crates, each once those below it are done. Returns whether each was proved."""
     began, left, working = time.monotonic(), sorted(crates, key=size, reverse=True), []
     places = max(min(tree.processors(), tree.free_memory() // CRATE_MEMORY), 1)
     try:

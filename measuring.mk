@@ -6,8 +6,9 @@
 # make soak: random datagrams against bacdev, a random script through bactrace, random runs of bacrun against odd peers,
 #     odd answers read by bactrace and by bacsite. DATAGRAMS=1000000 LINES=10000000 RUNS=1000 ANSWERS=50000, which take
 #     some eight minutes
-# make interop: nmap and tshark against the device and the tools, as root. Under a minute
-# make holes: wrong bodies that no contract can refuse, each with the test that has to fail. A minute or two of
+# make interop: promtool, node_exporter and Nagios read what bacsite writes; nmap and tshark against the device and the
+#     tools, as root. Under a minute
+# make survivors: mutants that no contract can refuse, each with the test that has to fail. A minute or two of
 #     processor time each, and some thirty of them. JOBS=1
 
 DATAGRAMS ?= 1000000
@@ -16,7 +17,7 @@ RUNS ?= 1000
 ANSWERS ?= 50000
 JOBS ?= 1
 
-.PHONY: bench soak interop holes
+.PHONY: bench soak interop survivors
 
 bench: program
 	@bench/measure.py
@@ -28,7 +29,8 @@ soak: program
 	@bench/soak.py readers $(ANSWERS)
 
 interop: program
+	@tests/site/monitors.py
 	@tests/program/interop.py
 
-holes:
-	@tests/bodies/holes.py $(JOBS)
+survivors:
+	@tests/bodies/survivors.py $(JOBS)

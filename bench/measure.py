@@ -126,16 +126,26 @@ def batch(port, window):
         return REPLIES / seconds
 
 
+def floor(window):
+    """The reads a second of a plain client that makes the calls which the contract of bacrun wants."""
+    with device() as (_, port), tempfile.TemporaryFile() as journal:
+        words = [UDP, "batch", str(port), str(window), str(REPLIES)]
+        return int(subprocess.run(words, stdout=journal, stderr=subprocess.PIPE, check=True).stderr)
+
+
 def runs():
     read = lambda program, port, window: batch(port, window) if program == PROGRAM else load(port, window, REPLIES)
     bare, ours = (list(map(statistics.median, rates)) for rates in rounds((1, 8, 64), read))
+    wanted = [statistics.median([floor(window) for _ in range(ROUNDS)]) for window in (1, 8, 64)]
     with device() as (_, port):
         alone = RUNS / sum(timed([PROGRAM, *BACRP, f"127.0.0.1:{port}"]) for _ in range(RUNS))
     yield row(f"reads a second, {ROUNDS} x {REPLIES}", "1 open", "8 open", "64 open")
     yield row("bare client, bare echo server", *(f"{it:.0f}" for it in bare))
     yield row("bacrun, bacdev", *(f"{it:.0f}" for it in ours))
+    yield row("client with bacrun's calls, bacdev", *(f"{it:.0f}" for it in wanted))
     yield row(f"bacrp, bacdev, {RUNS} processes", f"{alone:.0f}")
     yield row("bacrun by the bare client", *(f"{one / by:.2f}" for one, by in zip(ours, bare)))
+    yield row("bacrun by the client with its calls", *(f"{one / by:.2f}" for one, by in zip(ours, wanted)))
     yield row("bacrun by bacrp", *(f"{it / alone:.0f}" for it in ours))
 
 
@@ -149,7 +159,7 @@ def of_a_run(*words, given=""):
 
 
 def of_replies(count):
-    """Of a device that answers so many requests, one after another."""
+    """The instructions of a device that answers so many requests, one after another."""
     with device("--count", str(count), program=CALLGRIND, stderr=subprocess.PIPE, text=True) as (process, port):
         load(port, 1, count)
         return counted(process.communicate()[1])

@@ -16,7 +16,7 @@ only while it is open; at most 64 are open, under different invoke numbers, and 
 `runs` runs bacrun over random requests, against two peers that answer, lose, double, hold back and damage what they
 send, and looks at each run as tests/program/runs.py does: bactrace prints the remarks of its journal, octet for octet.
 
-`readers` has bactrace take odd answers to a read, and compares how each ended the request with what bacsite reads.
+`readers` gives bactrace unusual answers to a read, and compares how each ended the request with what bacsite reads.
 
 It stops at the first that is not so, and shows it.
 """
@@ -30,9 +30,9 @@ import time
 from collections import Counter
 
 sys.path[:0] = [f"{sys.path[0]}/../{folder}" for folder in ("tests", "tests/program", "site")]
-from bacsite.answers import outcome_of
+from bacsite.messages import ABORT, CONFIRMED, DISTRIBUTE, READ, REJECT, UNCONFIRMED, UNICAST, Datagram, message_of
+from bacsite.messages import outcome_of
 from bacsite.bodies import parameters, read_ack
-from bacsite.messages import CONFIRMED, DISTRIBUTE, UNCONFIRMED, UNICAST, Datagram, message_of
 from rows import row_cases
 from runs import check, run
 from tree import PROGRAM, TOP, WRONG, device, files, local_socket, resident
@@ -80,7 +80,7 @@ def any_datagram(dice, datagrams, port):
 
 
 INSTANCE = 1234
-BATCH, BATCHES = 16, 3000  # of datagrams that one bacdev answers, each batch with one of ours behind it
+BATCH, BATCHES = 16, 3000  # of datagrams to one bacdev; each batch ends with one of ours
 VENDOR = bytes.fromhex("810a0011010400059b0c0c020004d21978")
 ANNOUNCED = [50, 128, 206, 480, 1024, 1476] + [50] * 10
 I_AM = "1000c4020004d22205c49103220104"
@@ -104,7 +104,7 @@ def is_asked(body):
 
 
 def expected(datagram):
-    """What comes back: None for nothing, else the route, the invoke id (of an I-Am None), and what was announced."""
+    """Returns the expected reply: None, or the route, the invoke id (of an I-Am None), and the announced size."""
     if len(datagram) < 4 or datagram[0] != 0x81 or int.from_bytes(datagram[2:4], "big") != len(datagram):
         return None
     message = read(datagram)
@@ -128,7 +128,7 @@ def expected(datagram):
 
 
 def kind_of(reply, route, invoke_id, room):
-    """What kind of reply this is, where it is one that can be read and fits; else None."""
+    """Returns the kind of a reply, if it can be read and fits; else None."""
     network = b"\x01\x20" + route + b"\xff" if route else b"\x01\x00"
     head = b"\x81\x0a" + len(reply).to_bytes(2, "big") + network
     octets = reply[len(head) :]
@@ -193,7 +193,7 @@ def any_answer(dice, answers, number):
 
 
 def pool(dice):
-    """Lines to choose from, but for ticks, in the shares that they are to have. An answer has any invoke number."""
+    """Returns lines to choose from, except ticks, in their shares. An answer has any invoke number."""
     asks, datagrams, answers = known()
     peers = [line.split()[1].split("/")[0] for line in asks]
     lines = dice.choices(asks, k=6000) + ["", "# a comment", "  \t"]
@@ -281,10 +281,15 @@ def soak_runs(dice, count):
     counts, (asks, _, answers) = Counter(), known()
     asks += [f"read P 2 {dice.randrange(17000)} 85" for _ in range(len(asks) // 10)]  # bits of many lines
     asks = [re.sub("(?<=[de]) [^/ ]+", f" {peer}", ask, count=1) for ask in asks if len(ask) < 4000 for peer in "AB"]
+    reaches = ["", "/*", "/1", "/65534", "/5/07", "/9/01020304050607"]
     for _ in range(count):
         timeout, retries, window = dice.choice([5, 20, 60]), dice.randint(0, 2), dice.choice([1, 2, 8, 64])
         options = f"--apdu-timeout {timeout} --apdu-retries {retries} --window {window}"
-        lines = [dice.choice(asks if dice.random() < 0.9 else ["", "# a remark"]) for _ in range(dice.randint(1, 80))]
+        low = dice.choice([0, 255, 256, 65535, 65536, 4194303])
+        limits = dice.choice(["", f" {low} {dice.randint(low, 4194303)}"])
+        who = f"who {dice.choice('AB')}{dice.choice(reaches)}{limits}"
+        others = ["", "# a remark", who, f"wait {dice.choice([0, 1, 5, 30])}"]
+        lines = [dice.choice(asks if dice.random() < 0.9 else others) for _ in range(dice.randint(1, 80))]
         text, it = run(PROGRAM, options, "\n".join([*lines, ""]), plan(dice, answers))
         remarks = check("a run", PROGRAM, options, text, it)
         if WRONG or it.status != 0:
@@ -297,7 +302,7 @@ ASKED, HEADS = "127.0.0.9:47808", ["0100"] * 4 + ["0103", "0120ffff00ff", "0157"
 
 
 def odd_answer(dice, number, body=bytes.fromhex("0c4b00000119553e")):
-    """A datagram that answers a read of a vendor's value, perhaps damaged behind its invoke id."""
+    """A datagram that answers a read of a vendor's value, perhaps damaged after its invoke id."""
     parts = [bytes([dice.randrange(256)]) + dice.randbytes(dice.randrange(9)) for _ in range(dice.randrange(3))]
     for tag in dice.choices(range(13), k=dice.randrange(4)):
         octets = dice.randbytes(dice.choice([1, 4, 4, 8, 20]))
@@ -313,17 +318,22 @@ def odd_answer(dice, number, body=bytes.fromhex("0c4b00000119553e")):
 
 
 def soak_readers(dice, count):
-    """Each answer meets a request of its own, which a Reject ends where the answer does not."""
+    """Each answer meets a request of its own, which a Reject ends if the answer does not: if it is invalid, has
+    another number, or is about another service."""
     answers = [odd_answer(dice, (at + 1) % 256) for at in range(count)]
     ends = ["810a0009010060%02x09" % ((at + 1) % 256) for at in range(count)]
     lines = (f"read {ASKED} 300 1 85\ndata {ASKED} {it.hex()}\ndata {ASKED} {end}\n" for it, end in zip(answers, ends))
     done = subprocess.run([PROGRAM, "bactrace"], input="".join(lines), stdout=subprocess.PIPE, text=True, check=True)
     told, counts = done.stdout.splitlines(), Counter()
-    for at, (octets, line) in enumerate(zip(answers, told[1::3])):
+    if not 0 < 3 * count == len(told):
+        sys.exit(f"bactrace prints {len(told)} lines, not three for each of {count} answers")
+    for at, (octets, line, end) in enumerate(zip(answers, told[1::3], told[2::3])):
         apdu = read(octets).apdu
-        taken = bool(apdu and apdu.is_answer and apdu.invoke == (at + 1) % 256 and line != "drop")
-        if line != (f"done {at} {outcome_of(apdu)}" if taken else "drop"):
-            sys.exit(f"{octets.hex()}: bactrace prints {line!r}, bacsite reads {apdu and outcome_of(apdu)!r}")
+        taken = bool(apdu and apdu.is_answer and apdu.invoke == (at + 1) % 256)
+        taken = taken and (apdu.kind in (REJECT, ABORT) or apdu.service == READ)
+        wanted = (f"done {at} {outcome_of(apdu)}", "drop") if taken else ("drop", f"done {at} reject 9")
+        if (line, end) != wanted:
+            sys.exit(f"{octets.hex()}: bactrace prints {line!r} and {end!r}, bacsite reads {wanted!r}")
         counts[line.split(" ")[2] if taken else line] += 1
     return counts
 
@@ -335,6 +345,8 @@ def main(what, count, seed=random.randrange(1 << 32)):
     print(f"seed {seed}", flush=True)
     begun = time.time()
     counts = SOAKS[what](random.Random(int(seed)), int(count))
+    if not counts or not int(count):
+        sys.exit(f"{what}: nothing was tried")
     print(f"{what}: {count} in {time.time() - begun:.0f} s")
     for kind, number in sorted(counts.items()):
         print(f"{number:9}  {kind}")

@@ -1,7 +1,10 @@
 /* The yardsticks of the device and of its clients, as measure.py calls them.
  * udp bacdev 1234 --port PORT: sends each datagram back to where it came from, with bacdev's words and addresses.
  * udp load PORT OUTSTANDING COUNT: asks a server for one property, COUNT times, OUTSTANDING at a time, and prints how
- *     many requests it answers a second. */
+ *     many requests it answers a second.
+ * udp batch PORT OUTSTANDING COUNT: the same by the calls that bacrun's contract wants. The socket has no peer, the
+ *     time is read before each look for a datagram, and the journal, of as many octets as bacrun's, is written before
+ *     each wait and when 16 KiB are held. It goes to standard output, and the number to standard error. */
 #include <arpa/inet.h>
 #include <err.h>
 #include <stdio.h>
@@ -9,11 +12,12 @@
 #include <string.h>
 #include <sys/socket.h>
 #include <time.h>
+#include <unistd.h>
 
 /* ReadProperty: the present value of analog input 5. The invoke id stands here, and in the answer an octet before. */
 static unsigned char request[] = { 0x81, 0x0a, 0x00, 0x11, 0x01, 0x04, 0x00, 0x05, 0x00, 0x0c,
                                    0x0c, 0x00, 0x00, 0x00, 0x05, 0x19, 0x55 };
-enum { INVOKE_ID = 8, ANSWER = 23 };
+enum { INVOKE_ID = 8, ANSWER = 23, ASKED_TEXT = 90, ANSWERED_TEXT = 89, MOST_HELD = 16384 };
 
 static void echo(int server)
 {
@@ -53,18 +57,59 @@ static void load(int client, long outstanding, long count)
     printf("%.0f\n", count / (seconds_now() - begun));
 }
 
+static size_t written(size_t held)
+{
+    static char journal[MOST_HELD + 64 * ASKED_TEXT];
+    memset(journal, 'x', held);
+    if (write(1, journal, held) < 0)
+        err(1, "write");
+    return 0;
+}
+
+static void batch(int client, struct sockaddr_in to, long outstanding, long count)
+{
+    unsigned char reply[2048];
+    struct sockaddr_in from;
+    double begun = seconds_now();
+    long asked = 0;
+    size_t held = 0;
+    for (long answered = 0; answered < count; answered++) {
+        for (; asked < count && asked < answered + outstanding; asked++, held += ASKED_TEXT) {
+            request[INVOKE_ID] = asked;
+            if (sendto(client, request, sizeof request, 0, (struct sockaddr *)&to, sizeof to) != sizeof request)
+                err(1, "send");
+        }
+        seconds_now();
+        socklen_t size = sizeof from;
+        ssize_t length = recvfrom(client, reply, sizeof reply, MSG_DONTWAIT, (struct sockaddr *)&from, &size);
+        if (length < 0 || held > MOST_HELD)
+            held = written(held);
+        if (length < 0)
+            length = recvfrom(client, reply, sizeof reply, 0, (struct sockaddr *)&from, &size);
+        if (length != ANSWER || reply[INVOKE_ID - 1] != answered % 256)
+            errx(1, "not the answer to request %ld, but %zd octets", answered, length);
+        held += ANSWERED_TEXT;
+    }
+    written(held);
+    fprintf(stderr, "%.0f\n", count / (seconds_now() - begun));
+}
+
 int main(int count, char **words)
 {
     if (count != 5)
-        errx(2, "usage: udp bacdev 1234 --port PORT, or udp load PORT OUTSTANDING COUNT");
-    int is_echo = strcmp(words[1], "bacdev") == 0, made = socket(AF_INET, SOCK_DGRAM, 0);
+        errx(2, "usage: udp bacdev 1234 --port PORT, or udp load|batch PORT OUTSTANDING COUNT");
+    int is_echo = strcmp(words[1], "bacdev") == 0, is_batch = strcmp(words[1], "batch") == 0;
+    int made = socket(AF_INET, SOCK_DGRAM, 0);
     struct sockaddr_in place = { .sin_family = AF_INET, .sin_port = htons(atoi(words[is_echo ? 4 : 2])) };
     struct timeval wait = { .tv_sec = 10 };
     place.sin_addr.s_addr = htonl(is_echo ? INADDR_ANY : INADDR_LOOPBACK);
     if (setsockopt(made, SOL_SOCKET, SO_RCVTIMEO, &wait, sizeof wait) != 0
-        || (is_echo ? bind : connect)(made, (struct sockaddr *)&place, sizeof place) != 0)
+        || (!is_batch && (is_echo ? bind : connect)(made, (struct sockaddr *)&place, sizeof place) != 0))
         err(1, "socket");
     if (is_echo)
         echo(made);
-    load(made, atol(words[3]), atol(words[4]));
+    if (is_batch)
+        batch(made, place, atol(words[3]), atol(words[4]));
+    else
+        load(made, atol(words[3]), atol(words[4]));
 }

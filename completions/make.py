@@ -1,9 +1,10 @@
 #!/usr/bin/env python3
-"""Makes the completions of bactool and bacsite for bash, zsh and fish, from table.txt, site/bacsite/numbers.txt, and
+"""Makes the completions of bactool and bacsite for bash, zsh and fish, from their help, site/bacsite/numbers.txt, and
 a template of each shell, which finds of which kind the word at the cursor is by the words before it; bash and zsh have
-walk.sh in common for that. Usage: completions/make.py FOLDER, which gets PROGRAM.bash, _PROGRAM and PROGRAM.fish of
-each program.
+walk.sh in common for that. Usage: completions/make.py PROGRAM FOLDER, where PROGRAM is bactool. The folder gets
+NAME.bash, _NAME and NAME.fish of bactool and of bacsite.
 """
+import os
 import re
 import sys
 
@@ -15,7 +16,7 @@ def quoted(text, quote=r"'\''"):
     return "'" + text.replace("'", quote) + "'"
 
 
-# Of each shell the name of a file, an arm of a switch, how a list is set, and a word that is offered with its text.
+# For each shell: the name of a file, an arm of a switch, how a list is set, and a word that is offered with its text.
 SHELLS = {
     "bash": ("{}.bash", "{}) {} ;;", "{}=({})", lambda word, text: word),
     "zsh": ("_{}", "{}) {} ;;", "{}=({})", lambda word, text: quoted(f"{word}:" + text.replace(":", r"\:"))),
@@ -23,27 +24,26 @@ SHELLS = {
 }
 
 
+# The kinds of the words that stand for a value; `-` is a word that nobody can know. With `..` at the end the last two
+# kinds come again and again.
+KINDS = {"FILE": "FILE", "file": "FILE", "list": "FILE", "FOLDER": "FOLDER", "PROPERTY": "NAME", "": ""}
+KINDS.update({"TYPE": "NAME", "tool": "TOOL", "COMMAND": "COMMAND", "tag value": "TAG - .."})
+
+
+def kinds_of(it):
+    """The kinds of the words of an argument or of an option's value; choices with `/` between them are one kind."""
+    return "/".join(it.choices) or KINDS.get(it.value, "- NAME NAME .." if " TYPE " in it.value else "-")
+
+
 class Tool:
     """A tool or a command. Each of its options has its name, the kind of its value, and a text."""
 
-    def __init__(self, name, text, words=""):
+    def __init__(self, name, text, words):
+        kinds = " ".join(kinds_of(it) for it in words if not it.names)
         self.name, self.text = name, text
-        self.repeats, self.kinds = int(words.endswith("..")), words.replace("..", "").split()
-        self.options = [("--help", "", "what the words mean")]
-
-
-def programs():
-    """The names of each program, and its tools, the first of which is the program itself."""
-    for head, lines in tables.sections_of("completions/table.txt"):
-        tools = {head.split()[0]: Tool(head.split()[0], "", "COMMAND")}
-        for line in lines:
-            option = re.fullmatch(r"  ([\w -]+): (-[^\s,]+(?:, -[^\s,]+)*) ?(\S*) \| (.*)", line)
-            if not option:
-                tool = Tool(*line.split(" | "))
-                tools[tool.name] = tool
-            for name in option[1].split() if option else ():
-                tools[name].options += [(spelled, option[3], option[4]) for spelled in option[2].split(", ")]
-        yield head.split(), list(tools.values())
+        self.repeats, self.kinds = int(kinds.endswith("..")), kinds.replace("..", "").split()
+        short = lambda it: re.split(r"; | \[", it.text)[0]
+        self.options = [(name, kinds_of(it), short(it)) for it in words for name in it.names]
 
 
 def words_of_kinds(tools):
@@ -51,7 +51,7 @@ def words_of_kinds(tools):
     numbers = {title: rows[1:] for title, _, _, rows in tables.sections()}
     found = {"COMMAND": {tool.name: tool.text for tool in tools[1:]}}
     found["TOOL"] = {name: text for name, text in found["COMMAND"].items() if name != "help"}
-    found["TAG"] = {row[0]: f"{row[1]}, as {row[3]}" for row in numbers["Types of a value"]}
+    found["TAG"] = {row[0]: f"{row[1]}, like {row[3]}" for row in numbers["Types of a value"]}
     found["NAME"] = {row[1]: "object type" for row in numbers["Object types"]}
     found["NAME"].update((row[1], "property") for row in numbers["Properties"])
     used = {kind for tool in tools for kind in [*tool.kinds, *(kind for _, kind, _ in tool.options)]}
@@ -60,7 +60,7 @@ def words_of_kinds(tools):
 
 
 def arms(shell, tools, words):
-    """The arms of the switches of a template: what a tool has, which option has a value, and the words of a kind."""
+    """Returns the arms of a template's switches: the words of a tool, the options with a value, the words of a kind."""
     _, arm, listed, entry = SHELLS[shell]
     put = lambda name, entries: listed.format(name, " ".join(entries))
     own = lambda it: [put("kinds", it.kinds), put("options", [entry(name, text) for name, _, text in it.options])]
@@ -81,13 +81,14 @@ def filled(template, places):
     return template
 
 
-def main(folder):
+def main(program, folder):
     walk = tables.text_of("completions/walk.sh").splitlines()
-    for names, tools in programs():
+    for names, made_of in tables.programs(os.path.realpath(program)):
+        tools = [Tool(*it) for it in made_of]
         for shell, (file_name, *_) in SHELLS.items():
             places = {"walk": walk, **arms(shell, tools, words_of_kinds(tools)), "names": names, "program": names[:1]}
             text = filled(tables.text_of(f"completions/template.{shell}"), places)
             tables.write(f"{folder}/{file_name.format(names[0])}", text)
 
 
-main(sys.argv[1]) if len(sys.argv) == 2 else sys.exit(__doc__)
+main(*sys.argv[1:]) if len(sys.argv) == 3 else sys.exit(__doc__)

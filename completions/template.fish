@@ -1,6 +1,6 @@
 # Completion of @program@ for fish, which completions/make.py made.
 
-# What may stand at the cursor, behind the words before it.
+# Prints the words that may follow those before the cursor.
 function __@program@_words
     set -l current (commandline -ct)
     set -l words (commandline -opc)

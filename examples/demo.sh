@@ -2,7 +2,7 @@
 # The demonstration: a small device on this machine is found, read, commanded and released. Each command is shown, then
 # what it prints, then its status. Usage: examples/demo.sh PROGRAM PORT, with a UDP port that is free.
 set -eu
-[ $# = 2 ] || { echo 'usage: demo.sh PROGRAM PORT, as: demo.sh bactool 47808' >&2; exit 2; }
+[ $# = 2 ] || { echo 'usage: demo.sh PROGRAM PORT, like: demo.sh bactool 47808' >&2; exit 2; }
 program=$1
 port=$2
 
@@ -29,7 +29,7 @@ while read -r line; do
             ;;
     esac
 done <<EOF
-# Which devices are there? Instance, address, greatest APDU, segmentation (3 is none), vendor
+# Which devices are there? Instance, address, greatest APDU, segmentation (3: neither way), vendor
 bacwi --mac 127.0.0.1:$port --apdu-timeout 500
 # The present value (85) of analog input (0) 5, the outdoor temperature: the octets of the Real 72.3
 bacrp 1234 0 5 85 --mac 127.0.0.1:$port

@@ -1,7 +1,7 @@
 #!/usr/bin/env bash
 # Packs the built program as a Debian package. Usage: packaging/deb.sh PROGRAM FOLDER, which gets
 # bactool_VERSION_ARCH.deb. All times are the day that CHANGELOG.md gives to the version, so the same files give the
-# same octets. MAINTAINER, as `Name <address>`, names the one who makes the package.
+# same octets. MAINTAINER, like `Name <address>`, is the maker of the package.
 set -euo pipefail
 program=$(realpath "$1")
 folder=$(realpath "$2")

@@ -1,12 +1,12 @@
 #!/usr/bin/env python3
 """Puts the built program, links of the tools' names, bacsite, manual pages, completions, documents and examples below
 PREFIX, or takes them away again. Usage: packaging/install.py PROGRAM | --remove. From the environment: PREFIX
-(/usr/local), DESTDIR, which stands in front of all paths, and ZSH_COMPLETIONS (PREFIX/share/zsh/site-functions), which
+(/usr/local), DESTDIR, which is put in front of all paths, and ZSH_COMPLETIONS (PREFIX/share/zsh/site-functions), which
 has to lie below PREFIX.
 
 PREFIX/share/bactool/installed lists what was put, with a sum of each. A file that is there and not in this list as it
 stands, such as another vendor's bacrp, is not replaced: all of these are named, and nothing is put, unless FORCE=1 says
-so. What is taken away is what the list has, where it is still as it was put, and nothing that is not below PREFIX.
+so. It removes the files of the list that are unchanged, and nothing that is not below PREFIX.
 """
 import contextlib
 import os
@@ -40,7 +40,7 @@ def lay_out(program, version, tree, prefix, zsh):
     with tempfile.TemporaryDirectory() as folder:
         room = pathlib.Path(folder)
         subprocess.run([TOP / "packaging/onefile.py", room / "bacsite"], check=True)
-        subprocess.run([TOP / "completions/make.py", room], check=True)
+        subprocess.run([TOP / "completions/make.py", program, room], check=True)
         put(program, "bin/bactool", 0o755)
         put(room / "bacsite", "bin/bacsite", 0o755)
         for name in ("bactool", "bacsite"):
@@ -53,12 +53,13 @@ def lay_out(program, version, tree, prefix, zsh):
         (tree / f"{FISH}/{tool}.fish").symlink_to("bactool.fish")
     for page in TOP.glob("man/*.[17]"):
         put(page, f"share/man/man{page.suffix[1:]}/{page.name}")
-    for source in [*TOP.glob("*.md"), TOP / "LICENSE", *TOP.glob("docs/**/*.md"), *TOP.glob("examples/*")]:
+    documents = [it for suffix in ("md", "png") for it in TOP.glob(f"docs/**/*.{suffix}")]
+    for source in [*TOP.glob("*.md"), TOP / "LICENSE", *documents, *TOP.glob("examples/*")]:
         put(source, f"{DOC}/{source.relative_to(TOP)}", 0o755 if os.access(source, os.X_OK) else 0o644)
 
 
 def sums(root, paths):
-    """Of each path that is there, where a link leads, or the sum of a file."""
+    """Returns for each path that exists the target of a link, or the checksum of a file."""
     there = [path for path in paths if os.path.lexists(root / path)]
     files = [path for path in there if (root / path).is_file() and not (root / path).is_symlink()]
     command = ["cksum", "/dev/null", *(root / path for path in files)]

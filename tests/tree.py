@@ -1,5 +1,5 @@
-"""What scripts share: where tree and program are, the texts of files, what is compared with them, the crates, and the
-machine with its ports. Usage: python3 tests/tree.py COMMAND.., which runs a command with a free port behind its words.
+"""Functions that scripts share: where tree and program are, the texts of files, their comparison, the crates, and the
+machine with its ports. Usage: python3 tests/tree.py COMMAND.., which runs a command with a free port after its words.
 """
 import contextlib
 import fcntl
@@ -21,7 +21,7 @@ PROGRAM = os.environ.get("BACTOOL", TOP + "/crates/bactool/out/bactool")
 TOOLS = ["bacrp", "bacwp", "bacwi", "bacdev", "bacrun", "bactrace"]
 HELD = []  # locks of the ports that this process was given
 SCRIPT = os.path.relpath(sys.argv[0], TOP)
-COMPARED, WRONG = [], []  # what a script has compared, and what is not as it is to be
+COMPARED, WRONG = [], []  # the number of comparisons of a script, and the differences
 
 
 def text_of(path):
@@ -35,7 +35,7 @@ def files(*places):
 
 
 def sections_of(path):
-    """The head of each section of a table, behind `= `, and its lines without those that are empty or remarks."""
+    """Yields the head of each section of a table, after `= `, and its lines without empty ones and remarks."""
     for section in re.split(r"(?m)^= ", text_of(path))[1:]:
         head, *lines = section.splitlines()
         yield head, [line for line in lines if line and line[0] != "#"]
@@ -62,19 +62,19 @@ def crates_below():
 
 
 def ran(*words, **how):
-    """A command that has ended, with what it said, errors among it."""
+    """Runs a command, and returns it with its output and errors."""
     how = {"stdin": subprocess.DEVNULL, "stdout": subprocess.PIPE, "stderr": subprocess.STDOUT, "cwd": TOP, **how}
     return subprocess.run(words, text=True, errors="replace", check=False, **how)
 
 
 @functools.lru_cache(maxsize=None)  # as Python 3.8 has it
 def shown(*words):
-    """What a command prints, as on a wide terminal."""
+    """Returns the output of a command, as on a wide terminal."""
     return ran(*words, env={**os.environ, "COLUMNS": "200"}, stderr=None).stdout
 
 
 def same(what, one, other):
-    """Notes what was compared, and where it differs."""
+    """Notes a comparison, and a difference."""
     COMPARED.append(what)
     if one != other:
         WRONG.append(f"{what}: {one!r}, not {other!r}"[:600])
@@ -82,12 +82,12 @@ def same(what, one, other):
 
 def plain(text):
     """A text on one line, without the marks of pages and documents."""
-    text = re.sub(r"(?m)^\.\\?\"?(?:[A-Z][a-z] )?", "", text)
+    text = re.sub(r"(?m)^\.(?:\\\".*$|[A-Z][a-z] )?", "", text)
     return re.sub(r" ([.,;:])", r"\1", " ".join(re.sub(r"[`*]|\\&|\bFl Fl |\bFl (?=[a-z]\b)", "", text).split()))
 
 
 def says(document, *sentences):
-    """Notes each sentence that a document has to say, however its lines break, and where it does not."""
+    """Notes each sentence that a document must have, however its lines break, and those that are missing."""
     for sentence in sentences:
         COMPARED.append(sentence)
         if not sentence or plain(sentence).lower() not in plain(text_of(document)).lower():
@@ -95,24 +95,25 @@ def says(document, *sentences):
 
 
 def verdict(well):
-    """The status of a script that has compared so much."""
-    return well_or([f"not as it is to be: {it}" for it in WRONG], f"{len(COMPARED)} {well}")
+    """Returns the status of a script that has compared this much, which must not be nothing."""
+    nothing = [] if COMPARED else ["nothing was compared"]
+    return well_or([*nothing, *(f"not as it is to be: {it}" for it in WRONG)], f"{len(COMPARED)} {well}")
 
 
 def well_or(differences, well):
-    """The status of a script: it tells what differs, or behind its path that all is well."""
+    """The status of a script: it prints the differences, or after its path that all is well."""
     print("\n".join(differences) or f"{SCRIPT}: {well}")
     return 1 if differences else 0
 
 
 def status_of(wrong, tried, told):
-    """The status of a script: it tells what is wrong and, behind its path, what it tried, which may not be nothing."""
+    """Returns the status of a script, and prints what is wrong and what it tried, which must not be nothing."""
     print("".join(f"{it}\n" for it in wrong) + f"{SCRIPT}: {told}")
     return 1 if wrong or not tried else 0
 
 
 def copy_sources(room):
-    """Copies to a folder what is proved of the tree, without what is kept of the proofs."""
+    """Copies the proved sources of the tree to a folder, without the kept proofs."""
     for name in ("crates.txt", "HANDLES"):
         shutil.copy(f"{TOP}/{name}", room)
     for crate in os.listdir(f"{TOP}/crates"):
@@ -120,14 +121,14 @@ def copy_sources(room):
 
 
 def copy_crate(crate, room):
-    """The same of a crate."""
+    """Copies the sources of a crate to a folder."""
     for folder in (f"{TOP}/crates/{crate}/{part}" for part in ("src", "specs", "proofs")):
         if os.path.isdir(folder):
             shutil.copytree(folder, f"{room}/{os.path.basename(folder)}")
 
 
 def put_tools(program, room):
-    """Puts the program into a folder by each of its names, and bacsite, as in a folder of the PATH."""
+    """Puts links to the program into a folder, one for each of its names, and bacsite, as in a folder of the PATH."""
     os.makedirs(room, exist_ok=True)
     for name in ("bactool", *TOOLS):
         os.symlink(program, f"{room}/{name}")
@@ -135,23 +136,23 @@ def put_tools(program, room):
 
 
 def left_out(*tools):
-    """Whether one of these tools is not installed, which is said."""
+    """Returns whether one of these tools is not installed, and prints it."""
     if missing := [tool for tool in tools if not shutil.which(tool)]:
         print(f"{SCRIPT}: {', '.join(missing)}: not installed, left out")
     return bool(missing)
 
 
 def failing_library(room):
-    """fail.c as a library in a folder; None where there is no cc, which is said."""
+    """Makes a library of fault_injection.c in a folder. Returns None, and says so, if there is no cc."""
     if left_out("cc"):
         return None
-    command = ["cc", "-O1", "-shared", "-fPIC", "-o", f"{room}/fail.so", f"{TOP}/tests/program/fail.c"]
-    subprocess.run(command, check=True)
-    return f"{room}/fail.so"
+    library, source = f"{room}/fault_injection.so", f"{TOP}/tests/program/fault_injection.c"
+    subprocess.run(["cc", "-O1", "-shared", "-fPIC", "-o", library, source], check=True)
+    return library
 
 
 class Job:
-    """A command at work, in a group of processes of its own. What it says goes to a file."""
+    """A running command, in its own group of processes. Its output goes to a file."""
 
     def __init__(self, command, log, **how):
         self.log = log
@@ -166,7 +167,7 @@ class Job:
         return self.process.poll() is not None
 
     def stop(self):
-        """Ends what of the group is still there."""
+        """Ends the processes of the group that are still there."""
         for number in (signal.SIGTERM, signal.SIGKILL):
             with contextlib.suppress(ProcessLookupError, subprocess.TimeoutExpired):
                 os.killpg(self.process.pid, number)
@@ -174,7 +175,7 @@ class Job:
 
 
 def end_by_signals(main):
-    """Ends with the status of a call with the words of the script. Signals stop it as ^C does, but for one that nohup
+    """Ends with the status of a call with the words of the script. Signals stop it as ^C does, except one that nohup
     has ignored."""
     for number in (signal.SIGTERM, signal.SIGHUP):
         if signal.getsignal(number) != signal.SIG_IGN:
@@ -191,14 +192,14 @@ def processors():
 
 
 def local_socket():
-    """A UDP socket at a port of 127.0.0.1 that no other one of this machine has."""
+    """Returns a UDP socket at a port of 127.0.0.1 that no other socket of this machine has."""
     it = socket.socket(socket.AF_INET, socket.SOCK_DGRAM)
     it.bind(("127.0.0.1", 0))
     return it
 
 
 def free_port(first=47808):
-    """The first UDP port from this one on that no socket has, and no call gives until this process ends."""
+    """Returns the first UDP port from this one on that no socket has; no other call does until this process ends."""
     for port in range(first, 65536):
         lock = open(f"{tempfile.gettempdir()}/bactool-port-{port}-{os.getuid()}", "a", encoding="utf-8")
         with contextlib.suppress(BlockingIOError):
@@ -211,7 +212,7 @@ def free_port(first=47808):
 
 
 def is_taken(port):
-    """Whether a UDP socket of this machine has this port, for IPv4 or IPv6."""
+    """Returns whether a UDP socket of this machine has this port, for IPv4 or IPv6."""
     tables = "".join(text_of(path) for path in ("/proc/net/udp", "/proc/net/udp6") if os.path.exists(path))
     return bool(re.search(rf"(?m)^ *\d+: [0-9A-F]+:{int(port):04X} ", tables))
 
@@ -230,12 +231,12 @@ def device(*words, program=(PROGRAM,), **how):
 
 
 def resident(process):
-    """The kilobytes of a process that lay in memory at most so far."""
+    """Returns the greatest memory of a process so far, in kilobytes."""
     return int(re.search(r"VmHWM:\s+(\d+)", text_of(f"/proc/{process.pid}/status"))[1])
 
 
 def free_memory():
-    """The octets that programs can have without other memory being moved out."""
+    """Returns the octets that programs can use without swapping."""
     return 1024 * int(re.search(r"MemAvailable:\s+(\d+)", text_of("/proc/meminfo"))[1])
 
 

@@ -1,27 +1,27 @@
 """Surveys a site of BACnet/IP controllers, reads and writes points of them, tells monitoring.
 
-It asks by bactool, whose behaviour is proved; this package is not. The modules, from below:
+It sends requests with bactool, which is proved; this package is not. Its modules, from below:
 
-    display, failures, output      what is shown, how the program fails, where it writes
-    reasons                        why there is no value
-    standard, decimals, bodies     numbers and their names, Reals, tags and bodies of requests
-    values                         values in plain form
-    messages, answers              the headers of a datagram, and how an answer ends a request
-    journals                       what each bacrun prints is kept
-    files, processes, calls        files are read, or replaced as a whole; bactool is run
-    addresses, points              the words that say what is asked
-    workers, session, search, asking, controller    many controllers, each asked by one bacrun
-    parsing                        what a command is, and the words that several have
-    device, earlier                what a device has, and had in an earlier survey
-    survey, page, report           who is at the addresses of a site, and how that is printed
-    poll, read, check, prometheus, convert    the other commands that change nothing
-    encode, target, write, write_list    what bacwp takes, where it goes, and the commands
-    capture/pcap, capture/frames   the datagrams of a capture
-    capture/talks, capture/pairing    requests with their answers
-    capture/services, capture/lines, capture/tally    these in words, and counted
-    capture/requests, capture/trace    a script for bactrace
-    capture/command                the command
-    commands, main                 the table of all commands, and the program
+    output, files, parsing              streams and texts; files; the words of the program
+    reasons, standard, decimals         why there is no value; numbers and their names; Reals
+    bodies, values                      tags and bodies of requests; values in readable form
+    messages                            headers, and how an answer ends a request
+    tools                               bactool is run, for many controllers at the same time
+    addresses, points                   the words that say what is asked
+    session, search                     the requests of one bacrun; what is at an address
+    requester, controller               one controller is asked; what its properties have
+    device, earlier                     what a device has, and had in an earlier survey
+    sweep, survey                       stations behind routers; the devices at addresses
+    page, report                        a survey as a page, lines, CSV, JSON or an EDE file
+    poll, read, check                   the other commands that change nothing
+    charts, watch                       points in the course of time
+    place, write                        where a value goes, and the commands that write it
+    capture/pcap                        the datagrams of a capture
+    capture/talks                       requests with their answers
+    capture/services, capture/lines     these in words
+    capture/trace                       a script for bactrace
+    capture/command                     the summary, and the command
+    main                                the program
 """
 
 VERSION = "0.4.0"

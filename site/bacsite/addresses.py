@@ -6,9 +6,9 @@ import ipaddress
 import re
 import socket
 from functools import lru_cache
-from typing import Dict, List, NamedTuple, Optional, Sequence, Tuple
+from typing import NamedTuple, Sequence
 
-from .failures import wrong
+from .output import wrong
 
 PORT = 47808
 MOST_ADDRESSES = 65536
@@ -20,6 +20,7 @@ ADDRESS = re.compile(r"([0-9]{1,3}(?:\.[0-9]{1,3}){3})(?::([0-9]{1,5}))?")
 HOST = re.compile(
     r"(?!(?:.*\.)?(?:0[xX][0-9A-Fa-f]*|[0-9]+)\.?(?::|\Z))([A-Za-z0-9._-]{1,253})(?::([0-9]{1,5}))?"
 )
+NETWORK = re.compile(r"([^/]*)/(?:([0-9]{1,5})/)?\*")
 ROUTE = re.compile(r"([^/]*)/([0-9]{1,5})/((?:[0-9A-Fa-f]{2}){1,7})")
 ADDRESS_RANGE = re.compile(r"([0-9.]+)(?:/([0-9]{1,2})|-([0-9.]+))(?::([0-9]{1,5}))?")
 
@@ -28,22 +29,36 @@ class Target(NamedTuple):
     """An address, and which devices are looked for there. None stands for any."""
 
     address: str
-    wanted: Tuple[Optional[int], ...]
+    wanted: tuple[int | None, ...]
     in_range: bool = False  # it was not named itself, so that nobody may be there
 
     @property
+    def is_network(self) -> bool:
+        """Whether it is all stations of one network behind a router, or of all networks there."""
+        return self.address.endswith("*")
+
+    @property
     def may_be_router(self) -> bool:
-        """Whether stations are looked for behind it: it was named itself, and no device there."""
+        """Whether its stations are looked for: it was named itself, and no device there."""
         return None in self.wanted and not self.in_range and not is_routed(self.address)
 
+    @property
+    def reach(self) -> str:
+        """The word for all its stations; empty if it is a station itself."""
+        return self.address if self.is_network else all_behind(self.address)
 
-def one(word: str) -> Tuple[Optional[int], str]:
+
+def one(word: str) -> tuple[int | None, str]:
     """The instance, if there is one, and the address with its port, of [INSTANCE@]ADDRESS.
 
     A station behind a router is 192.0.2.7/5/01: the router, the number of the network there, and
     the octets of its address in that network.
     """
-    instance, rest = _split(word)
+    match = INSTANCE_AT.fullmatch(word)
+    assert match, "the pattern takes any word"
+    instance, rest = int(match[1]) if match[1] else None, match[2]
+    if instance is not None and instance > MOST_DEVICE:
+        raise wrong("no device instance: " + word)
     route, behind = ROUTE.fullmatch(rest), ""
     if route and 1 <= int(route[2]) <= MOST_NETWORK:
         rest, behind = route[1], f"/{int(route[2])}/{route[3].lower()}"
@@ -54,6 +69,23 @@ def one(word: str) -> Tuple[Optional[int], str]:
     if not name or not host:
         raise wrong("no address: " + word)
     return instance, _checked(host, name[2], word) + behind
+
+
+def network_at(word: str) -> str:
+    """The router and the network of 192.0.2.7/5/*, or of 192.0.2.7/* for all networks; empty if the
+    word is neither."""
+    match = NETWORK.fullmatch(word)
+    if not match:
+        return ""
+    instance, router = one(match[1])
+    if instance is not None or (match[2] and not 1 <= int(match[2]) <= MOST_NETWORK):
+        raise wrong("no address: " + word)
+    return f"{router}/{int(match[2])}/*" if match[2] else all_behind(router)
+
+
+def all_behind(address: str) -> str:
+    """All stations behind a router; empty for the address of a station."""
+    return "" if is_routed(address) else address + "/*"
 
 
 def is_routed(address: str) -> bool:
@@ -71,10 +103,14 @@ def _looked_up(name: str) -> str:
     return str(hosts[0][4][0])
 
 
-def targets(words: Sequence[str]) -> List[Target]:
-    """What each word names: one address, or a range of them. None of them stands there twice."""
-    by_address: Dict[str, Target] = {}
+def targets(words: Sequence[str]) -> list[Target]:
+    """Returns what the words name: addresses, ranges and networks, each address once."""
+    by_address: dict[str, Target] = {}
     for word in words:
+        network = network_at(word)
+        if network:
+            by_address.setdefault(network, Target(network, (None,)))
+            continue
         many = ADDRESS_RANGE.fullmatch(word)
         addresses = _addresses(many, word) if many else []
         for address in addresses:
@@ -87,23 +123,15 @@ def targets(words: Sequence[str]) -> List[Target]:
     return list(by_address.values())
 
 
-def _split(word: str) -> Tuple[Optional[int], str]:
-    match = INSTANCE_AT.fullmatch(word)
-    assert match, "the pattern takes any word"
-    if match[1] and int(match[1]) > MOST_DEVICE:
-        raise wrong("no device instance: " + word)
-    return int(match[1]) if match[1] else None, match[2]
-
-
-def _checked(host: str, port: Optional[str], word: str) -> str:
+def _checked(host: str, port: str | None, word: str) -> str:
     """The address as it is compared and shown."""
     parts, number = [int(part) for part in host.split(".")], int(port or PORT)
-    if len(parts) != 4 or max(parts) > 255 or number > 65535:
+    if len(parts) != 4 or not 0 < max(parts) < 256 or number > 65535:
         raise wrong("no address: " + word)
     return ".".join(map(str, parts)) + f":{number}"
 
 
-def _addresses(match: "re.Match[str]", word: str) -> List[str]:
+def _addresses(match: re.Match[str], word: str) -> list[str]:
     """The addresses of 192.0.2.0/24, 192.0.2.1-254 or 192.0.2.1-192.0.2.9, perhaps with a port."""
     first, size, last, port = match.groups()
     try:

@@ -1,12 +1,12 @@
-"""Tags, values and service bodies as bactool reads them: what is no whole body is none."""
+"""Tags, values and service bodies as bactool reads them; a part of a body is not read."""
 
 from __future__ import annotations
 
 from functools import lru_cache
-from typing import Iterator, List, NamedTuple, Optional, Tuple
+from typing import Iterator, NamedTuple, Sequence
 
 from . import standard
-from .standard import What, Which
+from .standard import PropertyRef, ObjectId
 
 MOST_OPEN = 32  # opening tags at once
 OPENING, CLOSING = -1, -2  # in place of the length of a tag
@@ -34,25 +34,25 @@ class Element(NamedTuple):
         return int.from_bytes(self.octets, "big", signed=self.kind == standard.SIGNED)
 
     @property
-    def of_object(self) -> Which:
+    def of_object(self) -> ObjectId:
         """The object that it names."""
-        return which_of(self.number)
+        return object_id_of(self.number)
 
 
 class Body(NamedTuple):
     """What a read or a write is about, and its value."""
 
-    what: What
-    value: Optional[bytes] = None
-    priority: Optional[int] = None
+    ref: PropertyRef
+    value: bytes | None = None
+    priority: int | None = None
 
 
-def which_of(number: int) -> Which:
+def object_id_of(number: int) -> ObjectId:
     """The object of the number that stands for it."""
-    return Which(number >> 22, number & standard.THIS_DEVICE)
+    return ObjectId(number >> 22, number & standard.THIS_DEVICE)
 
 
-def tag_at(octets: bytes, at: int) -> Optional[Tag]:
+def tag_at(octets: bytes, at: int) -> Tag | None:
     """The tag that begins at a place, if one does."""
     try:
         first, at = octets[at], at + 1
@@ -74,60 +74,87 @@ def tag_at(octets: bytes, at: int) -> Optional[Tag]:
         return None
 
 
-def region_end(octets: bytes, at: int) -> Optional[int]:
-    """Where whole items that begin at a place end: at a closing tag of none of them, or the end."""
-    opened: List[int] = []
+class Item(NamedTuple):
+    """A tag and its contents; of an opening one the items up to its closing one too."""
+
+    number: int
+    context: bool
+    octets: bytes
+    inner: list[Item] | None = None
+
+    @property
+    def value(self) -> int:
+        """The contents as a number."""
+        return int.from_bytes(self.octets, "big")
+
+
+def _items(octets: bytes, at: int, opened: int = 0) -> tuple[list[Item], int]:
+    """The whole items from a place on, and where they end; -1 if another one is not whole."""
+    found: list[Item] = []
     while at < len(octets):
-        tag = tag_at(octets, at)
-        if not tag:
-            return None
-        if tag.length == CLOSING:
-            if not opened:
-                return at
-            if opened.pop() != tag.number:
-                return None
-        elif tag.length == OPENING:
-            opened.append(tag.number)
-        is_boolean = tag.number == standard.BOOLEAN and not tag.context
-        at = tag.end + (0 if is_boolean else max(tag.length, 0))
-        if at > len(octets) or len(opened) > MOST_OPEN:
-            return None
-    return None if opened else at
+        first, end = octets[at], at + 1 + (octets[at] & 7)
+        if first & 7 < 5 and first < 0xF0 and first & 0xF8 != standard.BOOLEAN << 4:  # a short one
+            if end > len(octets):
+                return found, -1
+            found.append(Item(first >> 4, bool(first & 8), octets[at + 1 : end]))
+            at = end
+            continue
+        tag, inner = tag_at(octets, at), None
+        if tag and tag.length == CLOSING:
+            return found, at
+        if not tag or (tag.length == OPENING and opened == MOST_OPEN):
+            return found, -1
+        number, context, length, start = tag
+        at = start + max(length, 0)
+        contents = octets[start:at]
+        if number == standard.BOOLEAN and not context:
+            at, contents = start, bytes([length]) if length < 2 else b""
+        elif length == OPENING:
+            inner, end = _items(octets, start, opened + 1)
+            closing = tag_at(octets, end) if end >= 0 else None
+            if not closing or closing.number != number:
+                return found, -1
+            at, contents = closing.end, octets[start:end]
+        if at > len(octets):
+            return found, -1
+        found.append(Item(number, context, contents, inner))
+    return found, at
 
 
-def elements_of(region: bytes) -> Optional[List[Element]]:
-    """The values of a region, where it has nothing else."""
-    found, at = [], 0
-    while at < len(region):
-        element = element_at(region, at)
-        if not element:
-            return None
-        found.append(element[0])
-        at = element[1]
-    return found
+def items_of(octets: bytes) -> list[Item] | None:
+    """The items of a body, or None if it has anything else."""
+    found, end = _items(octets, 0)
+    return found if end == len(octets) else None
 
 
-def element_at(region: bytes, at: int) -> Optional[Tuple[Element, int]]:
-    """The value that begins at a place, if one does, and where it ends."""
-    tag = tag_at(region, at)
-    element = _element_of(region, tag) if tag else None
-    if not tag or not element:
+def element_of(item: Item) -> Element | None:
+    """The value of an item, if it is one."""
+    number, context, octets, _ = item
+    if context or number > standard.OBJECT:
         return None
-    return element, tag.end + (0 if tag.number == standard.BOOLEAN else tag.length)
+    if number == standard.BOOLEAN:
+        return Element(number, octets) if octets else None
+    if not standard.LEAST[number] <= len(octets) <= standard.MOST[number]:
+        return None
+    if number == standard.BITS and octets[0] > (7 if octets[1:] else 0):
+        return None
+    return Element(number, octets)
 
 
-def _element_of(octets: bytes, tag: Tag) -> Optional[Element]:
-    if tag.context or tag.number > standard.OBJECT:
-        return None
-    if tag.number == standard.BOOLEAN:
-        return Element(tag.number, bytes([tag.length])) if tag.length < 2 else None
-    contents = octets[tag.end : tag.end + tag.length]
-    _, least, most = standard.VALUE_TYPES[tag.number]
-    if len(contents) < tag.length or not least <= tag.length <= most:
-        return None
-    if tag.number == standard.BITS and contents[0] > (7 if contents[1:] else 0):
-        return None
-    return Element(tag.number, contents)
+@lru_cache(maxsize=1024)  # many objects have the same flags and units
+def elements_of(region: bytes) -> Sequence[Element] | None:
+    """Returns the values of a region; None if it has anything else."""
+    items = items_of(region)
+    found = tuple(it for it in map(element_of, items or ()) if it)
+    return None if items is None or len(found) < len(items) else found
+
+
+def device_in(region: bytes) -> int | None:
+    """Returns the instance of the device that a value names; None if the value is another one."""
+    found = elements_of(region) or []
+    is_device = len(found) == 1 and found[0].kind == standard.OBJECT
+    is_device = is_device and found[0].of_object.object_type == standard.DEVICE
+    return found[0].of_object.instance if is_device else None
 
 
 def bits_of(octets: bytes) -> str:
@@ -166,30 +193,20 @@ def region_text(region: bytes) -> str:
     return texts[0] if len(texts) == 1 else "{" + ",".join(texts) + "}"
 
 
-def parameters(octets: bytes) -> Iterator[Tuple[int, bytes]]:
-    """Each context tag with its contents. Behind what can't be read comes the tag -1."""
-    at = 0
-    while at < len(octets):
-        tag = tag_at(octets, at)
-        ends = _parameter_ends(octets, tag) if tag and tag.context else None
-        if not tag or not ends:
+def parameters(octets: bytes) -> Iterator[tuple[int, bytes]]:
+    """Each context tag with its contents; the tag 3, and no other, opens. After a part that can't
+    be read comes the tag -1."""
+    items, end = _items(octets, 0, opened=-1)  # what the tag 3 opens is the value itself
+    for it in items:
+        if not it.context or (it.inner is None) == (it.number == 3):
             yield -1, b""
             return
-        yield tag.number, octets[tag.end : ends[0]]
-        at = ends[1]
+        yield it.number, it.octets
+    if end != len(octets):
+        yield -1, b""
 
 
-def _parameter_ends(octets: bytes, tag: Tag) -> Optional[Tuple[int, int]]:
-    """Where the contents of a context tag end, and all of it. The tag 3, and no other, opens."""
-    if tag.length >= 0 and tag.number != 3:
-        end = tag.end + tag.length
-        return (end, end) if end <= len(octets) else None
-    inner = region_end(octets, tag.end) if (tag.length, tag.number) == (OPENING, 3) else None
-    closing = tag_at(octets, inner) if inner is not None else None
-    return (inner, closing.end) if inner and closing and closing.number == 3 else None
-
-
-def body_of(octets: bytes, has_value: bool, may_command: bool = False) -> Optional[Body]:
+def body_of(octets: bytes, has_value: bool, may_command: bool = False) -> Body | None:
     """A body: object, property, perhaps an index, a value, and perhaps a priority."""
     found = list(parameters(octets))
     tags, by_tag = [tag for tag, _ in found], dict(found)
@@ -201,33 +218,28 @@ def body_of(octets: bytes, has_value: bool, may_command: bool = False) -> Option
     number = {tag: int.from_bytes(contents, "big") for tag, contents in found if tag != 3}
     if 4 in number and not (may_command and 1 <= number[4] <= 16):
         return None
-    what = which_of(number[0]).what(number[1], number.get(2))
-    return Body(what, by_tag.get(3), number.get(4))
+    ref = object_id_of(number[0]).ref(number[1], number.get(2))
+    return Body(ref, by_tag.get(3), number.get(4))
 
 
-def read_body(octets: bytes) -> Optional[Body]:
-    """What a ReadProperty asks for."""
+def read_body(octets: bytes) -> Body | None:
+    """Returns what a ReadProperty asks for."""
     return body_of(octets, has_value=False)
 
 
 @lru_cache(maxsize=64)  # it is read twice: how it ends a request, and what it is about
-def read_ack(octets: bytes) -> Optional[Body]:
-    """What the acknowledgement of a ReadProperty says."""
+def read_ack(octets: bytes) -> Body | None:
+    """Returns what the acknowledgement of a ReadProperty says."""
     return body_of(octets, has_value=True)
 
 
-def write_body(octets: bytes) -> Optional[Body]:
-    """What a WriteProperty asks for."""
+def write_body(octets: bytes) -> Body | None:
+    """Returns what a WriteProperty asks for."""
     return body_of(octets, has_value=True, may_command=True)
 
 
-def error_body(octets: bytes) -> Optional[Tuple[int, int]]:
+def error_body(octets: bytes) -> tuple[int, int] | None:
     """Class and code of an Error, whatever follows them."""
-    numbers, at = [], 0
-    for _ in range(2):
-        found = element_at(octets, at)
-        if not found or found[0].kind != standard.ENUMERATED:
-            return None
-        numbers.append(found[0].number)
-        at = found[1]
-    return numbers[0], numbers[1]
+    found = [element_of(it) for it in _items(octets, 0)[0][:2]]
+    numbers = [it.number for it in found if it and it.kind == standard.ENUMERATED]
+    return (numbers[0], numbers[1]) if len(numbers) == 2 else None

@@ -4,72 +4,79 @@ from __future__ import annotations
 
 import time
 from dataclasses import dataclass, field
-from typing import List, Optional, Sequence, Tuple
+from typing import Sequence
 
-from .asking import Asking
-from .bodies import elements_of
-from .calls import Calls
-from .processes import FOREVER
+from .bodies import device_in, elements_of
+from .tools import FOREVER, Tools
 from .reasons import NOT_ASKED, Why
+from .requester import Requester
 from .search import ITSELF, Search
 from .session import ReadResult
-from .standard import DEVICE, INTEGERS, OBJECT, OBJECT_ID, Form, What, Which, form_of
+from .standard import DEVICE, INTEGERS, OBJECT_ID, Form, ObjectId, PropertyRef, form_of
 from .values import Value, fault, shown, value_of
 
+PAUSE, MOST_PAUSE = 8, 8.0  # times --apdu-timeout, and seconds: so long a device has to restart
 LEAST_WAIT = 0.1  # seconds, for an answer that may not come
 MOST_ELEMENTS = 100000  # of a list which is read element by element
 
 
 @dataclass
 class Elements:
-    """What is known of a list: the octets of its elements, and why some are missing."""
+    """The known part of a list: the octets of its elements, and why some are missing."""
 
-    found: List[bytes] = field(default_factory=list)
+    found: list[bytes] = field(default_factory=list)
     count: int = 0  # how many it says that it has
-    reasons: List[str] = field(default_factory=list)
+    reasons: list[str] = field(default_factory=list)
     lost: int = 0  # how many were asked for, and did not come
 
 
-class Controller(Asking):
-    """Says what it has, in plain form, and which device it is."""
+class Controller(Requester):
+    """Says what it has, in readable form, and which device it is."""
 
-    def __init__(self, calls: Calls, address: str, deadline: float = FOREVER) -> None:
-        super().__init__(calls, address, deadline)
-        self.instance: Optional[int] = None  # which device it is, once it has said so
+    def __init__(self, tools: Tools, address: str, deadline: float = FOREVER) -> None:
+        super().__init__(tools, address, deadline)
+        self.instance: int | None = None  # which device it is, once it has said so
         self._took = 0.0  # how many seconds it took to say that
 
     @property
-    def own(self) -> Which:
+    def own(self) -> ObjectId:
         """The object that it is itself."""
         assert self.instance is not None, "it was identified"
-        return Which(DEVICE, self.instance)
+        return ObjectId(DEVICE, self.instance)
 
-    def read(self, what: What) -> ReadResult:
-        """As `ask`; what is too long for a datagram is put together of its elements."""
-        return self._whole(what, self.ask(what))
+    def again(self) -> None:
+        """Asks once more, and also which device it is."""
+        super().again()
+        self.instance = None
 
-    def _whole(self, what: What, answer: ReadResult) -> ReadResult:
-        if what.element is not None or answer.why is not Why.TOO_LONG:
+    def read(self, ref: PropertyRef) -> ReadResult:
+        """Reads as `ask`; what is too long for a datagram is put together of its elements."""
+        return self.read_all([ref])[0]
+
+    def read_all(self, refs: Sequence[PropertyRef]) -> list[ReadResult]:
+        """Reads several properties, each like `read`."""
+        return [self._whole(*it) for it in zip(refs, self.ask_all(refs))]
+
+    def _whole(self, ref: PropertyRef, answer: ReadResult) -> ReadResult:
+        if ref.element is not None or answer.why is not Why.TOO_LONG:
             return answer
-        elements = self.elements(MOST_ELEMENTS, what, whole=True)
+        elements = self.elements(MOST_ELEMENTS, ref, whole=True)
         if elements.reasons:
             return ReadResult(reason=elements.reasons[0]) if elements.lost else answer
         return ReadResult(b"".join(elements.found))
 
-    def count(self, what: What) -> Tuple[int, str]:
-        """How many elements an array says that it has; or -1, and why that is not known."""
-        answer = self.ask(what.at(0))
+    def count(self, ref: PropertyRef) -> tuple[int, str]:
+        """Returns how many elements an array says that it has; or -1, and why that is not known."""
+        answer = self.ask(ref.at(0))
         counts = elements_of(answer.region) or []
         if answer.reason or [it.kind in INTEGERS for it in counts] != [True]:
             return -1, answer.reason or shown(answer.region)
         return counts[0].number, ""
 
-    def elements(self, most: int, what: What, whole: bool = False) -> Elements:
-        """The elements of a list, one by one, up to so many.
-
-        Those that are lost are passed over; where the list is wanted whole, it ends there.
-        """
-        count, why = self.count(what)
+    def elements(self, most: int, ref: PropertyRef, whole: bool = False) -> Elements:
+        """Reads the elements of a list, one by one, up to so many. Lost ones are skipped; if the
+        list is wanted whole, it ends there."""
+        count, why = self.count(ref)
         if why:
             return Elements(reasons=["number of elements: " + why])
         elements = Elements(count=count)
@@ -78,7 +85,7 @@ class Controller(Asking):
         for places in self.parts(range(1, min(count, most) + 1)):
             if self.is_over or (whole and elements.lost):
                 break
-            answers = self.ask_all([what.at(place) for place in places])
+            answers = self.ask_all([ref.at(place) for place in places])
             for place, answer in zip(places, answers):
                 if not answer.reason:
                     elements.found.append(answer.region)
@@ -90,29 +97,25 @@ class Controller(Asking):
             elements.reasons.append(f"{left} of {count} elements not asked")
         return elements
 
-    def read_all(self, whats: Sequence[What]) -> List[ReadResult]:
-        """As `read`, of several."""
-        return [self._whole(*it) for it in zip(whats, self.ask_all(whats))]
-
     def values(
-        self, whats: Sequence[What], forms: Optional[Sequence[Optional[Form]]] = None
-    ) -> List[Value]:
-        """The values of properties, or of elements, in plain form and in their order."""
-        forms = forms or [None] * len(whats)
+        self, refs: Sequence[PropertyRef], forms: Sequence[Form | None] | None = None
+    ) -> list[Value]:
+        """Returns the values of properties, or of elements, in readable form and in their order."""
+        forms = forms or [None] * len(refs)
         return [
-            fault(it.reason) if it.reason else value_of(it.region, form or form_of(what))
-            for what, form, it in zip(whats, forms, self.read_all(whats))
+            fault(it.reason) if it.reason else value_of(it.region, form or form_of(ref))
+            for ref, form, it in zip(refs, forms, self.read_all(refs))
         ]
 
-    def value(self, what: What, form: Optional[Form] = None) -> Value:
-        """The value of a property, or of an element of it, in plain form."""
-        return self.values([what], [form])[0]
+    def value(self, ref: PropertyRef) -> Value:
+        """Returns the value of a property, or of an element of it, in readable form."""
+        return self.values([ref])[0]
 
-    def identify(self, wanted: Optional[int] = None) -> str:
-        """Why it is not to be asked as this device, or as any; empty where it is."""
+    def identify(self, wanted: int | None = None) -> str:
+        """Returns why it is not to be asked as this device, or as any; empty if it is."""
         if self.instance is None:
             begun = time.monotonic()
-            found, reason = self._own_object(wanted)
+            found, reason = self._own_instance(wanted)
             if found is None:
                 return reason
             self.instance, self._took = found, time.monotonic() - begun
@@ -120,38 +123,54 @@ class Controller(Asking):
             return f"another device: 8:{self.instance}"
         return ""
 
+    def other_than(self, device: int | None) -> str:
+        """Returns why it is not this device, if a device is named; empty otherwise."""
+        return "" if device is None else self.identify(device)
+
+    def comes_back(self) -> bool:
+        """Returns whether a device that fell silent answers after a pause, as the same one: it may
+        have restarted."""
+        pause = min(MOST_PAUSE, PAUSE * self.tools.timeout / 1000)
+        instance, left = self.instance, self.deadline - time.monotonic()
+        if left <= 0 or self.tools.processes.ended.wait(min(pause, left)):
+            return False
+        self.again()
+        is_back = not self.identify(instance)
+        self.instance = instance
+        return is_back
+
     def has_changed(self) -> str:
-        """What else it says to be now; empty where it is the device that it said to be."""
-        found, reason = self._own_object(self.instance)
+        """Returns what else it says to be now; empty if it is still the same device."""
+        found, reason = self._own_instance(self.instance)
         if found == self.instance or reason == NOT_ASKED:
             return ""
         return f"at the end: {reason}" if found is None else f"at the end another device: 8:{found}"
 
-    def _own_object(self, wanted: Optional[int]) -> Tuple[Optional[int], str]:
-        """The instance that it says to be; or why that is not known."""
-        answer = self._own_name(wanted)
-        found = elements_of(answer.region) or []
-        if [(it.kind, it.of_object[0]) for it in found] != [(OBJECT, DEVICE)]:
+    def _own_instance(self, wanted: int | None) -> tuple[int | None, str]:
+        """Returns the instance that it says to be; or why that is not known."""
+        answer = self._own_object(wanted)
+        found = device_in(answer.region)
+        if found is None:
             return None, answer.reason or "no device: " + shown(answer.region)
-        return found[0].of_object[1], ""
+        return found, ""
 
-    def _own_name(self, wanted: Optional[int]) -> ReadResult:
-        """The object that it is. An old device knows itself by its number alone, not by 4194303:
-        then it is asked by the number that is wanted, or by the one that a Who-Is brings."""
+    def _own_object(self, wanted: int | None) -> ReadResult:
+        """Reads the object that it is. An old device knows itself by its number alone, not by
+        4194303: then it is asked by the number that is wanted, or that a Who-Is brings."""
         answer = self.ask(ITSELF)
         if not answer.reason or answer.why.is_gone:
             return answer
         if wanted is not None:
-            other = self.ask(What(DEVICE, wanted, OBJECT_ID))
+            other = self.ask(PropertyRef(DEVICE, wanted, OBJECT_ID))
             if not other.reason or other.why is Why.SILENT:
                 return other
         found = [instance for instance, address in self.search().heard() if address == self.address]
-        return self.ask(What(DEVICE, found[0], OBJECT_ID)) if len(found) == 1 else answer
+        return self.ask(PropertyRef(DEVICE, found[0], OBJECT_ID)) if len(found) == 1 else answer
 
     def search(self) -> Search:
-        """A Who-Is that is sent to here, or to the router. Nothing else is sent until it is
-        answered, or for twice as long as it took to say which device that is."""
+        """Sends a Who-Is to here, or to the router. Nothing else is sent until it is answered, or
+        for twice as long as it took to say which device that is."""
         with self._line:
-            search = Search(self.calls, self.address, self._patience, self.deadline)
+            search = Search(self.tools, self.address, self._pace.patience, self.deadline)
             search.wait_for(self.address, max(LEAST_WAIT, 2 * self._took))
         return search

@@ -2,34 +2,32 @@
 
 from __future__ import annotations
 
+import argparse
 import math
 import re
 import struct
-from decimal import ROUND_HALF_EVEN, ROUND_UP, Context, Decimal
+from contextlib import suppress
+from decimal import ROUND_UP, Context, Decimal
 
-from .failures import wrong
+from .output import MISSING, put, wrong
 
 NO_NUMBERS = ("NaN", "Inf", "-Inf")
 DECIMAL = re.compile(r"[-+]?([0-9]+\.?[0-9]*|\.[0-9]+)([eE][-+]?[0-9]+)?")
 
 
 def number_of(octets: str) -> float:
-    """The number of 8 digits of a Real, or of 16 of a Double; it may be NaN or infinite."""
+    """Returns the number of 8 digits of a Real, or of 16 of a Double; it may be NaN or infinite."""
     number: float = struct.unpack(">f" if len(octets) == 8 else ">d", bytes.fromhex(octets))[0]
     return number
 
 
 def octets_of(number: float, double: bool = False) -> str:
-    """The octets of a Real or a Double; OverflowError where it is too great."""
+    """Returns the octets of a Real or a Double; OverflowError if it is too great."""
     return struct.pack(">d" if double else ">f", number).hex()
 
 
 def shortest(octets: str) -> str:
-    """The shortest decimal number that gives these octets back; NaN, Inf or -Inf where it is none.
-
-    Above a power of two there is more room than below: there the nearest number of so many digits
-    may give other octets, and the one above it the right ones. So both are tried.
-    """
+    """Returns the shortest decimal number that gives these octets back; or NaN, Inf or -Inf."""
     number = number_of(octets)
     if not math.isfinite(number):
         return "NaN" if math.isnan(number) else "Inf" if number > 0 else "-Inf"
@@ -40,20 +38,25 @@ def shortest(octets: str) -> str:
 
 
 def _shortest_of_real(number: float, octets: str) -> float:
+    """Tries each count of digits, also rounded up: above a power of two there is more room than
+    below, so the nearest number of so many digits may give other octets."""
     for digits in range(1, 10):
-        for rounding in (ROUND_HALF_EVEN, ROUND_UP):
-            context = Context(prec=digits, rounding=rounding)
-            short = float(context.create_decimal_from_float(number))
-            try:
-                if octets_of(short) == octets:
-                    return short
-            except OverflowError:
-                pass
+        short = float(f"{number:.{digits}g}")
+        if abs(short) < abs(number) and _octets_or_none(short) != octets:
+            short = float(Context(digits, ROUND_UP).create_decimal_from_float(number))
+        if _octets_or_none(short) == octets:
+            return short
     return number
 
 
+def _octets_or_none(number: float) -> str:
+    with suppress(OverflowError):
+        return octets_of(number)
+    return ""
+
+
 def encoded(word: str, double: bool = False) -> str:
-    """The octets of a decimal number as somebody writes it; it fails where that is none."""
+    """Returns the octets of a decimal number; it fails if the word is not one."""
     if not DECIMAL.fullmatch(word):
         raise wrong("no number: " + repr(word))
     number = float(word)
@@ -70,11 +73,8 @@ def encoded(word: str, double: bool = False) -> str:
 
 
 def _to_odd(number: float, word: str) -> float:
-    """The word's Double rounded to an odd last bit where it is not exact.
-
-    A Real made of the nearest Double would be rounded twice: a word just above the middle between
-    two Reals may have the middle itself as its nearest Double. The odd one lies on its own side.
-    """
+    """Returns the word's Double, rounded to a last bit of 1 if it is not exact. So it lies on the
+    word's side of the middle between two Reals, and is not rounded twice."""
     exact, nearest = Decimal(word), Decimal(number)
     if nearest == exact:
         return number
@@ -82,3 +82,22 @@ def _to_odd(number: float, word: str) -> float:
     towards_zero = bits - (nearest.copy_abs() > exact.copy_abs())
     odd: float = struct.unpack(">d", struct.pack(">Q", towards_zero | 1))[0]
     return odd
+
+
+def print_real(words: argparse.Namespace) -> int:
+    """Prints octets, or a list of them, as decimal numbers."""
+    text = words.octets.lower()
+    is_list = text[:1] + text[-1:] == "{}"
+    parts = text[1:-1].split(",") if is_list else [text]
+    if not all(re.fullmatch("[0-9a-f]{8}|[0-9a-f]{16}|null", part) for part in parts):
+        raise wrong("no Real: " + words.octets)
+    decimals = [part if part == "null" else shortest(part) for part in parts]
+    shown = ", ".join(decimals)
+    put(("{%s}\n" if is_list else "%s\n") % shown)
+    return MISSING if any(it in NO_NUMBERS for it in decimals) else 0
+
+
+def print_octets(words: argparse.Namespace) -> int:
+    """Prints the octets of a decimal number."""
+    put(encoded(words.number, words.double) + "\n")
+    return 0

@@ -3,26 +3,29 @@
 from __future__ import annotations
 
 from dataclasses import dataclass, field
-from typing import Callable, Dict, List, Mapping, Optional, Sequence, Tuple
+from typing import Callable, Mapping, NamedTuple, Sequence, Tuple
 
 from . import standard
-from .bodies import elements_of
+from .bodies import elements_of, items_of
 from .controller import Controller, Elements
-from .reasons import TIMEOUT, Why
+from .output import clock_drift
+from .reasons import TIMEOUT, Why, why_of
 from .session import ReadResult
-from .standard import (
-    BINARY,
-    DEVICE,
-    LOOK_ALIKE,
-    MULTI_STATE,
-    OBJECT,
-    OBJECT_TYPES,
-    PROPERTIES,
-    What,
-    Which,
-    form_of,
-)
-from .values import NOTHING, Kind, Value, flags_of, shown, told, values_of
+from .standard import DEVICE, OBJECT, OBJECT_NAME, OBJECT_TYPES, PRESENT_VALUE, PROPERTIES
+from .standard import STATUS_FLAGS, ObjectId, PropertyRef, form_of
+from .values import NOTHING, Kind, Value, flags_of, shown, state_of, told, value_of
+
+# The texts that a device says of itself: members of Device, each with its property. CSV, JSON, the
+# page and the comparison with an earlier survey have these names, in this order. A device has to
+# have each of them, except those of MAY_LACK.
+TEXTS = {"name": OBJECT_NAME, "vendor": standard.VENDOR_NAME, "model": standard.MODEL_NAME}
+MAY_LACK: tuple[str, ...] = ()
+# What else a device says of itself, if devices alone are asked; it may lack any of these.
+FACTS = {"firmware": standard.FIRMWARE, "software": standard.SOFTWARE}
+FACTS.update(status=standard.SYSTEM_STATUS, protocol_revision=standard.PROTOCOL_REVISION)
+CLOCK = (standard.LOCAL_DATE, standard.LOCAL_TIME)
+# The settings of an object which are asked for with --details.
+SETTINGS = (standard.LOW_LIMIT, standard.HIGH_LIMIT, standard.MIN_VALUE, standard.MAX_VALUE)
 
 
 @dataclass
@@ -35,16 +38,18 @@ class SiteObject:
     value: Value = NOTHING
     meaning: str = ""  # of a state
     unit: str = ""
-    flags: Optional[Tuple[str, ...]] = None  # those that are set; None where it has none
-    held: str = ""  # the priority that stands above the program, where that was asked for
+    flags: tuple[str, ...] | None = None  # those that are set; None if it has no flags
+    name_read: bool = True  # or else it is that of an earlier survey
+    priorities: tuple[int, ...] = ()  # those above the program that command it, if that was asked
     description: str = ""
     event_state: str = ""
-    reasons: List[str] = field(default_factory=list)
+    settings: dict[str, str] = field(default_factory=dict)  # limits and texts, by their properties
+    reasons: list[str] = field(default_factory=list)
 
     @property
-    def which(self) -> Which:
-        """Which one it is."""
-        return Which(self.object_type, self.instance)
+    def object_id(self) -> ObjectId:
+        """Its type and its instance."""
+        return ObjectId(self.object_type, self.instance)
 
     @property
     def type_name(self) -> str:
@@ -56,23 +61,66 @@ class SiteObject:
         """The flags in words."""
         return "" if self.flags is None else ", ".join(self.flags) or "normal"
 
+    @property
+    def told_name(self) -> str:
+        """The name, and that it was not read now."""
+        return self.name if self.name_read else f"{self.name} (not read)"
+
+    @property
+    def held(self) -> str:
+        """The most urgent priority above the program that commands it, with its name."""
+        return standard.priority_text(self.priorities[0]) if self.priorities else ""
+
+    @property
+    def has_lost(self) -> bool:
+        """Whether something is missing because nobody answered."""
+        return any(why_of(it.partition(": ")[2]).is_gone for it in self.reasons)
+
+    @property
+    def told_settings(self) -> str:
+        """The settings in words."""
+        return ", ".join(f"{name} {text}" for name, text in self.settings.items())
+
 
 @dataclass
 class Device:
     """A device, and why something of it is missing. Without an instance nobody said which it is."""
 
     address: str
-    instance: Optional[int] = None
+    instance: int | None = None
     name: str = ""
     vendor: str = ""
     model: str = ""
-    revision: str = ""  # of its database: another one where objects or names are others
-    objects: List[SiteObject] = field(default_factory=list)
-    listed: Optional[List[Which]] = None  # its object list, where that is known to be whole
-    reasons: List[str] = field(default_factory=list)
-    changes: List[str] = field(default_factory=list)  # since an earlier survey
+    revision: str = ""  # of its database: another one if objects or names are others
+    objects: list[SiteObject] = field(default_factory=list)
+    listed: list[ObjectId] | None = None  # its object list, if that is known to be whole
+    reasons: list[str] = field(default_factory=list)
+    changes: list[str] = field(default_factory=list)  # since an earlier survey
+    gone: int | None = None  # the device that an earlier survey has at this address instead
+    facts: dict[str, str] = field(default_factory=dict)  # those of FACTS, and its clock
     hidden: bool = False  # nobody is there, and nobody said that somebody is
     asked: str = ""  # when
+    is_named: bool = False  # only address and instance are known, and nothing else was asked
+
+    @property
+    def has_answered(self) -> bool:
+        """Whether somebody answered a read or a Who-Is there."""
+        return self.instance is not None or any("answers a Who-Is" in it for it in self.reasons)
+
+    @property
+    def is_nobody(self) -> bool:
+        """Whether nobody is there, and nobody was before."""
+        return self.hidden and not self.changes
+
+    @property
+    def is_silent(self) -> bool:
+        """Whether no read was answered, and so nobody said which device it is."""
+        return self.instance is None and any(why_of(it) is Why.SILENT for it in self.reasons[:1])
+
+    @property
+    def texts(self) -> dict[str, str]:
+        """The texts of TEXTS, in their order."""
+        return {name: getattr(self, name) for name in TEXTS}
 
     @property
     def is_whole(self) -> bool:
@@ -80,234 +128,260 @@ class Device:
         return not self.reasons and not any(it.reasons for it in self.objects)
 
 
-@dataclass(frozen=True)
-class Bounds:
-    """How far a survey goes with one controller."""
+class Bounds(NamedTuple):
+    """How far a survey goes, by the names of its options."""
 
     objects: int = 5000
-    seconds: int = 600
-    devices_alone: bool = False
+    deadline: int = 600  # seconds for one controller
+    devices: bool = False  # without their objects
     details: bool = False  # descriptions and event states too
     held: bool = False  # only what is commanded above the program
     stations: bool = False  # those behind a router too
+    listen: int = 10  # seconds, after each question to all stations of a network
+    listen_port: int = 47808  # at which these are heard
 
 
-class _Read:
-    """What was read of a controller, by what was asked for."""
-
-    def __init__(self, controller: Controller) -> None:
-        self.controller = controller
-        self.values: Dict[What, Value] = {}
-
-    def ask(self, whats: Sequence[What]) -> None:
-        """Asks for more."""
-        self.values.update(zip(whats, self.controller.values(whats)))
-
-    def value(self, reasons: List[str], what: What, optional: bool = True) -> Value:
-        """A value, or nothing. That there is no such property is no fault where it is optional."""
-        value = self.values.get(what, NOTHING)
-        if what.number == standard.STATUS_FLAGS and value is not NOTHING:
-            value = flags_of(value)
-        if not value.fault:
-            return value
-        if not (optional and value.why is Why.NO_PROPERTY):
-            reasons.append(f"{PROPERTIES[what.number]}: {value.fault}")
-        return NOTHING
+NamesOf = Callable[[Device], Mapping[ObjectId, str]]
+Held = Tuple[Tuple[int, ...], str]  # priorities above the program, or why they are not known
 
 
-def device_of(
-    controller: Controller, bounds: Bounds, names_of: Callable[[Device], Mapping[Which, str]]
-) -> Device:
-    """The device that a controller has said it is, and its objects.
+def device_of(controller: Controller, bounds: Bounds, names_of: NamesOf) -> Device:
+    """Reads the device that a controller has said it is, and its objects.
 
-    `names_of` has the names of objects that are known already, and are not asked for.
+    `names_of` returns the names of objects that are known already, and are not asked for.
     """
-    own, read = controller.own, _Read(controller)
-    device = Device(controller.address, own.instance)
-    revision = [] if bounds.devices_alone else [standard.DATABASE_REVISION]
-    texts = [standard.OBJECT_NAME, standard.VENDOR_NAME, standard.MODEL_NAME]
-    read.ask([own.what(it) for it in texts + revision])
-    device.name = read.value(device.reasons, own.what(standard.OBJECT_NAME), optional=False).text
-    device.vendor = read.value(device.reasons, own.what(standard.VENDOR_NAME), optional=False).text
-    device.model = read.value(device.reasons, own.what(standard.MODEL_NAME), optional=False).text
-    if not bounds.devices_alone:
-        device.revision = _revision_of(read.values[own.what(standard.DATABASE_REVISION)])
-        _add_objects(device, controller, bounds, names_of(device))
+    device = _Reader(controller, bounds).device(names_of)
+    is_early = device.listed is None and not device.objects
+    if controller.silent and is_early and controller.comes_back():
+        device = _Reader(controller, bounds).device(names_of)
     if controller.is_over:
         device.reasons.append("deadline" if controller.late else TIMEOUT)
     device.reasons += filter(None, [controller.has_changed()])
     return device
 
 
-def _revision_of(value: Value) -> str:
-    """The revision of its database; empty where it has none."""
-    return value.text if value.kind is Kind.NUMBER else ""
+class _Reader:
+    """Reads a device: the values that were read, and the names that need not be."""
+
+    def __init__(self, controller: Controller, bounds: Bounds) -> None:
+        self.controller, self.bounds, self.own = controller, bounds, controller.own
+        self.values: dict[PropertyRef, Value] = {}
+        self.names: Mapping[ObjectId, str] = {}
+
+    def ask(self, refs: Sequence[PropertyRef]) -> None:
+        """Asks for more values."""
+        self.values.update(zip(refs, self.controller.values(refs)))
+
+    def value(self, reasons: list[str], ref: PropertyRef, optional: bool = True) -> Value:
+        """Returns a value, or nothing. An optional property may be missing without a reason."""
+        value = self.values.get(ref, NOTHING)
+        if ref.number == STATUS_FLAGS and value is not NOTHING:
+            value = flags_of(value)
+        if not value.fault:
+            return value
+        if not (optional and value.why is Why.NO_PROPERTY):
+            reasons.append(f"{PROPERTIES[ref.number]}: {value.fault}")
+        return NOTHING
+
+    def device(self, names_of: NamesOf) -> Device:
+        """Reads the device."""
+        device = Device(self.controller.address, self.own.instance)
+        is_alone = self.bounds.devices
+        more = [*FACTS.values(), *CLOCK] if is_alone else [standard.DATABASE_REVISION]
+        self.ask([self.own.ref(it) for it in [*TEXTS.values(), *more]])
+        for name, number in TEXTS.items():
+            value = self.value(device.reasons, self.own.ref(number), optional=name in MAY_LACK)
+            setattr(device, name, value.text)
+        if is_alone:
+            device.facts = self.facts()
+        else:
+            device.revision = _revision_of(self.values[self.own.ref(standard.DATABASE_REVISION)])
+            self.names = names_of(device)
+            self.add_objects(device)
+        return device
+
+    def facts(self) -> dict[str, str]:
+        """Returns what it says of its software, its state and its clock, as far as it does."""
+        values = {name: self.values[self.own.ref(number)] for name, number in FACTS.items()}
+        facts = {name: it.named for name, it in values.items() if not it.fault}
+        drift = clock_drift("T".join(self.values[self.own.ref(it)].text for it in CLOCK))
+        return {**facts, "clock": drift} if drift else facts
+
+    def add_objects(self, device: Device) -> None:
+        """Reads the objects, and whether they are still those that were listed."""
+        controller, bounds = self.controller, self.bounds
+        listed, reasons = self.object_list()
+        device.reasons += ["object-list: " + reason for reason in shortened(reasons)]
+        objects = [it for it in dict.fromkeys(listed) if it.object_type != DEVICE]
+        if not reasons:
+            device.listed = objects
+        wanted, left = objects[: bounds.objects], len(objects)
+        held: dict[ObjectId, Held] = {}
+        if bounds.held:
+            held, asked = _held(controller, wanted)
+            left -= asked - len(held)
+            wanted = list(held)
+        device.objects = self.objects(wanted)
+        if wanted and controller.silent and controller.comes_back():
+            whole = {it.object_id: it for it in device.objects if not it.has_lost}
+            again = self.objects([it for it in wanted if it not in whole])
+            whole.update({it.object_id: it for it in again})
+            device.objects = [whole[it] for it in wanted if it in whole]
+        for it in device.objects:
+            it.priorities, reason = held.get(it.object_id, ((), ""))
+            it.reasons += filter(None, [reason])
+        left -= len(device.objects)
+        if left > 0:
+            device.reasons.append(f"{left} of {len(objects)} objects not asked")
+        if not controller.is_over:
+            device.reasons += self.changed(device.revision, -1 if reasons else len(listed))
+
+    def object_list(self) -> tuple[list[ObjectId], list[str]]:
+        """Returns the objects that it says it has, and why some are lost."""
+        ref = self.own.ref(standard.OBJECT_LIST)
+        answer = self.controller.ask(ref)
+        listed = Elements([answer.region])
+        if answer.reason:  # whatever it is, the elements may be answered
+            listed = self.controller.elements(self.bounds.objects + 1, ref)  # one is the device
+            if not listed.count and answer.why is not Why.TOO_LONG:
+                listed.reasons = [answer.reason]
+        found: list[ObjectId] = []
+        strange: list[str] = []
+        for region in listed.found:
+            elements = elements_of(region)
+            strange += [shown(region)] if elements is None else []
+            for it in elements or []:
+                if it.kind == OBJECT:
+                    found.append(it.of_object)
+                else:
+                    strange.append(told(it))
+        others = [it for it in found if it.object_type == DEVICE and it != self.own]
+        reasons = listed.reasons + ["no object: " + it for it in strange]
+        return found, reasons + [f"another device: {it}" for it in others]
+
+    def changed(self, before: str, count: int) -> list[str]:
+        """Returns what tells that the objects are others than when they were listed."""
+        now, why = self.controller.count(self.own.ref(standard.OBJECT_LIST))
+        found = []
+        if count >= 0 and not why and now != count:
+            found.append(f"object-list: {count} listed, {now} at the end")
+        ref = self.own.ref(standard.DATABASE_REVISION)
+        revision = _revision_of(self.controller.value(ref)) if before else ""
+        if revision and revision != before:
+            found.append(f"database-revision: {before}, {revision} at the end")
+        return found
+
+    def objects(self, wanted: Sequence[ObjectId]) -> list[SiteObject]:
+        """Reads objects, as far as the device answers."""
+        found: list[SiteObject] = []
+        for part in self.controller.parts(wanted):
+            if self.controller.is_over:
+                break
+            found += self.some_objects(part)
+        return found
+
+    def some_objects(self, part: Sequence[ObjectId]) -> list[SiteObject]:
+        """Reads objects; those whose names were not asked for any more are left out."""
+        self.ask([it.ref(OBJECT_NAME) for it in part if it not in self.names])
+        known = {it: Value(Kind.TEXT, self.names[it]) for it in part if it in self.names}
+        self.values.update({it.ref(OBJECT_NAME): name for it, name in known.items()})
+        why = {it: self.values[it.ref(OBJECT_NAME)].why for it in part}
+        there = [it for it in part if why[it] is not Why.NO_OBJECT]
+        self.ask([it.ref(number) for it in there for number in self.numbers(it.object_type)])
+        values = {it: self.values.get(it.ref(PRESENT_VALUE), NOTHING) for it in there}
+        self.ask([state for it in there for state in state_of(it, values[it])])
+        return [self.an_object(it) for it in part if why[it] is not Why.NOT_ASKED]
+
+    def numbers(self, object_type: int) -> list[int]:
+        """Returns the properties that an object of a type is asked for, beside its name."""
+        found: list[int] = []
+        if standard.has_value(object_type):
+            found += [PRESENT_VALUE, STATUS_FLAGS]
+        found += [standard.UNITS] * standard.may_have_unit(object_type)
+        if not self.bounds.details:
+            return found
+        return [*found, standard.DESCRIPTION, standard.EVENT_STATE, *_settings(object_type)]
+
+    def an_object(self, object_id: ObjectId) -> SiteObject:
+        """Returns the object, made of what was read of it."""
+        made = SiteObject(*object_id)
+
+        def value(number: int, optional: bool = True) -> Value:
+            return self.value(made.reasons, object_id.ref(number), optional)
+
+        made.name = value(OBJECT_NAME, optional=False).text
+        made.name_read = object_id not in self.names
+        known = object_id.object_type in OBJECT_TYPES  # then a present value has to be there
+        made.value = value(PRESENT_VALUE, optional=not known)
+        flags = value(STATUS_FLAGS)
+        made.flags = None if flags is NOTHING else flags.bits
+        made.unit = value(standard.UNITS).named
+        for state in state_of(object_id, made.value):
+            made.meaning = self.value(made.reasons, state).text
+        made.meaning = made.meaning or made.value.meaning
+        made.description = value(standard.DESCRIPTION).text
+        made.event_state = value(standard.EVENT_STATE).named
+        settings = {PROPERTIES[it]: value(it) for it in _settings(object_id.object_type)}
+        made.settings = {name: it.shown() for name, it in settings.items() if it is not NOTHING}
+        return made
 
 
-def _add_objects(
-    device: Device, controller: Controller, bounds: Bounds, known: Mapping[Which, str]
-) -> None:
-    listed, reasons = _object_list(controller, bounds)
-    device.reasons += ["object-list: " + reason for reason in shortened(reasons)]
-    objects = [it for it in dict.fromkeys(listed) if it.object_type != DEVICE]
-    if not reasons:
-        device.listed = objects
-    wanted, left = objects[: bounds.objects], len(objects)
-    held: Dict[Which, Tuple[str, str]] = {}
-    if bounds.held:
-        held, asked = _held(controller, wanted)
-        left -= asked - len(held)
-        wanted = list(held)
-    for which in controller.parts(wanted):
-        if controller.is_over:
-            break
-        device.objects += _objects_of(controller, which, bounds, known)
-    for it in device.objects:
-        it.held, reason = held.get(it.which, ("", ""))
-        it.reasons += filter(None, [reason])
-    if left > len(device.objects):
-        device.reasons.append(f"{left - len(device.objects)} of {len(objects)} objects not asked")
-    if not controller.is_over:
-        device.reasons += _changed_meanwhile(device, controller, -1 if reasons else len(listed))
-
-
-def _changed_meanwhile(device: Device, controller: Controller, count: int) -> List[str]:
-    """What tells that the objects are others than when they were listed."""
-    now, why = controller.count(controller.own.what(standard.OBJECT_LIST))
-    found = []
-    if count >= 0 and not why and now != count:
-        found.append(f"object-list: {count} listed, {now} at the end")
-    what = controller.own.what(standard.DATABASE_REVISION)
-    revision = _revision_of(controller.value(what)) if device.revision else ""
-    if revision and revision != device.revision:
-        found.append(f"database-revision: {device.revision}, {revision} at the end")
-    return found
-
-
-def _object_list(controller: Controller, bounds: Bounds) -> Tuple[List[Which], List[str]]:
-    """The objects that a device says it has, and why some are lost."""
-    what = controller.own.what(standard.OBJECT_LIST)
-    answer = controller.ask(what)
-    if answer.why is Why.TOO_LONG:
-        listed = controller.elements(bounds.objects + 1, what)  # the device itself is one of them
-    else:
-        listed = Elements([answer.region], reasons=[answer.reason] if answer.reason else [])
-    found: List[Which] = []
-    strange: List[str] = []
-    for region in listed.found:
-        elements = elements_of(region)
-        found += [it.of_object for it in elements or [] if it.kind == OBJECT]
-        strange += [shown(region)] if elements is None else []
-        strange += [told(it) for it in elements or [] if it.kind != OBJECT]
-    others = [it for it in found if it.object_type == DEVICE and it != controller.own]
-    reasons = listed.reasons + ["no object: " + it for it in strange]
-    return found, reasons + [f"another device: {it}" for it in others]
-
-
-def shortened(reasons: Sequence[str]) -> List[str]:
-    """The first reasons, and how many there are beside them but for the last, which counts."""
+def shortened(reasons: Sequence[str]) -> list[str]:
+    """Returns the first reasons, and the number of the others except the last, which counts."""
     if len(reasons) <= 4:
         return list(reasons)
     return [*reasons[:3], f"{len(reasons) - 4} more such", reasons[-1]]
 
 
-def _objects_of(
-    controller: Controller, which: Sequence[Which], bounds: Bounds, known: Mapping[Which, str]
-) -> List[SiteObject]:
-    """What objects have; those whose names were not asked for any more are left out."""
-    read = _Read(controller)
-    read.ask([it.what(standard.OBJECT_NAME) for it in which if it not in known])
-    for it in (it for it in which if it in known):
-        read.values[it.what(standard.OBJECT_NAME)] = Value(Kind.TEXT, known[it])
-    there = [it for it in which if _name_of(read, it).why is not Why.NO_OBJECT]
-    read.ask([it.what(number) for it in there for number in _numbers(it.object_type, bounds)])
-    values = {it: read.values.get(it.what(standard.PRESENT_VALUE), NOTHING) for it in there}
-    read.ask([state for it in there for state in _state(it, values[it])])
-    asked = [it for it in which if _name_of(read, it).why is not Why.NOT_ASKED]
-    return [_object_of(read, it) for it in asked]
+def _revision_of(value: Value) -> str:
+    """Returns the revision of a database; an empty text if there is none."""
+    return value.text if value.kind is Kind.NUMBER else ""
 
 
-def _name_of(read: _Read, which: Which) -> Value:
-    return read.values.get(which.what(standard.OBJECT_NAME), NOTHING)
-
-
-def _object_of(read: _Read, which: Which) -> SiteObject:
-    made = SiteObject(*which)
-    reasons = made.reasons
-    made.name = read.value(reasons, which.what(standard.OBJECT_NAME), optional=False).text
-    is_known = (
-        which.object_type in OBJECT_TYPES
-    )  # then it is told where its present value is missing
-    made.value = read.value(reasons, which.what(standard.PRESENT_VALUE), optional=not is_known)
-    flags = read.value(reasons, which.what(standard.STATUS_FLAGS))
-    made.flags = None if flags is NOTHING else flags.bits
-    unit = read.value(reasons, which.what(standard.UNITS))
-    made.unit = unit.meaning or unit.text
-    for state in _state(which, made.value):
-        made.meaning = read.value(reasons, state).text
-    made.meaning = made.meaning or made.value.meaning
-    made.description = read.value(reasons, which.what(standard.DESCRIPTION)).text
-    event_state = read.value(reasons, which.what(standard.EVENT_STATE))
-    made.event_state = event_state.meaning or event_state.text
-    return made
-
-
-def _numbers(object_type: int, bounds: Bounds) -> List[int]:
-    """The properties that an object of a type is asked for, beside its name."""
-    found: List[int] = []
-    if standard.has_value(object_type):
-        found += [standard.PRESENT_VALUE, standard.STATUS_FLAGS]
-    if _has_unit(object_type):
-        found.append(standard.UNITS)
-    return found + [standard.DESCRIPTION, standard.EVENT_STATE] * bounds.details
-
-
-def _has_unit(object_type: int) -> bool:
-    if object_type in BINARY + MULTI_STATE or not standard.has_value(object_type):
-        return False
-    tags = standard.present_form(object_type).tags
-    return not tags or tags[0] in LOOK_ALIKE
-
-
-def _state(which: Which, value: Value) -> List[What]:
-    """Where the device says what it calls this state, if the value is one."""
-    if value.kind is not Kind.NUMBER:
+def _settings(object_type: int) -> list[int]:
+    """Returns the settings that an object of a type may have."""
+    if not standard.has_value(object_type):
         return []
-    state = int(value.number or 0)
-    if which.object_type in MULTI_STATE:
-        return [which.what(standard.STATE_TEXT, state)]
-    if which.object_type in BINARY:
-        return [which.what(standard.ACTIVE_TEXT if state else standard.INACTIVE_TEXT)]
-    return []
+    found = list(SETTINGS)
+    if object_type in standard.MULTI_STATE:
+        found = [standard.STATE_TEXT]
+    elif object_type in standard.BINARY:
+        found = [standard.INACTIVE_TEXT, standard.ACTIVE_TEXT]
+    return found + [standard.RELINQUISH_DEFAULT] * standard.may_be_commanded(object_type)
 
 
-def _held(
-    controller: Controller, which: Sequence[Which]
-) -> Tuple[Dict[Which, Tuple[str, str]], int]:
-    """By which priority above the program objects are commanded, or why that is not known; and how
-    many were asked for it, or have no priorities."""
-    found: Dict[Which, Tuple[str, str]] = {}
+def _held(controller: Controller, objects: Sequence[ObjectId]) -> tuple[dict[ObjectId, Held], int]:
+    """Returns the objects that do not have the value of their program: a priority above it commands
+    them, they are overridden, or out of service. And how many objects were looked at."""
+    found: dict[ObjectId, Held] = {}
     count = 0
-    for part in controller.parts(which):
-        asked = [it for it in part if standard.may_be_commanded(it.object_type)]
-        answers = controller.read_all([it.what(standard.PRIORITY_ARRAY) for it in asked])
-        for it, answer in zip(asked, answers):
+    for part in controller.parts(objects):
+        commanded = [it for it in part if standard.may_be_commanded(it.object_type)]
+        refs = [it.ref(standard.PRIORITY_ARRAY) for it in commanded]
+        refs += [it.ref(STATUS_FLAGS) for it in part if standard.has_value(it.object_type)]
+        for ref, answer in zip(refs, controller.read_all(refs)):
             if answer.why is Why.NOT_ASKED:
                 return found, count
-            priority = _held_by(it, answer)
-            if any(priority):
-                found[it] = priority
+            held = _held_by(ref, answer)
+            if held:
+                found.setdefault(ref.object_id, held)
         count += len(part)
     return found, count
 
 
-def _held_by(which: Which, answer: ReadResult) -> Tuple[str, str]:
-    if answer.why in (Why.NO_PROPERTY, Why.NO_OBJECT):
-        return "", ""
+def _held_by(ref: PropertyRef, answer: ReadResult) -> Held | None:
+    """Returns which entries of a priority array above the program are not null, whatever they
+    contain; or that status flags say that an object is overridden or out of service."""
+    name = PROPERTIES[ref.number]
     if answer.reason:
-        return "", "priority-array: " + answer.reason
-    form = form_of(which.what(standard.PRIORITY_ARRAY, 1))
-    values = values_of(answer.region, form)[: standard.BY_HAND]
-    number = next((at for at, it in enumerate(values, 1) if it.text != "null"), 0)
-    name = standard.PRIORITY_NAMES.get(number, "")
-    return f"{number} ({name})" if name else str(number or ""), ""
+        missing = answer.why in (Why.NO_PROPERTY, Why.NO_OBJECT)
+        return None if missing else ((), f"{name}: {answer.reason}")
+    if ref.number == STATUS_FLAGS:
+        flags = flags_of(value_of(answer.region, form_of(ref))).bits
+        return ((), "") if {"overridden", "out-of-service"} & set(flags) else None
+    items = items_of(answer.region)
+    if items is None:
+        return (), f"{name}: cannot be read: {shown(answer.region)}"
+    above = enumerate(items[: standard.BY_HAND], 1)
+    found = tuple(at for at, it in above if it.context or it.number != standard.NULL)
+    return (found, "") if found else None

@@ -1,100 +1,147 @@
-"""An earlier survey: which names are known of it, and what has changed since."""
+"""An earlier survey: which names are known from it, and what has changed since."""
 
 from __future__ import annotations
 
 import json
-from typing import Dict, Iterator, List, Mapping, NamedTuple, Optional, Tuple
+from typing import Any, Iterator, Mapping, NamedTuple, Sequence
 
-from .device import Device, SiteObject
-from .failures import BROKEN, Failure, wrong
+from .device import TEXTS, Bounds, Device, SiteObject
 from .files import opened
-from .standard import Which
+from .output import BROKEN, Failure, wrong
+from .standard import ObjectId
 
 
 class Known(NamedTuple):
-    """What an earlier survey has of a device: its texts, and of each object the name and unit."""
+    """What an earlier survey has of a device, and what it asked for."""
 
     instance: int
-    texts: Dict[str, str]
+    texts: dict[str, str]
     revision: str
-    objects: Dict[Which, Tuple[str, str]]
+    objects: dict[ObjectId, dict[str, str]]  # what is compared of each, by the names in changes
+    is_named: bool = False  # only address and instance
+    is_held: bool = False  # only the objects that do not have the value of their program
+    is_whole: bool = True  # it has all objects that it asked for
 
 
 class Earlier:
-    """An earlier survey; an empty one where none is given."""
+    """An earlier survey; an empty one if none is given."""
 
-    def __init__(self, devices: Optional[Mapping[str, Known]] = None) -> None:
+    def __init__(self, devices: Mapping[str, Known] | None = None, reuses: bool = False) -> None:
         self._devices = devices or {}  # by their addresses
+        self._addresses = {it.instance: address for address, it in self._devices.items()}
+        self._reuses = reuses
 
-    def names_of(self, device: Device) -> Dict[Which, str]:
-        """The names of objects which it still has: the revision of its database is the same."""
-        known = self._devices.get(device.address)
+    @property
+    def is_given(self) -> bool:
+        """Whether there is an earlier survey."""
+        return bool(self._devices)
+
+    def names_of(self, device: Device) -> dict[ObjectId, str]:
+        """Returns the names of objects that are not read again: the revision of the database is the
+        same, and it was asked for that."""
+        known = self._devices.get(device.address) if self._reuses else None
         is_same = known and (known.instance, known.revision) == (device.instance, device.revision)
         if not known or not is_same or not device.revision:
             return {}
-        return {which: name for which, (name, _) in known.objects.items() if name}
+        return {object_id: it["name"] for object_id, it in known.objects.items() if it["name"]}
 
-    def changes_of(self, device: Device) -> List[str]:
-        """What is otherwise than it was at this address."""
+    def stations_at(self, reaches: Sequence[str]) -> list[str]:
+        """Returns the addresses of all stations that it has behind these routers, or in these
+        networks."""
+        fronts = tuple(it.rstrip("*") for it in reaches)
+        return [it for it in self._devices if "/" in it and it.startswith(fronts)]
+
+    def compare(self, device: Device, bounds: Bounds) -> None:
+        """Notes what has changed at this address."""
         known = self._devices.get(device.address)
-        if not known:
-            return ["new"] if self._devices and device.instance is not None else []
-        if device.instance != known.instance:
-            return [f"was device {known.instance} {known.texts['name']}".rstrip()]
-        texts = {"name": device.name, "vendor": device.vendor, "model": device.model}
-        found = [
-            f"{what} was {known.texts[what] or 'none'}"
-            for what, text in texts.items()
-            if text != known.texts[what] and (text or device.is_whole)
-        ]
-        return found + list(_changed_objects(device, known))
+        if known and device.instance == known.instance:
+            device.changes = list(_changes(device, known, bounds))
+        elif known:
+            device.gone = known.instance
+            device.changes = [f"was device {known.instance} {known.texts['name']}".rstrip()]
+        elif self._devices and device.instance is not None:
+            before = self._addresses.get(device.instance)
+            device.changes = [f"was at {before}" if before else "new"]
 
 
-def _changed_objects(device: Device, known: Known) -> Iterator[str]:
-    """Only what was read now is compared."""
-    now = {it.which: it for it in device.objects}
-    for which in known.objects:
-        if device.listed is not None and which not in device.listed:
-            yield f"gone: {_told(which, known.objects[which][0])}"
-    for which, it in now.items():
-        if which not in known.objects:
-            yield f"new: {_told(which, it.name)}"
-        elif not it.reasons:
-            yield from _changed(which, it, *known.objects[which])
+def _changes(device: Device, known: Known, bounds: Bounds) -> Iterator[str]:
+    """Yields what has changed, of what both surveys have."""
+    if device.is_named or known.is_named:
+        return
+    for name, before in known.texts.items():
+        text = device.texts[name]
+        if text != before and (text or device.is_whole):
+            yield f"{name} was {before or 'none'}"
+    if bounds.devices:
+        return
+    now = {it.object_id: it for it in device.objects}
+    for object_id, facts in known.objects.items():
+        told = f"{object_id} {facts['name']}".rstrip()
+        if device.listed is not None and object_id not in device.listed:
+            yield f"gone: {told}"
+        elif bounds.held and known.is_held and object_id not in now and device.is_whole:
+            yield f"has the value of its program: {told}"
+    for object_id, it in now.items():
+        told = f"{object_id} {it.name}".rstrip()
+        if object_id in known.objects and not it.reasons:
+            yield from _changed(it, known.objects[object_id], bounds, told)
+        elif object_id in known.objects or not known.is_whole:
+            continue
+        elif not known.is_held:
+            yield f"new: {told}"
+        elif bounds.held:
+            yield f"no longer has the value of its program: {told}"
 
 
-def _changed(which: Which, now: SiteObject, name: str, unit: str) -> Iterator[str]:
-    for what, text, before in (("name", now.name, name), ("unit", now.unit, unit)):
-        if text != before:
-            yield f"{what} of {_told(which, now.name)} was {before or 'none'}"
+def _changed(
+    it: SiteObject, before: Mapping[str, str], bounds: Bounds, told: str
+) -> Iterator[str]:
+    now = {"name": it.name, "unit": it.unit}
+    now.update({"priority": it.held} if bounds.held else {})
+    now.update({"description": it.description, **it.settings} if bounds.details else {})
+    for name, text in now.items():
+        if text != before.get(name, text):
+            yield f"{name} of {told} was {before[name] or 'none'}"
 
 
-def _told(which: Which, name: str) -> str:
-    return f"{which} {name}".rstrip()
-
-
-def earlier_of(path: str) -> Earlier:
-    """The survey in a file, as --json prints it."""
+def earlier_of(path: str, reuses: bool = False) -> Earlier:
+    """Reads the survey in a file, as --json prints it."""
     try:
         with opened(path) as file:
             lines = file.read().splitlines()
     except OSError as error:
         raise Failure(f"cannot read {path}: {error.strerror}", BROKEN) from error
     try:
-        return Earlier(dict(filter(None, map(_known_of, lines))))
+        return Earlier(dict(filter(None, map(_known_of, lines))), reuses)
     except (ValueError, KeyError, TypeError, AttributeError):
         raise wrong("no survey by --json: " + path) from None
 
 
-def _known_of(line: bytes) -> Optional[Tuple[str, Known]]:
-    """What a line of JSON says; nothing of a device that was silent."""
+def _known_of(line: bytes) -> tuple[str, Known] | None:
+    """Reads a line of JSON; returns None for a device that was silent. Earlier versions do not say
+    what they asked for."""
     told = json.loads(line)
-    address, instance = str(told["address"]), told["device"]
+    address, instance, asked_for = str(told["address"]), told["device"], told.get("asked_for", {})
     if instance is None:
         return None
-    objects = {
-        Which(int(it["type"]), int(it["instance"])): (str(it["name"]), str(it["unit"]))
-        for it in told["objects"]
-    }
-    texts = {what: str(told[what]) for what in ("name", "vendor", "model")}
-    return address, Known(int(instance), texts, str(told.get("revision", "")), objects)
+    texts = {name: str(told[name]) for name in TEXTS if name in told or name == "name"}
+    lacks = [str(it) for it in told.get("reasons", [])]
+    is_cut = any(it.startswith("object-list: ") or it.endswith("not asked") for it in lacks)
+    return address, Known(
+        int(instance),
+        texts,
+        str(told.get("revision", "")),
+        {ObjectId(int(it["type"]), int(it["instance"])): _facts(it) for it in told["objects"]},
+        is_named=bool(asked_for.get("name_only", False)),
+        is_held=bool(asked_for.get("held", False)),
+        is_whole=not (is_cut or asked_for.get("devices", not told["objects"])),
+    )
+
+
+def _facts(told: Mapping[str, Any]) -> dict[str, str]:
+    """Returns the facts of an object that are compared, as far as that survey asked for it."""
+    found = {"name": told["name"], "unit": told["unit"]}
+    found.update({"priority": told["held"]} if "held" in told else {})
+    found.update({"description": told["description"]} if "description" in told else {})
+    found.update(told.get("settings", {}))
+    return {str(name): str(it) for name, it in found.items()}

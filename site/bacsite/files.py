@@ -1,15 +1,31 @@
-"""Files that are read, and those that are written as a whole or stay as they were."""
+"""Files that are read, that are replaced as a whole, and that grow by lines; and journals: scripts
+for bactrace of what each bacrun prints."""
 
 from __future__ import annotations
 
+import csv
+import fcntl
+import io
 import os
+import pkgutil
+import re
 import signal
 import stat
 import sys
 import tempfile
-from typing import BinaryIO, Iterable
+from collections import deque
+from contextlib import suppress
+from typing import BinaryIO, Iterable, Iterator
 
-from .failures import BROKEN, SIGNALS, Failure
+from .output import BROKEN, SIGNALS, Failure, wrong
+
+MOST_JOURNAL = 4 << 20  # octets of a journal, after which another one is begun
+MOST_KEPT, BLOCK = 100_000, 65536  # lines that wait for the disk; octets that are looked through
+
+
+def content_of(name: str) -> str:
+    """Returns the text of a file of this package."""
+    return (pkgutil.get_data(__name__, name) or b"").decode()
 
 
 def opened(path: str) -> BinaryIO:
@@ -29,7 +45,7 @@ def is_replaceable(path: str) -> bool:
 def replace_file(path: str, parts: Iterable[str], for_all: bool = False) -> None:
     """Replaces a file as a whole, or leaves it as it was. A signal waits until that is done.
 
-    Who may read it stays as it was. Of a new one the umask says that, unless it is for all.
+    An existing file keeps its permissions. The umask sets those of a new one, unless it is for all.
     """
     mask = signal.pthread_sigmask(signal.SIG_BLOCK, SIGNALS)
     try:
@@ -40,17 +56,13 @@ def replace_file(path: str, parts: Iterable[str], for_all: bool = False) -> None
         signal.pthread_sigmask(signal.SIG_SETMASK, mask)
 
 
-def _mode_of(path: str, for_all: bool) -> int:
-    if os.path.exists(path):
-        return stat.S_IMODE(os.stat(path).st_mode)
-    mask = os.umask(0)
-    os.umask(mask)
-    return 0o644 if for_all else 0o666 & ~mask
-
-
 def _replace(path: str, parts: Iterable[str], for_all: bool) -> None:
     folder, name = os.path.split(path)
-    mode = _mode_of(path, for_all)
+    mask = os.umask(0)
+    os.umask(mask)
+    mode = 0o644 if for_all else 0o666 & ~mask
+    if os.path.exists(path):
+        mode = stat.S_IMODE(os.stat(path).st_mode)
     number, new = tempfile.mkstemp(prefix=name + ".", dir=folder or ".")
     try:
         with open(number, "w", encoding="utf-8") as file:
@@ -62,3 +74,126 @@ def _replace(path: str, parts: Iterable[str], for_all: bool) -> None:
     except BaseException:
         os.unlink(new)
         raise
+
+
+class Journals:
+    """The folder of them, if they are kept; and why one of them is not whole."""
+
+    def __init__(self, folder: str = "") -> None:
+        if folder and not os.path.isdir(folder):
+            raise Failure("no folder: " + folder, BROKEN)
+        self.folder, self.fault = folder, ""
+        self._latest: dict[str, int] = {}  # numbers of journals by their paths
+
+    def begun(self, address: str) -> Journal | None:
+        """One more, for a bacrun that asks this address, if they are kept."""
+        path = os.path.join(self.folder, re.sub("[:/]", "_", address))
+        number = self._latest.get(path, 0) + 1
+        while self.folder:
+            self._latest[path] = number
+            try:
+                return Journal(self, open(f"{path}-{number}.trace", "xb", buffering=0))
+            except FileExistsError:
+                number += 1
+            except OSError as error:
+                self.failed(path, error)
+                break
+        return None
+
+    def failed(self, path: str, error: OSError) -> None:
+        """Notes a fault, the first of them; what is asked goes on without the journal."""
+        self.fault = self.fault or f"cannot write {path}: {error.strerror}"
+
+
+class Journal:
+    """A journal. If it can't be written it ends, and its folder knows that."""
+
+    def __init__(self, journals: Journals, file: io.FileIO | None = None) -> None:
+        self._journals, self._file, self._size = journals, file, 0
+
+    @property
+    def is_full(self) -> bool:
+        """Whether another one is to be begun."""
+        return self._size >= MOST_JOURNAL
+
+    def add(self, line: str) -> None:
+        """Adds a line."""
+        octets = os.fsencode(line) + b"\n"
+        self._size += len(octets)
+        try:
+            while self._file and octets:
+                octets = octets[self._file.write(octets) or 0 :]
+        except OSError as error:
+            self._journals.failed(str(self._file and self._file.name), error)
+            self.close()
+
+    def close(self) -> None:
+        """Adds no more."""
+        if self._file:
+            with suppress(OSError):
+                self._file.close()
+        self._file = None
+
+
+class Rows:
+    """A file of CSV that grows by whole lines, whatever ends the program or fills the disk. No
+    other program of this kind has it open. What can't be written waits."""
+
+    def __init__(self, path: str, head: str) -> None:
+        self.path, self.fault, self.lost = path, "", 0
+        self._waiting: deque[bytes] = deque()
+        try:
+            self._file = os.open(path, os.O_RDWR | os.O_CREAT | os.O_APPEND, 0o666)
+            if not stat.S_ISREG(os.fstat(self._file).st_mode):
+                raise wrong("no plain file: " + path)
+            fcntl.flock(self._file, fcntl.LOCK_EX | fcntl.LOCK_NB)
+            octets = head.encode()
+            if not octets.startswith(os.pread(self._file, len(octets), 0)):
+                raise wrong("a file of something else: " + path)
+            self._end = self._whole(os.fstat(self._file).st_size)
+            os.ftruncate(self._file, self._end)
+        except BlockingIOError:
+            raise Failure("another program writes to " + path, BROKEN) from None
+        except OSError as error:
+            raise Failure(f"cannot write {path}: {error.strerror}", BROKEN) from error
+        if not self._end:
+            self.add([head])
+
+    def _whole(self, end: int) -> int:
+        """Returns the end of the last whole line: a loss of power may leave a part, or zeros."""
+        start = max(0, end - BLOCK)
+        found = os.pread(self._file, end - start, start).rfind(b"\n") + 1
+        return start + found if found or not start else self._whole(start)
+
+    def rows(self, most: int) -> Iterator[list[str]]:
+        """Yields the rows of the last so many octets."""
+        with open(self.path, "rb") as file:
+            file.seek(max(0, self._end - most))
+            if self._end > most:
+                file.readline()  # it may be a part of one
+            with io.TextIOWrapper(file, "utf-8", "replace", newline="") as text:
+                yield from csv.reader(text)
+
+    def add(self, lines: list[str]) -> None:
+        """Adds lines, and sees that they are on the disk; if not, the latest of them wait."""
+        self._waiting.extend(it.encode("utf-8", "backslashreplace") for it in lines)
+        while len(self._waiting) > MOST_KEPT:
+            self._waiting.popleft()
+            self.lost += 1
+        octets = b"".join(self._waiting)
+        try:
+            if not os.fstat(self._file).st_nlink:
+                raise OSError(0, "it was taken away")
+            if self.fault:
+                os.ftruncate(self._file, self._end)
+            at = 0
+            while at < len(octets):
+                at += os.write(self._file, octets[at:])
+            os.fsync(self._file)
+        except OSError as error:
+            self.fault = f"cannot write {self.path}: {error.strerror}"
+            with suppress(OSError):
+                os.ftruncate(self._file, self._end)
+            return
+        self.fault, self._end = "", self._end + len(octets)
+        self._waiting.clear()

@@ -7,10 +7,8 @@ import sys
 import traceback
 from contextlib import suppress
 
-from .commands import parsed
-from .display import clean
-from .failures import BROKEN, Failure
-from .output import put, show
+from .parsing import parsed
+from .output import BROKEN, Failure, clean, put, show
 
 UNKNOWN = 3  # to monitoring
 

@@ -1,20 +1,50 @@
-"""The headers of BACnet/IP: link, network and APDU (ANSI/ASHRAE 135: Annex J, 6, 20.1)."""
+"""The headers of BACnet/IP (ANSI/ASHRAE 135: Annex J, 6, 20.1), what routers say (6.4), and how an
+answer ends a request."""
 
 from __future__ import annotations
 
-from typing import NamedTuple, Optional, Tuple
+from typing import NamedTuple
+
+from .bodies import error_body, read_ack, region_text
+from .standard import DEVICE, THIS_DEVICE, PropertyRef
 
 FORWARDED, DISTRIBUTE, UNICAST, BROADCAST = 4, 9, 10, 11
 NETWORK_AT = {FORWARDED: 10, DISTRIBUTE: 4, UNICAST: 4, BROADCAST: 4}
 CONFIRMED, UNCONFIRMED, SIMPLE, COMPLEX, SEGMENT, ERROR, REJECT, ABORT = range(8)
 ANSWERS = (SIMPLE, COMPLEX, ERROR, REJECT, ABORT)
+READ, WRITE = 12, 15  # services
 TARGET, SOURCE, NETWORK_MESSAGE = 0x20, 0x08, 0x80  # bits of the network header
+
+I_AM_ROUTER, I_COULD_BE, REJECTED, BUSY, AVAILABLE = 1, 2, 3, 4, 5
+NETWORK_NAMES = {
+    0: "who-is-router-to-network",
+    I_AM_ROUTER: "i-am-router-to-network",
+    I_COULD_BE: "i-could-be-router-to-network",
+    REJECTED: "reject-message-to-network",
+    BUSY: "router-busy-to-network",
+    AVAILABLE: "router-available-to-network",
+    6: "initialize-routing-table",
+    7: "initialize-routing-table-ack",
+    8: "establish-connection-to-network",
+    9: "disconnect-connection-to-network",
+}
+LISTS = (0, I_AM_ROUTER, BUSY, AVAILABLE)  # messages that consist of network numbers
+FIRST = (I_COULD_BE, 8, 9)  # messages that begin with one network number
+REASONS = (  # of a Reject-Message-To-Network (clause 6.4.4), from 0
+    "another error",
+    "no route to that network",
+    "the router is busy",
+    "unknown network message",
+    "message too long for that network",
+    "security error",
+    "wrong length of the address",
+)
 
 
 class Datagram(NamedTuple):
     """A UDP datagram: nanoseconds since 1970, from and to whom as ADDRESS:PORT, its octets.
 
-    Of one that is cut a capture has kept the first octets alone.
+    If it is cut, a capture has kept only the first octets.
     """
 
     nanos: int
@@ -27,21 +57,44 @@ class Datagram(NamedTuple):
 class Apdu(NamedTuple):
     """An APDU: kind, first octet, invoke id, number of its part if it comes in parts, and the rest.
 
-    Of a Reject or an Abort, the reason stands in place of the service.
+    A Reject or an Abort has its reason in place of the service.
     """
 
     kind: int
     flags: int
     invoke: int
-    part: Optional[int]
+    part: int | None
     service: int
     body: bytes
     is_cut: bool = False
 
     @property
     def is_answer(self) -> bool:
-        """Whether it answers a request: an Abort only where it comes from who answers."""
+        """Whether it answers a request: an Abort does only if the server sends it."""
         return self.kind in ANSWERS and (self.kind != ABORT or bool(self.flags & 1))
+
+
+class NetworkMessage(NamedTuple):
+    """A message of a router: its kind, the networks that it names, and the reason of a Reject."""
+
+    kind: int
+    networks: tuple[int, ...] = ()
+    reason: int | None = None
+
+    @property
+    def words(self) -> str:
+        """The whole message in words."""
+        name = NETWORK_NAMES.get(self.kind, f"network message {self.kind}")
+        text = f"{name} {', '.join(map(str, self.networks))}".rstrip()
+        if self.reason is None:
+            return text
+        reason = dict(enumerate(REASONS)).get(self.reason, "unknown reason")
+        return f"{text}: {reason} ({self.reason})"
+
+    @property
+    def is_refusal(self) -> bool:
+        """Whether it says that nothing is passed on to these networks."""
+        return self.kind in (REJECTED, BUSY)
 
 
 class Message(NamedTuple):
@@ -53,9 +106,16 @@ class Message(NamedTuple):
     datagram: Datagram
     sender: str
     receiver: str
-    apdu: Optional[Apdu] = None
+    apdu: Apdu | None = None
     at: int = 0
     words: str = ""
+    network: NetworkMessage | None = None
+
+    @property
+    def is_fault(self) -> bool:
+        """Whether it is a refusal of a router, or (outside of a talk) an answer to nothing."""
+        refuses = self.network is not None and self.network.is_refusal
+        return refuses or (self.apdu is not None and self.apdu.is_answer)
 
     @property
     def nanos(self) -> int:
@@ -64,41 +124,41 @@ class Message(NamedTuple):
 
 
 def message_of(datagram: Datagram) -> Message:
-    """What is in a datagram of BACnet/IP."""
+    """Reads a datagram of BACnet/IP."""
     octets, function = datagram.octets, datagram.octets[1]
-    sender, at = datagram.sender, NETWORK_AT.get(function, 0)
-    plain = Message(datagram, sender, datagram.receiver)
+    at = NETWORK_AT.get(function, 0)
+    plain = Message(datagram, datagram.sender, datagram.receiver)
     if not at or len(octets) < at:
         return plain._replace(words=f"link function {function}")
     if function == FORWARDED:
         port = int.from_bytes(octets[8:10], "big")
-        sender = ".".join(map(str, octets[4:8])) + f":{port}"
+        plain = plain._replace(sender=".".join(map(str, octets[4:8])) + f":{port}")
     if octets[at : at + 1] != b"\1":
-        version = octets[at : at + 1].hex() or "missing"
-        return plain._replace(sender=sender, words="network version " + version)
-    return _network_message(plain._replace(sender=sender), at)
-
-
-def _network_message(plain: Message, at: int) -> Message:
-    """What is behind the network header that begins at a place."""
-    octets = plain.datagram.octets
+        return plain._replace(words=f"network version {octets[at : at + 1].hex() or 'missing'}")
     network = _network_of(octets, at + 1)
     if not network:
         return plain._replace(words="a network header that is cut")
     source, target, start = network
-    routed = plain._replace(sender=plain.sender + source, receiver=plain.receiver + target)
-    if octets[at + 1] & NETWORK_MESSAGE:
-        kind = str(octets[start]) if octets[start:] else "missing"
-        return routed._replace(words="network message " + kind)
-    apdu = apdu_of(octets[start:])
-    if not apdu:
-        why = "is cut" if plain.datagram.is_cut else "can't be read"
-        return routed._replace(words=f"an APDU that {why}: {octets[start:].hex() or 'none'}")
-    return routed._replace(apdu=apdu._replace(is_cut=plain.datagram.is_cut), at=start)
+    routed = Message(datagram, plain.sender + source, plain.receiver + target, at=start)
+    return _read_on(routed, is_network_message=bool(octets[at + 1] & NETWORK_MESSAGE))
 
 
-def _network_of(octets: bytes, at: int) -> Optional[Tuple[str, str, int]]:
-    """The routes of source and target, and where the header ends; nothing where it is cut."""
+def _read_on(routed: Message, is_network_message: bool) -> Message:
+    """Reads what follows the network header."""
+    octets, is_cut = routed.datagram.octets[routed.at :], routed.datagram.is_cut
+    if is_network_message:
+        found = network_message_of(octets)
+        words = found.words if found else "a network message that is cut"
+        return routed._replace(words=words, network=found)
+    apdu = apdu_of(octets, is_cut)
+    if apdu:
+        return routed._replace(apdu=apdu)
+    why = "is cut" if is_cut else "can't be read"
+    return routed._replace(words=f"an APDU that {why}: {octets.hex() or 'none'}")
+
+
+def _network_of(octets: bytes, at: int) -> tuple[str, str, int] | None:
+    """Returns the routes of source and target, and where the header ends; None if it is cut."""
     if len(octets) <= at:
         return None
     control, end, routes = octets[at], at + 1, {SOURCE: "", TARGET: ""}
@@ -115,19 +175,91 @@ def _network_of(octets: bytes, at: int) -> Optional[Tuple[str, str, int]]:
     return (routes[SOURCE], routes[TARGET], end) if end <= len(octets) else None
 
 
-def apdu_of(octets: bytes) -> Optional[Apdu]:
-    """An APDU, unless it can't be read."""
+def network_message_of(octets: bytes) -> NetworkMessage | None:
+    """Reads what follows the network header; returns None if it is cut."""
+    if not octets:
+        return None
+    kind, rest = octets[0], octets[1:]
+    if kind == REJECTED:
+        return NetworkMessage(kind, _numbers(rest[1:]), rest[0]) if len(rest) == 3 else None
+    if kind in LISTS:
+        return NetworkMessage(kind, _numbers(rest)) if len(rest) % 2 == 0 else None
+    if kind in FIRST:
+        return NetworkMessage(kind, _numbers(rest[:2])) if len(rest) >= 2 else None
+    return NetworkMessage(kind)
+
+
+def _numbers(octets: bytes) -> tuple[int, ...]:
+    return tuple(int.from_bytes(octets[at : at + 2], "big") for at in range(0, len(octets), 2))
+
+
+def apdu_of(octets: bytes, is_cut: bool = False) -> Apdu | None:
+    """Returns an APDU; None if it can't be read."""
     if not octets or octets[0] >> 4 > ABORT:
         return None
     kind, flags = octets[0] >> 4, octets[0] & 15
     if kind == SEGMENT:
-        return Apdu(kind, flags, octets[1] if octets[1:] else 0, None, 0, b"")
+        return Apdu(kind, flags, octets[1] if octets[1:] else 0, None, 0, b"", is_cut)
     if kind == UNCONFIRMED:
-        return Apdu(kind, flags, 0, None, octets[1], octets[2:]) if octets[1:] else None
+        return Apdu(kind, flags, 0, None, octets[1], octets[2:], is_cut) if octets[1:] else None
     at = 2 if kind == CONFIRMED else 1  # of the invoke id
     in_parts = kind in (CONFIRMED, COMPLEX) and bool(flags & 8)
     service = at + 3 if in_parts else at + 1
     if len(octets) <= service:
         return None
     part = octets[at + 1] if in_parts else None
-    return Apdu(kind, flags, octets[at], part, octets[service], octets[service + 1 :])
+    return Apdu(kind, flags, octets[at], part, octets[service], octets[service + 1 :], is_cut)
+
+
+def is_about(told: PropertyRef, asked: PropertyRef) -> bool:
+    """Returns whether an answer is about what was asked for. THIS_DEVICE stands for any device."""
+    is_own = asked.object_id == (DEVICE, THIS_DEVICE)
+    return told == (asked._replace(instance=told.instance) if is_own else asked)
+
+
+def outcome_of(apdu: Apdu) -> str:
+    """Returns how an answer ends a request, in the words of bactrace; `cut` if a capture lacks its
+    end."""
+    if apdu.kind == SIMPLE:
+        return "ok"
+    if apdu.kind in (REJECT, ABORT):
+        return f"{'reject' if apdu.kind == REJECT else 'abort'} {apdu.service}"
+    found = error_body(apdu.body) if apdu.kind == ERROR else None
+    if found:
+        return f"error {found[0]} {found[1]}"
+    if apdu.part is not None:
+        return "segmented"
+    if apdu.is_cut:
+        return "cut"
+    return "bad-error" if apdu.kind == ERROR else _acknowledged(apdu)
+
+
+def _acknowledged(apdu: Apdu) -> str:
+    if apdu.service not in (READ, WRITE):
+        return "answered"
+    body = read_ack(apdu.body)
+    return "bad-ack" if not body or body.value is None else "value " + region_text(body.value)
+
+
+class Refusals:
+    """What routers have said of networks. It is shown as a reason, and nothing else depends on it:
+    anyone can send such a message."""
+
+    def __init__(self) -> None:
+        self._said: dict[int, str] = {}  # by the networks; 0 stands for all
+
+    def heard(self, message: NetworkMessage) -> None:
+        """Notes a message."""
+        if message.kind in (I_AM_ROUTER, AVAILABLE):
+            for network in message.networks or list(self._said):
+                self._said.pop(network, None)
+        elif message.is_refusal:
+            self._said.update((it, message.words) for it in message.networks or (0,))
+
+    def of(self, network: int) -> str:
+        """Returns the latest refusal of a network, or of all networks; empty if there is none."""
+        return self._said.get(network, self._said.get(0, ""))
+
+    def lines(self) -> list[str]:
+        """Returns all refusals."""
+        return [self._said[it] for it in sorted(self._said)]

@@ -6,49 +6,52 @@ import base64
 import hashlib
 import html
 import ipaddress
-import pkgutil
 from collections import Counter
-from typing import Iterator, Optional, Sequence
+from typing import Any, Callable, Iterator, NamedTuple, Sequence
 
-from .device import Device, SiteObject
-from .display import clean
+from .device import TEXTS, Device, SiteObject
+from .output import clean, times
+from .files import content_of
 
 FLAGS = ("in-alarm", "fault", "overridden", "out-of-service")
-# The class of the cells of each column, and its head.
-OBJECT_HEADS = "id:Object type:Type name:Name value:Value flags:Flags reason:Missing".split()
-DEVICE_HEADS = (
-    "id:Address id:Instance name:Name words:Vendor words:Model count:Objects flags:Flags "
-    "reason:Missing"
-).split()
+ODD = ' data-odd="1"'
 TITLE = "Survey of BACnet/IP devices"
-PAGE, STYLE, SCRIPT = (
-    (pkgutil.get_data(__name__, "page." + kind) or b"").decode() for kind in ("html", "css", "js")
-)
+
+
+HEAD, BAR, STYLE, SCRIPT = map(content_of, ("page.html", "survey.html", "page.css", "page.js"))
 
 
 def safe(text: str) -> str:
-    """A text as it is to stand in the page: no markup, and nothing that steers."""
+    """Returns a text for the page: no markup, and no control characters."""
     return html.escape(clean(text))
 
 
 def _own(text: str) -> str:
-    """A text whose direction does not reach its surroundings."""
+    """Returns a text whose direction does not reach its surroundings."""
     return f"<bdi>{safe(text)}</bdi>" if text else ""
 
 
-def _soft(text: str) -> str:
-    return f' <span class="soft">{_own(text)}</span>' if text else ""
+def _span(name: str, inner: str) -> str:
+    return f' <span class="{name}">{inner}</span>' if inner else ""
 
 
-def _cell(name: str, inner: str, number: Optional[float] = None) -> str:
-    """A cell of a table, and by which number it is sorted, if by one."""
-    sorts = "" if number is None else f' data-n="{number!r}"'
-    return f'<td class="{name}"{sorts}>{inner}</td>'
+class Column(NamedTuple):
+    """A column of a table of devices or objects."""
+
+    name: str  # the class of its cells
+    head: str
+    inner: Callable[[int, Any], str]  # what its cell contains: of the n-th device, of an object
+    number: Callable[[Any], Any] = lambda _: None  # by what it is sorted, if by a number
+
+    def cell(self, at: int, it: object) -> str:
+        """Returns its cell of the device or object `it`, which is the `at`-th one."""
+        number = self.number(it)
+        sorts = "" if number is None else f' data-n="{number!r}"'
+        return f'<td class="{self.name}"{sorts}>{self.inner(at, it)}</td>'
 
 
-def _head(heads: Sequence[str]) -> str:
-    parts = [head.split(":") for head in heads]
-    cells = [f'<th scope="col" class="{name}">{words}</th>' for name, words in parts]
+def _head(columns: Sequence[Column]) -> str:
+    cells = [f'<th scope="col" class="{it.name}">{it.head}</th>' for it in columns]
     return f"<thead><tr>{''.join(cells)}</tr></thead>"
 
 
@@ -57,44 +60,50 @@ def _is_odd(site_object: SiteObject) -> bool:
 
 
 def _badge(flag: str, words: str) -> str:
-    name = f"badge {flag}" if flag in FLAGS else "badge"
-    return f'<span class="{name}">{safe(words)}</span>'
+    return _span(f"badge {flag}" if flag in FLAGS else "badge", safe(words))[1:]
 
 
-def _object_row(site_object: SiteObject) -> str:
-    kind, instance, value = (
-        site_object.object_type,
-        site_object.instance,
-        _own(site_object.value.text),
-    )
-    if site_object.meaning:
-        value += f' <span class="meaning">({_own(site_object.meaning)})</span>'
-    if site_object.unit:
-        value += f' <span class="unit">{safe(site_object.unit)}</span>'
-    if site_object.held:
-        value += f' <span class="soft">priority {safe(site_object.held)}</span>'
-    flags = [_badge(flag, flag) for flag in site_object.flags or ()]
-    cells = [
-        _cell("id", str(site_object.which), kind << 22 | instance),
-        _cell("type", safe(site_object.type_name)),
-        _cell("name", _own(site_object.name) + _soft(site_object.description)),
-        _cell("value", value, site_object.value.number),
-        _cell(
-            "flags", " ".join(flags) or f'<span class="soft">{safe(site_object.told_flags)}</span>'
-        ),
-        _cell("reason", safe("; ".join(site_object.reasons))),
-    ]
-    odd = ' data-odd="1"' if _is_odd(site_object) else ""
-    return f"<tr{odd}>{''.join(cells)}</tr>\n"
+def _value(it: SiteObject) -> str:
+    meaning = f"({_own(it.meaning)})" if it.meaning else ""
+    held = f"priority {safe(it.held)}" if it.held else ""
+    spans = _span("meaning", meaning) + _span("unit", safe(it.unit)) + _span("soft", held)
+    return _own(it.value.text) + spans
+
+
+def _object_flags(it: SiteObject) -> str:
+    flags = " ".join(_badge(flag, flag) for flag in it.flags or ())
+    return flags or f'<span class="soft">{safe(it.told_flags)}</span>'
+
+
+def _name(it: SiteObject) -> str:
+    more = [_span("soft", _own(text)) for text in (it.description, it.told_settings)]
+    return _own(it.told_name) + "".join(more)
+
+
+def _number(object_type: int, instance: int) -> int:
+    return object_type << 22 | instance
+
+
+OF_OBJECT = (
+    Column("id", "Object", lambda _, it: str(it.object_id), lambda it: _number(*it.object_id)),
+    Column("type", "Type", lambda _, it: safe(it.type_name)),
+    Column("name", "Name", lambda _, it: _name(it)),
+    Column("value", "Value", lambda _, it: _value(it), lambda it: it.value.number),
+    Column("flags", "Flags", lambda _, it: _object_flags(it)),
+    Column("reason", "Missing", lambda _, it: safe("; ".join(it.reasons))),
+)
+
+
+def _instance(device: Device) -> str:
+    return "" if device.instance is None else str(device.instance)
 
 
 def _section(at: int, device: Device) -> Iterator[str]:
-    """The part of a device."""
-    instance = "" if device.instance is None else str(device.instance)
-    reason = "; ".join(device.reasons)
-    head = [device.address, instance, device.name, device.vendor, device.model, reason]
+    """Yields the part of a device."""
+    instance, reason = _instance(device), "; ".join(device.reasons)
+    head = [device.address, instance, *device.texts.values(), reason]
     name = "device" if instance else "device silent"
-    odd = ' data-odd="1"' if reason or any(map(_is_odd, device.objects)) else ""
+    odd = ODD * bool(reason or any(map(_is_odd, device.objects)))
     title = device.name or (f"device {instance}" if instance else device.address)
     yield f'<section class="{name}" id="d{at}" data-head="{safe(" ".join(head))}"{odd}>\n'
     yield f"<h2>{_own(title)}</h2>\n<dl>{''.join(_facts(device))}</dl>\n"
@@ -103,88 +112,95 @@ def _section(at: int, device: Device) -> Iterator[str]:
     if device.changes:
         yield f'<p class="soft">since: {safe("; ".join(device.changes))}</p>\n'
     if device.objects:
-        yield f'<table class="objects">{_head(OBJECT_HEADS)}<tbody>\n'
-        yield from map(_object_row, device.objects)
+        yield f'<table class="objects">{_head(OF_OBJECT)}<tbody>\n'
+        for it in device.objects:
+            cells = "".join(column.cell(0, it) for column in OF_OBJECT)
+            yield f"<tr{ODD * _is_odd(it)}>{cells}</tr>\n"
         yield "</tbody></table>\n"
     yield "</section>\n"
 
 
 def _facts(device: Device) -> Iterator[str]:
     whole = sum(not it.reasons for it in device.objects)
-    facts = {
-        "address": safe(device.address),
-        "instance": "" if device.instance is None else str(device.instance),
-        "vendor": _own(device.vendor),
-        "model": _own(device.model),
-        "asked": safe(device.asked),
-        "objects": f"{len(device.objects)}, {whole} of them with all that was asked for",
-    }
+    facts = {"address": safe(device.address), "instance": _instance(device)}
+    for name, text in {**device.texts, **device.facts}.items():
+        if name != "name":
+            facts[name] = _own(text)
+    facts["asked"] = safe(device.asked)
+    if device.instance is not None:
+        facts["objects"] = f"{len(device.objects)}, {whole} of them with all that was asked for"
     for name, inner in facts.items():
-        if inner and (name != "objects" or device.instance is not None):
+        if inner:
             yield f"<div><dt>{name}</dt><dd>{inner}</dd></div>"
 
 
-def _device_row(at: int, device: Device) -> str:
-    """The row of a device, which leads to its part."""
-    count, lacking = len(device.objects), sum(bool(it.reasons) for it in device.objects)
+def _reasons(device: Device) -> str:
+    lacking = sum(bool(it.reasons) for it in device.objects)
     reasons = device.reasons + [f"something of {lacking} of its objects"] * (lacking > 0)
-    is_silent = device.instance is None
-    cells = [
-        f'<a href="#d{at}">{safe(device.address)}</a>',
-        "" if is_silent else str(device.instance),
-        _own(device.name),
-        _own(device.vendor),
-        _own(device.model),
-        "" if is_silent else str(count),
-        _flags(device),
-        safe("; ".join(reasons)),
-    ]
-    numbers = [
-        _address_number(device.address),
-        device.instance,
-        None,
-        None,
-        None,
-        count,
-        None,
-        None,
-    ]
-    names = [head.split(":")[0] for head in DEVICE_HEADS]
-    row = "".join(map(_cell, names, cells, numbers))
-    return f"<tr class=\"{'silent' if is_silent else 'heard'}\">{row}</tr>\n"
+    return safe("; ".join(reasons))
+
+
+def _of_text(text: str) -> Column:
+    name = "name" if text == "name" else "words"
+    return Column(name, text.replace("_", " ").capitalize(), lambda _, it: _own(it.texts[text]))
 
 
 def _flags(device: Device) -> str:
-    """How many objects of a device have which flag set."""
+    """Returns how many objects of a device have which flag set, those of the standard first."""
     counts = Counter(flag for it in device.objects for flag in it.flags or ())
-    known = [flag for flag in FLAGS if flag in counts]
-    others = sorted(flag for flag in counts if flag not in FLAGS)
-    return " ".join(_badge(flag, f"{counts[flag]} {flag}") for flag in known + others)
+    known = sorted(counts, key=lambda it: (FLAGS.index(it) if it in FLAGS else len(FLAGS), it))
+    return " ".join(_badge(flag, f"{counts[flag]} {flag}") for flag in known)
 
 
 def _address_number(address: str) -> int:
-    """An address as a number, by which it is sorted; a station has that of its router."""
+    """Returns a number by which addresses are sorted; a station has that of its router."""
     host, _, port = address.partition("/")[0].partition(":")
     return int(ipaddress.IPv4Address(host)) << 16 | int(port)
 
 
+def _object_count(device: Device) -> str:
+    return "" if device.instance is None else str(len(device.objects))
+
+
+def _link(at: int, device: Device) -> str:
+    return f'<a href="#d{at}">{safe(device.address)}</a>'
+
+
+OF_DEVICE = (
+    Column("id", "Address", _link, lambda it: _address_number(it.address)),
+    Column("id", "Instance", lambda _, it: _instance(it), lambda it: it.instance),
+    *map(_of_text, TEXTS),
+    Column("count", "Objects", lambda _, it: _object_count(it), lambda it: len(it.objects)),
+    Column("flags", "Flags", lambda _, it: _flags(it)),
+    Column("reason", "Missing", lambda _, it: _reasons(it)),
+)
+
+
 def hash_of(text: str) -> str:
-    """How a Content-Security-Policy names a text."""
+    """Returns the name of a text in a Content-Security-Policy."""
     return f"'sha256-{base64.b64encode(hashlib.sha256(text.encode()).digest()).decode()}'"
 
 
+def page_begins(title: str, style: str, script: str) -> str:
+    """Returns the beginning of a page that loads nothing, and runs no other script."""
+    policy = f"default-src 'none'; style-src {hash_of(style)}; script-src {hash_of(script)}; "
+    policy += "base-uri 'none'; form-action 'none'"
+    return HEAD.format(title=title, style=style, policy=policy)
+
+
 def page_of(devices: Sequence[Device], made: str) -> Iterator[str]:
-    """The page, part by part. `made` is when the survey was made."""
+    """Yields the page, part by part. `made` is when the survey was made."""
     objects = [it for device in devices for it in device.objects]
     silent = sum(device.instance is None for device in devices)
-    counts = f"{len(devices)} devices, of which {silent} are silent; {len(objects)} objects, "
-    counts += f"of which {sum(map(_is_odd, objects))} have a flag set or something missing"
-    policy = f"default-src 'none'; style-src {hash_of(STYLE)}; script-src {hash_of(SCRIPT)}; "
-    policy += "base-uri 'none'; form-action 'none'"
-    more = {"policy": policy, "counts": counts, "objects": len(objects)}
-    yield PAGE.format(title=TITLE, style=STYLE, made=safe(made), **more)
-    yield f'<table class="devices">{_head(DEVICE_HEADS)}<tbody>\n'
-    yield from (_device_row(at, device) for at, device in enumerate(devices))
+    counts = f"{times(len(devices), 'device')}, {silent} of them silent; "
+    counts += f"{times(len(objects), 'object')}, {sum(map(_is_odd, objects))} of them with a flag "
+    counts += "set or something missing"
+    yield page_begins(TITLE, STYLE, SCRIPT)
+    yield BAR.format(made=safe(made), counts=counts, objects=len(objects))
+    yield f'<table class="devices">{_head(OF_DEVICE)}<tbody>\n'
+    for at, device in enumerate(devices):
+        cells = "".join(it.cell(at, device) for it in OF_DEVICE)
+        yield f"<tr class=\"{'silent' if device.instance is None else 'heard'}\">{cells}</tr>\n"
     yield "</tbody></table>\n"
     for at, device in enumerate(devices):
         yield from _section(at, device)

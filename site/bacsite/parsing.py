@@ -1,54 +1,82 @@
-"""What a command is to the words of the program, and what the words of several have in common."""
+"""The words of the program. Its commands, arguments and options are a table: commands.txt."""
 
 from __future__ import annotations
 
 import argparse
 import re
-from dataclasses import dataclass
-from typing import Callable, NoReturn, Optional, Sequence
+from importlib import import_module
+from typing import Any, Callable, Iterator, NamedTuple, NoReturn, Sequence
 
 from . import VERSION
-from .failures import WRONG_WORDS, Failure, wrong
-from .journals import Journals
-from .output import put
+from .files import Journals, content_of
+from .output import WRONG_WORDS, Failure, put, wrong
 
-CALLS_AT_ONCE = 32
-MARK = "\0"  # of a word that argparse is not to take for an option; no word has it
+POINT = "[INSTANCE@]ADDRESS [real|double|integer] TYPE INSTANCE PROPERTY [INDEX]"
+MARK = "\0"  # of a word that argparse must not accept as an option; no word has it
 SHORT = ("-h", "-V", "-H", "-w", "-c", "-t")  # the options of one letter
+UNITS_OF_TIME = {"s": 1, "m": 60, "h": 3600, "d": 86400}
+MOST_DURATION = 1000 * 86400  # seconds
 
 
-@dataclass(frozen=True)
-class Command:
-    """A command: what help says of it, its own words, and what it does.
+class Command(NamedTuple):
+    """A section of the table: what does it, its usual --at-once, what it does, and its lines."""
 
-    `work` gives the status. One that `asks` controllers has the options of that.
-    """
-
+    function: str  # of which module; it returns the status
+    at_once: str  # empty if it asks no controllers
     summary: str
-    arguments: Callable[[argparse.ArgumentParser], None]
-    work: Callable[[argparse.Namespace], int]
-    asks: bool = True
-    at_once: int = CALLS_AT_ONCE
+    lines: list[list[str]]  # names, value, kind and help
+
+    def work(self, words: argparse.Namespace) -> int:
+        """Does it. Only its module is loaded: monitoring starts the program again and again."""
+        module, _, name = self.function.rpartition(".")
+        function = getattr(import_module("." + module, __package__), name)
+        return int(function(words))
+
+
+def _sections(text: str) -> Iterator[tuple[str, Command]]:
+    for section in text.split("\n= ")[1:]:
+        head, summary, *lines = section.rstrip("\n").split("\n")
+        name, function, at_once = (it.strip() for it in head.split("|"))
+        cells = [[it.strip() for it in re.split(r" \|(?= |$)", line)] for line in lines]
+        yield name, Command(function, at_once, summary[2:], cells)
+
+
+TEXT = content_of("commands.txt")
+DESCRIPTION = re.sub("(?m)^#.*\n", "", TEXT).split("\n= ")[0].lstrip("\n")
+COMMANDS = dict(_sections(TEXT))
+PROGRAM, ASKING = COMMANDS.pop("program"), COMMANDS.pop("asking")
 
 
 class Parser(argparse.ArgumentParser):
     """A parser that writes and fails as the rest of the program does."""
 
-    def print_help(self, file: object = None) -> None:
-        put(self.format_help())
+    def take(self, command: Command) -> Parser:
+        """Adds the lines of a command, and returns the parser."""
+        either = None
+        for names, value, kind, told in command.lines:
+            taker: argparse._ActionsContainer = self
+            if kind == "either":
+                taker = either = either or self.add_mutually_exclusive_group()
+            taker.add_argument(*names.split(), **_argument(names, value, kind, told))
+        return self
+
+    def _print_message(self, message: str, file: object = None) -> None:
+        put(message)
 
     def error(self, message: str) -> NoReturn:
         raise wrong(f"{message.replace(MARK, '')}; see {self.prog} --help")
 
     def parsed(self, given: Sequence[str]) -> argparse.Namespace:
-        """The words, read; those that begin as negative numbers, as -10:5, are no options."""
+        """Reads words; those that begin as negative numbers, such as -10:5, are not options."""
         marked = [MARK + word if re.match(r"-\.?[0-9]", word) else word for word in given]
         try:
             words = self.parse_args(marked)
         except Failure as failure:
             if failure.status != WRONG_WORDS:
                 raise
-            raise wrong(f"{failure}{_hint(given)}") from None
+            odd = [it for it in given if re.match("-[^-]", it) and it[:2] not in SHORT]
+            hint = "" if "--" in given or not odd else f"; put a value like {odd[0]} after --"
+            raise wrong(f"{failure}{hint}") from None
         for name, it in vars(words).items():
             if isinstance(it, list):
                 setattr(words, name, [_unmarked(one) for one in it])
@@ -57,37 +85,12 @@ class Parser(argparse.ArgumentParser):
         return words
 
 
-class Version(argparse.Action):
-    """Prints the version, and ends the program."""
-
-    def __call__(
-        self,
-        parser: argparse.ArgumentParser,
-        namespace: argparse.Namespace,
-        values: object,
-        option_string: Optional[str] = None,
-    ) -> None:
-        put(f"bacsite {VERSION}\n")
-        parser.exit()
-
-
-def add_version(parser: argparse.ArgumentParser) -> None:
-    """The option that prints the version."""
-    parser.add_argument("-V", "--version", action=Version, nargs=0, help="print the version")
-
-
 def _unmarked(word: str) -> str:
     return word[1:] if word.startswith(MARK) else word
 
 
-def _hint(given: Sequence[str]) -> str:
-    """What is said where a value may have been taken for an option."""
-    odd = [it for it in given if re.match("-[^-]", it) and it[:2] not in SHORT]
-    return "" if "--" in given or not odd else f"; a value as {odd[0]} stands behind --"
-
-
 def within(least: int, most: int) -> Callable[[str], int]:
-    """A reader of whole numbers within limits."""
+    """Returns a reader of whole numbers within limits."""
 
     def reader(word: str) -> int:
         if not re.fullmatch("[0-9]{1,9}", word) or not least <= int(word) <= most:
@@ -97,33 +100,62 @@ def within(least: int, most: int) -> Callable[[str], int]:
     return reader
 
 
-def add_number(
-    parser: argparse.ArgumentParser, name: str, least: int, most: int, usual: int, what: str
-) -> None:
-    """An option that takes a whole number."""
-    told = f"{what}, {least} to {most}; {usual} where it is not given"
-    parser.add_argument(
-        "--" + name, metavar="N", type=within(least, most), default=usual, help=told
-    )
+def duration_of(word: str) -> float:
+    """Returns seconds, by a word such as 90, 90s, 10m, 8h, 1d or 1h30m."""
+    parts = re.findall(r"([0-9]{1,9}(?:\.[0-9]{1,9})?)([smhd]?)", word)
+    seconds = sum(float(number) * UNITS_OF_TIME[unit or "s"] for number, unit in parts)
+    if "".join(map("".join, parts)) != word or not 0 < seconds <= MOST_DURATION:
+        raise argparse.ArgumentTypeError(f"no duration, such as 90s, 10m, 8h or 1d: {word}")
+    return seconds
 
 
-def _journals(word: str) -> Journals:
-    return Journals(_unmarked(word))
+KINDS: dict[str, dict[str, Any]] = {  # what argparse needs to know of each
+    "version": {"action": "version", "version": f"bacsite {VERSION}"},
+    "decimal": {"type": float},
+    "duration": {"type": duration_of},
+    "journals": {"type": lambda it: Journals(_unmarked(it)), "default": ""},
+    "text": {"default": ""},
+    "+": {"nargs": "+"},
+    "3": {"nargs": 3},
+}
 
 
-def asking_options(at_once: int) -> Parser:
-    """The options of all commands that ask controllers."""
-    parser = Parser(add_help=False)
-    parser.add_argument("--tools", metavar="FOLDER", help="where bactool is")
-    told = "milliseconds until a request is sent again or given up"
-    add_number(parser, "apdu-timeout", 1, 60000, 1000, told)
-    add_number(parser, "apdu-retries", 0, 9, 2, "how often it is sent again")
-    told = "how many controllers are asked at the same time"
-    add_number(parser, "at-once", 1, 256, at_once, told)
-    told = "how many requests one controller has at the same time"
-    add_number(parser, "window", 1, 64, 1, told)
-    told = "a folder for scripts of all that is sent and comes, for bactrace"
-    parser.add_argument(
-        "--journal", metavar="FOLDER", type=_journals, default=Journals(), help=told
-    )
-    return parser
+def _argument(names: str, value: str, kind: str, told: str) -> dict[str, Any]:
+    """Returns the arguments of argparse for a line of the table."""
+    found: dict[str, Any] = {"metavar": value} if value else {}
+    name, *rest = kind.split() or [""]
+    if rest and name.isdigit():
+        least, most = int(name), int(rest.pop(0))
+        found["type"] = within(least, most)
+        told += f", {least} to {most}; {rest[0]} by default" if rest else ""
+    elif name in KINDS:
+        found.update(KINDS[name])
+    elif "|" in name:
+        found["choices"] = name.split("|")
+        told = told.replace("CHOICES", ", ".join(found["choices"]))
+    elif names.startswith("-") and not value:
+        found["action"] = "store_true"
+    found.update({"default": rest[0]} if rest else {})
+    return {**found, "help": told.replace("POINT", POINT, 1) or None}
+
+
+def parser_of(given: Sequence[str]) -> Parser:
+    """Returns the parser of these words; that of all commands if they do not begin with one."""
+    form = argparse.RawDescriptionHelpFormatter
+    top = Parser(prog="bacsite", description=DESCRIPTION, formatter_class=form).take(PROGRAM)
+    commands = top.add_subparsers(dest="command", required=True, metavar="COMMAND")
+    for name in [given[0]] if given and given[0] in COMMANDS else COMMANDS:
+        it = COMMANDS[name]
+        told = f"It {it.summary}."
+        made = commands.add_parser(name, help=it.summary, description=told, allow_abbrev=False)
+        if it.at_once:
+            made.take(ASKING)
+        made.take(it).set_defaults(work=it.work)
+        if it.at_once:
+            made.set_defaults(at_once=int(it.at_once))
+    return top
+
+
+def parsed(given: Sequence[str]) -> argparse.Namespace:
+    """Reads the words of the program."""
+    return parser_of(given).parsed(given)

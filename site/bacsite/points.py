@@ -3,35 +3,35 @@
 from __future__ import annotations
 
 import difflib
-from typing import Dict, Iterable, List, NamedTuple, Optional, Sequence
+import re
+from collections import Counter
+from functools import partial
+from typing import Iterable, NamedTuple, Sequence
 
 from . import addresses
-from .display import clean
-from .failures import BROKEN, Failure, wrong
+from .output import BROKEN, Failure, clean, wrong
 from .files import opened
-from .standard import DOUBLE, INTEGERS, OBJECT_TYPES, PROPERTIES, REAL, Form, What
+from .parsing import POINT
+from .standard import DOUBLE, INTEGERS, OBJECT_TYPES, PROPERTIES, REAL, Form, PropertyRef
 
-POINT = "[INSTANCE@]ADDRESS [real|double|integer] TYPE INSTANCE PROPERTY [INDEX]"
 MOST_TYPE, MOST_INSTANCE, MOST_INDEX = 1023, 4194303, 4294967295
+WORD = re.compile(rb"[!-\xff]+")  # what can be a word of a line of a script
 # What a list may name in front of a type: a value of another one is a reason then.
 FORMS = {"integer": Form(INTEGERS), "real": Form((REAL,)), "double": Form((DOUBLE,))}
 
 
-NOWHERE = What(-1, -1, -1)  # of a point that can't be read
-
-
 class Point(NamedTuple):
-    """What is to be read. `fault` says why it can't be."""
+    """A point to read. `fault` says why it can't be read."""
 
     name: str
     address: str = ""
-    device: Optional[int] = None
-    what: What = NOWHERE
-    form: Optional[Form] = None
+    device: int | None = None
+    ref: PropertyRef = PropertyRef(-1, -1, -1)
+    form: Form | None = None
     fault: str = ""
 
 
-def number(word: str, what: str, most: int, names: Optional[Dict[int, str]] = None) -> int:
+def number(word: str, what: str, most: int, names: dict[int, str] | None = None) -> int:
     """A number, also by its name, in capital letters or small ones."""
     spelled = word.lower()
     for found, name in (names or {}).items():
@@ -50,24 +50,10 @@ def _hint(word: str, names: Iterable[str]) -> str:
     return "; perhaps " + " or ".join(near[:3]) if near else ""
 
 
-def object_type(word: str) -> int:
-    """The type of an object."""
-    return number(word, "object type", MOST_TYPE, OBJECT_TYPES)
-
-
-def instance(word: str) -> int:
-    """The instance of an object."""
-    return number(word, "instance", MOST_INSTANCE)
-
-
-def property_number(word: str) -> int:
-    """The number of a property."""
-    return number(word, "property", MOST_INSTANCE, PROPERTIES)
-
-
-def index(word: str) -> int:
-    """The index of an element."""
-    return number(word, "index", MOST_INDEX)
+object_type = partial(number, what="object type", most=MOST_TYPE, names=OBJECT_TYPES)
+instance = partial(number, what="instance", most=MOST_INSTANCE)
+property_number = partial(number, what="property", most=MOST_INSTANCE, names=PROPERTIES)
+index = partial(number, what="index", most=MOST_INDEX)
 
 
 def point_of(name: str, words: Sequence[str]) -> Point:
@@ -78,31 +64,44 @@ def point_of(name: str, words: Sequence[str]) -> Point:
         raise wrong("wanted: " + POINT)
     device, where = addresses.one(words[0])
     readers = (object_type, instance, property_number, index)
-    what = What(*(reader(word) for reader, word in zip(readers, rest)))
-    return Point(name, where, device, what, FORMS.get(words[1]) if has_form else None)
+    ref = PropertyRef(*(reader(word) for reader, word in zip(readers, rest)))
+    return Point(name, where, device, ref, FORMS.get(words[1]) if has_form else None)
 
 
-def points_of(path: str) -> List[Point]:
+def points_of(path: str) -> list[Point]:
     """The points of a list; of a line that is wrong one with a fault. `-` is standard input."""
     points = []
     for line in text_of(path).split("\n"):
         words = line.split()
         if words and not words[0].startswith("#"):
-            points.append(_point_of_line(clean(words[0]), words[1:]))
+            name = clean(words[0])
+            try:
+                points.append(point_of(name, words[1:]))
+            except Failure as failure:
+                points.append(Point(name, fault=str(failure)))
     if not points:
         raise wrong("no point in " + path)
     return points
 
 
-def _point_of_line(name: str, words: Sequence[str]) -> Point:
-    try:
-        return point_of(name, words)
-    except Failure as failure:
-        return Point(name, fault=str(failure))
+def by_address(points: Iterable[Point]) -> dict[str, list[Point]]:
+    """The points of each controller."""
+    groups: dict[str, list[Point]] = {}
+    for point in points:
+        groups.setdefault(point.address, []).append(point)
+    return groups
+
+
+def distinct(points: list[Point]) -> list[Point]:
+    """The points; it fails where two have one name."""
+    for name, count in Counter(it.name for it in points).items():
+        if count > 1:
+            raise wrong("two points have the name " + name)
+    return points
 
 
 def text_of(path: str) -> str:
-    """What a file has, or standard input for `-`."""
+    """Returns the text of a file, or of standard input for `-`."""
     try:
         with opened(path) as file:
             octets = file.read()

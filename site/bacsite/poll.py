@@ -1,125 +1,218 @@
-"""Points of many controllers are read, and printed as a table."""
+"""Points of many controllers are read: for a table, or for Prometheus; and what values mean."""
 
 from __future__ import annotations
 
 import argparse
-from typing import Dict, Iterator, List, NamedTuple, Sequence
+from functools import partial
+from typing import Iterator, NamedTuple, Sequence
 
-from .calls import Calls
 from .controller import Controller
-from .display import stamp
-from .failures import MISSING
-from .output import put
-from .parsing import Command
-from .points import POINT, Point, points_of
-from .processes import FOREVER
+from .files import is_replaceable, replace_file
+from .output import MISSING, put, stamp, wrong
+from .points import Point, by_address, distinct, points_of
 from .reasons import Why
-from .standard import PRESENT_VALUE, STATUS_FLAGS
-from .values import NOTHING, Value, fault, flags_of
-from .workers import side_by_side
+from .standard import OBJECT_NAME, PRESENT_VALUE, RELINQUISH_DEFAULT, STATUS_FLAGS, UNITS
+from .standard import PropertyRef, may_have_unit
+from .tools import FOREVER, Tools, side_by_side
+from .values import NOTHING, Kind, Value, fault, flags_of, state_of
+
+NOT_UP = ("fault", "out-of-service")
+
+
+class Wanted(NamedTuple):
+    """Properties to ask for with the values of points: status flags, and the texts of states."""
+
+    flags: bool = False
+    texts: bool = False
 
 
 class Reading(NamedTuple):
-    """The value of a point, and when it came. The flags are nothing where nobody looked at them."""
+    """The value of a point, and when it was asked for. The flags are nothing if nobody looked at
+    them, and so is the device's own text of a state."""
 
     point: Point
     value: Value
     at: str
     flags: Value = NOTHING
+    text: str = ""
+
+    @property
+    def missing(self) -> str:
+        """Why there is no good value: there is none, or the object says that it has a fault."""
+        if not self.value.fault and "fault" in self.flags.bits:
+            return "fault: " + self.shown
+        return self.value.fault
+
+    @property
+    def shown(self) -> str:
+        """The value; a state with the device's own text, if there is one."""
+        return self.value.shown() if not self.text else f"{self.value.text} ({self.text})"
+
+    @property
+    def told_flags(self) -> str:
+        """The flags that are set, or why they are not known."""
+        if self.flags.fault:
+            return "status-flags: " + self.flags.fault
+        return self.flags.text if self.flags.bits else ""
+
+    @property
+    def is_up(self) -> bool:
+        """Whether the point has a value which the device stands for."""
+        missing = self.value.fault or self.flags.fault
+        return not (missing or any(flag in NOT_UP for flag in self.flags.bits))
 
 
 def polled(
-    calls: Calls, points: Sequence[Point], with_flags: bool = False, deadline: float = FOREVER
-) -> Iterator[List[Reading]]:
-    """The points of each controller, as the controllers are ready."""
-    groups: Dict[str, List[Point]] = {}
-    for point in points:
-        groups.setdefault(point.address, []).append(point)
-    jobs = [
-        lambda group=group: _readings(calls, group, with_flags, deadline)
-        for group in groups.values()
-    ]
-    return side_by_side(calls, jobs)
+    tools: Tools, points: Sequence[Point], wanted: Wanted = Wanted(), deadline: float = FOREVER
+) -> Iterator[list[Reading]]:
+    """Reads the points of each controller; yields these as the controllers are ready."""
+
+    def readings(group: Sequence[Point]) -> list[Reading]:
+        with Controller(tools, group[0].address, deadline) as controller:
+            parts = controller.parts(group)
+            return [it for part in parts for it in readings_of(controller, part, wanted)]
+
+    return side_by_side(tools, [partial(readings, it) for it in by_address(points).values()])
 
 
-def in_order(points: Sequence[Point], groups: Iterator[List[Reading]]) -> List[Reading]:
-    """All of them, in the order of the list."""
+def in_order(points: Sequence[Point], groups: Iterator[list[Reading]]) -> list[Reading]:
+    """Returns all of them, in the order of the list."""
     places = {id(point): at for at, point in enumerate(points)}
     readings = [reading for group in groups for reading in group]
     return sorted(readings, key=lambda reading: places[id(reading.point)])
 
 
-def _readings(
-    calls: Calls, points: Sequence[Point], with_flags: bool, deadline: float
-) -> List[Reading]:
-    with Controller(calls, points[0].address, deadline) as controller:
-        parts = controller.parts(points)
-        return [it for part in parts for it in readings_of(controller, part, with_flags)]
+def reading_of(controller: Controller, point: Point, wanted: Wanted) -> Reading:
+    """Reads a point; if it is a present value, also flags and the text of its state, if wanted."""
+    return readings_of(controller, [point], wanted)[0]
 
 
-def reading_of(controller: Controller, point: Point, with_flags: bool) -> Reading:
-    """The value of a point, and where that is a present value its flags, if they are wanted."""
-    return readings_of(controller, [point], with_flags)[0]
-
-
-def readings_of(controller: Controller, points: Sequence[Point], with_flags: bool) -> List[Reading]:
-    """The same of several points."""
-    reasons = [it.fault or _other_device(controller, it) for it in points]
+def readings_of(controller: Controller, points: Sequence[Point], wanted: Wanted) -> list[Reading]:
+    """Reads several points, each like `reading_of`."""
+    reasons = [it.fault or controller.other_than(it.device) for it in points]
     asked = [point for point, reason in zip(points, reasons) if not reason]
-    found = iter(controller.values([it.what for it in asked], [it.form for it in asked]))
+    at = stamp()
+    found = iter(controller.values([it.ref for it in asked], [it.form for it in asked]))
     values = [fault(reason) if reason else next(found) for reason in reasons]
-    flagged = [
-        point.what
+    present = {
+        point.ref: value
         for point, value in zip(points, values)
-        if with_flags and not value.fault and point.what == point.what.other(PRESENT_VALUE)
-    ]
-    asked_flags = controller.values([it.other(STATUS_FLAGS) for it in flagged])
-    flags, at = dict(zip(flagged, map(flags_of, asked_flags))), stamp()
-    none = [what for what, found in flags.items() if found.why is Why.NO_PROPERTY]
-    flags.update((what, NOTHING) for what in none)
+        if not value.fault and point.ref == point.ref.other(PRESENT_VALUE)
+    }
+    flags: dict[object, Value] = {}
+    if wanted.flags:
+        read = controller.values([it.other(STATUS_FLAGS) for it in present])
+        for ref, value in zip(present, map(flags_of, read)):
+            flags[ref] = NOTHING if value.why is Why.NO_PROPERTY else value
+    states = [(ref, it) for ref, value in present.items() for it in state_of(ref.object_id, value)]
+    states = states if wanted.texts else []
+    read = controller.values([it for _, it in states])
+    texts = {ref: it.text for (ref, _), it in zip(states, read) if it.kind is Kind.TEXT}
     return [
-        Reading(point, value, at, NOTHING if value.fault else flags.get(point.what, NOTHING))
+        Reading(point, value, at, flags.get(point.ref, NOTHING), texts.get(point.ref, ""))
+        if not value.fault
+        else Reading(point, value, at)
         for point, value in zip(points, values)
     ]
-
-
-def _other_device(controller: Controller, point: Point) -> str:
-    return "" if point.device is None else controller.identify(point.device)
 
 
 def row_of(reading: Reading) -> str:
-    """Time, point, value, and why that is missing, with tabs between."""
-    value = "-" if reading.value.fault else reading.value.text or "-"
-    return "\t".join([reading.at, reading.point.name, value, reading.value.fault or "-"]) + "\n"
+    """Returns time, point, value, why there is no good one, flags, and the text of a state."""
+    value = "" if reading.missing else reading.value.text
+    cells = [value, reading.missing, reading.told_flags, reading.text]
+    return "\t".join([reading.at, reading.point.name, *(it or "-" for it in cells)]) + "\n"
 
 
-def arguments(parser: argparse.ArgumentParser) -> None:
-    """The words of poll."""
-    add_list(parser)
-    parser.add_argument(
-        "--sorted", action="store_true", help="in the order of the list, not as controllers answer"
-    )
-
-
-def add_list(parser: argparse.ArgumentParser) -> None:
-    """The list that a command reads."""
-    parser.add_argument(
-        "list", help="a file, a pipe, or - for standard input; a line of it: POINT " + POINT
-    )
-
-
-def work(words: argparse.Namespace) -> int:
+def poll(words: argparse.Namespace) -> int:
     """Prints the points of a list."""
     points, missing = points_of(words.list), False
-    groups = polled(Calls.of(words), points)
+    groups = polled(Tools.of(words), points, Wanted(flags=not words.no_flags, texts=True))
     for group in [in_order(points, groups)] if words.sorted else groups:
-        missing = missing or any(reading.value.fault for reading in group)
+        missing = missing or any(reading.missing for reading in group)
         put("".join(map(row_of, group)))
     return MISSING if missing else 0
 
 
-COMMAND = Command(
-    "prints the points of a list, with tabs between: time, point, value, and why that is missing",
-    arguments,
-    work,
-)
+def metrics_of(readings: Sequence[Reading]) -> str:
+    """Returns the text file for the textfile collector of node_exporter."""
+    up_help = "Whether the point has a value, and neither a fault nor is out of service."
+    ups = [_sample("bacnet_up", it, str(int(it.is_up))) for it in readings]
+    numbers = [it for it in readings if it.value.kind is Kind.NUMBER and not it.missing]
+    values = [_sample("bacnet_value", it, it.value.text) for it in numbers]
+    flags = [_sample("bacnet_flag", it, "1", flag) for it in readings for flag in it.flags.bits]
+    text = _gauge("bacnet_up", up_help, ups)
+    text += _gauge("bacnet_value", "The value of the point.", values)
+    flag_help = "1 for each status flag of the point that is set."
+    return text + (_gauge("bacnet_flag", flag_help, flags) if flags else "")
+
+
+def _gauge(name: str, told: str, samples: Sequence[str]) -> str:
+    return f"# HELP {name} {told}\n# TYPE {name} gauge\n" + "".join(samples)
+
+
+def _sample(name: str, reading: Reading, value: str, flag: str = "") -> str:
+    point = reading.point
+    device = "" if point.device is None else str(point.device)
+    labels = {"point": point.name, "address": point.address, "device": device, "flag": flag}
+    quoted = {it: text.replace("\\", "\\\\").replace('"', '\\"') for it, text in labels.items()}
+    told = ",".join(f'{it}="{text}"' for it, text in quoted.items() if text)
+    return f"{name}{{{told}}} {value}\n"
+
+
+def prometheus(words: argparse.Namespace) -> int:
+    """Writes what a poll finds."""
+    points = points_of(words.list)
+    if not words.file.endswith(".prom") or not is_replaceable(words.file):
+        raise wrong("no plain file whose name ends in .prom: " + words.file)
+    distinct(points)
+    groups = polled(Tools.of(words), points, Wanted(flags=not words.no_flags))
+    readings = in_order(points, groups)
+    replace_file(words.file, [metrics_of(readings)], for_all=True)
+    return 0 if all(it.is_up for it in readings) else MISSING
+
+
+class Meaning(NamedTuple):
+    """What a device says of a value; each text is empty if it says nothing."""
+
+    name: str = ""  # of the object
+    unit: str = ""
+    state: str = ""
+
+
+class Meanings:
+    """Names, units and texts of states of one controller, each asked for once."""
+
+    def __init__(self, controller: Controller) -> None:
+        self._controller = controller
+        self.known: dict[PropertyRef, str] = {}
+
+    def of(self, values: Sequence[tuple[PropertyRef, Value]]) -> list[Meaning]:
+        """Returns the meaning of each value. A text that did not come is asked for next time."""
+        wanted = [it for ref, value in values if not value.fault for it in _texts_of(ref, value)]
+        refs = [it for it in dict.fromkeys(wanted) if it not in self.known]
+        for ref, found in zip(refs, self._controller.values(refs)):
+            if not found.fault:
+                self.known[ref] = found.named
+            elif not (found.why.is_gone or found.why.is_for_now):
+                self.known[ref] = ""  # it has none
+        return [self._meaning(*it) for it in values]
+
+    def _meaning(self, ref: PropertyRef, value: Value) -> Meaning:
+        name, *more = [self.known.get(it, "") for it in _texts_of(ref, value)]
+        unit = more.pop(0) if _has_unit(ref) else ""
+        return Meaning(name, unit, "".join(more) or value.meaning)
+
+
+def _texts_of(ref: PropertyRef, value: Value) -> list[PropertyRef]:
+    """Returns the properties that say what this value means: name, unit, and text of a state."""
+    units = [ref.other(UNITS)] if _has_unit(ref) else []
+    states = state_of(ref.object_id, value) if _is_value(ref) else []
+    return [ref.other(OBJECT_NAME), *units, *states]
+
+
+def _is_value(ref: PropertyRef) -> bool:
+    return ref.number in (PRESENT_VALUE, RELINQUISH_DEFAULT) and ref.element is None
+
+
+def _has_unit(ref: PropertyRef) -> bool:
+    return _is_value(ref) and may_have_unit(ref.object_type)

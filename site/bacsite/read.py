@@ -3,99 +3,68 @@
 from __future__ import annotations
 
 import argparse
-from typing import Dict, List
 
 from .bodies import elements_of
-from .calls import Calls
+from .tools import Tools, alone
 from .controller import Controller
-from .failures import MISSING
-from .output import put
-from .parsing import Command, add_number
-from .points import MOST_INSTANCE, POINT, Point, point_of
-from .poll import reading_of
+from .output import MISSING, put
+from .points import MOST_INSTANCE, Point, point_of
+from .poll import Wanted, reading_of
 from .reasons import Why
-from .standard import (
-    INTEGERS,
-    OBJECT_ID,
-    OBJECT_NAME,
-    OBJECT_TYPE,
-    PROPERTIES,
-    PROPERTY_LIST,
-    Which,
-)
+from .standard import INTEGERS, OBJECT_ID, OBJECT_NAME, OBJECT_TYPE, PROPERTIES, PROPERTY_LIST
+from .standard import ObjectId
 from .values import Value, fault
-from .workers import alone
-
-
-def read_arguments(parser: argparse.ArgumentParser) -> None:
-    """The words of read."""
-    parser.add_argument("words", nargs="+", metavar="WORD", help=POINT)
 
 
 def read(words: argparse.Namespace) -> int:
     """Prints the value of a point, or why there is none."""
-    point, calls = point_of("", words.words), Calls.of(words)
-    with Controller(calls, point.address) as controller:
-        value = alone(calls, lambda: reading_of(controller, point, with_flags=False)).value
-    put(value.shown() + "\n")
-    return MISSING if value.fault else 0
-
-
-def properties_arguments(parser: argparse.ArgumentParser) -> None:
-    """The words of properties."""
-    told = "[INSTANCE@]ADDRESS TYPE INSTANCE"
-    parser.add_argument("words", nargs=3, metavar="WORD", help=told)
-    told = "up to which number it asks where there is no property-list"
-    add_number(parser, "last", 0, 4194303, 512, told)
+    point, tools = point_of("", words.words), Tools.of(words)
+    with Controller(tools, point.address) as controller:
+        wanted = Wanted(flags=not words.no_flags, texts=True)
+        found = alone(tools, lambda: reading_of(controller, point, wanted))
+    put((found.missing or ", ".join(filter(None, [found.shown, found.told_flags]))) + "\n")
+    return MISSING if found.missing else 0
 
 
 def properties(words: argparse.Namespace) -> int:
     """Prints the properties that an object has."""
-    point, calls = point_of("", [*words.words, "present-value"]), Calls.of(words)
-    with Controller(calls, point.address) as controller:
-        values = alone(calls, lambda: _values(controller, point, words.last))
-    shown = {
-        number: value
-        for number, value in values.items()
-        if value.why not in (Why.NO_PROPERTY, Why.NOT_ASKED)
-    }
-    for number, value in shown.items():
-        put(f'{number} {PROPERTIES.get(number, "-")} {value.shown()}\n')
+    point, tools = point_of("", [*words.words, "present-value"]), Tools.of(words)
+    with Controller(tools, point.address) as controller:
+        values = alone(tools, lambda: _values(controller, point, words.last))
     left = sum(value.why is Why.NOT_ASKED for value in values.values())
+    none = (Why.NO_PROPERTY, Why.NOT_ASKED)
+    shown = {at: value for at, value in values.items() if value.why not in none}
+    for at, value in shown.items():
+        put(f'{at} {PROPERTIES.get(at, "-")} {value.shown()}\n')
     if left:
         put(f"{left} of {len(values)} properties not asked\n")
     return MISSING if left or not shown or any(it.fault for it in shown.values()) else 0
 
 
-def _values(controller: Controller, point: Point, last: int) -> Dict[int, Value]:
-    """The values by the numbers of the properties, the name alone where it is the wrong object."""
-    which = point.what.which
-    reason = "" if point.device is None else controller.identify(point.device)
-    name = fault(reason) if reason else controller.value(which.what(OBJECT_NAME))
-    if name.why not in (Why.NONE, Why.NO_PROPERTY):
-        return {OBJECT_NAME: name}
+def _values(controller: Controller, point: Point, last: int) -> dict[int, Value]:
+    """Returns the values by the numbers of the properties; only the name if the device or the
+    object is another one."""
+    object_id = point.ref.object_id
+    reason = controller.other_than(point.device)
+    name = fault(reason) if reason else controller.value(object_id.ref(OBJECT_NAME))
     values = {OBJECT_NAME: name}
-    numbers = [it for it in _numbers(controller, which, last) if it != OBJECT_NAME]
-    for part in controller.parts(numbers):
-        values.update(zip(part, controller.values([which.what(number) for number in part])))
-    return dict(sorted(values.items()))
+    if name.why not in (Why.NONE, Why.NO_PROPERTY):
+        return values
+    listed, refusal = _numbers(controller, object_id), ""
+    if listed is None:  # what no object has shows how the device refuses an unknown number
+        refusal = controller.value(object_id.ref(MOST_INSTANCE)).fault
+    numbers = listed if listed is not None else range(last + 1)
+    for part in controller.parts([it for it in numbers if it != OBJECT_NAME]):
+        values.update(zip(part, controller.values([object_id.ref(it) for it in part])))
+    found = {at: it for at, it in values.items() if not refusal or it.fault != refusal}
+    return dict(sorted(found.items()))
 
 
-def _numbers(controller: Controller, which: Which, last: int) -> List[int]:
-    """The numbers that are asked for: by the property-list, or all of them up to the last."""
-    answer = controller.read(which.what(PROPERTY_LIST))
+def _numbers(controller: Controller, object_id: ObjectId) -> list[int] | None:
+    """Returns the numbers of the property-list; None if there is no such list."""
+    answer = controller.read(object_id.ref(PROPERTY_LIST))
     listed = None if answer.reason else elements_of(answer.region)
     if listed is None or not all(it.kind in INTEGERS for it in listed):
-        return list(range(last + 1))
+        return None
     numbers = {it.number for it in listed if 0 <= it.number <= MOST_INSTANCE}
     return sorted({OBJECT_ID, OBJECT_NAME, OBJECT_TYPE, *numbers})
-
-
-READ_COMMAND = Command(
-    "prints the value of one property, or why there is none", read_arguments, read
-)
-PROPERTIES_COMMAND = Command(
-    "prints the properties that an object has: number, name and value",
-    properties_arguments,
-    properties,
-)

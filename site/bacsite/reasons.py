@@ -7,7 +7,7 @@ import re
 from functools import lru_cache
 
 TIMEOUT, NOT_ASKED, TOO_LATE = "timeout", "not asked", "not done in time"
-STRANGE = "an answer about another point"
+STRANGE, NO_INDEX = "an answer about another point", "an answer without its index"
 
 
 class Why(enum.Enum):
@@ -49,22 +49,22 @@ WORDS = {
     "abort 8": Why.BUSY,
     "abort 9": Why.BUSY,
     STRANGE: Why.STRANGE,
+    NO_INDEX: Why.STRANGE,
     "abort 1": Why.TOO_LONG,
     "abort 4": Why.TOO_LONG,
     "abort 11": Why.TOO_LONG,
     "segmented": Why.TOO_LONG,
 }
-SPELLED = {
-    r"error [0-9]+ 31": Why.NO_OBJECT,
-    r"error [0-9]+ 32": Why.NO_PROPERTY,
-    r"no number: .*": Why.NO_NUMBER,
-}
 
 
 @lru_cache(maxsize=1024)
 def why_of(reason: str) -> Why:
-    """What a reason says."""
-    if reason in WORDS:
-        return WORDS[reason]
-    found = [why for pattern, why in SPELLED.items() if re.fullmatch(pattern, reason)]
-    return found[0] if found else Why.OTHER
+    """Returns the kind of a reason."""
+    if reason.startswith("no number: "):
+        return Why.NO_NUMBER
+    if reason.startswith(TIMEOUT + " ("):  # followed by what a router or another address said
+        return Why.SILENT
+    code = re.fullmatch("error [0-9]+ (31|32)", reason)
+    if code:
+        return Why.NO_OBJECT if code[1] == "31" else Why.NO_PROPERTY
+    return WORDS.get(reason, Why.OTHER)

@@ -1,104 +1,92 @@
-"""A survey as lines for people, as CSV for a spreadsheet, or as JSON."""
+"""A survey as lines for people, as CSV for a spreadsheet, as JSON, or as a file for other tools."""
 
 from __future__ import annotations
 
 import argparse
-import csv
-import io
-import json
-import re
-from typing import Callable, Dict, List, NamedTuple, Sequence, Set, Tuple
+from operator import attrgetter
+from typing import Iterator, Mapping, NamedTuple, Sequence
 
 from . import addresses
-from .calls import Calls
-from .device import Bounds, Device, SiteObject
-from .display import stamp, table
+from .addresses import is_routed
+from .tools import Tools
+from .device import FACTS, TEXTS, Bounds, Device, SiteObject
+from .output import MISSING, csv_lines, json_line, put, show, stamp, table, times, wrong
 from .earlier import Earlier, earlier_of
-from .failures import MISSING, wrong
 from .files import is_replaceable, replace_file
-from .output import put, show
 from .page import page_of
-from .parsing import Command, add_number
+from .reasons import TIMEOUT
+from .standard import UNIT_NAMES, may_be_commanded
 from .survey import surveyed
 from .values import NOTHING
 
+OWN = 6  # the priority that no one else may write
 MISSES = "present-value: "  # so begins why there is none
+ASKED_FOR = ("devices", "held", "details", "objects", "deadline")
 
-FORMULA = re.compile(r"[=+\-@\t\r]")
-PLAIN_NUMBER = re.compile(r"-?[0-9.]+(e[-+]?[0-9]+)?")
+EDE_COLUMNS = """\
+# keyname;device obj.-instance;object-name;object-type;object-instance;description;\
+present-value-default;min-present-value;max-present-value;settable;supports COV;hi-limit;low-limit;\
+state-text-reference;unit-code;vendor-specific-addres;notification-class"""
+NEEDED = 5  # of these; the others are optional
+UNIT_NUMBERS = {name: str(number) for number, name in UNIT_NAMES.items()}
 
-# What is told of a device and of an object, by the names of the columns.
-OF_DEVICE: Dict[str, Callable[[Device], object]] = {
-    "address": lambda it: it.address,
-    "device": lambda it: it.instance,
-    "device_name": lambda it: it.name,
-    "vendor": lambda it: it.vendor,
-    "model": lambda it: it.model,
-}
-OF_OBJECT: Dict[str, Callable[[SiteObject], object]] = {
-    "type": lambda it: it.object_type,
-    "instance": lambda it: it.instance,
-    "type_name": lambda it: it.type_name,
-    "name": lambda it: it.name,
-    "value": lambda it: it.value.text,
-    "meaning": lambda it: it.meaning,
-    "unit": lambda it: it.unit,
-    "flags": lambda it: it.told_flags,
-    "held": lambda it: it.held,
-    "description": lambda it: it.description,
-    "event_state": lambda it: it.event_state,
-}
-OFTEN = tuple(OF_OBJECT)[:-3]  # the others stand there where they were asked for
+# The members of a device and of an object, by the names of the columns.
+OF_DEVICE = {"address": "address", "device": "instance"}
+OF_DEVICE.update({"device_name" if it == "name" else it: it for it in TEXTS})
+OF_OBJECT = {"type": "object_type", "instance": "instance", "type_name": "type_name"}
+OF_OBJECT.update(name="name", value="value.text", meaning="meaning", unit="unit")
+OF_OBJECT.update(flags="told_flags")
+OFTEN = tuple(OF_OBJECT)  # the others are there if they were asked for
+OF_OBJECT.update(held="held", description="description", event_state="event_state")
+OF_OBJECT.update(settings="told_settings", name_read="name_read")
+
+
+def _told(it: object, names: Mapping[str, str]) -> dict[str, object]:
+    """Returns the cells of a device or an object."""
+    return {name: attrgetter(attribute)(it) for name, attribute in names.items()}
 
 
 class Columns(NamedTuple):
     """Which columns there are beside those of every survey."""
 
-    objects: Tuple[str, ...] = ()
+    objects: tuple[str, ...] = ()
     changes: bool = False
+    facts: tuple[str, ...] = ()
+    bounds: Bounds = Bounds()
 
     @property
-    def names(self) -> List[str]:
-        """All of them, as CSV has them."""
-        return [*OF_DEVICE, *OFTEN, *self.objects, *["change"] * self.changes, "reason"]
+    def names(self) -> list[str]:
+        """All columns, in the order of CSV."""
+        more = [*self.facts, *OFTEN, *self.objects, *["change"] * self.changes]
+        return [*OF_DEVICE, *more, "reason"]
 
 
 def as_lines(device: Device, columns: Columns) -> str:
-    """A line of the device, and one of each object, in columns; below them what has changed."""
+    """Returns a line of the device, one of each object, in columns, and what has changed."""
     instance = "-" if device.instance is None else str(device.instance)
-    head = [device.address, "device " + instance, device.name, device.vendor, device.model]
+    head = [device.address, "device " + instance, *device.texts.values()]
     lines = ["  ".join(filter(None, [*head, "; ".join(device.reasons)]))]
+    if device.facts:
+        lines.append("  " + ", ".join(f"{it} {text}" for it, text in device.facts.items()))
     lines += ["  " + line for line in table([_cells(it, columns) for it in device.objects])]
     lines += ["  since: " + change for change in device.changes]
     return "".join(line + "\n" for line in lines)
 
 
-def _cells(site_object: SiteObject, columns: Columns) -> List[str]:
-    shown = (
-        f"{site_object.value.text} ({site_object.meaning})"
-        if site_object.meaning
-        else site_object.value.text
-    )
-    shown = " ".join(filter(None, [shown, site_object.unit])) if shown else ""
-    more = [str(OF_OBJECT[it](site_object)) for it in columns.objects]
-    told = [
-        str(site_object.which),
-        site_object.type_name,
-        site_object.name,
-        shown,
-        site_object.told_flags,
-        *more,
-    ]
-    return [*told, "; ".join(site_object.reasons)]
+def _cells(it: SiteObject, columns: Columns) -> list[str]:
+    shown = f"{it.value.text} ({it.meaning})" if it.meaning else it.value.text
+    value = f"{shown} {it.unit}".rstrip() if shown else ""
+    told = [str(it.object_id), it.type_name, it.told_name, value]
+    more = [str(attrgetter(OF_OBJECT[name])(it)) for name in columns.objects if name != "name_read"]
+    return [*told, it.told_flags, *more, "; ".join(it.reasons)]
 
 
 def as_csv(device: Device, columns: Columns) -> str:
-    """A row of each object; and one of the device alone where that has a reason, or no object."""
-    told = {name: of(device) for name, of in OF_DEVICE.items()}
-    rows: List[Dict[str, object]] = []
+    """Returns a row of each object, and one of the device if it has a reason, or no object."""
+    told = {**_told(device, OF_DEVICE), **device.facts}
+    rows: list[dict[str, object]] = []
     for it in device.objects:
-        of_object = {name: of(it) for name, of in OF_OBJECT.items()}
-        rows.append({**told, **of_object, "reason": "; ".join(it.reasons)})
+        rows.append({**told, **_told(it, OF_OBJECT), "reason": "; ".join(it.reasons)})
     if device.reasons or device.changes or not rows:
         own = {"reason": "; ".join(device.reasons), "change": "; ".join(device.changes)}
         rows.append({**told, **own})
@@ -106,41 +94,69 @@ def as_csv(device: Device, columns: Columns) -> str:
     return csv_lines([["" if it is None else str(it) for it in row] for row in cells])
 
 
-def csv_lines(rows: Sequence[Sequence[str]]) -> str:
-    """Rows of CSV, in which no cell is a formula to a spreadsheet."""
-    text = io.StringIO()
-    csv.writer(text, lineterminator="\n").writerows([[_harmless(it) for it in row] for row in rows])
-    return text.getvalue()
-
-
-def _harmless(cell: str) -> str:
-    """The cell; behind a quotation mark where a spreadsheet would take it for a formula."""
-    return "'" + cell if FORMULA.match(cell) and not PLAIN_NUMBER.fullmatch(cell) else cell
-
-
 def as_json(device: Device, columns: Columns) -> str:
-    """The device as one line of JSON, its objects in it."""
-    names = (*OFTEN, *columns.objects)
-    objects: List[Dict[str, object]] = []
-    for it in device.objects:
-        of_object = {name: OF_OBJECT[name](it) for name in names}
-        objects.append({**of_object, "kind": it.value.kind.value, "reasons": it.reasons})
-    told = {name.replace("device_", ""): of(device) for name, of in OF_DEVICE.items()}
+    """Returns the device as one line of JSON, its objects in it."""
+    names = {it: OF_OBJECT[it] for it in (*OFTEN, *columns.objects)}
+    names.update({"settings": "settings"} if "settings" in names else {})
+    names.update(kind="value.kind.value", reasons="reasons")
+    told: dict[str, object] = {"address": device.address, "device": device.instance, **device.texts}
     told.update(revision=device.revision, asked=device.asked, reasons=device.reasons)
-    more = {"changes": device.changes} if columns.changes else {}
-    return json.dumps({**told, **more, "objects": objects}, ensure_ascii=False) + "\n"
+    asked_for = {it: getattr(columns.bounds, it) for it in ASKED_FOR}
+    told.update(device.facts, asked_for={**asked_for, "name_only": device.is_named})
+    told.update({"changes": device.changes} if columns.changes else {})
+    return json_line({**told, "objects": [_told(it, names) for it in device.objects]})
+
+
+def as_release(device: Device, _: Columns) -> str:
+    """Returns a line for write-list that releases each priority above the program, and as comments
+    why something may be missing. Priority 6 is the device's own."""
+    lines = [f"# {device.address}: {it}" for it in device.reasons]
+    for it in device.objects:
+        what = f"{it.type_name or it.object_type} {it.instance}"
+        where = f"{device.instance}@{device.address} {what} null --priority"
+        comment = f"# {it.told_name}".rstrip()
+        lines += [f"{where} {at}  {comment}" for at in it.priorities if at != OWN]
+        lines += [f"# {what}: priority {OWN} is the device's own"] * (OWN in it.priorities)
+        lines += [f"# {what}: {why}" for why in it.reasons]
+    return "".join(line + "\n" for line in lines)
+
+
+def ede_of(devices: Sequence[Device], made: str) -> Iterator[str]:
+    """Yields an EDE file, layout 2.1, by which engineering tools exchange points (B.I.G.-EU), part
+    by part. Texts of states would be a second file, and are left out."""
+    names = EDE_COLUMNS.split(";")
+    needs = ["mandatory"] * NEEDED + ["optional"] * (len(names) - NEEDED)
+    yield "# Proposal_Engineering-Data-Exchange - B.I.G.-EU\n"
+    heads = [["PROJECT_NAME", "survey"], ["VERSION_OF_REFERENCEFILE", "1"]]
+    heads += [["TIMESTAMP_OF_LAST_CHANGE", made], ["AUTHOR_OF_LAST_CHANGE", "bacsite"]]
+    heads += [["VERSION_OF_LAYOUT", "2.1"], ["#" + needs[0], *needs[1:]]]
+    yield csv_lines([*heads, names], ";")
+    for device in devices:
+        yield csv_lines([_ede_row(device, it) for it in device.objects], ";")
+
+
+def _ede_row(device: Device, it: SiteObject) -> list[str]:
+    names = ("relinquish-default", "min-pres-value", "max-pres-value", "high-limit", "low-limit")
+    default, least, most, high, low = (it.settings.get(name, "") for name in names)
+    key = f"{device.instance}_{it.object_type}_{it.instance}"
+    own = [key, str(device.instance), it.name, str(it.object_type), str(it.instance)]
+    own += [it.description, default, least, most]
+    settable = "Y" if may_be_commanded(it.object_type) else "N"
+    return [*own, settable, "", high, low, "", UNIT_NUMBERS.get(it.unit, it.unit), "", ""]
 
 
 class PollList:
     """The points of a survey as a list that `poll` reads, each under a name of its own."""
 
     def __init__(self) -> None:
-        self._names: Set[str] = set()
+        self._names: set[str] = set()
 
     def of(self, device: Device, _: Columns) -> str:
-        """The present value of each object that has one."""
+        """Returns a line for the present value of each object that has one."""
         told = [device.address, "" if device.instance is None else f"device {device.instance}"]
         lines = ["# " + "  ".join(filter(None, [*told, device.name, *device.reasons]))]
+        old = sum(not it.name_read for it in device.objects)
+        lines += [f"# {times(old, 'name')} not read, but taken from an earlier survey"] * bool(old)
         for it in device.objects:
             if it.value is not NOTHING or any(why.startswith(MISSES) for why in it.reasons):
                 which = f"{it.type_name or it.object_type} {it.instance} present-value"
@@ -156,100 +172,72 @@ class PollList:
         return name
 
 
-def arguments(parser: argparse.ArgumentParser) -> None:
-    """The words of survey."""
-    parser.add_argument(
-        "address",
-        nargs="+",
-        metavar="[INSTANCE@]ADDRESS",
-        help="or a range, as 192.0.2.0/24 or 192.0.2.1-254, of which the silent ones are hidden",
-    )
-    forms = parser.add_mutually_exclusive_group()
-    forms.add_argument("--csv", action="store_true", help="as CSV, for a spreadsheet")
-    forms.add_argument("--json", action="store_true", help="as JSON, a line of each device")
-    forms.add_argument("--list", action="store_true", help="as a list of points, for poll")
-    forms.add_argument("--html", metavar="FILE", help="as a page, into a file that it replaces")
-    parser.add_argument(
-        "--sorted", action="store_true", help="in the order of the words, not as they come"
-    )
-    parser.add_argument("--devices", action="store_true", help="devices alone, no objects")
-    parser.add_argument("--details", action="store_true", help="descriptions and event states too")
-    told = "only what priority 8 or a more urgent one commands, and which one"
-    parser.add_argument("--held", action="store_true", help=told)
-    parser.add_argument(
-        "--stations", action="store_true", help="survey the stations behind a router too"
-    )
-    told = "an earlier survey by --json: what has changed since, and names that it has already"
-    parser.add_argument("--since", metavar="FILE", help=told)
-    parser.add_argument("--silent", action="store_true", help="also who is silent in a range")
-    most = "up to so many objects of a device are asked"
-    add_number(parser, "objects", 1, 999999, Bounds.objects, most)
-    told = "how many seconds one controller is asked"
-    add_number(parser, "deadline", 1, 999999, Bounds.seconds, told)
-
-
-def work(words: argparse.Namespace) -> int:
-    """Prints what is at the addresses."""
-    targets = addresses.targets(words.address)
-    if words.html and not is_replaceable(words.html):
-        raise wrong("no plain file: " + words.html)
-    earlier = earlier_of(words.since) if words.since else Earlier()
-    columns, form = _columns(words), _form(words)
-    if words.csv:
-        put(csv_lines([columns.names]))
-    bounds = Bounds(
-        words.objects, words.deadline, words.devices, words.details, words.held, words.stations
-    )
-    counts, devices = Counts(len(targets)), []
-    in_order = words.sorted or bool(words.html)
-    for device in surveyed(Calls.of(words), targets, bounds, earlier, in_order):
-        counts.add(device)
-        if device.hidden and not words.silent:
-            continue
-        devices.append(device)
-        if not words.html:
-            put(form(device, columns))
-    if words.html:
-        replace_file(words.html, page_of(devices, stamp()))
-    if any(it.in_range for it in targets):
-        show(counts.line())
-    return MISSING if counts.missing or not devices else 0
-
-
 class Counts:
-    """How many were asked, and what came of that."""
+    """How many addresses were asked, and what came of that."""
 
     def __init__(self, asked: int) -> None:
         self.asked, self.devices, self.silent, self.others = asked, 0, 0, 0
+        self.stations: set[str] = set()
         self.missing = False
 
     def add(self, device: Device) -> None:
-        """Counts a device, or an address where there is none."""
+        """Counts a device, or an address without one; the line of a network is neither."""
+        is_network = device.address.endswith("*")
         self.devices += device.instance is not None
-        self.silent += device.hidden
-        self.others += device.instance is None and not device.hidden
-        self.missing = self.missing or not (device.is_whole or device.hidden)
+        is_silent = device.reasons == [TIMEOUT]
+        self.silent += is_silent
+        self.others += device.instance is None and not (is_silent or is_network)
+        self.missing = self.missing or not (device.is_whole or device.is_nobody)
+        if is_routed(device.address) and device.has_answered:
+            self.stations.add(device.address)
 
     def line(self) -> str:
-        """The counts in words."""
-        others = f", {self.others} for another reason without a device" if self.others else ""
-        return f"{self.asked} asked, {self.devices} devices, {self.silent} silent{others}\n"
+        """Returns the counts in words."""
+        told = [f"{self.asked} asked", times(self.devices, "device"), f"{self.silent} silent"]
+        if self.others:
+            told.append(f"{self.others} for another reason without a device")
+        networks = {it.rpartition("/")[0] for it in self.stations}
+        if self.stations:
+            at = f"answered on {times(len(networks), 'network')}"
+            told.append(f"{times(len(self.stations), 'station')} {at}")
+        return ", ".join(told) + "\n"
 
 
-def _form(words: argparse.Namespace) -> Callable[[Device, Columns], str]:
-    if words.list:
-        return PollList().of
-    return as_csv if words.csv else as_json if words.json else as_lines
-
-
-def _columns(words: argparse.Namespace) -> Columns:
-    held, details = ("held",) * words.held, ("description", "event_state") * words.details
-    return Columns((*held, *details), bool(words.since))
-
-
-COMMAND = Command(
-    "prints devices, and each object with its name, value, unit or state, and flags",
-    arguments,
-    work,
-    at_once=128,
-)
+def survey(words: argparse.Namespace) -> int:
+    """Prints what is at the addresses."""
+    targets = addresses.targets(words.address)
+    if words.stations and not any(it.reach for it in targets):
+        raise wrong("--stations needs the address of a router, not of a station")
+    file = words.html or words.ede
+    if file and not is_replaceable(file):
+        raise wrong("no plain file: " + file)
+    for name, other in (("release", "held"), ("reuse_names", "since")):
+        if vars(words)[name] and not vars(words)[other]:
+            raise wrong(f"--{name.replace('_', '-')} needs --{other}")
+    earlier = earlier_of(words.since, words.reuse_names) if words.since else Earlier()
+    words.details = words.details or bool(words.ede)
+    bounds = Bounds(*(vars(words)[it] for it in Bounds._fields))
+    form = PollList().of if words.list else as_csv if words.csv else as_lines
+    form = as_json if words.json else as_release if words.release else form
+    more = ["held"] * words.held + ["description", "event_state", "settings"] * words.details
+    more += ["name_read"] * words.reuse_names
+    facts = (*FACTS, "clock") if words.devices else ()
+    columns = Columns(tuple(more), bool(words.since), facts, bounds)
+    if words.csv:
+        put(csv_lines([columns.names]))
+    counts, devices = Counts(sum(not it.is_network for it in targets)), []
+    in_order = words.sorted or bool(file)
+    for device in surveyed(Tools.of(words), targets, bounds, earlier, in_order):
+        counts.add(device)
+        if device.is_nobody and not words.silent:
+            continue
+        if words.not_normal:
+            device.objects = [it for it in device.objects if it.flags or it.reasons]
+        devices.append(device)
+        if not file:
+            put(form(device, columns))
+    if file:
+        replace_file(file, (page_of if words.html else ede_of)(devices, stamp()))
+    if any(it.in_range or it.is_network for it in targets) or words.stations:
+        show(counts.line())
+    return MISSING if counts.missing or not devices else 0

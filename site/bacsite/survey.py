@@ -1,136 +1,214 @@
-"""Who is at the addresses of a site, and what each has; `report` prints that."""
+"""Finds which devices are at the addresses of a site, and what each has; `report` prints that."""
 
 from __future__ import annotations
 
+from concurrent.futures import ThreadPoolExecutor
 from functools import partial
 from threading import Event
-from typing import Dict, Iterable, Iterator, List, Optional, Sequence
+from typing import Iterator, Sequence
 
 from .addresses import Target, is_routed
-from .calls import MOST_TIMEOUT, Calls
 from .controller import Controller
 from .device import Bounds, Device, device_of, shortened
-from .display import stamp
+from .output import stamp
 from .earlier import Earlier
-from .processes import deadline_of
-from .reasons import Why, why_of
-from .search import Search, late_answers
-from .workers import side_by_side
+from .tools import MOST_TIMEOUT, Tools, deadline_of, side_by_side
+from .reasons import TIMEOUT
+from .search import MOST_OPEN, Scan, Search, late_answers
+from .sweep import Sweep
 
-LATE = 8  # times --apdu-timeout: so long those of a range are awaited at last who are silent
+LATE = 8  # times --apdu-timeout: so long the silent addresses of a range are waited for at last
+MOST_SCANS = 64  # at once
 
 
 class _Turn:
-    """Of one address: whether the device there was asked."""
+    """The turn of one address: whether the device there was asked."""
 
-    def __init__(self, target: Target) -> None:
+    def __init__(self, target: Target, answered: int | None = None) -> None:
         self.target = target
+        self.answered = answered  # the device that a Who-Is has found there
         self.is_over = Event()
-        self.search: Optional[Search] = None  # for others that are there, where one was needed
-        self.hidden: List[Device] = []  # who was silent, and may answer at last
+        self.search: Search | None = None  # for others that are there, if one was needed
+        self.silent: list[Device] = []  # which may answer at last
+        self.is_scanned = Event()  # if it is of a range
+        self.is_heard = not target.in_range  # or somebody is there
+
+    def scanned(self, is_heard: bool) -> None:
+        """Notes whether somebody is at an address of a range."""
+        self.is_heard = is_heard
+        self.is_scanned.set()
 
 
 def surveyed(
-    calls: Calls,
+    tools: Tools,
     targets: Sequence[Target],
     bounds: Bounds,
     earlier: Earlier,
     in_order: bool = False,
 ) -> Iterator[Device]:
-    """The devices at these addresses as they are ready. Two with one instance are remarked."""
-    survey, turns = _Survey(calls, bounds, earlier), [_Turn(it) for it in targets]
-    jobs = [partial(survey.devices_at, it) for it in turns]
-    jobs += [partial(survey.stations_behind, it) for it in turns if it.target.may_be_router]
-    of_ranges = [it for it in turns if it.target.in_range]
-    last = [partial(survey.looked_at_last, of_ranges)] if of_ranges else []
-    devices = (it for some in side_by_side(calls, [*jobs, *last], in_order) for it in some)
-    seen: Dict[int, str] = {}
-    for device in _sorted(devices, targets) if in_order and last else devices:
+    """Yields the devices at these addresses as they are ready, or in order. One with the instance
+    of another says so, and one that has moved is not gone."""
+    jobs = _Survey(tools, bounds, earlier).jobs(targets)
+    devices: Iterator[Device] = (it for some in side_by_side(tools, jobs, in_order) for it in some)
+    if in_order and any(it.in_range for it in targets):  # stations follow
+        places = {target.address: at for at, target in enumerate(targets)}
+        devices = iter(sorted(devices, key=lambda it: places.get(it.address, len(places))))
+    seen: dict[int, str] = {}
+    later: list[Device] = []
+    for device in devices:
         if device.instance is not None:
             first = seen.setdefault(device.instance, device.address)
             if first != device.address:
                 device.reasons.append("same instance as " + first)
+        if device.gone is None and not (in_order and earlier.is_given):
+            yield device
+        else:
+            later.append(device)
+    for device in later:
+        if device.gone in seen:  # the line of its new address says so
+            device.changes = ["new"] if device.instance is not None else []
         yield device
-
-
-def _sorted(devices: Iterable[Device], targets: Sequence[Target]) -> List[Device]:
-    """Each at the place of its address; stations behind them."""
-    places = {target.address: at for at, target in enumerate(targets)}
-    return sorted(devices, key=lambda it: places.get(it.address, len(places)))
 
 
 class _Survey:
     """The jobs of a survey, and what they have in common."""
 
-    def __init__(self, calls: Calls, bounds: Bounds, earlier: Earlier) -> None:
-        self.calls, self.bounds, self.earlier = calls, bounds, earlier
+    def __init__(self, tools: Tools, bounds: Bounds, earlier: Earlier) -> None:
+        self.tools, self.bounds, self.earlier = tools, bounds, earlier
+        self.scans: list[Scan] = []
 
-    def devices_at(self, turn: _Turn) -> List[Device]:
-        """The device at an address, and a line for each other one that is looked for there."""
-        devices: List[Device] = []
+    def jobs(self, targets: Sequence[Target]) -> list[partial[list[Device]]]:
+        """Returns the jobs: addresses of ranges are scanned first, and looked at again at last."""
+        turns = [_Turn(it) for it in targets if not it.is_network]
+        last = [it for it in turns if it.target.in_range]
+        size = max(MOST_OPEN, -(-len(last) // MOST_SCANS))
+        jobs = [partial(self.scanned, last[at : at + size]) for at in range(0, len(last), size)]
+        jobs += [partial(self.devices_at, it) for it in turns]
+        if not self.bounds.stations:
+            jobs += [partial(self.stations_behind, it) for it in turns if it.target.may_be_router]
+        wanted = [it.reach for it in targets if it.is_network or self.bounds.stations]
+        reaches = list(dict.fromkeys(filter(None, wanted)))
+        quiet = [it.reach for it in targets if not it.is_network]
+        jobs += [partial(self.stations_of, reaches, quiet)] if reaches else []
+        return jobs + ([partial(self.looked_at_last, last)] if last else [])
+
+    def scanned(self, turns: Sequence[_Turn]) -> list[Device]:
+        """Finds at which addresses of a range somebody is."""
+        by_address = {it.target.address: it for it in turns}
+        scan = Scan(self.tools, list(by_address))
+        self.scans.append(scan)
         try:
-            until = deadline_of(self.bounds.seconds)
-            with Controller(self.calls, turn.target.address, until) as controller:
+            scan.run(lambda address, is_heard: by_address[address].scanned(is_heard))
+        finally:
+            for turn in turns:
+                turn.is_scanned.set()
+        return []
+
+    def devices_at(self, turn: _Turn) -> list[Device]:
+        """Returns the device at an address, and a line for each other one looked for there."""
+        devices: list[Device] = []
+        try:
+            if turn.target.in_range:
+                turn.is_scanned.wait()
+            until = deadline_of(self.bounds.deadline)
+            with Controller(self.tools, turn.target.address, until) as controller:
                 devices = self._devices(controller, turn)
         finally:
-            turn.hidden = [it for it in devices if it.hidden]
+            turn.silent = [it for it in devices if turn.target.in_range and it.is_silent]
             turn.is_over.set()
-        return [it for it in devices if not it.hidden]
+        return [it for it in devices if it not in turn.silent]
 
-    def stations_behind(self, turn: _Turn) -> List[Device]:
-        """Who answers a Who-Is from behind the router at an address: named, or surveyed as well.
-
-        A job of its own, since it takes as long as a Who-Is waits. That was sent once it was known
-        which device is there, and waits beside what that is asked.
-        """
+    def stations_behind(self, turn: _Turn) -> list[Device]:
+        """Returns the stations behind a router that have answered a Who-Is, by address and instance
+        alone. The Who-Is was sent once it was known which device the router is, and is waited for
+        no longer than that one is asked."""
         turn.is_over.wait()
-        router, heard = turn.target.address + "/", turn.search.heard() if turn.search else []
-        stations = [
-            (instance, address) for instance, address in heard if address.startswith(router)
+        router, search = turn.target.address + "/", turn.search
+        heard = search.heard(by_now=True) if search else []
+        devices = [
+            Device(address, instance, asked=stamp(), is_named=True)
+            for instance, address in heard
+            if address.startswith(router)
         ]
-        if not self.bounds.stations:
-            return [Device(address, instance, asked=stamp()) for instance, address in stations]
-        turns = [_Turn(Target(address, (instance,))) for instance, address in stations]
-        return [device for it in turns for device in self.devices_at(it)]
+        answered = {it.address for it in devices}
+        known = [it for it in self.earlier.stations_at([router]) if it not in answered]
+        devices += map(self._named, known)
+        for device in devices:
+            self.earlier.compare(device, self.bounds)
+        return devices
 
-    def looked_at_last(self, turns: Sequence[_Turn]) -> List[Device]:
-        """Those of ranges who were silent. They are asked once more, when all others were, and
-        awaited long, as far as their time goes: who answers then is not hidden."""
+    def _named(self, address: str) -> Device:
+        """Returns a station that an earlier survey has, by address and instance alone."""
+        device = Device(address, asked=stamp(), is_named=True)
+        with Controller(self.tools, address, deadline_of(self.bounds.deadline)) as controller:
+            device.reasons += filter(None, [controller.identify()])
+        device.instance = controller.instance
+        return device
+
+    def stations_of(self, reaches: Sequence[str], quiet: Sequence[str]) -> list[Device]:
+        """Returns all stations that answer a Who-Is which their routers broadcast, and a line of
+        each reach that is not whole; `quiet` are those that need not have any. All routers are
+        asked at the same time: all answers come to one port."""
+        sweep = Sweep(self.tools, reaches, self.bounds, quiet)
+        sweep.run()
+        stations = sweep.stations()
+        turns = [_Turn(Target(it.address, (it.instance,)), it.instance) for it in stations]
+        answered = {it.address for it in stations}
+        known = [it for it in self.earlier.stations_at(reaches) if it not in answered]
+        turns += [_Turn(Target(it, (None,))) for it in known]
+        lines = [Device(it.word, reasons=sweep.reasons_of(it, stations)) for it in sweep.reaches]
+        lines[0].reasons += sweep.faults
+        by_router: dict[str, list[_Turn]] = {}
+        for turn in turns:
+            by_router.setdefault(turn.target.address.partition("/")[0], []).append(turn)
+
+        def asked(group: Sequence[_Turn]) -> list[Device]:
+            return [device for turn in group for device in self.devices_at(turn)]
+
+        with ThreadPoolExecutor(self.tools.at_once) as pool:
+            devices = [it for some in pool.map(asked, by_router.values()) for it in some]
+        return devices + [it for it in lines if it.reasons]
+
+    def looked_at_last(self, turns: Sequence[_Turn]) -> list[Device]:
+        """Returns the silent addresses of ranges. They are asked once more after all others, and
+        waited for as long as their time allows; what came to the first sockets counts, too."""
         for turn in turns:
             turn.is_over.wait()
-        hidden, timeout = [it for turn in turns for it in turn.hidden], self.calls.timeout
-        left = self.bounds.seconds * 1000 - (self.calls.retries + 2) * timeout
+        silent, timeout = [it for turn in turns for it in turn.silent], self.tools.timeout
+        left = self.bounds.deadline * 1000 - (self.tools.retries + 2) * timeout
         patience = min(LATE * timeout, MOST_TIMEOUT, left)
-        told = late_answers(self.calls, [it.address for it in hidden], patience)
-        for device in hidden:
-            device.hidden = device.address not in told
-            device.reasons += [] if device.hidden else [told[device.address]]
-        return hidden
+        said = late_answers(self.tools, [it.address for it in silent], patience)
+        for address in (it for scan in self.scans for it in scan.late(bool(silent))):
+            said.setdefault(address, "a read is answered very late")
+        for device in silent:
+            device.hidden = device.hidden and device.address not in said
+            device.reasons += filter(None, [said.get(device.address)])
+        return silent
 
-    def _devices(self, controller: Controller, turn: _Turn) -> List[Device]:
-        devices: List[Device] = []
+    def _devices(self, controller: Controller, turn: _Turn) -> list[Device]:
+        devices: list[Device] = []
         asked = stamp()
         for wanted in turn.target.wanted:
             reason = _identified(controller, wanted, turn)
             if reason:
-                strange = _others(controller, turn)
-                hidden = turn.target.in_range and why_of(reason) is Why.SILENT and not strange
-                devices.append(
-                    Device(controller.address, reasons=[reason, *strange], hidden=hidden)
-                )
+                found = [reason, *_others(controller, turn)]
+                hidden = not turn.is_heard and found == [TIMEOUT]
+                devices.append(Device(controller.address, reasons=found, hidden=hidden))
             elif all(device.instance is None for device in devices):
                 devices.append(device_of(controller, self.bounds, self.earlier.names_of))
         for device in devices:
             device.asked = asked
-            device.changes = self.earlier.changes_of(device)
-            device.hidden = device.hidden and not device.changes
+            self.earlier.compare(device, self.bounds)
         return devices
 
 
-def _identified(controller: Controller, wanted: Optional[int], turn: _Turn) -> str:
-    """Why it is not to be asked as this device. Who is silent is asked once more where he answers
-    a Who-Is: another program had him, or the request was lost."""
-    reason = controller.identify(wanted)
+def _identified(controller: Controller, wanted: int | None, turn: _Turn) -> str:
+    """Returns why it is not to be asked as this device. A silent device is asked once more if it
+    answers a Who-Is: another client kept it busy, or the request was lost."""
+    if turn.is_heard:
+        reason = controller.identify(wanted)
+    else:
+        controller.silent, reason = True, TIMEOUT
     is_silent = controller.silent and not is_routed(controller.address)
     if turn.search or not (is_silent or turn.target.may_be_router):
         return reason
@@ -141,8 +219,10 @@ def _identified(controller: Controller, wanted: Optional[int], turn: _Turn) -> s
     return controller.identify(wanted)
 
 
-def _others(controller: Controller, turn: _Turn) -> List[str]:
-    """What is odd about those who answered a Who-Is that was sent to one who is no device."""
+def _others(controller: Controller, turn: _Turn) -> list[str]:
+    """Returns anomalies of the answers to a Who-Is, if the address does not answer a read."""
+    if turn.answered is not None:
+        return [f"device {turn.answered} answers a Who-Is, and no read"] * controller.silent
     odd = []
     for instance, address in turn.search.heard() if turn.search and controller.silent else []:
         if address == controller.address:

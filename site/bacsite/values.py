@@ -1,26 +1,17 @@
-"""Values in plain form, of the octets of an answer: their tags tell which types they have."""
+"""Values in readable form, of the octets of an answer: their tags tell which types they have."""
 
 from __future__ import annotations
 
 import enum
 from dataclasses import dataclass
-from typing import Dict, List, Optional, Sequence, Tuple
+from typing import Sequence
 
 from . import standard
-from .bodies import (
-    OPENING,
-    Element,
-    bits_of,
-    element_at,
-    element_text,
-    elements_of,
-    region_end,
-    tag_at,
-)
+from .bodies import Element, Item, bits_of, element_of, element_text, elements_of, items_of
 from .decimals import NO_NUMBERS, shortest
-from .display import escaped
+from .output import escaped
 from .reasons import Why, why_of
-from .standard import Form
+from .standard import Form, ObjectId, PropertyRef
 
 
 class Kind(enum.Enum):
@@ -39,29 +30,34 @@ class Value:
     kind: Kind
     text: str
     meaning: str = ""  # the name of a number, or of the bits that are set
-    bits: Tuple[str, ...] = ()  # the names of those that are set
+    bits: tuple[str, ...] = ()  # the names of those that are set
 
     @property
     def fault(self) -> str:
-        """Why there is no value; empty where there is one."""
+        """Why there is no value; empty if there is one."""
         return self.text if self.kind is Kind.FAULT else ""
 
     @property
     def why(self) -> Why:
-        """What the fault says."""
+        """The reason that the fault stands for."""
         return why_of(self.fault)
 
     @property
-    def number(self) -> Optional[float]:
-        """The number, where it is one."""
+    def number(self) -> float | None:
+        """The number, if it is one."""
         return float(self.text) if self.kind is Kind.NUMBER else None
 
+    @property
+    def named(self) -> str:
+        """The name of the number; the value itself if it has none."""
+        return self.meaning or self.text
+
     def shown(self) -> str:
-        """The value with what it means."""
+        """Returns the value with what it means."""
         return f"{self.text} ({self.meaning})" if self.meaning else self.text
 
     def told(self) -> str:
-        """The same, a text in quotation marks."""
+        """Returns what `shown` does, but a text in quotation marks."""
         return f'"{self.text}"' if self.kind is Kind.TEXT else self.shown()
 
 
@@ -72,14 +68,20 @@ def fault(text: str) -> Value:
 
 NOTHING = Value(Kind.OTHER, "")
 CHARACTER_SETS = {0: "utf-8", 3: "utf-32-be", 4: "utf-16-be", 5: "latin-1"}
+CODE_PAGE = 1  # the set of a text whose first two octets name a code page
+ANY = 255  # of a part of a date or a time
+MONTHS, DAYS_OF_MONTH = {13: "odd", 14: "even"}, {32: "last", 33: "odd", 34: "even"}
+WEEKS = {1: "1-7", 2: "8-14", 3: "15-21", 4: "22-28", 5: "29-31", 6: "last 7"}
 
 
 def value_of(region: bytes, form: Form) -> Value:
     """The value of a property, or of an element, whose values are to be of this form."""
     elements = elements_of(region)
     if elements is None:
-        text = _constructed(region)
-        return _none(form, text) if form.tags else Value(Kind.OTHER, text)
+        items = items_of(region)
+        text = "hex " + region.hex() if items is None else _constructed(items, form)
+        is_free = not form.tags or (form.is_choice and items is not None)
+        return Value(Kind.OTHER, text) if is_free else _none(form, text)
     if form.is_row and len(elements) == len(form.tags):
         found = [_value(it, Form((tag,))) for it, tag in zip(elements, form.tags)]
     elif len(elements) == 1 and not form.is_row:
@@ -92,7 +94,7 @@ def value_of(region: bytes, form: Form) -> Value:
     return wrong[0] if wrong else Value(Kind.OTHER, _listed(found))
 
 
-def values_of(region: bytes, form: Form) -> List[Value]:
+def values_of(region: bytes, form: Form) -> list[Value]:
     """Each value of a list or an array, whose elements are to be of this form."""
     return [_value(it, form) for it in elements_of(region) or []]
 
@@ -121,7 +123,7 @@ def _none(form: Form, found: str) -> Value:
 
 
 def _value(element: Element, form: Form) -> Value:
-    """A value of this form. Whole numbers of all types are one, but for a sign where none is."""
+    """Returns a value of this form. Whole numbers of all types fit, except a sign without one."""
     value, kind, tags = _plain(element, form.names), element.kind, form.tags
     whole = kind in standard.INTEGERS and any(it in standard.INTEGERS for it in tags)
     is_below = whole and element.number < 0 and standard.SIGNED not in tags
@@ -135,7 +137,7 @@ def _value(element: Element, form: Form) -> Value:
     return value
 
 
-def _plain(element: Element, meanings: Optional[Dict[int, str]] = None) -> Value:
+def _plain(element: Element, meanings: dict[int, str] | None = None) -> Value:
     """A value of any type, with what its number or its bits mean."""
     kind, octets, text, known = *element, element_text(element), meanings or {}
     if kind in (standard.REAL, standard.DOUBLE):
@@ -158,43 +160,81 @@ def _plain(element: Element, meanings: Optional[Dict[int, str]] = None) -> Value
 
 def _decoded(octets: bytes, text: str) -> str:
     """A text by its set; as bacrp prints it where that can't be read."""
+    is_page = octets[0] == CODE_PAGE
+    page = f"cp{int.from_bytes(octets[1:3], 'big')}"
     try:
-        return escaped(octets[1:].decode(CHARACTER_SETS[octets[0]]))
-    except (KeyError, UnicodeDecodeError):
+        name = page if is_page else CHARACTER_SETS[octets[0]]
+        return escaped(octets[3 if is_page else 1 :].decode(name))
+    except (KeyError, LookupError, UnicodeDecodeError):
         return text
 
 
 def _moment_of(kind: int, octets: bytes) -> str:
-    """A Date or a Time as 2024-10-31 or 12:30:00.00; empty where a part is any."""
+    """A Date or a Time as 2024-10-31 or 12:30:00.00, with * for any; empty if it is neither."""
     first, second, third, last = octets
     if kind == standard.DATE:
-        is_date = first < 255 and 1 <= second <= 12 and 1 <= third <= 31
-        return f"{1900 + first}-{second:02d}-{third:02d}" if is_date else ""
-    is_time = first < 24 and second < 60 and third < 60 and last < 100
-    return f"{first:02d}:{second:02d}:{third:02d}.{last:02d}" if is_time else ""
+        year = "*" if first == ANY else str(1900 + first)
+        month = _part(second, 1, 12, MONTHS)
+        day, week_day = _part(third, 1, 31, DAYS_OF_MONTH), _day(last)
+        has_any = ANY in octets[:3] or second > 12 or third > 31
+        date = f"{year}-{month}-{day}" if month and day else ""
+        return f"{date} {week_day}" if date and has_any and week_day not in ("", "*") else date
+    parts = [_part(it, 0, most, {}) for it, most in zip(octets, (23, 59, 59, 99))]
+    return ":".join(parts[:3]) + "." + parts[3] if all(parts) else ""
 
 
-def _constructed(region: bytes) -> str:
-    """A region with context tags, which tell no types: [1]X'05' is a value, [0]{..} has others."""
-    texts, at = [], 0
-    while at < len(region):
-        tag, end, element = tag_at(region, at), None, element_at(region, at)
-        if tag and tag.length == OPENING:
-            end = region_end(region, tag.end)
-        closing = tag_at(region, end) if end is not None else None
-        if element:
-            texts.append(_plain(element[0]).told())
-            at = element[1]
-        elif tag and tag.length == OPENING and closing:
-            texts.append(f"[{tag.number}]{{{_constructed(region[tag.end : end])}}}")
-            at = closing.end
-        elif tag and tag.length >= 0:
-            at = tag.end + tag.length
-            mark = f"[{tag.number}]" if tag.context else f"{tag.number}:"
-            texts.append(f"{mark}X'{region[tag.end : at].hex()}'")
+def _part(octet: int, least: int, most: int, names: dict[int, str]) -> str:
+    """A part of a date or a time; empty if it has no such number."""
+    if octet == ANY:
+        return "*"
+    return f"{octet:02d}" if least <= octet <= most else names.get(octet, "")
+
+
+def _day(octet: int) -> str:
+    """A day of the week, from 1, or any; empty if it is neither."""
+    return "*" if octet == ANY else dict(enumerate(standard.DAYS, 1)).get(octet, "")
+
+
+def _entry(item: Item) -> str:
+    """An entry of a calendar in a context tag: a date, or days of weeks; empty if it is neither."""
+    if item.number == 0 and len(item.octets) == 4:
+        return _moment_of(standard.DATE, item.octets)
+    if item.number == 2 and len(item.octets) == 3:
+        month, week, day = item.octets
+        days, of_month = "*" if week == ANY else WEEKS.get(week, ""), _part(month, 1, 12, MONTHS)
+        is_known = days and of_month and _day(day)
+        return f"month {of_month}, days {days}, {_day(day)}" if is_known else ""
+    return ""
+
+
+def _constructed(items: Sequence[Item], form: Form = Form()) -> str:
+    """Items with context tags, which do not tell types: [1]X'05' is a value, [0]{..} has others."""
+    texts = []
+    labels = form.labels if len(form.labels) == len(items) else ()
+    for at, it in enumerate(items):
+        element, mark = element_of(it), f"[{it.number}]" if it.context else f"{it.number}:"
+        entry = _entry(it) if form.has_entries and it.context and it.inner is None else ""
+        mark = f"{labels[at]} " if labels else mark
+        if element or entry:
+            texts.append(entry if not element else _plain(element).told())
+        elif it.inner is None:
+            texts.append(f"{mark}X'{it.octets.hex()}'")
         else:
-            return "hex " + region.hex()
+            inner = _constructed(it.inner, form._replace(labels=()))
+            texts.append(f"{mark}{{{inner}}}")
     return ", ".join(texts)
+
+
+def state_of(object_id: ObjectId, value: Value) -> list[PropertyRef]:
+    """Returns the property in which the device names this state, if the value is a state."""
+    if value.kind is not Kind.NUMBER:
+        return []
+    state = int(value.number or 0)
+    if object_id.object_type in standard.MULTI_STATE:
+        return [object_id.ref(standard.STATE_TEXT, state)]
+    if object_id.object_type in standard.BINARY:
+        return [object_id.ref(standard.ACTIVE_TEXT if state else standard.INACTIVE_TEXT)]
+    return []
 
 
 def flags_of(value: Value) -> Value:

@@ -1,39 +1,36 @@
-"""A property is written, by bacwp, once it is sure which one that is; and it is read back."""
+"""A property is written once it is sure which one that is, and read back; or those of a list."""
 
 from __future__ import annotations
 
 import argparse
 import os
-from typing import NamedTuple, Optional, Tuple
+import shlex
+from typing import NamedTuple, Sequence, Tuple
 
 from . import addresses, standard
 from .addresses import is_routed
 from .bodies import elements_of
-from .calls import BIND_FAILED, Calls
 from .controller import Controller
-from .encode import WORD, Encoded
-from .failures import BROKEN, MISSING, WRONG_WORDS, Failure, wrong
-from .output import put
-from .parsing import Command, within
-from .points import index, instance, object_type, property_number
-from .processes import Outcome
-from .standard import OBJECT, OBJECT_ID, PRESENT_VALUE, PRIORITY_NAMES, Which
-from .target import Place, Priorities, encoded_for, looked_at, priorities
+from .output import BROKEN, MISSING, WRONG_WORDS, Failure, put, times, wrong
+from .parsing import COMMANDS, Parser
+from .points import WORD, index, instance, object_type, property_number, text_of
+from .tools import BIND_FAILED, Tools, Outcome, alone
+from .standard import OBJECT, OBJECT_ID, PRESENT_VALUE, ObjectId
+from .place import Encoded, Place, Priorities, encoded_for, looked_at, priorities
 from .values import Value
-from .workers import alone
 
 NOT_KNOWN = "outcome not known: the write may have been made"
-NOTHING_SENT = "nothing was sent"
+NO_WRITE = "no write was sent"
 
 
 class Order(NamedTuple):
-    """What is to be written where."""
+    """A write: its target, its value and its priority."""
 
-    device: Optional[int]
+    device: int | None
     place: Place
     word: str
-    type: Optional[str]
-    priority: Optional[int]
+    type: str | None
+    priority: int | None
     dry: bool
 
 
@@ -47,35 +44,39 @@ class Ending(NamedTuple):
 
 
 def ending_of(outcome: Outcome) -> Ending:
-    """What the outcome of bacwp says of the write."""
+    """Returns what the outcome of bacwp says of the write."""
     line = outcome.lines[0] if len(outcome.lines) == 1 else outcome.told
     if outcome.status == 0 and outcome.lines == ["ok"]:
         return Ending("ok", 0)
     if outcome.status == 1 and line.split(" ")[0] in ("error", "reject"):
         return Ending("refused: " + line, MISSING, was_refused=True)
     if outcome.status is None or outcome.told == BIND_FAILED:
-        return Ending(f"{NOTHING_SENT}: {line}", BROKEN, was_sent=False)
+        return Ending(f"{NO_WRITE}: {line}", BROKEN, was_sent=False)
     if outcome.status == 2:
-        return Ending(f"{NOTHING_SENT}: {line}", WRONG_WORDS, was_sent=False)
+        return Ending(f"{NO_WRITE}: {line}", WRONG_WORDS, was_sent=False)
     line = line or f"status {outcome.status}"
     return Ending(f"{NOT_KNOWN} ({line})", MISSING if outcome.status == 1 else BROKEN)
 
 
 def written(controller: Controller, order: Order) -> int:
-    """Looks, writes, and looks again; the status of the program."""
+    """Looks, writes, and looks again; returns the status of the program."""
     try:
         place, value = prepared(controller, order)
-        _show(controller, place)
+        put(f"device {controller.instance or 0} at {controller.address}\n")
+        put(f"object {place.words()} {place.name}\n")
+        put(f"before: {place.shown(place.value)}\n")
+        fault = place.priorities.fault
+        put(f"priority-array: {fault}\n" if fault else "")
     except Failure as failure:
-        raise Failure(f"{failure}; {NOTHING_SENT}".lstrip("; "), failure.status) from failure
+        raise Failure(f"{failure}; {NO_WRITE}".lstrip("; "), failure.status) from failure
     where = "" if order.priority is None else f" at priority {order.priority}"
     head = f"write {place.told(value)}{where}: "
     if order.dry:
-        put(f"{head}{NOTHING_SENT}, as was asked for\n")
+        put(f"{head}checked, {NO_WRITE}\n")
         return 0
     told = head + NOT_KNOWN
     try:
-        with controller.calls.writing():  # until it is told how that ended
+        with controller.tools.writing():  # until it is told how that ended
             ending = ending_of(_sent(controller, order, value))
             told = head + ending.told
             put(told + "\n")
@@ -84,43 +85,27 @@ def written(controller: Controller, order: Order) -> int:
         raise Failure(f"{told}; {str(error) or 'nobody reads on'}", BROKEN) from error
 
 
-def _show(controller: Controller, place: Place) -> None:
-    """Prints what is there."""
-    put(f"device {controller.instance or 0} at {controller.address}\n")
-    put(f"object {place.which()} {place.name}\n")
-    put(f"before: {place.shown(place.value)}\n")
-    if place.priorities.fault:
-        put(f"priority-array: {place.priorities.fault}\n")
-
-
-def _checked(
-    controller: Controller, order: Order, place: Place, value: Encoded, ending: Ending
-) -> int:
-    """Looks again, also which device that is; the status of the program."""
-    if not ending.was_sent:
-        return ending.status
-    found, status = _read_back(controller, order, place), ending.status
-    if not ending.was_refused and (found.fault or found.text != value.text):
+def _checked(control: Controller, order: Order, place: Place, value: Encoded, end: Ending) -> int:
+    """Looks again, also which device that is; returns the status of the program."""
+    if not end.was_sent:
+        return end.status
+    found, status = _read_back(control, order, place), end.status
+    if not end.was_refused and (found.fault or found.text != value.text):
         unread = place.priorities.fault
         why = "not sure, since no priority is read" if unread else "not as written"
         put(f"{why}: {place.shown(found)}\n")
         status = status or MISSING
-    reason = _another(controller)
-    if reason:
-        put(f"not sure that it is device {controller.instance or 0} still: {reason}\n")
+    answer = control.ask(control.own.ref(OBJECT_ID))
+    says = [(it.kind, it.of_object) for it in elements_of(answer.region) or []]
+    is_same = says == [(OBJECT, control.own)]
+    reason = answer.reason or ("" if is_same else "it says another number")
+    if reason:  # as one that took over its address
+        put(f"not sure that it is device {control.instance or 0} still: {reason}\n")
     return status or (MISSING if reason else 0)
 
 
-def _another(controller: Controller) -> str:
-    """Why it may be another device than before, as one that took over its address."""
-    answer = controller.ask(controller.own.what(OBJECT_ID))
-    found = [(it.kind, it.of_object) for it in elements_of(answer.region) or []]
-    is_same = found == [(OBJECT, controller.own)]
-    return answer.reason or ("" if is_same else "it says another number")
-
-
-def prepared(controller: Controller, order: Order) -> Tuple[Place, Encoded]:
-    """What is there, and the value for it; it fails where that is not what is to be written."""
+def prepared(controller: Controller, order: Order) -> tuple[Place, Encoded]:
+    """Returns place and value; it fails if the place is not the one to write to."""
     reason = controller.identify(order.device)
     if reason:
         raise Failure(reason, MISSING)
@@ -128,87 +113,115 @@ def prepared(controller: Controller, order: Order) -> Tuple[Place, Encoded]:
     value = encoded_for(controller, place, order.word, order.type)
     commandable = bool(place.priorities.values)
     if commandable and order.priority is None:
-        raise wrong(f"{place.which()} is commanded by priorities: name one by --priority")
+        raise wrong(f"{place.words()} is commanded by priorities: choose one with --priority")
     if is_routed(place.address) and not WORD.fullmatch(os.fsencode(value.word)):
         raise wrong("no text with a space, and no empty one, can be sent behind a router")
     may_let_go = commandable or (place.priorities.fault and order.priority)
     if value.tag == standard.NULL and not may_let_go:
-        raise wrong(f"null lets go of a priority: {place.which()} has no priority array")
+        raise wrong(f"null releases a priority: {place.words()} has no priority array")
     return place, value
 
 
 def _sent(controller: Controller, order: Order, value: Encoded) -> Outcome:
-    where = order.place.what.words_at(order.priority)
+    where = order.place.ref.words_at(order.priority)
     if is_routed(order.place.address):
         return controller.write(f"{where} {value.tag} {value.word}")
     words = [str(controller.own.instance), *where.split(), "--", str(value.tag), value.word]
-    return controller.calls.write([*controller.options(), *words])
+    return controller.tools.write([*controller.options(), *words])
 
 
 def _read_back(controller: Controller, order: Order, place: Place) -> Value:
-    """Prints what the property is now. It gives what stands where the value was written."""
-    now = controller.value(place.what)
+    """Prints what the property is now; returns what is at the place of the written value."""
+    now = controller.value(place.ref)
     put(f"now: {place.shown(now)}\n")
     array = priorities(controller, place) if place.is_present_value else Priorities()
-    if array.fault:
-        put(f"priority-array: {array.fault}\n")
+    put(f"priority-array: {array.fault}\n" if array.fault else "")
     standing = {at: it for at, it in array.values.items() if it.told() != "null"}
     for priority, found in standing.items():
-        put(f"{_priority(priority)}: {place.shown(found)}\n")
+        put(f"priority {standard.priority_text(priority)}: {place.shown(found)}\n")
     if not array.values:
         return now
-    default = controller.value(place.what.other(standard.RELINQUISH_DEFAULT))
+    default = controller.value(place.ref.other(standard.RELINQUISH_DEFAULT))
     put(f"relinquish-default: {place.shown(default)}\n")
     least, written_at = min(standing, default=16), order.priority or 16
     if least < written_at and written_at in standing:
-        put(f"{_priority(least)} holds it: what is written at {written_at} waits\n")
+        told = standard.priority_text(least)
+        put(f"priority {told} holds it: what is written at {written_at} waits\n")
     return array.values.get(written_at, now)
 
 
-def _priority(number: int) -> str:
-    name = PRIORITY_NAMES.get(number, "")
-    return f"priority {number} ({name})" if name else f"priority {number}"
-
-
-def arguments(parser: argparse.ArgumentParser) -> None:
-    """The words of write."""
-    parser.add_argument("address", metavar="[INSTANCE@]ADDRESS")
-    parser.add_argument("object_type", metavar="TYPE")
-    parser.add_argument("instance", metavar="INSTANCE")
-    parser.add_argument(
-        "value", metavar="VALUE", help="a decimal number, a state's name, a text, ..; or null"
-    )
-    told = "1, the most urgent, to 16; 8 is the manual operator's, 6 is the device's own"
-    parser.add_argument("--priority", metavar="N", type=within(1, 16), help=told)
-    parser.add_argument("--property", default="present-value", help="where not present-value")
-    parser.add_argument("--index", metavar="N", help="the element of an array")
-    parser.add_argument(
-        "--type", choices=standard.TAGS[1:], help="where it is not known, as a vendor's own"
-    )
-    parser.add_argument("--dry-run", action="store_true", help="look at all, and send no write")
-
-
 def order_of(words: argparse.Namespace) -> Order:
-    """What the words order; it fails where they are wrong."""
+    """Returns what the words order; it fails if they are wrong."""
     device, address = addresses.one(words.address)
-    which = Which(object_type(words.object_type), instance(words.instance))
+    object_id = ObjectId(object_type(words.object_type), instance(words.instance))
     at = None if words.index is None else index(words.index)
-    what = which.what(property_number(words.property), at)
+    ref = object_id.ref(property_number(words.property), at)
     if words.priority == 6:
         raise wrong("priority 6 is the device's own")
-    place = Place(address, what, is_present_value=what == which.what(PRESENT_VALUE))
+    place = Place(address, ref, is_present_value=ref == object_id.ref(PRESENT_VALUE))
     return Order(device, place, words.value, words.type, words.priority, words.dry_run)
 
 
-def work(words: argparse.Namespace) -> int:
+def write(words: argparse.Namespace) -> int:
     """Writes a property, and reads it back."""
-    order, calls = order_of(words), Calls.of(words)
-    with Controller(calls, order.place.address) as controller:
-        return alone(calls, lambda: written(controller, order), quiet=True)
+    order, tools = order_of(words), Tools.of(words)
+    with Controller(tools, order.place.address) as controller:
+        return alone(tools, lambda: written(controller, order), quiet=True)
 
 
-COMMAND = Command(
-    "writes a property of the right device and reads it back: this moves real equipment",
-    arguments,
-    work,
-)
+Line = Tuple[int, Order]  # a number, from 1, and what the line with that number orders
+
+
+def lines_of(path: str, dry: bool) -> list[Line]:
+    """Returns the lines of a list; it fails if one of them is wrong."""
+    parser = Parser(prog="bacsite write", add_help=False).take(COMMANDS["write"])
+    lines = []
+    for number, line in enumerate(text_of(path).split("\n"), 1):
+        try:
+            if "\0" in line:
+                raise wrong("no word has the character 0")
+            words = shlex.split(line, comments=True)
+            if words:
+                order = order_of(parser.parsed(words))
+                lines.append((number, order._replace(dry=dry or order.dry)))
+        except ValueError as error:
+            raise wrong(f"line {number}: {str(error).lower()}; {NO_WRITE}") from error
+        except Failure as failure:
+            raise wrong(f"line {number}: {failure}; {NO_WRITE}") from failure
+    if not lines:
+        raise wrong("no write in " + path)
+    return lines
+
+
+def _all_written(tools: Tools, lines: Sequence[Line], dry: bool) -> int:
+    """Checks all lines, then writes them; returns the status of the first that is not sure, or 0.
+    Once something was written, it is not WRONG_WORDS, which means that nothing was."""
+    for number, order in [] if dry else lines:
+        try:
+            with Controller(tools, order.place.address) as controller:
+                prepared(controller, order)
+        except Failure as failure:
+            raise Failure(f"line {number}: {failure}; {NO_WRITE}", failure.status) from failure
+    for done, (number, order) in enumerate(lines):
+        put("\n" if done else "")
+        wrote = sum(not before.dry for _, before in lines[:done])
+        before = f"{wrote} of {times(len(lines), 'line')} written before"
+        if dry:
+            before = f"{done} of {times(len(lines), 'line')} checked before"
+        try:
+            with Controller(tools, order.place.address) as controller:
+                status = written(controller, order)
+        except Failure as failure:
+            status = MISSING if wrote and failure.status == WRONG_WORDS else failure.status
+            raise Failure(f"line {number}: {failure}; {before}", status) from failure
+        if status:
+            put(f"stopped at line {number}: {before}\n")
+            return MISSING if wrote and status == WRONG_WORDS else status
+    return 0
+
+
+def write_list(words: argparse.Namespace) -> int:
+    """Writes the lines of a list, one after another."""
+    lines, tools = lines_of(words.list, words.dry_run), Tools.of(words)
+    is_dry = all(order.dry for _, order in lines)
+    return alone(tools, lambda: _all_written(tools, lines, is_dry), quiet=True)

@@ -1,7 +1,7 @@
-"""What a wrong body is: a file NAME.edit in crates/CRATE/must-fail, with lines as `rt must-fail` reads them, or an
-entry of crates/CRATE/wrong/FILE.edits, which holds those of src/FILE.rt: a line `[NAME]` and the lines below it.
-CONTRIBUTING.md (A wrong body) says what the lines `file:`, `in:`, `old:`, `new:`, `body:`, `clause:`, `goal:`, `twin:`,
-`at:`, `by:` and `hole:` are, and what is tried in its function's place, or beside it.
+"""What a mutant is: a file NAME.edit in crates/CRATE/must-fail, with lines as `rt must-fail` reads them, or an
+entry of crates/CRATE/mutants/FILE.edits, which holds those of src/FILE.rt: a line `[NAME]` and the lines below it.
+CONTRIBUTING.md (A mutant) says what the lines `file:`, `in:`, `old:`, `new:`, `body:`, `clause:`, `goal:`, `control:`,
+`at:`, `by:` and `survivor:` are, and what is tried in its function's place, or beside it.
 """
 import collections
 import functools
@@ -10,7 +10,7 @@ import re
 import typing
 
 import tree
-import twins
+import controls
 from tree import TOP as ROOT
 
 text_of = functools.cache(tree.text_of)
@@ -18,6 +18,7 @@ HEAD = re.compile(r"( *)(?:pub(?:\([^)]*\))? )?(?:const |unsafe )*fn (\w+)")
 IMPL = re.compile(r"impl(?:<.*?>)? (?:(?:\w+::)*(\w+)(<.*>)? for )?(?:\w+::)*(\w+)")
 CLAUSE = re.compile(r" *(requires|ensures)\*?(?: (\w+))? \{")
 ANSWERS = ("Proof.antt", "Invariants.antt", "Answers.antt")
+LEMMAS = re.compile(r"(?m)^ *#\[tactic\(.*\b(?:using|unfolding)\(")  # which the searches of a `goal:` lack
 INVARIANT = "invariant"  # in a line `clause:`, what refuses a body where no clause does
 
 
@@ -29,9 +30,10 @@ class Function(typing.NamedTuple):
     last: int
     name: str
     shown: str  # NAME or TYPE::NAME
+    checked: str  # the same as a check writes it
     symbols: re.Pattern  # what a check calls it
     in_cycle: bool  # it is called by what it calls
-    behind: int  # the line behind which a copy of it may stand; 0: none may
+    behind: int  # the line after which a copy of it is put; 0: nowhere
     impl: str  # the head of an `impl` that the copy needs, or ""
     trait: str  # whose method it is, as a check names that, or ""
     head: list  # the lines in front of its body, its remarks and attributes among them
@@ -57,16 +59,27 @@ def functions_of(crate, path, source):
         trait, given, kind = owner.groups() if owner else ("", "", "")
         behind, impl = 0 if indent and (trait or not owner) else last, ""
         above = [*lines[start:body], *gives(ghosts, line)]
-        if trait and block.endswith("{") and any(re.match(" *ensures", it) for it in above):
+        is_copied = trait and block.endswith("{") and file_of(crate, kind)  # no `impl` of a type of another crate
+        if is_copied and any(re.match(" *ensures", it) for it in above):
             behind, uses = lines.index("}", last), [it for it in ghosts if it.startswith("    ghost use ")]
             impl = "\n".join([block.replace(f"{trait}{given or ''} for ", "", 1), *uses])
         symbols = re.compile(f"{crate}::{symbol_of(path, owner, name)}(::.+)?$")
         text = "\n".join(lines[body + 1 : last]) if last > body else line.partition("{")[2]
         shown, of_trait = f"{kind}::{name}" if kind else name, f"{trait}{words_of(given)}" if trait else ""
-        of = (first, body, last, name, shown, symbols, in_cycle, behind, impl, of_trait)
+        checked = f"{kind}{applied(crate, kind, block)}::{name}" if kind else name
+        of = (first, body, last, name, shown, checked, symbols, in_cycle, behind, impl, of_trait)
         found.append(Function(*of, above, text))
         in_cycle = False
     return found
+
+
+def applied(crate, kind, block):
+    """Returns what a check writes after the type's name if this `impl` leaves its last arguments out, or ""."""
+    given = re.search(rf"\b{kind}<([^<>]*)>", block)
+    home = sources_of(crate).get(file_of(crate, kind), "")
+    declared = re.search(rf"(?m)^pub (?:struct|enum) {kind}<([^{{;]*)>", home)
+    leaves_out = given and declared and given[1].count(",") < declared[1].count(",")
+    return f"+{words_of(given[1])}" if leaves_out else ""
 
 
 def gives(ghosts, head):
@@ -81,7 +94,7 @@ def gives(ghosts, head):
 
 
 def symbol_of(path, owner, name):
-    """What a check calls a function of this name, in an `impl` or, where that is None, in none: a pattern."""
+    """Returns a pattern of the symbol of a function of this name, in an `impl`, or outside of one if that is None."""
     if not owner:
         return "".join(f"{part}::" for part in module_of(path)) + f"(fn::)?{name}"
     trait, given, kind = owner.groups()
@@ -99,10 +112,14 @@ def module_of(path):
 
 
 def home_of(crate, path, kind):
-    """Where a check has what this file holds, in parts: in its module, or where the type of a method is declared."""
+    """Returns the place that a check gives to this file, in parts: its module, or that of the type of a method."""
+    return [*module_of(file_of(crate, kind) or path), kind] if kind else module_of(path)
+
+
+def file_of(crate, kind):
+    """The file of a crate that declares this type, or "" if none does."""
     declares = re.compile(rf"(?m)^(?:pub(?:\([^)]*\))? )?(?:struct|enum) {kind}\b")
-    found = (it for it, text in sources_of(crate).items() if declares.search(text))
-    return [*module_of(next(found)), kind] if kind else module_of(path)
+    return next((it for it, text in sources_of(crate).items() if declares.search(text)), "")
 
 
 @functools.cache
@@ -134,7 +151,7 @@ def answered(crate):
 
 
 def names_in(text):
-    """The words of this text, each with what stands in front of it. No quotes and no remark hide one."""
+    """Returns the words of this text, each with the two before it, also those in quotes and remarks."""
     said = ["", "", *re.findall(r"\w+|::|\S", text)]
     return {(said[at - 2] * (said[at - 1] in (".", "::")), *said[at - 1 : at + 1]) for at in range(2, len(said))}
 
@@ -158,15 +175,15 @@ def reached(crate, name):
     return found
 
 
-# A copy of a function with an edit in it: its file, the line that it stands behind, its text, its name.
+# A copy of a function with an edit in it: its file, the line before it, its text, its name.
 Copy = collections.namedtuple("Copy", "path behind text name")
 
 
 class Pair(collections.namedtuple("Pair", "path within old new")):
-    """What an edit replaces in a file, and by what: the first behind the head of the named function, else the only."""
+    """What an edit replaces in a file, and by what: the first after the head of the named function, else the only."""
 
     def place(self, text):
-        """Where what it replaces stands in this text; -1 where that is not there once."""
+        """Returns the place of the old text in this text, or -1 if that is not there once."""
         head = re.search(rf"\bfn {self.within}\b", text)
         if not self.old or (self.within and not head):
             return -1
@@ -184,32 +201,33 @@ Entry = collections.namedtuple("Entry", "file name text")  # where it stands, it
 
 
 def entries_in(file, source):
-    """The entries of a file of wrong/, which is of this source."""
+    """The entries of a file of mutants/, which is of this source."""
     head, *rest = re.split(r"(?m)^\[(\w+)\]$", text_of(file))
     named = zip(rest[::2], rest[1::2])
     return [Entry(file, "", head)] * bool(head.strip()) + [Entry(file, it, f"{source}\n{text}") for it, text in named]
 
 
 def entries_of(crate):
-    """The entries of a crate. In must-fail a line that `rt` does not read, and would tell of, stands behind `# `."""
+    """The entries of a crate. In must-fail a line that `rt` would not accept begins with `# `."""
     home = f"{ROOT}/crates/{crate}"
     for file in tree.files(f"{home}/must-fail/*.edit"):
         text = re.sub(r"(?m)^(?!file: |old: |new:|# )", "bare: ", text_of(file).rstrip("\n"))
         yield Entry(file, os.path.basename(file)[: -len(".edit")], re.sub(r"(?m)^# (?!file|old|new)", "", text))
-    for file in tree.files(f"{home}/wrong/**/*.edits"):
-        yield from entries_in(file, f"file: src/{os.path.relpath(file, f'{home}/wrong')[: -len('.edits')]}.rt")
+    for file in tree.files(f"{home}/mutants/**/*.edits"):
+        yield from entries_in(file, f"file: src/{os.path.relpath(file, f'{home}/mutants')[: -len('.edits')]}.rt")
 
 
-# What is tried of an entry: the wrong body; its twin; the twin with nothing in one of its branches, by their numbers;
-# the twin of an `impl` with the wrong one's ghost clauses; the wrong body, and the right one, under a contract that
-# says that the clause is false; and the wrong one under one that says that there are no such arguments.
-WRONG, TWIN, EMPTIED, GHOST = "", "twin", "emptied twin", "ghost clause alone"
-REFUTED, CONTROL, NEVER = "refuted", "control", "never called"
+# An entry is tried so: the mutant; its control; the control with nothing in one of its branches, by their numbers;
+# the control of an `impl` with the wrong one's ghost clauses; the mutant, and the right one, under a contract that
+# says that the clause is false; and the wrong one, and the right one's call, under one that says that there are no such
+# arguments.
+WRONG, CONTROL, EMPTIED, GHOST = "", "control", "emptied control", "ghost clause alone"
+REFUTED, RIGHT_REFUTED, NEVER, UNMET = "refuted", "right one refuted", "never called", "right one never called"
 GHOSTS = re.compile(r"ghost .*?; (?=fn )")  # of an `impl`
 
 
 class Edit:
-    """A wrong body, or what is tried beside it."""
+    """A mutant, or what is tried beside it."""
 
     def __init__(self, crate, entry, part=WRONG):
         self.crate, self.entry, self.file, self.part = crate, entry, entry.file, part
@@ -220,25 +238,32 @@ class Edit:
             said[word] = text.removeprefix(" ")
             if word == "file":
                 said.pop("in", None)
-            if word in (("twin",) if part.startswith((TWIN, EMPTIED, GHOST)) else ("new", "body")):
+            if word in (("control",) if part.startswith((CONTROL, EMPTIED, GHOST)) else ("new", "body")):
                 old = said["old"] if "old" in said else body_of(crate, said["file"], said.get("in"))
                 given = iter(GHOSTS.findall(said["new"]) if part == GHOST else ())
                 new = GHOSTS.sub(lambda it, given=given: next(given, it[0]), said[word])
                 self.pairs.append(Pair(said["file"], said.get("in"), old, new))
-        self.has_twin, self.calls_right, self.condition = TWIN in said, "body" in said, said.get("at", "")
-        self.wrong, self.hole, self.by = said.get("body", said.get("new", "")), said.get("hole", ""), said.get("by", "")
+        self.has_control, self.calls_right, self.condition = CONTROL in said, "body" in said, said.get("at", "")
+        self.wrong, self.by = said.get("body", said.get("new", "")), said.get("by", "")
+        self.survivor = said.get("survivor", "")
         self.promised, self.bare = said.get("clause", "").split(), said.get("bare", "")
-        self.goals = said["goal"].split(", ") if "goal" in said and part in (WRONG, TWIN) else []
-        if part == CONTROL:
+        self.goals = said["goal"].split(", ") if "goal" in said and part in (WRONG, CONTROL) else []
+        if part == RIGHT_REFUTED:
             path, within, _, _ = self.pairs[0]
             right = body_of(crate, path, within)
             lines = (it.strip() for it in right.split("\n"))
             self.pairs = [Pair(path, within, right, " ".join(it for it in lines if not it.startswith("//")))]
+        if part == UNMET:
+            path, within, _, _ = self.pairs[0]
+            of = next(it for it in functions_of(crate, path, sources_of(crate)[path]) if it.name == within)
+            call = controls.call_of(of.head)
+            own = "Self::" * ("::" in of.shown and not call.startswith("self."))
+            self.pairs = [Pair(path, within, of.text, own + call)]
         if part.startswith(EMPTIED):
             self.pairs = [self.pairs[0]._replace(new=self.emptied()[int(part.removeprefix(EMPTIED))])]
         # only ever tried beside its function, and without the answers that this has
-        self.is_apart = self.calls_right or part in (REFUTED, CONTROL, NEVER) or part.startswith(EMPTIED)
-        names = (it.strip("`,.") for it in self.hole.split())
+        self.is_apart = self.calls_right or part in (REFUTED, RIGHT_REFUTED, NEVER, UNMET) or part.startswith(EMPTIED)
+        names = (it.strip("`,.") for it in self.survivor.split())
         self.test = next((it for it in names if "/" in it and os.path.isfile(f"{ROOT}/{it}")), "")
         self.is_unfit = next(self.faults(), "")
 
@@ -272,32 +297,34 @@ class Edit:
             yield "it has no `new:`"
         if self.bare:
             yield f"`rt` does not read a line of it, which has no `# ` in front: {self.bare}"
-        if self.is_wide and not (law_of(self.crate, self.by) and "/wrong/" not in self.file):
+        if self.is_wide and not (law_of(self.crate, self.by) and "/mutants/" not in self.file):
             yield "it is outside a function: it has to stand in must-fail, and its `by:` to name a law that refuses it"
         if not self.is_wide and len(self.pairs) > 1:
             yield "it has more than one `new:`"
-        if self.hole and (self.calls_right or not self.test):
-            yield "its `hole:` names no file of a test that refuses it, or is of a `body:`, which calls the right one"
+        if self.survivor and (self.calls_right or not self.test):
+            yield "its `survivor:` names no test that refuses it, or is of a `body:`, which calls the right one"
         if self.calls_right and not self.functions[0][1].behind:
             yield "it calls a function beside which it may not stand"
         if self.condition and not (self.functions and self.pairs[0].within and len(self.refuting()) == 1):
             yield "it has an `at:`, and not `in:` and one clause that it is to leave false"
         if self.promised and not (self.is_wide or (self.is_beside() and not self.answers())):
             yield "it has a `clause:`, and its function has answers, or it may call that"
-        is_searched = self.has_twin and not self.is_wide and self.is_beside() and not self.answers()
+        is_searched = self.has_control and not self.is_wide and self.is_beside() and not self.answers()
         if self.goals and (INVARIANT in self.promised or not is_searched):
-            yield "it has a `goal:`, and no twin, or answers, or is not tried beside its function"
+            yield "it has a `goal:`, and no control, or answers, or is not tried beside its function"
+        if self.goals and LEMMAS.search("\n".join(self.functions[0][1].head)):
+            yield "it has a `goal:`, whose searches lack what the `#[tactic(..)]` of its function names"
         if not set(self.promised) <= {*self.clauses(), INVARIANT}:
             yield "its `clause:` names what is not ensured"
 
     def emptied(self):
-        """What stands in a twin, once for each of its own branches, with nothing in that."""
+        """What stands in a control, once for each of its own branches, with nothing in that."""
         known = [self.wrong, "" if self.calls_right else self.pairs[0].old]
-        return twins.emptied(known, self.pairs[0].new)
+        return controls.emptied(known, self.pairs[0].new)
 
     @functools.cached_property
     def way_back(self):
-        """The names of all functions by which what it says, and did not stand there, may call the one it stands in."""
+        """Returns the names of all functions by which its new words may call the function that it changes."""
         if self.is_wide or self.is_apart or not self.functions:
             return set()
         of, pair = self.functions[0][1], self.pairs[0]
@@ -332,12 +359,12 @@ class Edit:
         return bool(self.functions[0][1].behind) and (self.is_apart or not self.way_back)
 
     def answers(self):
-        """What its function has answers as, in parts, where it is tried with them; else none."""
+        """Returns the name of the answers of its function, in parts, if it is tried with them; else nothing."""
         found = () if self.is_apart else filter(self.functions[0][1].symbols.match, answered(self.crate))
         return next((it.split("::")[1:] for it in found), [])
 
     def place(self):
-        """Where a check has the law, or else the copy, by which this edit is judged, in parts."""
+        """Returns the place, in parts, of the law, or else of the copy, by which this edit is judged."""
         if self.is_wide:
             return self.by.split("::")
         path, of = self.functions[0]
@@ -358,15 +385,15 @@ class Edit:
         """The head of its function, with this condition, and with the clause or all that there is said to be false."""
         kept = [re.sub(r"^( *requires) \{", r"\1 given {", line) for line in self.promises([])]
         more = [] if self.condition == "always" else [f"    requires at_which {{ {self.condition} }}"]
-        false = "⊥" if self.part == NEVER else f"({self.refuting()[0]}) → ⊥"
+        false = "⊥" if self.part in (NEVER, UNMET) else f"({self.refuting()[0]}) → ⊥"
         return [*kept, *more, f"    ensures {{ {false} }}"]
 
     def stand_beside(self, number):
-        """Puts this edit into a copy of its function, named by this number, where it is tried in one."""
+        """Puts this edit into a copy of its function, named by this number, if it is tried in one."""
         if self.is_unfit or self.is_wide or not self.is_beside():
             return
         path, of = self.functions[0]
-        if self.part in (REFUTED, CONTROL, NEVER):
+        if self.part in (REFUTED, RIGHT_REFUTED, NEVER, UNMET):
             head = self.refutation()
         elif self.part.startswith(EMPTIED):  # the branch in which nothing stands is taken, whatever is ensured
             head = self.promises([])
@@ -375,7 +402,7 @@ class Edit:
         name, lines = f"{of.name}_again_{number}", self.applied({})[path].split("\n")
         fewer = self.pairs[0].old.count("\n")  # what stands in a body is one line
         begin, *rest = lines[of.body : of.last + 1 - fewer]
-        begin = f"    {begin[begin.index('{') :]}" if of.impl and HEAD.match(begin) else begin  # behind its clause
+        begin = f"    {begin[begin.index('{') :]}" if of.impl and HEAD.match(begin) else begin  # after its clause
         text = "\n".join(it for it in [*head, begin, *rest] if "#[cycle(" not in it)
         text = re.sub(rf"(?m)^([^/\n]*\bfn ){of.name}\b", rf"\1{name}", text, count=1)
         self.copy = Copy(path, of.behind, f"\n{of.impl}\n{text}\n}}" if of.impl else f"\n{text}", name)

@@ -1,4 +1,4 @@
-"""What is not tried of a crate: such a function keeps its contract, and has a stub for its body.
+"""The functions of a crate that are not tried: each keeps its contract, and has a stub for its body.
 
 A caller is proved from the contracts of what it calls. So beside a few functions that are tried no other needs its own
 body, and a stub costs next to nothing: it calls a function that can't be, and so never returns. That the bodies which
@@ -11,10 +11,10 @@ import secrets
 from edits import ANSWERS, ROOT, functions_of, sources_of, text_of
 from tree import write
 
-# Another name in each run: no wrong body, and no twin, can call what is there for the stubs alone.
+# Another name in each run: no mutant, and no control, can call the functions that are only for stubs.
 PLACE = f"nowhere_{secrets.token_hex(8)}"
 STUB = f"crate::{PLACE}::never()"
-# No function meets the first contract, so nothing behind a call of it is ever reached. It passes for one of the C
+# No function meets the first contract, so nothing after a call of it is ever reached. It passes for one of the C
 # library, for which a check does not look.
 NOWHERE = """ghost use Rattle.std.specs.Prelude.{◌≡◌, false, true};
 
@@ -28,7 +28,7 @@ pub(crate) fn never() -> ! {
     unreachable!()
 }
 """
-# An answer to a goal that there is none of. Beside it `rattle` does not look for the beginning of an answer to what is
+# An answer to a goal that does not exist. With it, `rattle` does not look for the beginning of an answer to what is
 # left open of a function, which takes up to a third of a check and more. And a hole for the invariant of a method's
 # type, whose search to the end may take as long, and which the fault hides.
 FAULTS = ("fault", "invariant_of-self")
@@ -51,7 +51,7 @@ LINKED = "//bazel/native:glibc"
 
 
 def may_be_stub(lines, it):
-    """Whether it may have one: none of a trait, that is constant, in a cycle of calls, or without a line of its own."""
+    """Returns whether a function may have a stub: it is not of a trait, not constant and in no cycle of calls."""
     head = lines[it.first]
     indent = head[: len(head) - len(head.lstrip())]
     is_of_trait = bool(indent) and "::" not in it.shown
@@ -60,8 +60,8 @@ def may_be_stub(lines, it):
 
 
 def put_stubs(crate, home, texts, is_tried):
-    """Writes a crate into this folder, with these texts, and stubs but for functions of which `is_tried` says, by file
-    and function, that they are tried. What answers goals of the bodies goes with them."""
+    """Writes a crate into this folder, with these texts, and stubs except for functions that are tried, as `is_tried`
+    says by file and function. Answers to goals of the bodies go with them."""
     gone = []
     for path, text in {**sources_of(crate), **texts}.items():
         lines = text.split("\n")
@@ -90,7 +90,7 @@ def put_answers(crate, home, answers, place):
 
 
 def put_searches(crate, home, place, goals, is_spoilt):
-    """Gives what a check has at this place of the crate in this folder, where it has no answers, two searches for each
+    """Gives what a check has at this place of the crate in this folder, if it has no answers, two searches for each
     of these goals, which stand with the names of what they are given; and a fault for one more answer."""
     file = f"{home}/proofs/{'/'.join(place)}/Answers.antt"
     if not os.path.exists(file):

@@ -1,7 +1,9 @@
 #!/usr/bin/env python3
 """Compares the documents with the tree and with one another, as the head of each look says. Usage:
-tests/documents/documents.py; it ends with 1 where they differ, and says in what.
+tests/documents/documents.py; it exits with status 1 if they differ, and says in what.
 """
+import ast
+import contextlib
 import glob
 import os
 import re
@@ -9,22 +11,28 @@ import sys
 import textwrap
 
 sys.path[:0] = [os.path.dirname(__file__) + "/..", os.path.dirname(__file__) + "/../site"]
-import planted
+import bacsite_faults
 from program.rows import LETTERS
 from sources import OF_PROGRAM, code_of
 from tree import TOP, all_crates, crates_below, files, ran, sections_of, text_of, well_or
 
 SOURCES = ["crates/*/src/**/*.rt", "crates/*/specs/**/*.antt", "crates/*/proofs/**/*.antt"]
 OF_STD = {"arrayvec", "byteorder", "clap", "hex", "thiserror", "std", "fault_of", "map", "filter", "flat_map"}
-# What defines a name: of a type or a member, of a variant, of antt, and of a wrong body.
+# What defines a name: of a type or a member, of a variant, of antt, and of a mutant.
 DEFINES = {
     SOURCES[0]: r"\b(?:struct|enum|trait|const|type|mod|ghost|fn|ensures) +(\w+)|^ +([A-Z]\w*)(?=[,({])",
     **dict.fromkeys(SOURCES[1:], r"^ *(?:(?:abbrev|record|data|pub|unfoldable) +)*(\w+)(?: [^:\n]*)? :"),
-    "crates/*/wrong/*.edits": r"^\[(\w+)\]$",
+    "crates/*/mutants/*.edits": r"^\[(\w+)\]$",
 }
 WHOLE = ["docs/", "bench/", "tests/", "tests/[a-z]*/"]  # folders whose row names each file
 WELL_KNOWN = set("README.md CONTRIBUTING.md SECURITY.md CHANGELOG.md LICENSE .gitignore .git crates out".split())
 WIDTH = 120
+NUMBERS_AND_CODES = re.compile(r"`[^`]*`|\d[\d,]*\b")  # of a row of the rules
+# What a test in Rattle asks or goes over, and is known: a constant, a thing beside itself, no rows.
+VACUOUS = re.compile(
+    r"assert!\([^;]*;\s*true\b|\|\| true\b|\btrue \|\|"
+    r"|(?<![\w.])([\w.]+) == \1(?![\w.(\[])|\bin (?:&?\[\]|.*\(&\[\]\)) \{"
+)
 UNSEEN = {
     "a `Drop` by hand": (SOURCES[0], r"(?m)^ *impl\b[^{;]*?\bDrop\s+for\s+\w+"),
     "a loop, whose work is not counted": ("crates/bac_pdu/src/**/*.rt", r"(?m)^ *((?:while|for|loop)\b.*)$"),
@@ -96,7 +104,7 @@ def map_beside_the_crates(section):
 
 def scripts_are_run(section):
     """Each script of tests/ that can be run is run by a target of make, or `by hand`, as the map says."""
-    runs = text_of("tests/documents/targets.txt") + text_of("tests/parts.py")
+    runs = text_of("tests/documents/targets.txt") + text_of("tests/suite.py")
     by_hand = {name for row in tables(section) for name in names(row["What it has"].partition("by hand")[2])}
     for file in files("tests/*/*"):
         if os.access(file, os.X_OK) and os.path.basename(file) not in by_hand and file not in runs:
@@ -115,16 +123,16 @@ def targets():
 
 
 def what_tries_nothing():
-    """What is no test beside the tests is called; each fault of planted.diff has its place; Python reads its files."""
+    """Functions beside tests are called; each fault of bacsite_faults.txt has a place; Python reads its files."""
     for place, pattern in BESIDE_TESTS.items():
         texts = "".join(map(text_of, files(place)))
         words = re.findall(r"\w+", texts)
         for name in re.findall(pattern, texts):
             if words.count(name) == 1:
                 yield f"{place}: {name} is no test, and nothing calls it"
-    for path, _, old, _ in planted.faults():
+    for path, _, old, _ in bacsite_faults.faults():
         if not os.path.isfile(path) or text_of(path).count(old) != 1:
-            yield f"tests/site/planted.diff: {path} does not have once: {old}"
+            yield f"tests/site/bacsite_faults.txt: {path} does not have once: {old}"
     for file in (it for it in files("**/*.py") if not it.startswith("out/")):
         try:
             compile(text_of(file), file, "exec")
@@ -132,9 +140,36 @@ def what_tries_nothing():
             yield f"{file}: {fault}"
 
 
+def compared_with_itself():
+    """No test compares a thing with itself, asks whether a constant is true, or goes over nothing that it writes."""
+    for file in files("tests/**/*.py", "bench/*.py"):
+        with contextlib.suppress(SyntaxError):  # what_tries_nothing reports it
+            for node in filter(is_vacuous, ast.walk(ast.parse(text_of(file)))):
+                line = getattr(node, "lineno", 0) or node.iter.lineno
+                yield f"{file}:{line}: it compares a thing with itself, or nothing"
+    for file in files("crates/*_trials/src/**/*.rt"):
+        found = VACUOUS.finditer(code_of(file))
+        yield from (f"{file}: it compares a thing with itself, or nothing: {it[0]}" for it in found)
+
+
+def is_vacuous(node):
+    """Whether what a node of Python asks is known, whatever the tests find."""
+    name = getattr(getattr(node, "func", None), "attr", getattr(getattr(node, "func", None), "id", ""))
+    sides = node.args[1:3] if name in ("same", "alike") else node.args[:2] if name[:6] == "assert" else []
+    sides = [node.left, *node.comparators] if isinstance(node, ast.Compare) else sides
+    if len(sides) == 2 and len({*map(ast.dump, sides)}) == 1:
+        return True
+    if isinstance(node, (ast.For, ast.comprehension)):
+        return isinstance(node.iter, (ast.List, ast.Tuple)) and not node.iter.elts
+    if isinstance(node, ast.BoolOp):
+        return any(isinstance(getattr(it, "value", None), bool) for it in node.values)
+    known = getattr(node, "test", sides[0] if len(sides) == 1 else None)
+    return isinstance(known, ast.Constant) and not isinstance(node, ast.While)
+
+
 def heads_of_sources():
-    """Each file of code says at its head what it has, but for lists of modules and answers to single functions. What
-    the head of a library shows stands in its examples, and the calls that it shows in bac_uses."""
+    """Each file of code says at its head what it has, except lists of modules and answers to single functions. What
+    the head of a library shows is in its examples, and the calls that it shows in bac_uses."""
     for file in files(*SOURCES[:2], "crates/*/proofs/*.antt"):
         mark = "//!" if file.endswith(".rt") else "--"
         if not text_of(file).startswith(mark + " ") and not file.endswith(("/Lib.antt", "/Inner.antt")):
@@ -228,7 +263,7 @@ def texts_of_faults(section):
 
 
 def what_no_clause_sees():
-    """A `Drop` by hand, which could do anything when a value is let go; and work that no clause `walked_once` would
+    """A hand-written `Drop`, which could do anything; and work that no clause `walked_once` would
     see: a loop in bac_pdu, or a count that is begun from there to bac_device."""
     for what, (place, pattern) in UNSEEN.items():
         for file in files(place):
@@ -268,20 +303,24 @@ def rows_of_rules(parts):
 
 
 def rows_are_read_back(parts):
-    """Each row of the rules is named in pins.txt, once, with a text of the worked row or example that would fail were
-    it wrong in a definition and in the code at once. A number of three digits or more, or one beside it, stands there
-    too, in decimal or as octets."""
+    """Each row of the rules is named in pins.txt, once, by its first cells, with a text of the worked row or example
+    that would fail were it wrong in a definition and in the code at once. A number of three digits or more, or one
+    beside it, is there too, in decimal or as octets."""
     rows, named = rows_of_rules(parts), set()
     for heading, key, places in pins():
-        mine = rows.count((heading, key))
-        if mine > 1 or not mine and key not in on_one_line(parts.get(heading, "")):
-            yield f"{heading}: {key}: it stands {mine} times in docs/PROTOCOL.md"
+        key, arrow, said = key.partition(" => ")
+        mine = [row for it, row in rows if it == heading and (row + " | ").startswith(key + " | ")]
+        if len(mine) > 1 or not mine and key not in on_one_line(parts.get(heading, "")):
+            yield f"{heading}: {key}: it stands {len(mine)} times in docs/PROTOCOL.md"
+        if arrow and mine and (" ".join(NUMBERS_AND_CODES.findall(mine[0][len(key) :])) or "none") != said:
+            yield f"{heading}: {key}: its numbers and codes are not {said}"
         if not places:
             yield f"{heading}: {key}: nothing is named that reads it back"
-        named.add((heading, key))
+        named.add((heading, mine[0] if mine else key))
         texts = re.sub(r"(?<=\d)[,_](?=\d)", "", " ".join(text for _, text in places)).lower()
         texts = re.sub(r"\b[pqmva]\b", lambda letter: LETTERS[letter[0].upper()], texts)
-        for number in map(int, re.findall(r"(?<![\d.])\d{3,20}(?!\d)", re.sub(r"(?<=\d),(?=\d)", "", key))):
+        row = re.sub(r"(?<=\d),(?=\d)", "", (mine or [key])[0])
+        for number in map(int, re.findall(r"(?<![\d.])\d{3,20}(?!\d)", row)):
             if not any(form in texts for n in (number - 1, number, number + 1) for form in (str(n), f"{n:02x}")):
                 yield f"{heading}: {key}: nothing that is named has the number {number}"
         for file, text in places:
@@ -294,7 +333,7 @@ def rows_are_read_back(parts):
 
 
 def wide_lines():
-    """Code has at most 120 columns, but for attributes, which `rt fmt` lays out, and words that are longer."""
+    """Code has at most 120 columns, except attributes, which `rt fmt` lays out, and words that are longer."""
     places = [*SOURCES, "Makefile", "*.mk", "*.py", "site/bacsite/**/*.py"]
     for folder in ("bench", "completions", "examples", "man", "packaging", "tests"):
         places += [f"{folder}/**/*.{ending}" for ending in "py sh c awk bash zsh fish service".split()]
@@ -306,9 +345,9 @@ def wide_lines():
 
 
 def links_and_lines():
-    """Links lead to what a package has. Documents have at most 120 columns, but for tables and what is printed."""
+    """Links lead to what a package has. Documents have at most 120 columns, except tables and what is printed."""
     documents = files("*.md", "docs/**/*.md")
-    there, anchors = {"LICENSE", *documents, *glob.glob("examples/*")}, {}
+    there, anchors = {"LICENSE", *documents, *glob.glob("docs/*.png"), *glob.glob("examples/*")}, {}
     for file in documents:
         heads = re.findall(r"^#+ (.*)$", text_of(file), re.M)
         anchors[file] = {re.sub(r"[^\w\- ]", "", head.lower()).replace(" ", "-") for head in heads}
@@ -334,6 +373,7 @@ def main():
         *scripts_are_run(code["Beside the crates"]),
         *targets(),
         *what_tries_nothing(),
+        *compared_with_itself(),
         *heads_of_sources(),
         *names_of_proofs("docs/PROOFS.md", proofs, *known),
         *names_of_proofs("README.md", sections(readme)["What is proved"], *known),

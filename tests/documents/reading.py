@@ -5,8 +5,9 @@ public call of the crate that no page before has.
 
 Usage: tests/documents/reading.py [--write]: compares docs/reading/, and the sizes that README.md tells, with the tree;
 says which public calls stand on no page, which definitions lie in the wrong room, which of those that laws and public
-clauses name no example holds, and which names a file brings in that aren't there, or that it doesn't say; ends with 1
-where there are any. With --write it writes docs/reading/ anew (make reading).
+clauses name no example holds, which of their fields (fields.txt) no example refuses, and which names a file brings in
+that aren't there, or that it doesn't say; exits with status 1 if there are any. With --write it writes docs/reading/
+anew (make reading).
 """
 import os
 import re
@@ -17,7 +18,7 @@ import textwrap
 sys.path.insert(0, os.path.dirname(__file__) + "/..")
 from sources import CLAUSE, CRATES, OF_PROGRAM, ROOMS, SOURCES, SPECS, TOKEN, USE, Declared, Definition, Item
 from sources import closed, code_of, defined, parts_of, public_calls, read_tree, uses_in
-from tree import TOP, files, text_of, well_or, write
+from tree import TOP, files, sections_of, text_of, well_or, write
 
 FOLDER = "docs/reading"
 SIZE = r"\[([\d,]+) lines\]\(docs/reading/(\w+)\.md\)"  # as README.md tells it
@@ -138,27 +139,95 @@ def said_by(calls):
             yield clause[1].strip("{} \n"), {it for it in said if isinstance(it, Definition)}
 
 
+def of_files(name):
+    """Returns the items of the files of src/ whose path contains this."""
+    return [it for path, file in SOURCES.items() if name in path for it in file.items.values()]
+
+
+def named():
+    """The definitions that laws and public clauses name, in order."""
+    calls = [call for crate in CRATES if crate in OF_PROGRAM for call in public_calls(crate)[0].values()]
+    calls += [it for name in ("/laws.rt", "/theorems.rt", "/comparing.rt") for it in of_files(name)]
+    return sorted(set().union(*(said for _, said in said_by(calls))), key=lambda it: (it.file.path, it.place))
+
+
+def kind_of(item):
+    return re.split(r":(?=\s)", item.head)[-1].replace("where", "").strip()
+
+
+def is_relation(item):
+    given = " ".join([*item.around, item.head])
+    return kind_of(item).endswith("Type 0") and bool(re.search(r"[({→]", given))
+
+
+def as_premise(item):
+    """A clause that fits denies this relation, or concludes something from it."""
+    return re.compile(rf"→ ⊥$|→ {item.name}\b[^→]*→")
+
+
 def unheld():
     """The definitions that laws and public clauses name and that no example holds: of a relation one clause says that
     it holds, and one that it does not; of a number one says it; anything else stands in what one computes."""
-    of_files = lambda name: [it for path, file in SOURCES.items() if name in path for it in file.items.values()]
-    named = [call for crate in CRATES if crate in OF_PROGRAM for call in public_calls(crate)[0].values()]
-    named += [it for name in ("/laws.rt", "/theorems.rt", "/comparing.rt") for it in of_files(name)]
     clauses = [*said_by(of_files("/examples.rt"))]
     holds = set().union(*(said for text, said in clauses if not text.endswith("→ ⊥")))
     computed = {*closed(holds)}
-    for item in sorted(set().union(*(said for _, said in said_by(named))), key=lambda it: (it.file.path, it.place)):
-        kind = re.split(r":(?=\s)", item.head)[-1].replace("where", "").strip()
-        of = item.file.said(item.file.names, item.head)[0]
-        is_relation = kind.endswith("Type 0") and re.search(r"[({→]", " ".join([*item.around, item.head]))
-        is_view = not is_relation and (kind == "Type 0" or of and isinstance(of[0], Declared))
+    for item in named():
+        kind, of = kind_of(item), item.file.said(item.file.names, item.head)[0]
+        is_view = not is_relation(item) and (kind == "Type 0" or of and isinstance(of[0], Declared))
         if is_view:
             continue
-        if item not in (holds if kind == "ℕ" or is_relation else computed):
+        if item not in (holds if kind == "ℕ" or is_relation(item) else computed):
             yield f"{item.file.path}: no example says {item.name}"
-        as_premise = re.compile(rf"→ ⊥$|→ {item.name}\b[^→]*→")
-        if is_relation and not any(item in said and as_premise.search(text) for text, said in clauses):
+        if is_relation(item) and not any(item in said and as_premise(item).search(text) for text, said in clauses):
             yield f"{item.file.path}: no example refuses anything by {item.name}"
+
+
+def says(record, what):
+    """Whether this field of a record says something: by a sign, or a relation of std, of ours or of a parameter."""
+    head, given = what.split()[0], " ".join([*record.around, record.head])
+    item = record.file.meant(record.file.names, head)
+    of_parameter = re.search(rf"(?<![\w']){re.escape(head)} : [^)}}]*→ Type 0", given)
+    is_ours = isinstance(item, Definition) and is_relation(item)
+    return is_ours or of_parameter or re.search(r"[≡≢≤<↔→×⊎∥]|^(If|On|All)[A-Z]", what)
+
+
+def fields_of(record):
+    """The names of what says something in a record of this relation."""
+    found = (re.match(r"\s*(?:pub )?(\S+) :\s(.*)", part, re.S).groups() for part in record.parts)
+    return [name for name, what in found if says(record, what)]
+
+
+def examples_of_fields():
+    """Returns the rows of fields.txt by crate, record and field: an example, or why there is none; and those that it
+    has twice."""
+    found, twice = {}, []
+    for crate, rows in sections_of("tests/documents/fields.txt"):
+        for record, _, row in (line.partition(": ") for line in rows):
+            names, _, reason = row.partition(" -- ")
+            for field, example in ((*it.split(" "), "")[:2] for it in names.split(", ")):
+                twice += [f"{crate} {record}: {field} twice"] * ((crate, record, field) in found)
+                found[crate, record, field] = (example, reason)
+    return found, twice
+
+
+def unrefused():
+    """The fields that have no example of their own, of the records that laws and public clauses name."""
+    examples, wrong = examples_of_fields()
+    clauses = {}
+    for call in of_files("/examples.rt"):
+        for (text, said), (_, whole) in zip(said_by([call]), call.clauses):
+            name = re.search(rf"ensures (\w+) {re.escape(whole)}", call.file.code)[1]
+            clauses.setdefault((call.file.crate, name), []).append((text, said))
+    for record in (it for it in named() if it.kind == "record" and is_relation(it)):
+        crate, used = record.file.crate, set()
+        for field in fields_of(record):
+            example, reason = examples.pop((crate, record.name, field), ("", ""))
+            found = clauses.get((crate, example), [])
+            is_so = any(record in said and as_premise(record).search(text) for text, said in found)
+            if example in used or not (reason or is_so):
+                wrong.append(f"{record.file.path}: {record.name}: no example of its own refuses by {field}")
+            used |= {example} - {""}
+    return [*wrong, *(f"tests/documents/fields.txt: {' '.join(it)}: there is no such field" for it in examples)]
 
 
 def unused_or_gone():
@@ -197,7 +266,7 @@ def main(arguments):
     if arguments == ["--write"]:
         make(texts, sizes)
     else:
-        PROBLEMS.extend([*compare(texts, sizes), *rooms(), *unheld(), *unused_or_gone()])
+        PROBLEMS.extend([*compare(texts, sizes), *rooms(), *unheld(), *unrefused(), *unused_or_gone()])
     return well_or(PROBLEMS, f"{len(texts)} pages of {FOLDER} agree with the tree")
 
 

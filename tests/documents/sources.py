@@ -1,9 +1,9 @@
-"""What the sources define, and what each definition, type, trait, constant and call says of the others.
+"""The definitions of the sources, and how definitions, types, traits, constants and calls refer to one another.
 
 A definition of specs/ says its signature, its cases, and the parameters of the module round it. A call says its clauses
 and its signature; a trait the same of its methods, and its ghost members; a type of src/ its fields and what its
 `impl Model` shows, and apart from that what its invariant keeps. A name is what the file defines or brings in; any
-other is a variable, and so is a small one that is bound: before a colon, behind a λ or a `let`, in the pattern of a
+other is a variable, and so is a small one that is bound: before a colon, after a λ or a `let`, in the pattern of a
 case. The layout is rt fmt's. Lines are counted without comments, blank lines and attributes.
 """
 import functools
@@ -29,7 +29,7 @@ NO_CODE = {
 }
 TOKEN = re.compile(r'"(?:\\.|[^"\\])*"|\[\]|λ|[(){}\[\],;]|[^\s(){}\[\],;λ"]+')
 LABEL = re.compile(r"(?<=[{;])\s*[^\s={;]+ =(?=\s)")  # a field, or an argument by its name
-# Where a term binds names: before a colon, behind a λ or a `let`.
+# Where a term binds names: before a colon, after a λ or a `let`.
 BINDER = re.compile(r"[({]\s*((?:[^\W\d][\w'-]*\s+)+):(?=\s)|λ ([^.]*)\.|\blet (\S+)\s+=")
 
 # A use line, which may take several; a group of it; how definitions and the items of src/ begin.
@@ -41,7 +41,7 @@ DEFINITION = re.compile(r" *(?:(?:abbrev|unfoldable|opaque|abstract|pub|(data|re
 ITEM = re.compile(
     r" *(?:(pub )|pub\(\w+\) )?(?:unsafe |const )*(fn|struct|enum|trait|impl|const|static|type|use|ghost)\b ?(\w*)"
 )
-# A clause or a ghost member, and the proof behind it; and a member of an impl, as a clause names it.
+# A clause or a ghost member, and the proof after it; and a member of an impl, as a clause names it.
 BRACES = functools.reduce(lambda inner, _: rf"\{{(?:[^{{}}]|{inner})*\}}", range(5), r"\{[^{}]*\}")
 CLAUSE = re.compile(rf"\b(requires|ensures|ghost)\*?(?: (?!use\b)(\w+))?\s*[:=]?\s*({BRACES}(?:\s*by\s*{BRACES})?)")
 IMPL = re.compile(r"⟦<((\w+)[^⟧]*? as (\w+)[^⟧]*)>⟧\.(\w+)")
@@ -66,7 +66,7 @@ def leaves(path):
 
 
 def uses_in(code):
-    """What use lines bring in: a module, a name of it or None, the name here, and whether it is passed on."""
+    """Returns what `use` lines import: a module, a name of it or None, the name here, and whether it is passed on."""
     for public, path, group, alias in USE.findall(code):
         for leaf in leaves(f"{path}.{group}") if group else ():
             there, _, here = leaf.removeprefix("Rattle.").partition(" as ")
@@ -88,7 +88,7 @@ def brought_in(code):
 
 
 class Item:
-    """What a file defines."""
+    """Returns the definitions of a file."""
 
     keeps = ()
 
@@ -97,7 +97,7 @@ class Item:
 
     @functools.cached_property
     def needs(self):
-        """The other items that it says, and the names outside, behind their modules."""
+        """The other items that it says, and the names outside, after their modules."""
         return [it for it in dict.fromkeys(self.says()) if it is not self]
 
 
@@ -120,7 +120,7 @@ class Definition(Item):
 
 
 class Declared(Item):
-    """What src/ declares. A clause, also what a type shows or keeps, is the names brought in there, and its text."""
+    """The declarations of src/. A clause, even of a model or invariant, is the names imported there, and its text."""
 
     def __init__(self, file, name, kind, start, end, names, around=""):
         super().__init__(file, name, kind, start, end)
@@ -155,14 +155,14 @@ class File:
         return [found.span() for found in block.finditer(self.code, start, end)]
 
     def meant(self, names, token):
-        """What a token of a term stands for, with these names brought in."""
+        """Returns the item that a token of a term stands for, with these imported names."""
         head, _, rest = token.partition(".")
         for module, there in (names[name] for name in (head, token) if name in names):
             return defined(module, there or rest.partition(".")[0])
         return self.known.get(head)
 
     def said(self, names, text, pattern="", bound=()):
-        """What a term says, behind a pattern; and what is bound in it."""
+        """Returns the items that a term names, after a pattern; and the names that are bound in it."""
         binders = TOKEN.findall(" ".join([pattern, *("".join(found) for found in BINDER.findall(text))]))
         bound = {*bound, *(it for it in binders if it[0].islower() and "." not in it and it not in CONSTRUCTORS)}
         tokens = [token.rstrip(".") or token for token in TOKEN.findall(f"{pattern} {LABEL.sub('', text)}")]
@@ -263,7 +263,7 @@ class Source(File):
                 self.methods.append((owner, member))
 
     def find(self, path):
-        """What a path stands for: an item, or a crate outside and the name there; None of a variable."""
+        """Returns what a path stands for: an item, or a crate outside and the name there; None for a variable."""
         head, *rest = path.split("::")
         parts = [*self.uses.get(head, [head]), *rest]
         if head in self.items:
@@ -293,7 +293,7 @@ class Source(File):
 
 
 def defined(module, name):
-    """What a module has under a name: an item, or the module outside and the name; None if nothing."""
+    """Returns the item of a module with this name, or the module outside and the name; None if there is none."""
     crate, _, inner = module.partition(".")
     if crate not in CRATES:
         return f"{crate}: {inner.removeprefix('specs.')}", name
@@ -316,7 +316,7 @@ def read_room(path):
 
 
 def in_crate(crate, parts):
-    """What a path leads to in a crate, perhaps by a `pub use` of its own."""
+    """Returns the item that a path leads to in a crate, perhaps through a `pub use`."""
     for part in reversed(parts):
         if (crate, part) in RUST:
             return RUST[crate, part]
@@ -357,7 +357,7 @@ def public_calls(crate):
 
 
 def closed(roots, kept=False):
-    """What these need, breadth first, they themselves first; with what the types keep, if that is asked for."""
+    """Returns these items and all that they need, breadth first; with the invariants of types, if asked for."""
     found = dict.fromkeys(roots)
     rest = list(found)  # which grows while it is walked
     for item in rest:

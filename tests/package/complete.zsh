@@ -5,6 +5,8 @@ zpty shell zsh -f -i
 send() { zpty -w shell "$1" }
 send 'PROMPT=; unsetopt zle_bracketed_paste; zstyle ":completion:*" list-prompt ""; LISTMAX=1000'
 send "fpath=($1 \$fpath); autoload -Uz compinit; compinit -u -D"
+# Files, or folders alone: zsh would offer all files if it keeps no folder.
+send '_files() { [[ $1 == -/ ]] && compadd -- *(/N:t) || compadd -- *(N:t) }'
 # Each match is printed in place of being shown, and then the line is thrown away.
 send 'compadd() {
     if [[ ${@[1,(i)(-|--)]} == *-(O|A|D)\ * ]]; then builtin compadd "$@"; return; fi

@@ -1,5 +1,5 @@
 #!/usr/bin/env python3
-"""Asks bash, zsh and fish what each line of completions.txt completes to, by the files that completions/make.py makes,
+"""Asks bash, zsh and fish what each line of completions.txt completes to, with the files of completions/make.py,
 and compares. It says which of them is not installed. Usage: tests/package/completions.py PROGRAM
 """
 import os
@@ -8,10 +8,16 @@ import sys
 import tempfile
 
 sys.path.insert(0, os.path.dirname(__file__) + "/..")
-from tree import TOOLS, TOP, left_out, ran, same, shown, text_of, verdict
+from tree import TOOLS, TOP, left_out, ran, same, shown, text_of, verdict, write
 
 PROGRAM = os.path.realpath(sys.argv[1])
-BASH = """compopt() { offered=($([ $2 = default ] && compgen -f -- "$current" || compgen -d -- "$current")); }
+BASH = """compopt() {
+    case "$*" in
+        "-o default") offered=($(compgen -f -- "$current")) ;;
+        "-o dirnames") offered=($(compgen -d -- "$current")) ;;
+        *) offered=("compopt $*") ;;
+    esac
+}
 for line in "${@:2}"; do
     tool=${line%% *}; [[ $tool == bacsite ]] || tool=bactool
     source "$1/$tool.bash"
@@ -28,7 +34,7 @@ SHELLS = {
 
 
 def options(*words):
-    """The long options that help tells of."""
+    """The long options of the help."""
     return sorted(re.findall(r"(?m)^ +(?:-[A-Za-z](?: [A-Z]+)?, )?(--[a-z-]+)\b", shown(*words, "--help")))
 
 
@@ -47,7 +53,7 @@ def rows():
 
 
 def completed(shell, folder, lines):
-    """What the shell completes each of these lines to."""
+    """Returns what the shell completes each of these lines to."""
     parts = re.split(r"(?m)^of (.*)\n", ran(*SHELLS[shell], folder, *lines, cwd=folder).stdout)
     return {line: sorted({it.split("\t")[0].rstrip("/") for it in told.split("\n") if it})
             for line, told in zip(parts[1::2], parts[2::2])}
@@ -56,8 +62,9 @@ def completed(shell, folder, lines):
 def main():
     wanted = dict(rows())
     with tempfile.TemporaryDirectory() as folder:
-        ran(TOP + "/completions/make.py", folder)
+        ran(TOP + "/completions/make.py", PROGRAM, folder)
         os.mkdir(f"{folder}/empty")
+        write(f"{folder}/emptied", "")  # which is no folder
         for shell in SHELLS:
             if not left_out(shell):
                 found = completed(shell, folder, wanted)

@@ -1,9 +1,9 @@
 #!/usr/bin/env python3
-"""Compares what manual pages and documents say with the programs: words, options, ranges and defaults with each tool's
-help, faults with the code's texts, and with help and documents what has to be said twice. What they say in numbers is
-measured, and read back there by the sentences of facts.txt. Then mandoc reads the pages, and Wireshark, which has the
+"""Compares what manual pages and documents say with the programs: words and options with what man/tables.py makes from
+the help, faults with the code's texts, and with help and documents what has to be said twice. What they say in numbers
+is measured, and read back there by the rows of facts.txt. Then mandoc reads the pages, and Wireshark, which has the
 standard's numbers from another hand, is asked what it calls those of site/bacsite/numbers.txt.
-Usage: tests/package/pages.py PROGRAM [PART ..], where a part is a function that `main` names.
+Usage: tests/package/pages.py PROGRAM [PART ..], of which a PART is a function that `main` names.
 """
 import datetime
 import os
@@ -27,7 +27,6 @@ SETTINGS = {
     "SILENT": "--mac 127.0.0.1:9 --apdu-timeout 20 --apdu-retries 0",
 }
 SECTIONS = {title: rows[1:] for title, _, _, rows in tables.sections()}
-SHARED = ["--tools", "--apdu-timeout", "--apdu-retries", "--at-once", "--window", "--journal"]  # of all that ask
 # The fields of Wireshark that have the numbers of a section, and what it spells in a way of its own.
 FIELDS = {"Object types": "objectType", "Properties": "property_identifier", "Error classes": "error_class"}
 FIELDS.update({"Error codes": "error_code", "Reject reasons": "reject_reason", "Abort reasons": "abort_reason"})
@@ -35,6 +34,7 @@ SPELLED = [(r"(acked-transition|event-time-stamp)$", r"\1s"), ("datelist", "date
 SPELLED += [(r"bacnet-(ip-subnet)", r"\1"), (" - ", "-"), (" ", "-"), (r"\bsq-", "square-"), (r"\bfeed\b", "feet")]
 SPELLED += [(r"\bkgs?\b", "kilograms"), (r"\bwatt$", "watts"), (r"\blux$", "luxes"), ("^relative", "percent-relative")]
 SPELLED += [("per-min$", "per-minute"), (r"\bkilograms-dry", "kilogram-dry")]
+DOUBT = r"[^.]*\.[^.]*read the property back"  # after a write: two sentences
 
 
 def alike(what, one, other):
@@ -50,46 +50,16 @@ def section(name, title):
     return re.search(rf"(?ms)^\.Sh {title}\n(.*?)(?=^\.Sh |\Z)", text_of(f"man/{name}.1"))[1]
 
 
-def told_in_help(tool):
-    """What help says of each word and option, by its name."""
-    entries = {}
-    for block in re.findall(r"(?m)^(?:Arguments|Options):\n((?:.+\n)+)", help_of(PROGRAM, tool)):
-        for entry in re.split(r"(?m)^(?= *(?:<|\[(?!default)[a-z]|(?:-h, )?--))", block)[1:]:
-            entries[re.sub(r"[][<>]", "", entry.split()[0])] = " ".join(entry.split())
-    return {name: text for name, text in entries.items() if name != "-h,"}
-
-
-def told_on_page(text):
-    """The same of a part of a page."""
-    parts = re.split(r"(?m)^\.(?:It|El)\b *(.*)\n", re.split(r"(?m)^\.Ss ", text)[0])
-    heads = [(re.match(r"(?:Ar|(Fl Fl)) (\S+)(.*)", head), told) for head, told in zip(parts[1::2], parts[2::2])]
-    told_of = lambda head, told: " ".join(f"{head[3]} {told}".split()).replace("\\", "")
-    return {"--" * bool(head[1]) + head[2]: told_of(head, told) for head, told in heads if head}
-
-
-def numbers(entries):
-    """The names, each with its ranges and its default: `1 (most urgent) to 16` is `1 to 16`."""
-    default = r"\[default(?: port)?: [0-9]+|[0-9]+ by default|without a port it is [0-9]+"
-    found = []
-    for name, text in sorted(entries):
-        text = re.sub(r"([0-9])( \([a-z ]*\)|, [a-z ]*,) to ", r"\1 to ", text)
-        defaults = ["default " + re.sub("[^0-9]", "", it) for it in re.findall(default, text)[:1]]
-        found.append(" ".join([name, *re.findall("[0-9]+ to [0-9]+", text), *defaults]))
-    return found
-
-
 def words_and_options():
-    for tool in TOOLS[:-1]:
-        in_help, on_page = told_in_help(tool), told_on_page(section(tool, "DESCRIPTION"))
-        alike(tool, numbers(in_help.items()), numbers(on_page.items()))
-        unit = lambda told: re.findall(r"\b(?:milli)?seconds\b", told.get("--apdu-timeout", "").lower())[:1]
-        same(f"the unit of the timeout of {tool}", unit(on_page), unit(in_help))
+    """Pages are as they are made from the help, and what the help says of numbers is so."""
+    for path, text in tables.made(PROGRAM):
+        same(f"{path} is as man/tables.py makes it", text_of(path) == text, True)
+    texts = {it.value: it.text for it in tables.words_of_tool(PROGRAM, "bacrp")}
     for word, title in [("object-type", "Object types"), ("property", "Properties")]:
+        found = re.findall(r"[0-9]+ (?!to|is)[a-z][a-z-]+(?: [a-z-]+)*", texts[word])
+        found = sorted((it.replace("-", " ") for it in found), key=lambda it: int(it.split()[0]))
         known = [f"{row[0]} {row[1].replace('-', ' ')}" for row in SECTIONS[title]]
-        for told in (told_in_help("bacrp"), told_on_page(section("bacrp", "DESCRIPTION"))):
-            found = re.findall(r"[0-9]+ (?!to|is)[a-z][a-z-]+(?: [a-z-]+)*", told[word])
-            found = sorted((it.replace("-", " ") for it in found), key=lambda it: int(it.split()[0]))
-            alike(word, found, [row for row in known if row in found])
+        alike(word, found, [row for row in known if row in found])
     in_help = re.findall(r"(?m)^ *([0-9]+)  ([A-Z][A-Za-z ]*[a-z])  ", help_of(PROGRAM, "bacwp"))
     alike("tags", in_help, re.findall(r"(?m)^\.It ([0-9]+)  ([A-Z].*)", section("bacwp", "DESCRIPTION")))
     alike("tags of the numbers", in_help, [(row[0], row[1]) for row in SECTIONS["Types of a value"]])
@@ -98,30 +68,11 @@ def words_and_options():
     alike("lines of a script", sorted(re.findall(r"(?m)^  ([a-z]*) [A-Z]", first_words)), sorted(on_page))
 
 
-def bacsite():
-    """The options of each command, and what is told of each in numbers."""
-    options, told = [], set()
-    for command in re.findall(r"(?m)^    ([a-z-]+)(?: .*)?$", help_of("python3", "site/bacsite")):
-        text = help_of("python3", "site/bacsite", command)
-        options += [f"{command} {it}" for it in re.findall(r"(?m)^  (--?[A-Za-z-]+)(?: .*)?$", text)]
-        rows = re.findall(r"(?m)^  (--[a-z-]+) [A-Z]+ +(.*[0-9].*)$", text)
-        told.update(row for row in rows if (command, row[0]) != ("survey", "--at-once"))
-    on_page = told_on_page(section("bacsite", "DESCRIPTION").partition("\nThe options:\n")[2])
-    has = []
-    for command, text in re.findall(r"(?ms)^\.Cm (\S+)(.*?)(?=^\.Cm |\Z)", section("bacsite", "SYNOPSIS")):
-        own = ["-" * marks.count("Fl") + name for marks, name in re.findall(r"(?m)^\.Op ((?:Fl )+)(\S+)", text)]
-        has += [f"{command} {name}" for name in own + (SHARED if "\n.Op Ar option" in text else [])]
-    alike("options of bacsite", sorted(options), sorted(has))
-    told = {(name, re.sub(r"[;:] ([0-9]+)( where it is not given)?$", r" [default: \1]", text)) for name, text in told}
-    alike("numbers of bacsite", sorted({*numbers(told)}), [it for it in numbers(on_page.items()) if " " in it])
-
-
 def statuses():
     """Statuses are those of the help, also of each tool, whose page refers to bactool(1), and of docs/PROTOCOL.md."""
     found = r"(?m)(?:^|: |; |Status )([0-9])[ :]"
     in_help = lambda *tool: sorted({*re.findall(found, "".join(help_of(PROGRAM, *tool).partition("Status")[1:]))})
-    texts = re.findall(r"(?m)^\.It ([0-9])\n((?:[^.].*\n)+)", section("bactool", "EXIT STATUS"))
-    alike("statuses", in_help(), [status for status, _ in texts])
+    alike("statuses", in_help(), re.findall(r"(?m)^\.It ([0-9])$", section("bactool", "EXIT STATUS")))
     for tool in TOOLS:
         text = section(tool, "EXIT STATUS")
         same(f"man {tool}: EXIT STATUS names bactool(1)", "\n.Xr bactool 1" in "\n" + text, True)
@@ -129,24 +80,21 @@ def statuses():
         if in_help(tool):
             same(f"statuses of {tool}", in_help(tool), sorted({*digits}))
     rules = text_of("docs/PROTOCOL.md").partition("\n## Statuses and faults")[2]
-    meanings = [(status, " ".join(text.split())) for status, text in texts]
-    alike("meanings of statuses", meanings, re.findall(r"(?m)^\| ([0-9]) \| (.*) \|$", rules))
+    alike("statuses of the rules", in_help(), re.findall(r"(?m)^\| ([0-9]) \| .* \|$", rules))
 
 
 def what_is_said_twice():
-    for tool in [*TOOLS[:3], "bacrun"]:  # what a fixed port may bring
-        told = " ".join(re.search(r"(?ms)^ *--port.*?(?=^$|\Z)", help_of(PROGRAM, tool))[0].split())
-        told = re.search(r"; (at a fixed.*?)(?: -h| --[a-z]|$)", told)
-        says(f"man/{tool}.1", told[1] if told else "")
-    doubt = "".join(re.findall(r"Status 2, status 4 .*? read the property back\.", plain(help_of(PROGRAM, "bacwp"))))
+    for tool in [*TOOLS[:3], "bacrun"]:  # bactool(1) explains it
+        same(f"the help of {tool}: --port warns", "at a fixed port" in plain(help_of(PROGRAM, tool)), True)
+    doubt = lambda text: sorted({*re.findall(r"\b\d\b|bind failed", re.search(DOUBT, plain(text))[0])})
     for document in ("man/bacwp.1", "SECURITY.md"):
-        says(document, doubt)
+        alike(f"{document}: when nothing was sent", doubt(help_of(PROGRAM, "bacwp")), doubt(text_of(document)))
     says("SECURITY.md", section("bactool", "BUGS"))
 
 
 def faults():
     """Each text of a fault is in the page: those that docs/PROTOCOL.md has, which are those of the definitions."""
-    lines = re.findall(r"(?m)^\.It Li (.*)", section("bactool", "DIAGNOSTICS").partition("\n.Pp\n")[0])
+    lines = re.findall(r"(?m)^\.It Li (.*)", section("bactool", "DIAGNOSTICS").partition("\n.Ss ")[0])
     on_page = (text for line in lines for text in re.split(" , (?:Li )?", re.sub(r"Ar n( Ns( Li \\&)?)?", "N", line)))
     on_page = {text.replace("N Ns-th", "").replace("N :", "N:").strip() for text in on_page}
     rules = re.search(r"(?s)\nA fault is one line.*?\. ", text_of("docs/PROTOCOL.md"))[0]
@@ -154,7 +102,7 @@ def faults():
 
 
 def versions():
-    """The program is of the version that CHANGELOG.md tells of, whose day is that of the page which changed last."""
+    """The program has the version of CHANGELOG.md, whose day is that of the page which changed last."""
     changes, day = re.search(r"(?m)^## ([0-9][0-9.]*) \((.*)\)$", text_of("CHANGELOG.md")).groups()
     days = re.findall(r"(?m)^\.Dd (.*)$", "".join(map(text_of, files(f"{TOP}/man/*.[17]"))))
     last = max(datetime.datetime.strptime(it, "%B %d, %Y") for it in days)
@@ -165,8 +113,6 @@ def versions():
 
 
 def mandoc():
-    for path, text in tables.made():
-        same(f"{path} is as man/tables.py makes it", text_of(path) == text, True)
     if not left_out("mandoc"):
         lint = ["mandoc", "-Tlint", "-Wwarning", *files(f"{TOP}/man/*.[17]")]
         same("what mandoc says", ran(*lint).stdout, "")
@@ -194,6 +140,14 @@ def run(line):
     """The status of a line of the shell, and what it prints."""
     done = ran("sh", "-c", line, env=SETTINGS, timeout=60, stderr=subprocess.DEVNULL)
     return done.returncode, done.stdout
+
+
+def below(document, heading):
+    """The text below a heading of a document or a page, up to the next one; of a command all that it prints."""
+    if " " in document:
+        return run(document)[1]
+    found = re.search(rf"(?ms)^(?:#+|\.S[hs]) {re.escape(heading)}\n(.*?)(?=^#+ |^\.S[hs] |\Z)", text_of(document))
+    return found[1] if found else ""
 
 
 def known(rows):
@@ -234,7 +188,7 @@ def table_of_the_guide(on):
 
 
 def points():
-    """The points on the page of bacdev are those that a survey finds. Answers how many there are, in a word."""
+    """The points on the page of bacdev are those that a survey finds. Returns their number as a word."""
     table = re.search(r"(?ms)^The points;.*?^\.El", text_of("man/bacdev.1"))[0]
     on_page = re.findall(r"(?m)^\.It (\d+:\d+) Ta (.*?) Ta (.*)$", re.sub(r" \([^)]*\)", "", table))
     there = []
@@ -249,7 +203,7 @@ def points():
 
 
 def tools_of_readme():
-    """Each command of README's table prints the lines that stand beside it; `..` is any text."""
+    """Each command of README's table prints the lines of its row; `..` is any text."""
     table = text_of("README.md").partition("\n## The tools\n")[2].partition("\n## ")[0]
     for command, cell in re.findall(r"(?m)^\| `(?!bacdev).*?` \| [^|]* \| `([^`]*)` \| (.*) \|$", table):
         status, said = run(command.replace("192.0.2.7", "$DEV").replace("\\|", "|"))
@@ -272,12 +226,16 @@ def properties():
 
 def examples():
     """What the pages show is run, and prints what they show; and the pages that they refer to are there."""
-    for path in files(f"{TOP}/man/*.[17]"):
+    pages = files(f"{TOP}/man/*.[17]")
+    same("tools without a page", {*TOOLS, "bacsite"} - {os.path.basename(it)[:-2] for it in pages}, set())
+    for path in pages:
         text = text_of(path).replace("\\", "").replace("/var/lib/prometheus/node-exporter", ROOM.name)
+        text = text.replace("/usr/local/share/doc/bactool/examples", f"{TOP}/examples")
         for name in {*re.findall(r"\bXr (\S+ [0-9])", text)}:
             same(f"{path}: {name} is a page", os.path.isfile(f"{TOP}/man/{name.replace(' ', '.')}"), True)
-        text = re.sub(r"(192\.0\.2|127\.0\.0)\.[0-9](:[0-9]+)?", SETTINGS["DEV"], text.partition("\n.Sh EXAMPLES\n")[2])
-        for command, printed in re.findall(r"(?m)^\$ (.*[^&\n])\n((?:[^.$\n].*\n)*)", text.partition("\n.Sh ")[0]):
+        text = re.sub(r"(192\.0\.2|127\.0\.0)\.[0-9](:[0-9]+)?", SETTINGS["DEV"], text)
+        text = "".join(re.findall(r"(?ms)^\.Sh (?:COMMANDS|EXAMPLES)\n(.*?)(?=^\.Sh |\Z)", text))
+        for command, printed in re.findall(r"(?m)^\$ (.*[^&\n])\n((?:[^.$\n].*\n)*)", text):
             if command.startswith("cat "):
                 write(f"{ROOM.name}/{command[4:]}", printed)
             status, said = run(f"cd {ROOM.name}; {command}")
@@ -285,7 +243,7 @@ def examples():
 
 
 def facts():
-    """What is measured stands in the documents, by the sentences of facts.txt."""
+    """The measured numbers are in the documents, by the rows of facts.txt."""
     put_tools(PROGRAM, ROOM.name)
     rows = dict(sections_of("tests/package/facts.txt"))
     with device(program=[PROGRAM]) as (_, port):
@@ -295,13 +253,20 @@ def facts():
         examples()
         tools_of_readme()
         measured.update(seen(rows.pop("Statuses")))
-    for document, sentences in rows.items():
-        says(document, *(sentence.format_map(measured) for sentence in sentences))
+    for document, said in rows.items():
+        for row in said:
+            heading, tilde, rest = row.partition(" ~ ")
+            pattern, _, value = rest.rpartition(" = ")
+            if tilde:
+                found = {*re.findall(pattern, plain(below(document, heading)))} or {"nothing"}
+                same(f"{document}, {heading}: {pattern}", sorted(found), [value.format_map(measured)])
+            else:
+                says(document, row.format_map(measured))
     table_of_the_guide(measured)
 
 
 def main(names):
-    every = words_and_options, bacsite, statuses, what_is_said_twice, faults, versions, facts, mandoc, wireshark
+    every = words_and_options, statuses, what_is_said_twice, faults, versions, facts, mandoc, wireshark
     parts = {it.__name__: it for it in every}
     for name in names or parts:
         parts[name]()

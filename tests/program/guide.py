@@ -3,8 +3,8 @@
 what the guide shows. Usage: tests/program/guide.py PROGRAM
 
 A block that begins with ```console has commands behind `$ `, whose further lines begin with `> `; a program's name
-behind that says which one it needs. A command that ends in `&` runs on, until all others have ended; the next waits
-until its port is taken. Where port 47808 or 48000 is taken, another one is put in its place. Behind all others come the
+after that says which one it needs. A command that ends in `&` runs on, until all others have ended; the next waits
+until its port is taken. If port 47808 or 48000 is taken, another one is put in its place. After all others come the
 lines of crontab, with each of its points in the file, and the command for Nagios, as Nagios would run it.
 """
 import difflib
@@ -24,7 +24,7 @@ UNTIL_TAKEN = "for _ in {1..1000}; do grep -q ' [0-9A-F]*:%04X ' /proc/net/udp &
 
 
 def with_ports(text, first, second):
-    """The guide with these ports in place of 47808, also where none is said, and of 48000."""
+    """The guide with these ports in place of 47808, even if it is not written, and of 48000."""
     if (first, second) == (47808, 48000):
         return text
     text = re.sub(r"(127\.0\.0\.1:|--port )48000\b", rf"\1@{second}", text)
@@ -93,7 +93,7 @@ def main(words):
     with tempfile.TemporaryDirectory() as room:
         came = run(text, os.path.realpath(words[0]), room)
     told = list(difflib.unified_diff(shown.splitlines(), came.splitlines(), "docs/GUIDE.md", "came", lineterm="", n=4))
-    return well_or(told, f"{len(rows)} commands of docs/GUIDE.md at port {first}, as shown")
+    return well_or(told, f"{len(rows)} commands of docs/GUIDE.md, as shown")
 
 
 end_by_signals(main)

@@ -3,7 +3,7 @@
 and read it.
 
 Usage: tests/program/interop.py, once the program is built; interop.txt has what is asked and what has to be found. It
-needs root, nmap and tshark. It ends with 1 where something is not as it is to be, and says what: a tool or nmap that
+needs root, nmap and tshark. It exits with status 1 if something is wrong, and says what: a tool or nmap that
 prints something else, a datagram that tshark finds malformed or reads as something else than it is.
 """
 import re
@@ -19,7 +19,7 @@ IS_BAD = "_ws.malformed or _ws.expert.severity >= 0x600000 or not bacapp"
 
 
 def asked(port, words, printed, *wanted):
-    """What tshark has to find in each datagram of a tool and of the device."""
+    """Runs a tool at the device. Returns what tshark must find in each datagram of the two."""
     mac = f"127.0.0.1:{port}"
     done = ran(PROGRAM, *words.split(), "--mac", mac)
     same(words, (done.returncode in (0, 1), done.stdout.rstrip("\n").replace(mac, "PEER")), (True, printed))
@@ -27,7 +27,7 @@ def asked(port, words, printed, *wanted):
 
 
 def sent(port, octets, _, reply, name):
-    """The same of a datagram that no tool sends, which tshark may read as it likes."""
+    """Sends the device a datagram that no tool sends. Returns what tshark must find in it and in the reply."""
     with local_socket() as client:
         client.settimeout(2)
         client.sendto(bytes.fromhex(octets), ("127.0.0.1", port))
@@ -36,7 +36,7 @@ def sent(port, octets, _, reply, name):
 
 
 def read_by_tshark(file, port):
-    """What tshark says of each datagram, its sender's port and its octets; and the places of those it can't read."""
+    """Returns what tshark says of each datagram, with sender's port and octets, and the places of unreadable ones."""
     words = ["tshark", "-r", file, "-d", f"udp.port=={port},bvlc"]
     whole, fields, bad = (
         ran(*words, *more, stderr=subprocess.DEVNULL).stdout

@@ -26,8 +26,8 @@ LETTERS = {
 LETTERS["S"] = f"--mac {LETTERS['Z']} --apdu-timeout 20"
 SCRIPT = ["bactool", "bactrace"]
 
-# What is run, and what is to come. An `error` may end with two full stops, as a row does; where there are `parts`,
-# `output` is not looked at.
+# A case: what is run, and the expected result. An `error` may end with two full stops, as in a row; if there are
+# `parts`, `output` is not looked at.
 Case = namedtuple("Case", "place words script status output error parts redirection", defaults=[(), ""])
 
 
@@ -43,7 +43,7 @@ def repeated(found):
 
 
 def braced(text):
-    """The text with what stands in braces in their place."""
+    """Returns the text with each brace replaced by its expansion."""
     return re.sub(r"\{(?:(\d+)(?:\.\.(\d+))?|cut (\w+))\*(.*?)\}", repeated, text)
 
 
@@ -77,7 +77,7 @@ def blocks(path):
 
 
 def filled(row):
-    """The row once for each of its lines X, with what stands there for X and for Y; or as it is, where it has none."""
+    """The row once for each of its lines X, with the values for X and for Y; or as it is, without such lines."""
     fills = [line.partition(" = ")[::2] for line in row.pop("X", [])]
     for left, right in fills:
         fill = {"X": left, "Y": right}
@@ -116,7 +116,7 @@ def row_cases(path):
 
 
 def examples():
-    """Each script of examples/, and what it writes."""
+    """Yields each script of examples/, and its expected output."""
     for path in map(pathlib.Path, files(f"{TOP}/examples/*.trace")):
         script, output = (file.read_text(encoding="ascii") for file in (path, path.with_suffix(".out")))
         yield Case(f"examples/{path.name}", SCRIPT, script, 0, output, "")
@@ -150,7 +150,7 @@ def is_right(case, ending):
 
 
 def tell(case, ending, how):
-    """Says what was to come and what came; long texts are cut, from the line on in which they differ."""
+    """Prints the expected and the actual text, from the first different line on; long texts are cut."""
     same = len(os.path.commonprefix([case.output, ending.output]))
     start = case.output.rfind("\n", 0, same) + 1
     wanted, came = case.parts or case.output[start:start + 300], ending.output[start:start + 300]

@@ -6,6 +6,7 @@ held up, values of many lines; and as many requests at once as there may be. `ch
 Usage: tests/program/runs.py PROGRAM
 """
 import contextlib
+import os
 import re
 import select
 import signal
@@ -13,24 +14,30 @@ import socket
 import subprocess
 import sys
 import tempfile
+import threading
 import time
 from collections import namedtuple
 from concurrent.futures import ThreadPoolExecutor
 
 sys.path[:0] = [__file__.rpartition("/")[0] + "/.."]
 from rows import blocks, braced
-from tree import TOP, local_socket, same, verdict
+from tree import TOP, local_socket, processors, same, verdict
 
 LINE = 4096  # the most octets of a line
 # A Reject of a request that nobody made, so long that a run reads it no faster than it comes.
 STRAY = bytes.fromhex("810a03e80100606309") + bytes(991)
+WHO_IS, I_AM = b"\x10\x08", bytes.fromhex("1000c40200000722058c91032105")
 Run = namedtuple("Run", "status fault journal heard seconds")
 
 
 def answer_to(octets, has_route):
-    """The answer: of a read the object's instance, or so many bits of an analog value; a binary input is not there."""
+    """The answer: of a read the object's instance, or so many bits of an analog value; a binary input is not there. To
+    a Who-Is the I-Am of the device 7; if it has a network, from station 07 of network 5."""
     route = octets[6 : 9 + octets[8]] if octets[5] & 32 else b""
     apdu = octets[6 + len(route) + bool(route) :]
+    if apdu.startswith(WHO_IS):
+        network = b"\x01\x08\x00\x05\x01\x07" if route and has_route else b"\x01\x00"
+        return b"\x81\x0a" + (4 + len(network + I_AM)).to_bytes(2, "big") + network + I_AM
     kind, instance = divmod(int.from_bytes(apdu[5:9], "big"), 1 << 22)
     value = b"\x24" + instance.to_bytes(4, "big")
     if kind == 2:
@@ -85,7 +92,7 @@ def run(program, options, text, plan):
         peers = [stack.enter_context(local_socket()) for _ in "AB"]
         files = [stack.enter_context(tempfile.TemporaryFile()) for _ in range(3)]
         named = {name: "127.0.0.1:%d" % peer.getsockname()[1] for name, peer in zip("AB", peers)}
-        text = re.sub(r"(?<=[de] )[AB]\b", lambda found: named[found[0]], text)
+        text = re.sub(r"(?<=[deo] )[AB]\b", lambda found: named[found[0]], text)
         files[0].write(text.encode())
         files[0].seek(0)
         begun = time.monotonic()
@@ -98,30 +105,52 @@ def run(program, options, text, plan):
         return text, Run(process.returncode, fault, journal, heard, seconds)
 
 
+def who_is(line):
+    """The remark of a line `who`."""
+    peer, *limits = line.split()[1:]
+    address, *route = peer.split("/")
+    network = b"\x01\x00"
+    if route:
+        number, station = 65535 if route[0] == "*" else int(route[0]), bytes.fromhex("".join(route[1:]))
+        network = b"\x01\x20" + number.to_bytes(2, "big") + bytes([len(station)]) + station + b"\xff"
+    octets = [(at, int(limit).to_bytes(4, "big").lstrip(b"\0") or b"\0") for at, limit in enumerate(limits)]
+    body = b"".join(bytes([at << 4 | 8 | len(one)]) + one for at, one in octets)
+    whole = b"\x81\x0a" + (4 + len(network + WHO_IS + body)).to_bytes(2, "big") + network + WHO_IS + body
+    return f"# who {peer if route[1:] else address} {whole.hex()}"
+
+
+def in_journal(line):
+    """A line of the input, as it stands in the journal."""
+    return who_is(line) if line.startswith("who") else f"# {line}" if line.startswith("wait") else line
+
+
 def check(name, program, options, text, it):
     """What holds of every run. Answers its remarks, whole, without their marks."""
     lines = it.journal.split("\n")
     remarks = [line[2:] for line in it.journal.replace("\n#+", "").split("\n") if line.startswith("# ")]
     replay = subprocess.run([program, "bactrace"], input=it.journal.encode(), capture_output=True, check=False)
-    printed = "".join(f"{remark}\n" for remark in remarks).encode()
+    told = [remark for remark in remarks if not re.match("who |wait ", remark)]
+    printed = "".join(f"{remark}\n" for remark in told).encode()
     same(f"{name}: what bactrace prints", (replay.returncode, replay.stdout), (0, printed))
-    sent = [re.sub("/.* ", " ", remark.split(" ", 2)[2]) for remark in remarks if remark.startswith("send")]
+    sent = [re.sub(r"^(send \d+|who) ([^/ ]+)\S*", r"\2", one) for one in remarks if re.match("send |who ", one)]
     same(f"{name}: what the peers heard", sorted(it.heard), sorted(sent[: len(it.heard)] if it.status == 3 else sent))
     same(f"{name}: lines that are too long, or cut for nothing",
          (max(map(len, lines)) > LINE, "\n#+" in it.journal), (False, any(len(one) > LINE - 2 for one in remarks)))
-    asked = [line for line in lines[1:-1] if not re.match("#|data |tick ", line)]
-    given = [line for line in text.removesuffix("\n").split("\n") if line[:1] != "#"]
+    asked = [line for line in lines[1:-1] if not re.match("#(?! who | wait )|data |tick ", line)]
+    given = [in_journal(line) for line in text.removesuffix("\n").split("\n") if line[:1] != "#"]
     same(f"{name}: lines of the input", asked, given[: len(asked)] if it.status else given)
-    now, most = set(), int((re.findall(r"--window (\d+)", options) or [1])[0])
-    for word, ticket in (remark.split(" ")[:2] for remark in remarks if " " in remark):
+    now, counts = set(), [0]
+    for word, ticket in (remark.split(" ")[:2] for remark in told if " " in remark):
         now = now | {ticket} if word == "send" else now - {ticket}
-        same(f"{name}: {len(now)} are open", len(now) <= most, True)
+        counts.append(len(now))
+    most = int((re.findall(r"--window (\d+)", options) or [1])[0])
+    same(f"{name}: {max(counts)} are open", max(counts) <= most, True)
     return remarks
 
 
 def in_short(remark):
-    """A send without its octets, and bits by their number."""
-    remark = re.sub(r"^(send \d+) .*", r"\1", remark)
+    """A send and a Who-Is without their octets, and bits by their number."""
+    remark = re.sub(r"^(send \d+|who) .*", r"\1", remark)
     return re.sub("B'(0+)'", lambda found: f"{len(found[1])} bits", remark)
 
 
@@ -134,14 +163,38 @@ def tried(program, place, row):
     status, _, fault = row.get("!", ["0"])[0].partition(" ")
     same(f"{place}: the end", (it.status, it.fault), (int(status), f"bactool: {fault}\n" if fault else ""))
     timeout, retries = map(int, re.findall(r"--apdu-\w+ (\d+)", options))
-    most = len(text.splitlines()) * (timeout / 1000 + 1) * (retries + 1) + 1
+    shared = 1 + os.getloadavg()[0] / processors()  # by how many others each processor has
+    most = (len(text.splitlines()) * (timeout / 1000 + 1) * (retries + 1) + 1) * shared
     same(f"{place}: {it.seconds:.1f} seconds", it.seconds < most, True)
 
 
+def typed(program):
+    """Lines are typed into a pipe that stays open: each is answered before the next one, and a bad one ends the run."""
+    with local_socket() as peer, subprocess.Popen([program, "bacrun", "--apdu-timeout", "2000"], stdin=subprocess.PIPE,
+                                                  stdout=subprocess.PIPE, stderr=subprocess.PIPE) as process:
+        patience = threading.Timer(20, process.kill)
+        patience.start()
+        for ticket, instance in enumerate((7, 8, 9)):
+            process.stdin.write(b"read 127.0.0.1:%d 0 %d 85\n" % (peer.getsockname()[1], instance))
+            process.stdin.flush()
+            octets, desk = peer.recvfrom(2048)
+            peer.sendto(answer_to(octets, True), desk)
+            told = next((line for line in process.stdout if line.startswith(b"# done")), b"")
+            same(f"typed: line {ticket + 1}", told, b"# done %d value %d\n" % (ticket, instance))
+            if not told:
+                break
+        else:
+            process.stdin.write(b"tick 1\n")
+            process.stdin.flush()
+            same("typed: a bad line", (process.wait(), process.stderr.read()), (2, b"bactool: line 4: bad line\n"))
+        patience.cancel()
+
+
 def main(program):
-    signal.alarm(300)
+    signal.alarm(900)
     with ThreadPoolExecutor(4) as pool:
         list(pool.map(lambda row: tried(program, *row), blocks(f"{TOP}/tests/program/runs.txt")))
+    typed(program)
     return verdict("ends, replays and lines of runs are as they are to be")
 
 

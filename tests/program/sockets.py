@@ -91,6 +91,22 @@ def heard_by_tools():
                 same(f"an answer of {length} octets", tool.stdout.read(), f"X'{datagram(length, head)[1].hex()}'\n")
 
 
+def found_by_a_search():
+    """A vendor is printed as an I-Am has it, also past 65,535, the last that the standard gives."""
+    for vendor in (65535, 65536, 2**32 - 1):
+        number = vendor.to_bytes((vendor.bit_length() + 7) // 8, "big")
+        body = bytes.fromhex("1000c4020004d22205c49103") + bytes([0x20 + len(number)]) + number
+        with local_socket() as field:
+            field.settimeout(10)
+            mac = "127.0.0.1:%d" % field.getsockname()[1]
+            words = [PROGRAM, "bacwi", "--mac", mac, "--apdu-timeout", "500"]
+            with subprocess.Popen(words, stdout=subprocess.PIPE, text=True) as tool:
+                with contextlib.suppress(OSError):
+                    _, desk = field.recvfrom(LONGEST)
+                    field.sendto(b"\x81\x0a" + (6 + len(body)).to_bytes(2, "big") + b"\x01\x00" + body, desk)
+                same(f"the vendor {vendor}", tool.stdout.read(), f"1234 {mac} 1476 3 {vendor}\n")
+
+
 def ports():
     """No command is given the port of one that runs, though no socket has it yet; a port of IPv6 alone is taken."""
     tree = f"python3 {TOP}/tests/tree.py"
@@ -106,6 +122,7 @@ def main():
     devices()
     heard_by_a_device()
     heard_by_tools()
+    found_by_a_search()
     return verdict("answers and ends over sockets are as they are to be")
 
 

@@ -1,8 +1,11 @@
 #!/usr/bin/env python3
-"""Tries the page of a survey in headless Chromium, where that is installed. Usage: browser.py [FOLDER for pictures]
+"""Tries the pages of a survey and of a watch in headless Chromium, if that is installed.
 
-Filter, sort, without a script, no error, nothing asked for from outside; of a page of 10 devices
-with 600 objects, some of them hostile, and 3 silent ones.
+Usage: browser.py [FOLDER for pictures]
+
+Of the survey: filter, sort, without a script, no error, nothing asked for from outside; of a page
+of 10 devices with 600 objects, some of them hostile, and 3 silent ones. The page of a watch is
+tried by charts_page.py.
 """
 
 import base64
@@ -16,6 +19,7 @@ import sys
 import tempfile
 
 import harness  # noqa: F401  it makes bacsite known
+import charts_page
 from bacsite.device import Device, SiteObject
 from bacsite.page import page_of
 from bacsite.values import NOTHING, Kind, Value
@@ -51,7 +55,7 @@ def objects_of(dice, count):
             {4: ("inactive", "active")[number == 1], 13: "Occupied"}.get(kind, ""),
             dice.choice(["degrees-celsius", "percent", "pascals"]) if kind < 3 else "",
             dice.choices(FLAGS, [60, 4, 3, 3, 3, 1, 2])[0],
-            held="8 (manual-operator)" if kind == 1 and dice.random() < 0.1 else "",
+            priorities=(8,) if kind == 1 and dice.random() < 0.1 else (),
             description=dice.choice(ODD) if dice.random() < 0.05 else "",
             reasons=["present-value: error 2 31"] if dice.random() < 0.03 else [],
         )
@@ -192,6 +196,8 @@ def sorted_by_a_click(browser):
     browser.value(CLICK % 3)
     values = numbers(browser)
     yield "sorted by value", values == sorted(values) and len(set(values)) > 5
+    lacks = [number(it) is None for it in browser.value(COLUMN % 3)]
+    yield "without a value behind", lacks == sorted(lacks) and len(set(lacks)) == 2
     browser.value(CLICK % 3)
     yield "sorted down", numbers(browser) == sorted(values, reverse=True)
     browser.value(CLICK % 0)
@@ -251,24 +257,32 @@ def tried(browser, url, folder):
     yield from alone(browser, url, total)
 
 
+def survey(browser, room, folder):
+    """What holds of the page of a survey, and whether it does."""
+    with open(room + "/page.html", "w", encoding="utf-8") as file:
+        file.writelines(page_of(list(devices_of(random.Random(5))), "2026-11-27T08:11:00Z"))
+    yield from tried(browser, "file://%s/page.html" % room, folder)
+
+
 def main(folder=None):
     program = shutil.which("chromium") or shutil.which("chromium-browser")
     if not program:
         print("tests/site/browser.py: Chromium is not installed, left out")
         return 0
-    with tempfile.TemporaryDirectory() as room:
-        with open(room + "/page.html", "w", encoding="utf-8") as file:
-            file.writelines(page_of(list(devices_of(random.Random(5))), "2026-11-27T08:11:00Z"))
-        browser = Browser(program, room + "/profile")
-        try:
-            found = list(tried(browser, "file://%s/page.html" % room, folder))
-        finally:
-            browser.close()
+    found = []
+    for page in survey, charts_page.tried:
+        with tempfile.TemporaryDirectory() as room:
+            browser = Browser(program, room + "/profile")
+            try:
+                found += page(browser, room, folder)
+            finally:
+                browser.close()
     wrong = [name for name, holds in found if not holds]
     print("tests/site/browser.py: %d of %d hold in Chromium" % (len(found) - len(wrong), len(found)))
     for name in wrong:
         print("wrong:", name)
-    return bool(wrong)
+    return bool(wrong) or not found
 
 
-sys.exit(main(*sys.argv[1:]))
+if __name__ == "__main__":
+    sys.exit(main(*sys.argv[1:]))

@@ -1,10 +1,10 @@
 """What the tests of bacsite share: the program as it is installed, devices to ask, and rows.
 
-BACTOOL names the program that bacsite asks by, and PYTHON another Python to run bacsite by. A row
-is words, `=>`, the status and standard output, where `;` ends a line; behind `!` stands how
-standard error begins, while standard output is empty. In words and in what they give, DEV is the
-address of a bacdev (1000), ODD that of a stand-in (77), HERE that of the latest stand-in, DEAD of
-nobody, IN is a folder, and '' is an empty word.
+BACTOOL names the program that bacsite runs, and PYTHON another Python to run bacsite. A row has
+words, `=>`, the status and standard output; `;` ends a line. If there is a `!`, standard output is
+empty and standard error begins with the text after it. In a row DEV is the address of a bacdev
+(1000), `ODD` that of a stand-in (77), HERE that of the latest stand-in, DEAD that of nobody; IN is
+a folder, and '' is an empty word.
 """
 
 import atexit
@@ -17,15 +17,25 @@ import sys
 import tempfile
 import unittest
 from concurrent.futures import ThreadPoolExecutor
+from contextlib import suppress
 
-from devices import ODD_VALUES
+from unusual_values import ODD_VALUES
 from stand_ins import StandIn, local_socket
 
 TOP = os.path.realpath(os.path.dirname(os.path.abspath(__file__)) + "/../..")
 TOOL = os.path.realpath(os.environ.get("BACTOOL", TOP + "/crates/bactool/out/bactool"))
 sys.path.insert(0, TOP + "/site")
-PATIENCE = ["--apdu-timeout", "300"]
 SIGNALS = (signal.SIGINT, signal.SIGHUP, signal.SIGTERM)
+ROWS = []  # those that were run, which run.py counts
+atexit.register(lambda: ROWS and print(len(ROWS), "rows"))
+
+
+def at_load(seconds):
+    """So many seconds, or more where each processor has more than one process to run."""
+    return seconds * max(1.0, os.getloadavg()[0] / (os.cpu_count() or 1))
+
+
+PATIENCE = ["--apdu-timeout", str(min(900, round(at_load(300))))]
 
 
 class World:
@@ -40,18 +50,28 @@ class World:
             [sys.executable, TOP + "/packaging/onefile.py", self.folder + "/bacsite"], check=True
         )
         self.command = [os.environ.get("PYTHON", sys.executable), self.folder + "/bacsite"]
-        with local_socket() as found:
-            port = str(found.getsockname()[1])
-        self.device = subprocess.Popen([TOOL, "bacdev", "1000", "--port", port])
+        self.odd, self.dead = StandIn(77, ODD_VALUES), local_socket()
         try:
-            self.meet(port)
+            self.meet()
         except BaseException:
             self.close()
             raise
 
-    def meet(self, port):
-        """Begins the stand-ins, and waits for the device."""
-        self.odd, self.dead = StandIn(77, ODD_VALUES), local_socket()
+    def begin(self):
+        """Begins the device at a free port, and returns that; another program may take it first."""
+        for _ in range(5):
+            with local_socket() as found:
+                port = str(found.getsockname()[1])
+            self.device = subprocess.Popen([TOOL, "bacdev", "1000", "--port", port])
+            with suppress(subprocess.TimeoutExpired):
+                self.device.wait(0.1)
+                continue
+            return port
+        raise OSError("bacdev has no port")
+
+    def meet(self):
+        """Begins the device, and waits until it answers."""
+        port = self.begin()
         dead = "127.0.0.1:%d" % self.dead.getsockname()[1]
         self.names = {
             "IN": self.folder,
@@ -75,7 +95,7 @@ class World:
             env=env,
             stderr=subprocess.PIPE,
             preexec_fn=before,
-            timeout=90,
+            timeout=at_load(90),
             encoding="utf-8",
         )
         return done.returncode, done.stdout, done.stderr
@@ -132,8 +152,9 @@ class SiteTest(unittest.TestCase):
         return os.path.join(self.world.folder, name)
 
     def rows(self, text, **more):
-        """Runs the rows, side by side; one row a line."""
+        """Runs the rows at the same time; each line is a row."""
         rows = [line.strip() for line in text.split("\n") if line.strip()]
+        ROWS.extend(rows)
         with ThreadPoolExecutor(6) as pool:
             for row, wanted, found in pool.map(lambda row: self.came(row, **more), rows):
                 with self.subTest(row=row):

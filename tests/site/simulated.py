@@ -1,9 +1,9 @@
-"""A client and odd devices whose time is simulated: what is sent, and how the client's requests end."""
+"""A client and unusual devices whose time is simulated: what is sent, and how the client's requests end."""
 import heapq
 import random
 from typing import Dict, List, Tuple
 
-from building import Step, wrapped
+from datagram_builders import Step, wrapped
 
 PEERS = [
     ("10.0.0.1:47808", ""),
@@ -23,7 +23,7 @@ SAYS = ["good"] * 6 + ["error", "reject", "abort", "badack", "segmented", "bader
 
 
 class World:
-    """One client of some clock, whose requests may be many at once; devices that answer as the dice say."""
+    """A client with some clock and many open requests at once; the devices answer at random."""
 
     def __init__(self, seed, count, at_once, timeout, retries, jitter=0.0, client="10.0.0.9:47808"):
         self.dice, self.count, self.at_once, self.client = (
@@ -92,7 +92,7 @@ class World:
             del self.open[number]
 
     def device(self, at, number, it):
-        """Answers, or not, some time or other, and perhaps under another number, service or address."""
+        """Answers or not, at some time, and perhaps with another number, service or address."""
         d, (_, address, route, service, body) = self.dice, it[:5]
         say = d.choice(SAYS)
         good = (

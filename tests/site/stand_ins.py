@@ -9,13 +9,28 @@ from contextlib import suppress
 
 REJECT, ABORT, ERROR = 0x60, 0x71, 0x50
 READ, WRITE = 12, 15
+EVERY_NETWORK = 65535
+WHO_IS = b"\x10\x08"
 
 
 def local_socket():
     """A UDP socket at a port of 127.0.0.1 that no other one of this machine has."""
+    return socket_at("127.0.0.1", 0)
+
+
+def socket_at(host, port):
+    """A UDP socket at this port of a host; 0 is any that is free."""
     found = socket.socket(socket.AF_INET, socket.SOCK_DGRAM)
-    found.bind(("127.0.0.1", 0))
+    found.bind((host, port))
     return found
+
+
+def destination_of(datagram):
+    """The network that a datagram names, 0 for none; the station there in hexadecimal; and the APDU."""
+    if not datagram[5] & 0x20:
+        return 0, "", datagram[6:]
+    network, length = struct.unpack(">HB", datagram[6:9])
+    return network, datagram[9 : 9 + length].hex(), datagram[10 + length :]
 
 
 def tagged(tag, octets):
@@ -60,13 +75,16 @@ NULL = b"\x00"
 class StandIn:
     """A device with the values that it is given.
 
-    By object type, instance, property, and for an element its index, `values` has what the tag 3
-    holds, ("error", class, code), ("abort", reason), "silent", or a list of such, one for each time
-    that it is asked, the last one for ever. Each `lose`-th datagram is lost; it answers after
-    `delay` seconds. What is written is kept, unless `writes`
-    says otherwise: "refuse", "lose" (nothing happens), "silent" (it is made, no answer comes).
-    `asked` has what was asked for, `written` the writes, `ports` those of the
-    clients, `early` how often a request came while it had another.
+    The keys of `values` are object type, instance, property and, for an element, its index. A value
+    is the octets in the tag 3, ("error", class, code), ("abort", reason), ("reject", reason) or
+    "silent"; or a list of these, one for each time that it is asked, and the last one from then on.
+
+    The device answers after `delay` seconds, and loses each `lose`-th datagram. It keeps what is
+    written, except if `writes` is "refuse", "reject", "abort", "lose" (nothing happens) or "silent"
+    (it keeps the value and does not answer).
+
+    `asked` has the keys of the reads, `written` the writes, `ports` those of the clients; `early`
+    counts requests that came while it had another.
     """
 
     def __init__(self, instance, values, delay=0.0, lose=0, writes="", knows_itself=True, at=None):
@@ -91,11 +109,16 @@ class StandIn:
             self.times.append(time.monotonic())
             if self.lose and self.heard % self.lose == 0:
                 continue
-            reply = self.reply(datagram[6:])
+            reply = self.reply_to(datagram)
             if self.delay:
                 time.sleep(self.delay)
                 self.count_early()
             self.send(reply, client)
+
+    def reply_to(self, datagram):
+        """The APDU that answers a datagram; nothing answers one for a network that is not its own."""
+        network, _, apdu = destination_of(datagram)
+        return self.reply(apdu) if network in (0, EVERY_NETWORK) else b""
 
     def send(self, reply, client):
         if reply:
@@ -135,7 +158,7 @@ class StandIn:
         return answer(value, invoke, body)
 
     def write_reply(self, invoke, key, rest):
-        """What is behind the property: the value in the tag 3, and perhaps the priority."""
+        """Makes a write; returns the APDU that answers. The rest has the value in the tag 3, and perhaps a priority."""
         value, _, after = rest[1:].rpartition(b"\x3f")
         priority = after[1] if after else 0
         self.written.append((key, value, priority))
@@ -167,8 +190,8 @@ def answer(value, invoke, body):
         return b""
     if value[:1] == ("error",):
         return bytes([ERROR]) + invoke + bytes([READ, 0x91, value[1], 0x91, value[2]])
-    if value[:1] == ("abort",):
-        return bytes([ABORT]) + invoke + bytes(value[1:])
+    if value[:1] in (("abort",), ("reject",)):
+        return bytes([ABORT if value[0] == "abort" else REJECT]) + invoke + bytes(value[1:])
     return b"\x30" + invoke + b"\x0c" + body + b"\x3e" + value + b"\x3f"
 
 
@@ -185,15 +208,15 @@ class LateStandIn(StandIn):
                 self.heard += 1
                 self.ports.append(client[1])
                 self.times.append(time.monotonic())
-                waiting.append((time.monotonic() + self.delay, self.reply(datagram[6:]), client))
+                waiting.append((time.monotonic() + self.delay, self.reply_to(datagram), client))
             while waiting and waiting[0][0] <= time.monotonic():
                 self.send(*waiting.popleft()[1:])
 
 
 class RouterStandIn(StandIn):
-    """A router, itself a device, with stations behind it: `stations` has, by ROUTE, as 5/01, a StandIn.
+    """A router, itself a device. Its `stations` are those at the other side, by routes like 5/01.
 
-    It answers a Who-Is for all of them. What is sent to a station that it does not have is lost.
+    It answers a Who-Is for all of them, and then for itself. A datagram to another station is lost.
     """
 
     stations = {}
@@ -202,12 +225,8 @@ class RouterStandIn(StandIn):
         while True:
             datagram, client = self.socket.recvfrom(2048)
             self.heard += 1
-            control, at, route = datagram[5], 6, ""
-            if control & 0x20:
-                length = datagram[8]
-                station = datagram[9 : 9 + length].hex()
-                route, at = "%d/%s" % (int.from_bytes(datagram[6:8], "big"), station), 10 + length
-            apdu, asked = datagram[at:], {"": self, **self.stations}
+            network, station, apdu = destination_of(datagram)
+            route, asked = "%d/%s" % (network, station) if network else "", {**self.stations, "": self}
             who_is = apdu[:2] == b"\x10\x08"
             for name, device in asked.items() if who_is else [(route, asked.get(route))]:
                 if self.delay:
@@ -215,12 +234,12 @@ class RouterStandIn(StandIn):
                     self.count_early()
                 self.send_from(name, device.reply(apdu) if device else b"", client)
 
-    def send_from(self, route, reply, client):
-        """Sends the reply of a station, which is named as the source."""
+    def send_from(self, route, reply, client, at=None):
+        """Sends the reply of a station, which is named as the source, from the socket of the router or another."""
         network, _, station = route.partition("/")
         octets = bytes.fromhex(station)
         source = struct.pack(">HB", int(network), len(octets)) + octets if route else b""
         head = b"\x01\x08" + source if route else b"\x01\x00"
         if reply:
             length = struct.pack(">H", 4 + len(head) + len(reply))
-            self.socket.sendto(b"\x81\x0a" + length + head + reply, client)
+            (at or self.socket).sendto(b"\x81\x0a" + length + head + reply, client)

@@ -1,11 +1,10 @@
 """Tries values, bodies and headers: by the rows of docs/PROTOCOL.md, and of the tools' own tests."""
 import unittest
 
-from building import CLIENT, DEVICE, datagrams, wrapped
+from datagram_builders import CLIENT, DEVICE, datagrams, wrapped
 from bacsite.bodies import error_body, read_ack, read_body, region_text, write_body
-from bacsite.messages import message_of
-from bacsite.standard import What, form_of
-from bacsite.answers import outcome_of
+from bacsite.messages import message_of, outcome_of
+from bacsite.standard import PropertyRef, form_of
 
 VALUES = """
 00 null
@@ -98,7 +97,7 @@ class Values(unittest.TestCase):
             with self.subTest(octets=octets):
                 body = reads(bytes.fromhex(octets))
                 found = body and (
-                    tuple(body.what.numbers()),
+                    tuple(body.ref.numbers()),
                     None if body.value is None else body.value.hex(),
                     body.priority,
                 )
@@ -148,7 +147,7 @@ class Forms(unittest.TestCase):
             ((1, 1, 87, 8), (4, 0), False),
         ):
             with self.subTest(what=what):
-                form = form_of(What(*what))
+                form = form_of(PropertyRef(*what))
                 self.assertEqual((form.tags, form.is_list), (tags, is_list))
 
 
@@ -162,7 +161,7 @@ class Headers(unittest.TestCase):
             ("810a000e012000050107ff" + "20010f", DEVICE, CLIENT + "/5/07", ""),
             ("810a00140128000501070006020809ff" + "20010f", DEVICE + "/6/0809", CLIENT + "/5/07", ""),
             ("810b000c0120ffff00ff" + "1008", DEVICE, CLIENT + "/65535/*", ""),
-            ("810a0007018000", DEVICE, CLIENT, "network message 0"),
+            ("810a0007018000", DEVICE, CLIENT, "who-is-router-to-network"),
             ("810a000601" + "00", DEVICE, CLIENT, "an APDU that can't be read: none"),
             ("810a000701" + "0080", DEVICE, CLIENT, "an APDU that can't be read: 80"),
             ("810a00080200100a", DEVICE, CLIENT, "network version 02"),

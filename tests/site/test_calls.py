@@ -9,11 +9,11 @@ import sys
 import time
 import unittest
 
-import alone
+import network_namespace
 import harness
-from bacsite import calls, journals, session
-from bacsite.standard import What
-from building import wrapped
+from bacsite import files, session, tools
+from bacsite.standard import PropertyRef
+from datagram_builders import wrapped
 from stand_ins import LateStandIn, StandIn, real, string, unsigned
 
 
@@ -52,7 +52,8 @@ class WhoseAnswer(harness.SiteTest):
             ((0, 1, 85), (0, 1, 85, 1), strange),
             ((1, 1, 87, 8), (1, 1, 87, 8), good),
             ((1, 1, 87, 8), (1, 1, 87, 9), strange),
-            ((1, 1, 87, 8), (1, 1, 87), strange),
+            ((1, 1, 87, 8), (1, 1, 87), (b"", "an answer without its index")),
+            ((1, 1, 87, 8), (1, 2, 87), strange),
             ((8, 4194303, 75), (8, 77, 75), good),
             ((8, 4194303, 75), (8, 77, 77), strange),
             ((8, 4194303, 75), (0, 77, 75), strange),
@@ -62,7 +63,7 @@ class WhoseAnswer(harness.SiteTest):
             for head in "0100", "01080005010a", "0120ffff00ff":
                 with self.subTest(asked=asked, told=told, head=head):
                     ended = session.Ended("value 42290000", ack(told, head=head))
-                    self.assertEqual(session.answer_of(ended, What(*asked)), wanted)
+                    self.assertEqual(session.answer_of(ended, PropertyRef(*asked)), wanted)
         for outcome, apdu, wanted in (
             ("ok", "20010c", "bad-ack"),
             ("bad-ack", "30010c0c", "bad-ack"),
@@ -73,8 +74,8 @@ class WhoseAnswer(harness.SiteTest):
             ("abort 4", "710104", "abort 4"),
         ):
             ended = session.Ended(outcome, bytes.fromhex(wrapped(apdu)))
-            self.assertEqual(session.answer_of(ended, What(0, 1, 85)), (b"", wanted))
-        self.assertEqual(session.answer_of(session.Ended("timeout"), What(0, 1, 85)), (b"", "timeout"))
+            self.assertEqual(session.answer_of(ended, PropertyRef(0, 1, 85)), (b"", wanted))
+        self.assertEqual(session.answer_of(session.Ended("timeout"), PropertyRef(0, 1, 85)), (b"", "timeout"))
 
     def test_the_reader_is_compared_with_the_proved_printer(self):
         octets = ack((0, 1, 85))
@@ -86,7 +87,7 @@ class WhoseAnswer(harness.SiteTest):
             ("value 3", b"", "it reads no answer and bactool value 3 in nothing"),
             ("value 3", b"\x81\x0a\0\4", "it reads no answer and bactool value 3 in 810a0004"),
         ):
-            found = session.answer_of(session.Ended(outcome, datagram), What(0, 1, 85))
+            found = session.answer_of(session.Ended(outcome, datagram), PropertyRef(0, 1, 85))
             self.assertEqual((found.region, found.reason[:20]), (b"", "a fault of bacsite: "))
             end = datagram.hex() if told.endswith("in ") else ""
             self.assertEqual(found.reason[20:], told + end)
@@ -124,24 +125,24 @@ class WhoseAnswer(harness.SiteTest):
         values = {(0, 1, 85): real("42290000")}
         device = self.stand_in(values, kind=OtherStandIn)
         self.rows("read HERE 0 1 85 => 0 42.25")
-        self.assertEqual(device.asked, [(0, 1, 85)] * 2)
+        self.assertEqual(device.asked, [(0, 1, 85)] * 2 + [(0, 1, 111)])
         device = self.stand_in(values, kind=OtherStandIn)
         device.wrong = 9
         self.rows("read HERE 0 1 85 => 1 an answer about another point")
         self.assertEqual(device.asked, [(0, 1, 85)] * 3)
 
-    @unittest.skipUnless(alone.way(), "no network namespace can be made")
+    @unittest.skipUnless(network_namespace.way(), "no network namespace can be made")
     def test_no_value_is_that_of_another_point(self):
-        late = [sys.executable, os.path.dirname(__file__) + "/late.py"]
+        late = [sys.executable, os.path.dirname(__file__) + "/late_answers.py"]
         done = subprocess.run(
-            [*alone.way(), *late, self.world.command[1]], stdout=subprocess.PIPE, encoding="ascii"
+            [*network_namespace.way(), *late, self.world.command[1]], stdout=subprocess.PIPE, encoding="ascii"
         )
         self.assertRegex(done.stdout, r"\A[2-5]\d\d\d values, 0 of another point, late\n\Z")
 
 
 class Calls(harness.SiteTest):
     def test_a_write_that_is_ended_is_told(self):
-        ended = calls.Calls("bactool", 1000, 0, 1)
+        ended = tools.Tools("bactool", 1000, 0, 1)
         ended.processes.end()
         ended.write([])
         self.assertEqual(ended.writes, 1)
@@ -151,28 +152,28 @@ class Calls(harness.SiteTest):
             device = self.stand_in(
                 {(0, 1, 85): [("abort", reason), ("abort", reason), real("42290000")]}
             )
-            self.rows("read HERE 0 1 85 => 0 42.25")
+            self.rows("read HERE 0 1 85 --no-flags => 0 42.25")
             self.assertEqual(device.asked, [(0, 1, 85)] * 3)
         device = self.stand_in({(0, 1, 85): [("error", 0, 3), real("42290000")]})
-        self.rows("read HERE 0 1 85 => 0 42.25")
+        self.rows("read HERE 0 1 85 --no-flags => 0 42.25")
         device = self.stand_in({(0, 1, 85): ("abort", 9)})
-        self.rows("read HERE 0 1 85 --apdu-timeout 1500 --apdu-retries 1 => 1 abort 9")
+        self.rows("read HERE 0 1 85 --no-flags --apdu-timeout 1500 --apdu-retries 1 => 1 abort 9")
         first, second = device.times
         self.assertGreater(second - first, 1.5)
         device = self.stand_in({(0, 1, 85): ("abort", 2)})
-        self.rows("read HERE 0 1 85 => 1 abort 2")
+        self.rows("read HERE 0 1 85 --no-flags => 1 abort 2")
         self.assertEqual(len(device.asked), 1)
 
     def test_a_slow_controller_is_given_time(self):
         device = self.stand_in({(0, 1, 85): real("42290000")}, kind=LateStandIn, delay=1.2)
         path = self.path("slow", "p HERE 0 1 85\n" * 6)
-        self.assertEqual(self.run_site("poll", "--apdu-timeout", "800", path)[0], 0)
+        self.assertEqual(self.run_site("poll", "--no-flags", "--apdu-timeout", "800", path)[0], 0)
         self.assertEqual(device.heard, 7, "the first request alone is sent twice")
 
     def test_a_fast_controller_keeps_the_time(self):
         device = self.stand_in({(0, 1, 85): real("42290000"), (0, 2, 85): "silent"})
         path = self.path("fast", "a HERE 0 1 85\nb HERE 0 2 85\n")
-        words = ["poll", "--apdu-timeout", "2000", "--apdu-retries", "1", path]
+        words = ["poll", "--no-flags", "--apdu-timeout", "2000", "--apdu-retries", "1", path]
         self.assertEqual(self.run_site(*words)[0], 1)
         _, first, second = device.times
         self.assertLess(second - first, 3.9, "it is sent again after two seconds, not four")
@@ -216,7 +217,7 @@ class Calls(harness.SiteTest):
         self.rows("read HERE 0 1 85 --journal IN/none => 3 !no folder: IN/none")
 
     def test_a_journal_on_a_full_disk(self):
-        """What was read is shown all the same; a status that alerts stays."""
+        """The value is shown all the same; a status that alerts stays."""
         folder = self.world.folder + "/full"
         os.mkdir(folder)
         full = {"before": lambda: resource.setrlimit(resource.RLIMIT_FSIZE, (150, 150))}
@@ -243,15 +244,15 @@ class Calls(harness.SiteTest):
                 return super().write(octets[:5])
 
         file = Slow()
-        journals.Journal(journals.Journals(), file).add("# done 0 ok")
+        files.Journal(files.Journals(), file).add("# done 0 ok")
         self.assertEqual(file.getvalue(), b"# done 0 ok\n")
 
     def test_a_journal_that_can_not_be_begun(self):
         folder = self.world.folder + "/gone"
         os.mkdir(folder)
-        kept = journals.Journals(folder)
+        kept = files.Journals(folder)
         os.rmdir(folder)
-        kept.begun("192.0.2.7:47808/5/01").add("client 1 0 0")
+        self.assertIsNone(kept.begun("192.0.2.7:47808/5/01"))
         told = "cannot write %s/192.0.2.7_47808_5_01: No such file or directory" % folder
         self.assertEqual(kept.fault, told)
 

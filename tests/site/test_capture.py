@@ -5,7 +5,7 @@ import os
 import subprocess
 import unittest
 
-from building import CLIENT, DEVICE, ether, exchange, pcap, udp, wrapped
+from datagram_builders import CLIENT, DEVICE, ether, exchange, pcap, udp, wrapped
 from harness import SiteTest
 from test_trace import ends_of, printed
 from tshark import compared
@@ -31,9 +31,12 @@ class Samples(SiteTest):
     def test_datagrams_are_those_of_tshark(self):
         path = os.path.join(SAMPLES, "odd.pcap")
         with open(path + ".tshark", encoding="ascii") as lines:
-            agree, _, differ = compared(path, lines.read())
-        self.assertEqual(differ, [])
-        self.assertGreater(agree, 100)
+            text = lines.read()
+        self.assertEqual(compared(path, text), (114, 27, []))
+        last = text.rstrip("\n").rpartition("\n")
+        for other, told in ((last[0], (113, 27, 0)), (text.replace(";12;", ";13;", 1), (113, 27, 1))):
+            agree, lost, differ = compared(path, other)
+            self.assertEqual((agree, lost, len(differ)), told)
 
     def test_ends_are_those_of_bactrace(self):
         for client in ("127.0.0.20", "127.0.0.21", "127.0.0.22", "127.0.0.1"):
@@ -49,7 +52,7 @@ class Samples(SiteTest):
                     self.assertEqual(ends[ticket], outcome.replace("no answer", "timeout"))
 
     def test_pcapng(self):
-        """Two interfaces have shown each datagram: one is told, the other is a copy."""
+        """Two interfaces have recorded each datagram: one is shown, the other is a copy."""
         status, text, _ = self.told("tools-two.pcapng")
         lines = text.split("\n\n")[0].splitlines()
         self.assertEqual((status, len(lines), len(set(lines))), (1, 10, 10))
@@ -137,6 +140,19 @@ device           requests  answered  refused  unanswered  sent again  slow  medi
         for words, numbers in (("failed", ["2"]), ("slow", ["3"])):
             lines = self.told(steps, "--only", words)[1].split("\n\n")[0].splitlines()
             self.assertEqual([it.split("  #")[1][:1] for it in lines], numbers)
+
+    def test_what_is_no_capture(self):
+        status, out, said = self.run_site("capture", "/etc/passwd")
+        self.assertEqual((status, out, said[:33]), (3, "", "bacsite: neither pcap nor pcapng:"))
+
+    def test_a_station_behind_a_router_is_chosen(self):
+        """As the summary prints it: 192.0.2.40:47808/77/01."""
+        request = "810a00160124004d0101ff0005010c0c023fffff194d"
+        other = "810a0016012400%02x0102ff0005020c0c023fffff194d" % 77
+        steps = [(0, "10.0.0.9:1", "192.0.2.40:47808", request), (1, "10.0.0.9:1", "192.0.2.40:47808", other)]
+        text = self.told(steps, "--device", "192.0.2.40:47808/77/01", "--summary")[1]
+        self.assertEqual(text.splitlines()[0], "1 request of 1 client to 1 device: 0 answered, 0 refused, 1 unanswered")
+        self.assertIn("192.0.2.40:47808/77/01", text)
 
     def test_choice(self):
         steps = exchange(0, 1) + exchange(2, 3, of="127.0.0.2:50000")

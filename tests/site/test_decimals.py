@@ -8,7 +8,7 @@ import unittest
 
 import harness
 from bacsite.decimals import encoded, octets_of, shortest
-from bacsite.failures import Failure
+from bacsite.output import Failure
 
 CHANCE = random.Random(1)
 EDGES = [

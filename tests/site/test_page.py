@@ -111,7 +111,7 @@ class Pages(unittest.TestCase):
             '<section class="device silent" id="d1"',
             '<p class="reason">timeout</p>',
             'href="#d0">192.0.2.7:47808</a>',
-            "2 devices, of which 1 are silent; 2 objects, of which 1 have a flag set",
+            "2 devices, 1 of them silent; 2 objects, 1 of them with a flag ",
         ):
             self.assertIn(part, page)
         self.assertIn('<td class="count" data-n="2">2</td>', page)
@@ -119,20 +119,23 @@ class Pages(unittest.TestCase):
         self.assertEqual(safe("a<b\u202e"), "a&lt;b\\u202e")
 
     def test_what_was_asked_for_beside_that(self):
-        """Text of a device, so no markup either."""
-        more = {"held": "8 (<b>)", "description": "On <the> roof"}
+        """A text of a device is not markup either."""
         found = an_object(name="T", text="1", unit="", flags=None)
-        found.held, found.description = more["held"], more["description"]
-        page, _ = read([Device(HERE, 9, objects=[found], changes=["name was <i>", "gone: 0:6"])])
+        found.priorities, found.description = (8,), "On <the> roof"
+        found.settings = {"high-limit": "<30>"}
+        changes, facts = ["name was <i>", "gone: 0:6"], {"firmware": "<2>"}
+        page, _ = read([Device(HERE, 9, objects=[found], changes=changes, facts=facts)])
         for part in (
             '<bdi>T</bdi> <span class="soft"><bdi>On &lt;the&gt; roof</bdi></span>',
-            '<span class="soft">priority 8 (&lt;b&gt;)</span>',
+            '<span class="soft"><bdi>high-limit &lt;30&gt;</bdi></span>',
+            "<dt>firmware</dt><dd><bdi>&lt;2&gt;</bdi></dd>",
+            '<span class="soft">priority 8 (manual-operator)</span>',
             '<p class="soft">since: name was &lt;i&gt;; gone: 0:6</p>',
         ):
             self.assertIn(part, page)
 
     def test_flags_of_a_device_stand_by_what_they_say(self):
-        """The worst in front, and behind them those that the standard does not have."""
+        """The worst states come first, and those that the standard does not have last."""
         told = ("overridden", "out-of-service", "strange", "fault", "in-alarm", "beside")
         page, _ = read([Device(HERE, 9, objects=[an_object(flags=(it,)) for it in told])])
         row = page[page.index("<tbody>") : page.index("</tbody>")]
@@ -162,7 +165,7 @@ class Survey(harness.SiteTest):
         self.assertEqual((status, out, err[:24]), (3, "", "bacsite: writing failed:"))
 
     def test_who_may_read_the_page(self):
-        """A new one whom the umask lets; one that is replaced the same as before."""
+        """A new page gets the permissions of the umask; a replaced one keeps its own."""
         path = self.world.folder + "/own.html"
         for mask, before, after in ((0o077, None, 0o600), (0o022, 0o604, 0o604), (0, 0o640, 0o640)):
             if before:

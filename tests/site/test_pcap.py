@@ -3,7 +3,7 @@ import io
 import struct
 import unittest
 
-from building import (
+from datagram_builders import (
     CLIENT,
     DEVICE,
     block,
@@ -16,8 +16,7 @@ from building import (
     udp,
     wrapped,
 )
-from bacsite.capture.frames import Passing
-from bacsite.capture.pcap import Damage, Packet, packets_of
+from bacsite.capture.pcap import Damage, Packet, Passing, packets_of
 
 OCTETS = bytes.fromhex(wrapped(read_apdu(1)))
 INNER = udp(CLIENT, DEVICE, OCTETS)
@@ -161,7 +160,7 @@ class Files(unittest.TestCase):
                 self.assertEqual((len(packets), said), (count, damage))
 
     def test_every_cut(self):
-        """Nothing that stands before a cut is lost, and each cut but those between packets is told."""
+        """Nothing before a cut is lost, and each cut except those between packets is reported."""
         head, record = section(">") + interface(">"), enhanced(">", 1, INNER)
         files = [
             (pcap([(TIME, INNER)] * 3), {24 + at * (16 + len(INNER)) for at in range(3)}),
@@ -240,7 +239,7 @@ class Frames(unittest.TestCase):
             self.assertEqual((found[0].octets, passed), (OCTETS[:-lost], {}))
 
     def test_copies(self):
-        """Of a datagram on two interfaces one is a copy; what comes again on the same one is none."""
+        """A datagram on two interfaces is one and a copy; a second one on the same interface is not a copy."""
         second = 10**9
         packets = [
             Packet(0, 101, 0, INNER),

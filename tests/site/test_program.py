@@ -17,10 +17,10 @@ from contextlib import suppress
 
 import harness
 import bacsite
-from bacsite.processes import NotBegun, Processes
+from bacsite.tools import NotBegun, Processes
 from stand_ins import enumerated, local_socket, real, string
 
-# The names that stand in front of each line of the package's text.
+# The names of modules at the front of each line of the package's text.
 LINES = re.findall(r"(?m)^    ([a-z_/]+(?:, [a-z_/]+)*)", bacsite.__doc__)
 MODULES = [name for line in LINES for name in line.split(", ")]
 WRITING_FAILED = (3, "bacsite: writing failed\n")
@@ -30,7 +30,7 @@ LONG = str(20000 + os.getpid() % 40000)  # milliseconds; a word that no other ru
 
 
 def imported(name, node):
-    """The modules of the package that an import in a module names."""
+    """Returns the modules of the package that an import in a module names."""
     inner = "capture/" if name.startswith("capture/") and node.level == 1 else ""
     if node.module:
         return {inner + node.module}
@@ -40,7 +40,7 @@ def imported(name, node):
 
 
 def left_running(word):
-    """The processes that have this word, but for those that go within two seconds."""
+    """Returns the processes that have this word, except those that end within two seconds."""
     for _ in range(40):
         found = still_running(word)
         time.sleep(0.05 * bool(found))
@@ -48,7 +48,7 @@ def left_running(word):
 
 
 def still_running(word):
-    """The processes that have this word."""
+    """Returns the processes that have this word."""
     found = []
     for name in filter(str.isdigit, os.listdir("/proc")):
         with suppress(OSError), open("/proc/" + name + "/cmdline", "rb") as file:
@@ -102,7 +102,7 @@ class Surroundings(harness.SiteTest):
                 env=env,
             )
             status, out, err = self.world.run("poll", self.world.folder + "/Öl.list", env=env)
-            self.assertEqual((status, out[20:], err), (0, "\tÖl\tZürich\t-\n", ""))
+            self.assertEqual((status, out[20:], err), (0, "\tÖl\tZürich\t-\t-\t-\n", ""))
         for words in (
             (b"read", b"\xff", b"0", b"5", b"85"),
             (b"survey", b"\xff"),
@@ -168,7 +168,7 @@ class Streams(harness.SiteTest):
         self.assertEqual(self.run_site(*words, stdout=into)[::2], (3, ""))
         self.assertEqual(self.run_site("real", "4290999a", stdout=into)[::2], (3, ""))
         os.close(into)
-        self.assertLess(time.monotonic() - begun, 15)
+        self.assertLess(time.monotonic() - begun, harness.at_load(15))
 
     def test_a_terminal_is_told_how_far_it_is(self):
         terminal, side = pty.openpty()
@@ -194,7 +194,7 @@ class Signals(harness.SiteTest):
             process.send_signal(number)
             begun = time.monotonic()
             out, err = process.communicate(timeout=30)
-            return process.returncode, out, err, time.monotonic() - begun < 6
+            return process.returncode, out, err, time.monotonic() - begun < harness.at_load(6)
 
     def test_they_end_it_at_once(self):
         folder = self.world.folder
@@ -321,6 +321,19 @@ class OneFile(harness.SiteTest):
         there = glob.glob(harness.TOP + "/site/bacsite/**/*.py", recursive=True)
         names = {os.path.relpath(it, harness.TOP + "/site/bacsite")[:-3] for it in there}
         self.assertEqual(names - set(below), {"__init__", "__main__", "capture/__init__"})
+
+
+class Language(unittest.TestCase):
+    def test_its_sources_are_python_3_8(self):
+        """By the grammar of that version; mypy knows by its own list which names came later."""
+        paths = glob.glob(harness.TOP + "/site/bacsite/**/*.py", recursive=True)
+        self.assertGreater(len(paths), 30)
+        for path in paths:
+            with open(path, encoding="utf-8") as file:
+                ast.parse(file.read(), path, feature_version=(3, 8))
+        for later in "match a:\n    case 1:\n        pass", "try:\n    pass\nexcept* ValueError:\n    pass":
+            with self.assertRaises(SyntaxError):
+                ast.parse(later, feature_version=(3, 8))
 
 
 if __name__ == "__main__":

@@ -1,9 +1,12 @@
 """Surveys of ranges, and of who is known by a Who-Is alone: who is named, and who is silent."""
 
+import time
 import unittest
 
 import harness
 from stand_ins import NAMED, LateStandIn, StandIn, an_object
+
+HURRIED = ["--apdu-timeout", "300"]  # also on a busy machine
 
 
 class TwoStandIn(StandIn):
@@ -13,6 +16,14 @@ class TwoStandIn(StandIn):
         super().send(reply, client)
         if reply[:2] == b"\x10\x00":
             super().send(reply[:2] + an_object(8, 78) + reply[7:], client)
+
+
+class SlowStandIn(StandIn):
+    """A device that serves one request after another, each for 1.9 s, and answers no Who-Is."""
+
+    def reply(self, apdu):
+        time.sleep(1.9)
+        return b"" if apdu[:2] == b"\x10\x08" else super().reply(apdu)
 
 
 class Ranges(harness.SiteTest):
@@ -38,7 +49,7 @@ class Ranges(harness.SiteTest):
         port = self.names["HERE"].split(":")[1]
         found = self.run_site("survey", "--devices", "127.0.0.1-4:" + port)
         wanted = self.spelled("HERE  device 77  D  V  M\n")
-        self.assertEqual(found, (0, wanted, "4 asked, 1 devices, 3 silent\n"))
+        self.assertEqual(found, (0, wanted, "4 asked, 1 device, 3 silent\n"))
         status, out, _ = self.run_site("survey", "--devices", "--silent", "127.0.0.0/29:" + port)
         self.assertEqual((status, out.count("\n"), out.count("timeout")), (0, 6, 5))
         port = self.names["DEAD"].split(":")[1]
@@ -49,8 +60,8 @@ class Ranges(harness.SiteTest):
         port = self.names["DEV"].split(":")[1]
         status, out, err = self.run_site("survey", "--devices", "--sorted", "127.0.0.1-2:" + port)
         odd = "127.0.0.2:%s  device -  timeout; device 1000 answers a Who-Is from 127.0.0.1:%s"
-        self.assertEqual((status, out.splitlines()[1]), (1, odd % (port, port)))
-        told = "2 asked, 1 devices, 0 silent, 1 for another reason without a device\n"
+        self.assertEqual((status, out.splitlines()[-1]), (1, odd % (port, port)))
+        told = "2 asked, 1 device, 0 silent, 1 for another reason without a device\n"
         self.assertEqual(err, told)
         own = {(8, 4194303, 75): "silent", (8, 77, 75): "silent"}
         self.stand_in({**NAMED, **own})
@@ -59,7 +70,7 @@ class Ranges(harness.SiteTest):
         self.assertEqual((status, out), (1, self.spelled(told)))
 
     def test_one_who_answers_very_late_is_not_hidden(self):
-        """Later than all that he is sent at first is waited for."""
+        """Its answer is awaited for longer than all the first requests."""
         for values, told in (
             ({}, "device 77 answers a read very late"),
             ({(8, 4194303, 75): ("error", 1, 31)}, "a read is answered very late: error 1 31"),
@@ -69,14 +80,24 @@ class Ranges(harness.SiteTest):
             word = "127.0.0.1-2:" + self.names["HERE"].split(":")[1]
             line = self.spelled("HERE  device -  timeout; %s\n" % told)
             counts = "2 asked, 0 devices, 1 silent, 1 for another reason without a device\n"
-            self.assertEqual(self.run_site("survey", word), (1, line, counts))
+            self.assertEqual(self.run_site("survey", word, *HURRIED), (1, line, counts))
         found = self.run_site("survey", word, "--apdu-timeout", "250", "--deadline", "2")
-        self.assertEqual(found, (1, "", "2 asked, 0 devices, 2 silent\n"))
-        words = ["survey", "--devices", "--sorted", "--silent", word, "1000@DEV"]
+        late = line.partition(";")[0] + "; a read is answered very late\n"
+        self.assertEqual(found, (1, late, counts), "what came to the first socket counts")
+        words = ["survey", "--devices", "--sorted", "--silent", word, "1000@DEV", *HURRIED]
         lines = self.run_site(*words)[1].splitlines()
         other = line.replace("127.0.0.1", "127.0.0.2").partition(";")[0]
         self.assertEqual(lines[:2], [line[:-1], other])
         self.assertIn("  device 1000  ", lines[2])
+
+    def test_one_request_at_a_time(self):
+        """A device that serves one request after another has answered none of them before it was
+        given up; what is asked at last waits until the others are served."""
+        self.stand_in(NAMED, kind=SlowStandIn)
+        found = self.run_site("survey", "127.0.0.1-1:" + self.names["HERE"].split(":")[1], *HURRIED)
+        line = self.spelled("HERE  device -  timeout; a read is answered very late\n")
+        counts = "1 asked, 0 devices, 0 silent, 1 for another reason without a device\n"
+        self.assertEqual(found, (1, line, counts))
 
     def test_a_lost_race_does_not_cost_the_device(self):
         for word in "HERE", "127.0.0.1-1:":

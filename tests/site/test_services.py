@@ -1,10 +1,10 @@
-"""Tries what other services ask and tell, by the standard's examples of encoding and by cut bodies."""
+"""Tries the requests and answers of other services, with the standard's examples of encoding and with cut bodies."""
 import unittest
 
-from building import CLIENT, DEVICE, datagrams, wrapped
+from datagram_builders import CLIENT, DEVICE, datagrams, wrapped
 from bacsite.capture import services
 from bacsite.capture.lines import line_of
-from bacsite.capture.pairing import Pairing
+from bacsite.capture.talks import Pairing
 from bacsite.messages import message_of
 from test_talks import CHANGE
 

@@ -1,4 +1,4 @@
-"""Stations behind a router: each is asked, and written, by its route; and a survey names them."""
+"""Stations behind a router: each is read and written through its route, and a survey names them."""
 
 import csv
 import io
@@ -11,6 +11,7 @@ import unittest
 import harness
 from stand_ins import NULL, RouterStandIn, StandIn, an_object, enumerated, real, string, unsigned
 
+LISTEN = ["--listen", "1", "--listen-port", "0"]  # another test may have the usual port
 NAMED = {(8, 77, 77): string("Router"), (8, 77, 121): string("V"), (8, 77, 70): string("M")}
 OWN = {**NAMED, (8, 77, 76): an_object(8, 77)}
 
@@ -66,7 +67,7 @@ class Stations(harness.SiteTest):
     def test_one_request_at_a_time_behind_a_router(self):
         self.router.delay = 0.02
         lines = ["p HERE/%s 0 1 85\n" % it for it in self.router.stations] * 5
-        self.assertEqual(self.run_site("poll", self.path("slow-line", "".join(lines)))[0], 0)
+        self.assertEqual(self.run_site("poll", "--no-flags", self.path("slow-line", "".join(lines)))[0], 0)
         self.assertEqual((self.router.heard, self.router.early), (10, 0))
 
     def test_a_survey(self):
@@ -91,7 +92,7 @@ class Stations(harness.SiteTest):
         )
 
     def test_a_survey_of_stations(self):
-        status, out, _ = self.run_site("survey", "HERE", "--stations")
+        status, out, _ = self.run_site("survey", "HERE", "--stations", *LISTEN)
         lines = ["HERE  device 77  Router  V  M"]
         for route, instance, value in (("5/01", 11, "42.25"), ("65534/0a0b0c", 12, "50")):
             lines.append("HERE/%s  device %d  S  S  S" % (route, instance))
@@ -99,15 +100,46 @@ class Stations(harness.SiteTest):
         self.assertEqual((status, out), (0, self.spelled("\n".join(lines) + "\n")))
         self.assertEqual(self.router.early, 0)
         page = self.path("stations.html", "")
-        self.assertEqual(self.run_site("survey", "HERE", "--stations", "--html", page)[0], 0)
+        self.assertEqual(self.run_site("survey", "HERE", "--stations", *LISTEN, "--html", page)[0], 0)
         with open(page, encoding="utf-8") as file:
             self.assertIn(self.spelled("HERE/5/01</a>"), file.read())
+
+    def naming_both(self, *words):
+        """Surveys until both stations are named: if they are not asked for, nobody waits for their I-Am."""
+        for _ in range(9):
+            out = self.run_site("survey", *words, "--json")[1]
+            if out.count('/5/0') == 2:
+                break
+        return out
+
+    def test_a_station_that_is_gone(self):
+        """A station that is gone is reported for each way to ask for the stations behind the router."""
+        for words in ["HERE"], ["HERE", "--stations", *LISTEN], ["HERE/5/*", *LISTEN]:
+            self.router.stations = {"5/01": self.first, "5/02": self.second}
+            before = self.path("stations.json", self.naming_both(*words))
+            self.assertNotIn("since", self.run_site("survey", *words, "--since", before)[1])
+            self.router.stations = {"5/01": self.first}
+            status, out, _ = self.run_site("survey", *words, "--since", before)
+            name = "" if words == ["HERE"] else " S"
+            wanted = "HERE/5/02  device -  timeout\n  since: was device 12%s\n" % name
+            self.assertEqual(status, 1)
+            self.assertIn(self.spelled(wanted), out)
+            self.assertEqual(out.count("since"), 1)
+
+    def test_nobody_waits_for_stations_that_were_not_asked_for(self):
+        """A Who-Is waits for half a minute here; the stations that have answered at the end are named."""
+        router = self.stand_in({}, kind=RouterStandIn)
+        router.stations = {"5/07": StandIn(78, {})}
+        begun = time.monotonic()
+        _, out, _ = self.run_site("survey", "HERE", "--devices", "--apdu-timeout", "30000")
+        self.assertLess(time.monotonic() - begun, 25)
+        self.assertIn("/5/07  device 78", out)
 
     def test_a_search_keeps_the_deadline(self):
         begun = time.monotonic()
         words = ["survey", "--devices", "HERE", "--apdu-timeout", "20000", "--deadline", "1"]
         status, out, _ = self.run_site(*words)
-        self.assertLess(time.monotonic() - begun, 8)
+        self.assertLess(time.monotonic() - begun, harness.at_load(8))
         lines = ["HERE  device 77  Router  V  M", "HERE/5/01  device 11"]
         lines += ["HERE/65534/0a0b0c  device 12", ""]
         self.assertEqual((status, out), (0, self.spelled("\n".join(lines))), "who was heard by then")
@@ -115,7 +147,8 @@ class Stations(harness.SiteTest):
     def test_a_survey_of_a_router_that_is_no_device(self):
         self.router.values[8, 4194303, 75] = "silent"
         self.router.values[8, 77, 75] = "silent"
-        found = self.run_site("survey", "HERE")
+        # The reads are given up long after all have answered the Who-Is, also on a busy machine.
+        found = self.run_site("survey", "HERE", "--apdu-timeout", "3000", "--apdu-retries", "0")
         lines = ["HERE  device -  timeout; device 77 answers a Who-Is, and no read"]
         lines += ["HERE/5/01  device 11", "HERE/65534/0a0b0c  device 12"]
         self.assertEqual(found[:2], (1, self.spelled("".join(it + "\n" for it in lines))))
@@ -145,7 +178,7 @@ class Stations(harness.SiteTest):
         for text in "Room 5", "", "a\nwrite x", "a\tb", " ":
             found = self.run_site("write", "HERE/5/01", "40", "1", text)
             told = "bacsite: no text with a space, and no empty one, can be sent behind a router"
-            self.assertEqual(found, (2, "", told + "; nothing was sent\n"), repr(text))
+            self.assertEqual(found, (2, "", told + "; no write was sent\n"), repr(text))
         self.assertEqual(self.first.written, [])
         self.assertEqual(self.run_site("write", "HERE/5/01", "40", "1", "Room5", "--dry-run")[0], 0)
         self.assertEqual(self.first.written, [])
@@ -153,7 +186,7 @@ class Stations(harness.SiteTest):
     def test_a_text_that_is_too_long(self):
         found = self.run_site("write", "HERE/5/01", "40", "1", "x" * 5000)
         self.assertEqual((found[0], self.first.written), (2, []))
-        self.assertRegex(found[1].splitlines()[3], r"nothing was sent: [a-z]+: line \d+: too long\Z")
+        self.assertRegex(found[1].splitlines()[3], r"no write was sent: [a-z]+: line \d+: too long\Z")
 
     def test_how_a_write_ends(self):
         for mode, told, count in (
@@ -191,7 +224,7 @@ class Stations(harness.SiteTest):
         self.router.send_from = lambda route, reply, client: RouterStandIn.send_from(
             self.router, "5/03", reply, client
         )
-        self.rows("read HERE/5/02 0 1 85 => 1 timeout")
+        self.rows("read HERE/5/02 0 1 85 => 1 timeout (answered from HERE/5/03)")
 
     def test_an_unsigned_behind_a_router(self):
         self.first.values[0, 1, 85] = unsigned(42290000)

@@ -1,5 +1,7 @@
-"""Surveys: what is printed, what is missing, and in which order."""
+"""Surveys: the printed values, the missing ones, and their order."""
 
+import csv
+import io
 import json
 import re
 import signal
@@ -8,8 +10,8 @@ import unittest
 
 import harness
 from bacsite.report import csv_lines
-from devices import ODD_VALUES
-from stand_ins import NAMED, an_object, bits, enumerated, real, string, unsigned
+from unusual_values import ODD_VALUES
+from stand_ins import NAMED, NULL, StandIn, an_object, bits, enumerated, real, string, tagged, unsigned
 
 HEAD = "address,device,device_name,vendor,model,type,instance,type_name,name,value,meaning,unit,flags,reason"
 
@@ -35,6 +37,20 @@ def sensors(count):
             }
         )
     return values
+
+
+class RestartStandIn(StandIn):
+    """A device that is silent for 1.5 s from its 40th request on."""
+
+    lost, until = 0, None
+
+    def reply(self, apdu):
+        if len(self.asked) == 40 and self.until is None:
+            self.until = time.monotonic() + 1.5
+        if self.until and time.monotonic() < self.until:
+            self.lost += 1
+            return b""
+        return super().reply(apdu)
 
 
 class Survey(harness.SiteTest):
@@ -235,7 +251,7 @@ DEAD;device -;timeout
         )
         begun = time.monotonic()
         status, out, _ = self.run_site("survey", "HERE", "--deadline", "1")
-        self.assertLess(time.monotonic() - begun, 20)
+        self.assertLess(time.monotonic() - begun, harness.at_load(20))
         self.assertRegex(
             out, r"of 99999 elements not asked; \d+ of \d+ objects not asked; deadline\n"
         )
@@ -311,7 +327,7 @@ DEAD;device -;timeout
         self.assertEqual([it["reasons"] for it in found], [["present-value: error 2 32"], []])
 
     def commanded(self):
-        """A device with an input, and outputs: by the program, by hand, by an unknown one, by none."""
+        """A device with an input, and outputs commanded by the program, manually, by an unknown one, or not at all."""
         values = {**NAMED, **sensors(1)}
         for at, array in (
             (1, b"\0" * 15 + real("42290000")),
@@ -333,18 +349,138 @@ DEAD;device -;timeout
 ;1:4;analog-output;Out;42.25;-;-;priority-array: error 1 27
 """
         self.assertEqual((status, re.sub("  +", ";", out)), (1, self.spelled(wanted)))
-        self.assertFalse([it for it in device.asked if it[:2] in ((0, 1), (1, 1)) and it[2] != 87])
+        self.assertFalse([it for it in device.asked if it[:2] in ((0, 1), (1, 1)) and it[2] not in (87, 111)])
         rows = self.run_site("survey", "HERE", "--held", "--csv", "--window", "4")[1].splitlines()
         self.assertEqual(rows[0], HEAD.replace(",reason", ",held,reason"))
         self.assertTrue(rows[1].endswith(",42.25,,,,8 (manual-operator),"), rows[1])
 
+    def test_what_does_not_have_the_value_of_its_program(self):
+        """Priority arrays with constructed values (clause 21: PriorityValue), overridden, out of service."""
+        moment = tagged(10, b"\x7c\x0a\x1f\x04") + tagged(11, b"\x0c\x1e\0\0")
+        values = {**NAMED, **sensors(4), (0, 2, 111): bits("0010"), (0, 3, 111): bits("0001")}
+        for at, array in (
+            (1, NULL * 7 + b"\x1e" + moment + b"\x1f" + NULL * 8),
+            (2, NULL * 16),
+            (3, NULL * 2 + b"\x0e" + NULL + b"\x0f" + NULL * 3 + b"\x1e" + moment + b"\x1f" + NULL * 9),
+            (4, NULL * 7 + b"\x1e" + moment),
+            (5, NULL * 8 + b"\x1e" + moment + b"\x1f" + NULL * 7),
+        ):
+            values[8, 77, 76] += an_object(44, at)
+            values.update({(44, at, 77): string("Moment"), (44, at, 85): moment, (44, at, 87): array})
+        self.stand_in(values)
+        status, out, _ = self.run_site("survey", "HERE", "--held")
+        wanted = """HERE;device 77;D;V;M
+;0:2;analog-input;S2;42.25 degrees-celsius;overridden;-
+;0:3;analog-input;S3;42.25 degrees-celsius;out-of-service;-
+;44:1;datetime-value;Moment;{2024-10-31, 12:30:00.00};-;8 (manual-operator)
+;44:3;datetime-value;Moment;{2024-10-31, 12:30:00.00};-;3
+;44:4;datetime-value;Moment;{2024-10-31, 12:30:00.00};-;-;priority-array: bad-ack
+"""
+        self.assertEqual((status, re.sub("  +", ";", out)), (1, self.spelled(wanted)))
+        shown = ", ".join(["null"] * 7 + ["[1]{2024-10-31, 12:30:00.00}"] + ["null"] * 8)
+        self.rows("read HERE 44 1 87 => 0 %s" % shown)
+        names = [it.split()[0] for it in self.run_site("survey", "HERE", "--held", "--list")[1].splitlines()]
+        self.assertEqual(names[1:3], ["77.S2", "77.S3"])
+
+    def test_what_is_held_is_released_by_a_list(self):
+        device = self.commanded()
+        array = NULL * 4 + enumerated(1) * 2 + NULL + enumerated(1) + NULL * 8
+        more = {(4, 6, 77): string("Fan # 1"), (4, 6, 79): enumerated(4), (4, 6, 85): enumerated(1)}
+        more[4, 6, 87] = array
+        device.values.update({**more, (4, 6, 104): enumerated(0), (1, 2, 79): enumerated(1)})
+        device.values[8, 77, 76] += an_object(4, 6)
+        device.values.update({(1, 3, 87): NULL * 16, (1, 4, 87): NULL * 16, (1, 2, 104): real("00000000")})
+        status, out, _ = self.run_site("survey", "HERE", "--held", "--release")
+        lines = ["77@HERE analog-output 2 null --priority 8  # Out"]
+        lines += ["77@HERE binary-output 6 null --priority %d  # Fan # 1" % it for it in (5, 8)]
+        lines += ["# binary-output 6: priority 6 is the device's own"]
+        self.assertEqual((status, out), (0, self.spelled("\n".join(lines) + "\n")))
+        self.assertEqual(device.written, [], "it writes nothing itself")
+        device.commands[1, 2] = [NULL] * 7 + [real("42290000")] + [NULL] * 8
+        device.commands[4, 6] = [NULL] * 4 + [enumerated(1)] * 2 + [NULL, enumerated(1)] + [NULL] * 8
+        found = self.run_site("write-list", self.path("release", out))
+        self.assertEqual(found[0], 0, found)
+        wanted = [((1, 2, 85), NULL, 8), ((4, 6, 85), NULL, 5), ((4, 6, 85), NULL, 8)]
+        self.assertEqual(device.written, wanted)
+        self.rows("survey HERE --release => 2 !--release needs --held")
+
+    def test_what_is_not_normal(self):
+        values = {**NAMED, **sensors(4), (0, 2, 111): bits("1000"), (0, 3, 85): ("error", 2, 42)}
+        self.stand_in(values)
+        status, out, _ = self.run_site("survey", "HERE", "--not-normal")
+        wanted = """HERE;device 77;D;V;M
+;0:2;analog-input;S2;42.25 degrees-celsius;in-alarm
+;0:3;analog-input;S3;-;normal;present-value: error 2 42
+"""
+        self.assertEqual((status, re.sub("  +", ";", out)), (1, self.spelled(wanted)))
+
+    def test_an_object_list_that_is_refused_is_read_element_by_element(self):
+        """Silence, reject 1, aborts 0 and 9, and errors: after each, the elements of the array are answered."""
+        objects = [(8, 77), (0, 1), (0, 2), (0, 3)]
+        errors = ("error", 2, 47), ("error", 5, 0), ("error", 2, 44)
+        for refusal in ("silent", ("reject", 1), ("abort", 0), *errors):
+            self.stand_in({**NAMED, **sensors(3), **listed(*objects), (8, 77, 76): refusal})
+            status, out, _ = self.run_site("survey", "HERE")
+            self.assertEqual((status, out.count("  analog-input  S")), (0, 3), (refusal, out))
+        self.stand_in({**NAMED, (8, 77, 76): ("error", 2, 47)})
+        self.rows("survey HERE => 1 HERE  device 77  D  V  M  object-list: error 2 47")
+
+    def test_a_device_that_restarts_is_asked_again(self):
+        """The device is silent for 1.5 s when a third of its objects was read."""
+        objects = [(0, at) for at in range(1, 25)]
+        device = self.stand_in({**NAMED, **sensors(24)}, kind=RestartStandIn)
+        status, out, err = self.run_site("survey", "HERE", "--window", "16")
+        self.assertEqual((status, err), (0, ""), out)
+        rows = [line.split() for line in out.splitlines()[1:]]
+        self.assertEqual([it[0] for it in rows], ["0:%d" % at for _, at in objects])
+        self.assertEqual([it[3] for it in rows], ["42.25"] * 24)
+        self.assertGreater(device.lost, 0)
+
+    def test_what_a_device_says_of_itself(self):
+        now = time.localtime(time.time() + 90)
+        clock = {(8, 77, 56): bytes([0xA4, now.tm_year - 1900, now.tm_mon, now.tm_mday, now.tm_wday + 1])}
+        clock[8, 77, 57] = bytes([0xB4, now.tm_hour, now.tm_min, now.tm_sec, 0])
+        facts = {(8, 77, 44): string("2.1"), (8, 77, 12): string("7"), (8, 77, 112): enumerated(0)}
+        self.stand_in({**NAMED, **facts, **clock, (8, 77, 139): unsigned(14)})
+        out = self.run_site("survey", "HERE", "--devices")[1]
+        told = "  firmware 2.1, software 7, status operational, protocol_revision 14, clock +"
+        head, line = out.splitlines()
+        self.assertEqual((head, line[: len(told)]), (self.spelled("HERE  device 77  D  V  M"), told))
+        self.assertRegex(line[len(told) :], r"\A(8[3-9]|9[01]) s\Z")
+        rows = list(csv.DictReader(io.StringIO(self.run_site("survey", "HERE", "--devices", "--csv")[1])))
+        self.assertEqual((rows[0]["firmware"], rows[0]["status"]), ("2.1", "operational"))
+        found = json.loads(self.run_site("survey", "HERE", "--devices", "--json")[1])
+        self.assertEqual(found["protocol_revision"], "14")
+        asked = {"devices": True, "held": False, "details": False, "objects": 5000, "deadline": 600}
+        self.assertEqual(found["asked_for"], {**asked, "name_only": False})
+
     def test_details(self):
-        more = {(0, 1, 28): string("On the roof"), (0, 1, 36): enumerated(3)}
+        more = {(0, 1, 28): string("On the roof"), (0, 1, 36): enumerated(3), (0, 1, 45): real("41f00000")}
         self.stand_in({**NAMED, **sensors(2), **more})
         rows = self.run_site("survey", "HERE", "--details", "--csv")[1].splitlines()
-        self.assertEqual(rows[0], HEAD.replace(",reason", ",description,event_state,reason"))
-        self.assertTrue(rows[1].endswith(",normal,On the roof,above-the-high-limit,"), rows[1])
-        self.assertTrue(rows[2].endswith(",normal,,,"), rows[2])
+        self.assertEqual(rows[0], HEAD.replace(",reason", ",description,event_state,settings,reason"))
+        self.assertTrue(rows[1].endswith(",normal,On the roof,above-the-high-limit,high-limit 30,"), rows[1])
+        self.assertTrue(rows[2].endswith(",normal,,,,"), rows[2])
+
+    def test_details_since_an_earlier_survey(self):
+        """Limits, relinquish defaults, texts of states and descriptions."""
+        values = {**NAMED, **sensors(1), (0, 1, 45): real("41f00000"), (0, 1, 28): string("Roof")}
+        values.update({(1, 1, 77): string("Valve"), (1, 1, 85): real("00000000"), (1, 1, 104): real("00000000")})
+        texts = string("Off") + string("On")
+        values.update({(13, 1, 77): string("Mode"), (13, 1, 85): unsigned(1), (13, 1, 110): texts})
+        values[13, 1, 110, 1] = string("Off")
+        values[8, 77, 76] += an_object(1, 1) + an_object(13, 1)
+        device = self.stand_in(values)
+        before = self.path("details.json", self.run_site("survey", "HERE", "--details", "--json")[1])
+        words = ["survey", "HERE", "--details", "--since", before]
+        self.assertNotIn("since", self.run_site(*words)[1])
+        device.values.update({(0, 1, 45): real("41c80000"), (0, 1, 28): string("Cellar")})
+        device.values.update({(1, 1, 104): real("42480000"), (13, 1, 110): string("Off") + string("Auto")})
+        told = ["description of 0:1 S1 was Roof", "high-limit of 0:1 S1 was 30"]
+        told += ["relinquish-default of 1:1 Valve was 0", 'state-text of 13:1 Mode was {"Off", "On"}']
+        out = self.run_site(*words)[1]
+        self.assertEqual([it for it in out.splitlines() if "since" in it], ["  since: " + it for it in told])
+        self.assertNotIn("since", self.run_site("survey", "HERE", "--since", before)[1], "not asked for now")
 
     def test_a_list_for_poll(self):
         more = {(15, 1, 77): string("None"), (0, 2, 77): string("S1"), (0, 3, 85): real("7fc00000")}
@@ -361,17 +497,33 @@ DEAD;device -;timeout
         device.values.update({(0, 1, 77): string("S1"), (0, 3, 77): string("S3")})
         status, out, _ = self.run_site("poll", self.path("made", text))
         rows = [line.split("\t")[1:] for line in out.splitlines()]
-        self.assertEqual((status, rows[0]), (1, ["77.S1", "42.25", "-"]))
-        self.assertEqual((len(rows), rows[2]), (3, ["77.S3", "-", "no number: NaN"]))
+        self.assertEqual((status, rows[0]), (1, ["77.S1", "42.25", "-", "-", "-"]))
+        self.assertEqual((len(rows), rows[2]), (3, ["77.S3", "-", "no number: NaN", "-", "-"]))
 
     def test_since_an_earlier_survey(self):
         values = {**NAMED, **sensors(3), (8, 77, 155): unsigned(7)}
         device = self.stand_in(values)
         before = self.path("before.json", self.run_site("survey", "HERE", "--json")[1])
         del device.asked[:]
-        status, out, _ = self.run_site("survey", "HERE", "--since", before)
-        self.assertEqual((status, out.count("S1"), out.count("since")), (0, 1, 0))
+        status, out, _ = self.run_site("survey", "HERE", "--since", before, "--reuse-names")
+        self.assertEqual((status, out.count("  S1 (not read)  "), out.count("since")), (0, 1, 0))
         self.assertFalse([it for it in device.asked if it[0] == 0 and it[2] == 77], "names are known")
+        marks = [json.loads(self.run_site("survey", "HERE", "--json", *it)[1])["objects"][0].get("name_read")
+                 for it in ([], ["--since", before], ["--since", before, "--reuse-names"])]
+        self.assertEqual(marks, [None, None, False])
+        rows = self.run_site("survey", "HERE", "--since", before, "--reuse-names", "--csv")[1].splitlines()
+        self.assertTrue(rows[1].endswith(",normal,False,,"), rows[1])
+        names = self.run_site("survey", "HERE", "--since", before, "--reuse-names", "--list")[1].splitlines()
+        self.assertEqual(names[1], "# 3 names not read, but taken from an earlier survey")
+        page = self.path("reused.html", "")
+        self.run_site("survey", "HERE", "--since", before, "--reuse-names", "--html", page)
+        with open(page, encoding="utf-8") as file:
+            self.assertEqual(file.read().count("(not read)"), 3)
+        device.values[0, 1, 77] = string("S9")
+        out = self.run_site("survey", "HERE", "--since", before)[1]
+        self.assertIn("since: name of 0:1 S9 was S1", out, "the revision is the same, and the name is read")
+        device.values[0, 1, 77] = string("S1")
+        self.rows("survey HERE --reuse-names => 2 !--reuse-names needs --since")
         device.values.update({(8, 77, 155): unsigned(8), (0, 2, 77): string("T2"), (8, 77, 77): string("E")})
         device.values.update({(0, 1, 117): enumerated(5), (0, 4, 77): string("S4"), (0, 4, 85): real("00000000")})
         device.values[8, 77, 76] = b"".join(an_object(0, at) for at in (1, 2, 4))
@@ -392,6 +544,37 @@ DEAD;device -;timeout
         self.rows("survey DEV --since IN/none => 3 !cannot read")
         self.path("no.json", "[1]\n")
         self.rows("survey DEV --since IN/no.json => 2 !no survey by --json")
+
+    def test_an_ede_file(self):
+        """The columns of layout 2.1, in their order."""
+        values = {**NAMED, **sensors(1), (0, 1, 45): real("41f00000"), (0, 1, 59): real("41200000")}
+        values.update({(0, 1, 28): string("Roof; north"), (1, 2, 77): string("Valve"), (1, 2, 85): real("00000000")})
+        values.update({(1, 2, 104): real("42480000"), (1, 2, 69): real("00000000"), (1, 2, 65): real("42c80000")})
+        values[8, 77, 76] += an_object(1, 2)
+        self.stand_in(values)
+        path = self.path("site.csv", "")
+        self.assertEqual(self.run_site("survey", "HERE", "--ede", path), (0, "", ""))
+        with open(path, encoding="utf-8") as file:
+            rows = list(csv.reader(file, delimiter=";"))
+        self.assertEqual(rows[0], ["# Proposal_Engineering-Data-Exchange - B.I.G.-EU"])
+        self.assertEqual((rows[5], len(rows[6]), len(rows[7])), (["VERSION_OF_LAYOUT", "2.1"], 17, 17))
+        heads = ["# keyname", "device obj.-instance", "object-name", "object-type", "object-instance"]
+        self.assertEqual(rows[7][:5], heads)
+        sensor = ["77_0_1", "77", "S1", "0", "1", "Roof; north", "", "", "", "N", "", "30", "10", "", "62", "", ""]
+        valve = ["77_1_2", "77", "Valve", "1", "2", "", "50", "0", "100", "Y", "", "", "", "", "", "", ""]
+        self.assertEqual(rows[8:], [sensor, valve])
+        self.rows("survey HERE --ede /dev/null => 2 !no plain file: /dev/null")
+
+    def test_a_device_that_moved(self):
+        device = self.stand_in({**NAMED, (8, 77, 76): b""})
+        before = self.path("moved.json", self.run_site("survey", "HERE", "--json")[1])
+        port = self.names["HERE"].split(":")[1]
+        device.reply = lambda apdu: b""
+        other = self.stand_in({**NAMED, (8, 77, 76): b""})
+        for words in ["127.0.0.1-1:" + port, other.address], [other.address, "127.0.0.1-1:" + port, "--sorted"]:
+            status, out, _ = self.run_site("survey", *words, "--since", before)
+            wanted = "%s  device 77  D  V  M\n  since: was at 127.0.0.1:%s\n" % (other.address, port)
+            self.assertEqual((status, out), (0, wanted))
 
     def test_who_is_ready_is_printed(self):
         self.stand_in({**NAMED, (8, 77, 76): b""})

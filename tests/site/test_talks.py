@@ -1,11 +1,10 @@
 """Tries the pairing of requests with their answers, and the lines of them."""
 import unittest
 
-from building import CLIENT, DEVICE, ack, datagrams, exchange, read_apdu, wrapped
+from datagram_builders import CLIENT, DEVICE, ack, datagrams, exchange, read_apdu, wrapped
 from bacsite.messages import message_of
-from bacsite.capture.pairing import Pairing
-from bacsite.capture.talks import MILLI, Talk
-from bacsite.capture.tally import Group, marks_of
+from bacsite.capture.talks import MILLI, Pairing, Talk
+from bacsite.capture.command import Group, marks_of
 from bacsite.capture.lines import json_of, line_of, millis
 
 OTHER = "127.0.0.2:47808"
@@ -217,7 +216,7 @@ class Pairs(unittest.TestCase):
         self.assertIn("#1 acknowledgement of a part", lines(parted + server)[1])
 
     def test_what_a_capture_has_cut(self):
-        """Of a datagram that is cut the first octets tell what it is, and nothing else."""
+        """The first octets of a datagram that is cut say what it is, and nothing else."""
         found = datagrams(exchange(0, 1))
         error = datagrams(exchange(0, 1, 1, "50010c91029120"))
         for asked, answer, lost, end in (
@@ -264,7 +263,7 @@ class Pairs(unittest.TestCase):
         )
 
     def test_other_object(self):
-        """An answer about something else is told; the device's own number in place of 4194303 is none."""
+        """An answer about something else is marked; the device's own number in place of 4194303 is not."""
         rows = [
             ("0c000000051955", "0c000000061955", True),
             ("0c023fffff194b", "0c020004d2194b", False),
@@ -301,7 +300,7 @@ class Pairs(unittest.TestCase):
                 self.assertEqual(lines(steps)[0].split("): ")[1], shown + "  1.00 ms")
 
     def test_order(self):
-        """Entries come as they began, also where the first is answered last."""
+        """Entries come in the order in which they began, even if the first is answered last."""
         steps = (
             exchange(0, None, 1)
             + exchange(1, 2, 2)
@@ -311,7 +310,7 @@ class Pairs(unittest.TestCase):
         self.assertEqual([it.apdu.invoke for it in entries(steps)], [1, 2, 3])
 
     def test_nothing_is_kept(self):
-        """What has settled is forgotten."""
+        """Settled requests are forgotten."""
         pairing = Pairing()
         for datagram in datagrams(
             [it for at in range(3000) for it in exchange(at * 1000, at * 1000 + 1, at % 256)]

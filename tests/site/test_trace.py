@@ -4,16 +4,13 @@ import subprocess
 import unittest
 from collections import Counter
 
-from building import CLIENT, DEVICE, ack, datagrams, exchange, wrapped
+from datagram_builders import CLIENT, DEVICE, ack, datagrams, exchange, wrapped
 from harness import TOOL
 from simulated import World
-from bacsite.failures import Failure
-from bacsite.messages import message_of
-from bacsite.capture.pairing import Pairing
-from bacsite.capture.requests import is_askable
-from bacsite.capture.talks import GRACE, MILLI
-from bacsite.answers import outcome_of
-from bacsite.capture.trace import Choice, traced
+from bacsite.output import Failure
+from bacsite.messages import message_of, outcome_of
+from bacsite.capture.talks import GRACE, MILLI, Pairing
+from bacsite.capture.trace import Choice, is_askable, traced
 
 SEEDS = int(os.environ.get("SEEDS", "20"))
 
@@ -29,7 +26,7 @@ def lines(steps, timeout=None, retries=None, **choice):
 
 
 def printed(script):
-    """What bactrace prints."""
+    """Returns what bactrace prints."""
     done = subprocess.run(
         [TOOL, "bactrace"],
         input="\n".join(script) + "\n",
@@ -72,7 +69,7 @@ class Lines(unittest.TestCase):
         )
 
     def test_writes(self):
-        """What a script can't have is said, and null stands for it."""
+        """Values that a script cannot have are reported, and written as null."""
         rows = [
             ("0c0040000119553e4441a000003f4908", "write %s 1 1 85 8 -1 4 41a00000"),
             ("0c0040000119552900" + "3e2105" + "91013f", "write %s 1 1 85 0 0 2 5 9 1"),
@@ -124,7 +121,7 @@ class Lines(unittest.TestCase):
                 self.assertEqual(asked, ["read %s 0 5 85" % peer] if peer else [])
 
     def test_settings(self):
-        """The client's wait is the least gap between its sends, and a copy of a datagram is no send."""
+        """The client's wait is the least gap between its sends, and a copy of a datagram is not a send."""
         sends = [
             (at, CLIENT, DEVICE, wrapped("0005010c0c000000051955", "0104"))
             for at in (0, 0.2, 2000.9, 4002)
@@ -136,7 +133,7 @@ class Lines(unittest.TestCase):
         )
 
     def test_waits_that_are_left(self):
-        """A request without an answer is given up after as many waits as bactrace takes."""
+        """A request without an answer is given up after as many waits as in bactrace."""
         script = lines(exchange(0, None), timeout=1000, retries=2)
         self.assertEqual(script[2:], ["tick 1000", "tick 2000", "tick 3000"])
 
@@ -156,13 +153,13 @@ class Lines(unittest.TestCase):
             lines(steps, client="127.0.0.3")
 
     def test_differences(self):
-        """A late answer is told in front."""
+        """A late answer is named at the beginning."""
         steps = exchange(0, 700)
         script = list(traced(messages(steps), Choice(), 300, 1))
         self.assertEqual(
             script[:2],
             [
-                "# 1 requests of %s" % CLIENT,
+                "# 1 request of %s" % CLIENT,
                 "# request 0, at 00:00:00.000Z: its time is up before the answer comes",
             ],
         )
@@ -172,7 +169,7 @@ class Against(unittest.TestCase):
     """Simulated clients against bactrace."""
 
     def compare(self, world, settings):
-        """How many requests there are, and those whose ends differ: the client's, the model's and bactrace's."""
+        """Returns the number of requests, and those whose ends differ: the client's, the model's and bactrace's."""
         heard = messages(sorted(world.steps, key=lambda it: it[0]))
         script = list(traced(heard, Choice("10.0.0.9"), *settings))
         ends = ends_of(printed(script))
@@ -214,7 +211,7 @@ class Against(unittest.TestCase):
         self.assertLess(counts["different"] * 200, counts["requests"])
 
     def test_more_than_places(self):
-        """What bactrace has no place for is remarked, and the numbers go on as in bactrace."""
+        """Requests for which bactrace has no place are named, and the numbers go on as in bactrace."""
         world = World(1, 400, 90, 3000, 3).run()
         heard = messages(sorted(world.steps, key=lambda it: it[0]))
         script = list(traced(heard, Choice("10.0.0.9"), 3000, 3))

@@ -1,4 +1,4 @@
-"""Octets of values in plain form, and which values a property may have."""
+"""Octets of values in readable form, and which values a property may have."""
 
 import random
 import re
@@ -7,15 +7,15 @@ import unittest
 
 import harness
 from bacsite import standard
-from bacsite.standard import What, form_of
+from bacsite.standard import PropertyRef, form_of
 from bacsite.points import FORMS
 from bacsite.values import Kind, fault, flags_of, value_of, values_of
-from devices import ODD, SHOWN_WEEK, WEEK
+from unusual_values import ODD, SHOWN_WEEK, WEEK
 from stand_ins import an_object, bits, enumerated, real, string, tagged, unsigned
 
 NUMBER, TEXT, OTHER, FAULT = Kind.NUMBER, Kind.TEXT, Kind.OTHER, Kind.FAULT
 ANALOG, BINARY, MODE, VENDOR = (0, 1, 85), (4, 1, 85), (13, 1, 85), (300, 1, 85)
-ODD_SHAPE = "[0]{[0]X'070a1f04'}, [2]{}, [3]X'10'"
+ODD_SHAPE = "[0]{1907-10-31}, [2]{}, [3]X'10'"
 
 
 def double(number):
@@ -30,7 +30,7 @@ def time(octets):
     return tagged(11, bytes.fromhex(octets))
 
 
-# What was asked for, which octets came, and of what kind and how they are shown.
+# The property that is asked for, the octets that come, their kind, and how they are shown.
 ROWS = (
     (ANALOG, real("42290000"), NUMBER, "42.25"),
     (ANALOG, unsigned(72), FAULT, "no real: unsigned 72"),
@@ -111,7 +111,9 @@ ROWS = (
     ((13, 1, 110), string("a") + string("b,c"), OTHER, '{"a", "b,c"}'),
     ((0, 1, 4194303), b"\xd1\x05", OTHER, "13:X'05'"),
     ((0, 1, 4194303), b"\x43\1\2\3" + unsigned(1), OTHER, "4:X'010203', 1"),
-    ((8, 1, 56), date("7c0d1f04"), OTHER, "D'7c0d1f04'"),
+    ((8, 1, 56), date("7c0d1f04"), OTHER, "2024-odd-31 Thu"),
+    ((8, 1, 56), date("7c0f1f04"), OTHER, "D'7c0f1f04'"),
+    ((8, 1, 56), date("7c0a2304"), OTHER, "D'7c0a2304'"),
     ((8, 1, 57), time("18000000"), OTHER, "T'18000000'"),
     ((13, 1, 7), unsigned(1) + unsigned(2), OTHER, "{1, 2}"),
     ((0, 1, 45), real("41a00000"), NUMBER, "20"),
@@ -126,7 +128,7 @@ class Values(unittest.TestCase):
     def test_rows(self):
         for what, octets, kind, shown in ROWS:
             with self.subTest(what=what, octets=octets):
-                value = value_of(octets, form_of(What(*what)))
+                value = value_of(octets, form_of(PropertyRef(*what)))
                 self.assertEqual((value.kind, value.shown()), (kind, shown))
                 self.assertEqual(value.number is not None, kind is NUMBER)
                 self.assertEqual(value.fault, shown if kind is FAULT else "")
@@ -148,7 +150,7 @@ class Values(unittest.TestCase):
         for _ in range(4000):
             octets = bytes(dice.choice(some) for _ in range(1 + dice.randrange(9)))
             for what in ANALOG, VENDOR, (1, 1, 87), (44, 1, 85):
-                value = value_of(octets, form_of(What(*what)))
+                value = value_of(octets, form_of(PropertyRef(*what)))
                 self.assertTrue(value.shown().isprintable() and value.told(), octets)
 
     def test_flags(self):
@@ -158,12 +160,12 @@ class Values(unittest.TestCase):
             ("00000", None),
             ("", None),
         ):
-            value = flags_of(value_of(bits(text) if text else b"\x81\0", form_of(What(0, 1, 111))))
+            value = flags_of(value_of(bits(text) if text else b"\x81\0", form_of(PropertyRef(0, 1, 111))))
             self.assertEqual((value.text if not value.fault else None), wanted)
         self.assertEqual(flags_of(fault("timeout")).fault, "timeout")
 
     def test_each_of_a_list(self):
-        form = form_of(What(1, 1, 87, 1))
+        form = form_of(PropertyRef(1, 1, 87, 1))
         found = values_of(b"\0" + real("7fc00000") + unsigned(1), form)
         wanted = ["null", "no number: NaN", "no real: unsigned 1"]
         self.assertEqual([it.text for it in found], wanted)
@@ -183,6 +185,19 @@ class Values(unittest.TestCase):
             self.assertEqual({int(number): name for number, name in rows}, table)
         self.assertEqual(standard.MEANINGS["status-flags"][3], "out-of-service")
         self.assertEqual(standard.MEANINGS["reliability"][12], "communication-failure")
+
+
+class Refusing(dict):
+    """The values of a device that refuses each other one in this way, but has a name and a type."""
+
+    def __init__(self, values, refusal):
+        super().__init__(values)
+        self.refusal = refusal
+
+    def get(self, key, _=None):
+        if key[-1] == 77:
+            return ("error", 2, 32)
+        return self[key] if key in self else self.refusal
 
 
 class Devices(harness.SiteTest):
@@ -224,6 +239,7 @@ class Devices(harness.SiteTest):
             read ODD double 300 1 85 => 1 no double: real 2
             read nobody.invalid 0 5 85 => 2 !no address: nobody.invalid
             read 127.0.0.256 0 5 85 => 2 !no address: 127.0.0.256
+            read 0.0.0.0 0 5 85 => 2 !no address: 0.0.0.0
             read 127.0.0.1:65536 0 5 85 => 2 !no address
             read 127.0.0.1/5/7 0 5 85 => 2 !no address: 127.0.0.1/5/7
             read 127.0.0.1/0/07 0 5 85 => 2 !no address: 127.0.0.1/0/07
@@ -239,7 +255,7 @@ class Devices(harness.SiteTest):
             read DEV 0 5 85 -x => 2 !unrecognized arguments: -x
             read --apdu-retries 10 DEV 0 5 85 => 2 !argument --apdu-retries: not 0 to 9: 10
             read --tools /nowhere DEV 0 5 85 => 3 !no bactool in /nowhere
-            read DEV 0 5 85 -x => 2 !unrecognized arguments: -x; see bacsite --help; a value as -x stands behind --
+            read DEV 0 5 85 -x => 2 !unrecognized arguments: -x; see bacsite --help; put a value like -x after --
             bad => 2 !argument COMMAND
             --version => 0 bacsite 0.4.0
             -V => 0 bacsite 0.4.0
@@ -265,6 +281,14 @@ class Devices(harness.SiteTest):
         asked = self.world.odd.asked
         self.run_site("properties", "ODD", "0", "1")
         self.assertNotIn((0, 1, 0), asked, "what the list does not have is not asked for")
+
+    def test_properties_of_a_device_that_refuses_unknown_numbers(self):
+        """Without a property list, by a reject, an abort or an error of its own."""
+        for refusal in ("reject", 9), ("abort", 0), ("error", 0, 25):
+            device = self.stand_in({(0, 1, 85): real("42290000"), (0, 1, 103): ("error", 2, 27)})
+            device.values = Refusing(device.values, refusal)
+            status, out, _ = self.run_site("properties", "HERE", "0", "1", "--last", "110")
+            self.assertEqual((status, out), (1, "85 present-value 42.25\n103 reliability error 2 27\n"))
 
     def test_properties_that_are_not_whole(self):
         silent = {(0, 1, number): "silent" for number in (103, 111)}

@@ -4,15 +4,14 @@ import io
 import subprocess
 import sys
 import unittest
+from importlib import import_module
 from unittest import mock
 
 import harness
 import bacsite
-from bacsite import addresses, commands, points
-from bacsite.failures import Failure
-from bacsite.output import put
-from bacsite.standard import What
-from bacsite.display import clean, table, width
+from bacsite import addresses, parsing, points
+from bacsite.output import Failure, clean, put, table, width
+from bacsite.standard import PropertyRef
 
 
 class Addresses(unittest.TestCase):
@@ -140,8 +139,8 @@ class Points(unittest.TestCase):
         with mock.patch("sys.stdin", stdin):
             found = points.points_of("-")
         self.assertEqual(
-            [(it.name, it.address, it.what) for it in found],
-            [("a", "192.0.2.7:47808", What(0, 5, 85)), ("c", "", points.NOWHERE)],
+            [(it.name, it.address, it.ref) for it in found],
+            [("a", "192.0.2.7:47808", PropertyRef(0, 5, 85)), ("c", "", points.Point("").ref)],
         )
         self.assertTrue(found[1].fault.startswith("wanted: "))
         with mock.patch("sys.stdin", None), self.assertRaises(Failure):
@@ -153,7 +152,7 @@ class Texts(unittest.TestCase):
         self.assertEqual(clean("Öl\x1b[2J\n\u202e"), "Öl\\x1b[2J\\n\\u202e")
 
     def test_times_are_those_of_utc(self):
-        code = "from bacsite.display import stamp; print(stamp(0), stamp(86399))"
+        code = "from bacsite.output import stamp; print(stamp(0), stamp(86399))"
         told = subprocess.run(
             [sys.executable, "-c", code],
             cwd=harness.TOP + "/site",
@@ -184,21 +183,23 @@ class Texts(unittest.TestCase):
 
 class Words(unittest.TestCase):
     def test_every_command_is_in_the_table(self):
-        found = {name: commands.command_of(name) for name in commands.COMMANDS}
-        self.assertEqual(len({command.work for command in found.values()}), len(found))
+        found = parsing.COMMANDS
+        self.assertEqual(len({command.function for command in found.values()}), len(found))
         for name, command in found.items():
-            parser = commands.parser_of([name])
+            module, _, function = command.function.rpartition(".")
+            self.assertTrue(callable(getattr(import_module("bacsite." + module), function)), name)
+            parser = parsing.parser_of([name])
             self.assertIn(command.summary[:20], parser.format_help())
         self.assertEqual(
-            sorted(it for it, command in found.items() if not command.asks),
+            sorted(it for it, command in found.items() if not command.at_once),
             ["capture", "octets", "real"],
         )
 
     def test_words_that_begin_as_negative_numbers_are_whole(self):
-        words = commands.parsed(["prometheus", "-5.list", "-1.prom"])
+        words = parsing.parsed(["prometheus", "-5.list", "-1.prom"])
         self.assertEqual((words.list, words.file), ("-5.list", "-1.prom"))
         with self.assertRaises(Failure) as caught:
-            commands.parsed(["read", "--journal", "-5", "192.0.2.7", "0", "5", "85"])
+            parsing.parsed(["read", "--journal", "-5", "192.0.2.7", "0", "5", "85"])
         self.assertEqual((str(caught.exception), caught.exception.status), ("no folder: -5", 3))
 
     def test_the_version_is_that_of_the_program(self):

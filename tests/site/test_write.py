@@ -1,4 +1,4 @@
-"""Writes: what is refused before anything is sent, what is sent, and what is told of it."""
+"""Writes: which are refused before anything is sent, what is sent, and what is printed."""
 
 import os
 import resource
@@ -9,12 +9,11 @@ from unittest import mock
 
 import harness
 from bacsite import standard, write
-from bacsite.calls import Calls, Outcome
+from bacsite.tools import Outcome, Tools
 from bacsite.controller import Controller
-from bacsite.encode import encode
-from bacsite.failures import Failure
-from bacsite.standard import What
-from bacsite.target import Place
+from bacsite.output import Failure
+from bacsite.standard import PropertyRef
+from bacsite.place import Place, encode
 from bacsite.write import ending_of
 from stand_ins import NULL, an_object, enumerated, real, string, tagged, unsigned
 
@@ -183,71 +182,71 @@ class Write(harness.SiteTest):
         device = self.stand_in(ALL)
         self.rows(
             """
-            write 78@HERE 1 1 20 --priority 8 => 1 !another device: 8:77; nothing was sent
-            write HERE 1 1 20 => 2 !1:1 analog-output is commanded by priorities: name one by --priority
-            write HERE 1 1 20,5 --priority 8 => 2 !no number: '20,5'; nothing was sent
-            write HERE 1 1 on --priority 8 => 2 !no number: 'on'; nothing was sent
-            write HERE 1 1 nan --priority 8 => 2 !no number: 'nan'; nothing was sent
-            write HERE 1 1 1e40 --priority 8 => 2 !past the range: 1e40; nothing was sent
-            write HERE 1 1 100.5 --priority 8 => 2 !1:1 analog-output takes -10 to 100, not 100.5; nothing was sent
-            write HERE 1 1 -11 --priority 8 => 2 !1:1 analog-output takes -10 to 100, not -11; nothing was sent
-            write HERE 2 8 100.5 => 2 !2:8 analog-value takes up to 100, not 100.5; nothing was sent
-            write HERE 2 9 4 => 2 !2:9 analog-value takes 5 and more, not 4; nothing was sent
-            write HERE 14 2 0 => 2 !14:2 multi-state-output takes 1 to 4, not 0; nothing was sent
-            write HERE 14 2 5 => 2 !14:2 multi-state-output takes 1 to 4, not 5; nothing was sent
-            write HERE 14 2 1.5 => 2 !no number and no state: 1.5; it has off, heat; nothing was sent
-            write HERE 14 2 both => 2 !both may be 3 (Both) or 4 (both): give its number; nothing was sent
-            write HERE 5 3 2 => 2 !5:3 binary-value takes 0 to 1, not 2; nothing was sent
-            write HERE 5 3 null => 2 !null lets go of a priority: 5:3 binary-value has no priority array
-            write HERE 300 1 6 => 2 !the type of 300:1 is not known: name it by --type; nothing was sent
+            write 78@HERE 1 1 20 --priority 8 => 1 !another device: 8:77; no write was sent
+            write HERE 1 1 20 => 2 !1:1 analog-output is commanded by priorities: choose one with --priority
+            write HERE 1 1 20,5 --priority 8 => 2 !no number: '20,5'; no write was sent
+            write HERE 1 1 on --priority 8 => 2 !no number: 'on'; no write was sent
+            write HERE 1 1 nan --priority 8 => 2 !no number: 'nan'; no write was sent
+            write HERE 1 1 1e40 --priority 8 => 2 !past the range: 1e40; no write was sent
+            write HERE 1 1 100.5 --priority 8 => 2 !1:1 analog-output takes -10 to 100, not 100.5; no write was sent
+            write HERE 1 1 -11 --priority 8 => 2 !1:1 analog-output takes -10 to 100, not -11; no write was sent
+            write HERE 2 8 100.5 => 2 !2:8 analog-value takes up to 100, not 100.5; no write was sent
+            write HERE 2 9 4 => 2 !2:9 analog-value takes 5 and more, not 4; no write was sent
+            write HERE 14 2 0 => 2 !14:2 multi-state-output takes 1 to 4, not 0; no write was sent
+            write HERE 14 2 5 => 2 !14:2 multi-state-output takes 1 to 4, not 5; no write was sent
+            write HERE 14 2 1.5 => 2 !no number and no state: 1.5; it has off, heat; no write was sent
+            write HERE 14 2 both => 2 !both may be 3 (Both) or 4 (both): give its number; no write was sent
+            write HERE 5 3 2 => 2 !5:3 binary-value takes 0 to 1, not 2; no write was sent
+            write HERE 5 3 null => 2 !null releases a priority: 5:3 binary-value has no priority array
+            write HERE 300 1 6 => 2 !the type of 300:1 is not known: give it with --type; no write was sent
             write HERE 1 1 6 --type unsigned --priority 8 => 2 !1:1 analog-output is no unsigned, but real
-            write HERE 0 9 1 --property out-of-service => 2 !neither true nor false: 1; nothing was sent
-            write HERE 0 9 parsec --property units => 2 !no number and no state: parsec; nothing was sent
-            write HERE 14 2 x --property state-text => 2 !state-text has several values: name one by --index
-            write HERE 1 2 20 => 1 !present-value: error 2 32; nothing was sent
-            write HERE 0 9 x --property 12 => 1 !application-software-version: error 2 32; nothing was sent
+            write HERE 0 9 1 --property out-of-service => 2 !neither true nor false: 1; no write was sent
+            write HERE 0 9 parsec --property units => 2 !no number and no state: parsec; no write was sent
+            write HERE 14 2 x --property state-text => 2 !state-text has several values: choose one with --index
+            write HERE 1 2 20 => 1 !present-value: error 2 32; no write was sent
+            write HERE 0 9 x --property 12 => 1 !application-software-version: error 2 32; no write was sent
             write HERE 1 1 20 --priority 6 => 2 !priority 6 is the device's own
             write HERE 1 1 20 --priority 17 => 2 !argument --priority: not 1 to 16: 17
             write HERE 1 1 20 --priority -5 => 2 !argument --priority: not 1 to 16: -5; see
             write HERE 1 1 20 --priority 0 => 2 !argument --priority: not 1 to 16: 0
             write HERE 1 1 20 --property pv => 2 !no property: pv
             write HERE 1 1 => 2 !the following arguments are required: VALUE
-            write HERE 40 1 null => 2 !null lets go of a priority: 40:1 characterstring-value has no priority array
-            write HERE 45 1 -3 --property cov-increment => 2 !past the range: -3; nothing was sent
-            write DEAD 1 1 20 --priority 8 => 1 !timeout; nothing was sent
+            write HERE 40 1 null => 2 !null releases a priority: 40:1 characterstring-value has no priority array
+            write HERE 45 1 -3 --property cov-increment => 2 !past the range: -3; no write was sent
+            write DEAD 1 1 20 --priority 8 => 1 !timeout; no write was sent
             """
         )
         told = self.run_site("write", "HERE", "40", "1", "-x")[2]
-        self.assertTrue(told.endswith("--help; a value as -x stands behind --\n"), told)
+        self.assertTrue(told.endswith("--help; put a value like -x after --\n"), told)
         self.assertEqual(device.written, [])
 
     def test_an_object_that_is_another(self):
         device = self.stand_in({**VALVE, (1, 1, 79): enumerated(0)})
         self.rows(
-            "write HERE 1 1 20 --priority 8 => 1 !it is of another object type: 0 (analog-input); nothing was sent"
+            "write HERE 1 1 20 --priority 8 => 1 !it is of another object type: 0 (analog-input); no write was sent"
         )
         self.stand_in({**VALVE, (1, 1, 85): unsigned(20)})
         self.rows(
-            "write HERE 1 1 20 --priority 8 => 1 !present-value: no real: unsigned 20; nothing was sent"
+            "write HERE 1 1 20 --priority 8 => 1 !present-value: no real: unsigned 20; no write was sent"
         )
         self.stand_in({**VALVE, (1, 1, 69): "silent"})
-        self.rows("write HERE 1 1 20 --priority 8 => 1 !min-pres-value: timeout; nothing was sent")
+        self.rows("write HERE 1 1 20 --priority 8 => 1 !min-pres-value: timeout; no write was sent")
         self.stand_in({**VALVE, (1, 1, 87): "silent"})
-        self.rows("write HERE 1 1 20 --priority 8 => 1 !priority-array: timeout; nothing was sent")
+        self.rows("write HERE 1 1 20 --priority 8 => 1 !priority-array: timeout; no write was sent")
         self.stand_in({**MODE, (14, 2, 110): "silent"})
-        self.rows("write HERE 14 2 1 => 1 !state-text: timeout; nothing was sent")
+        self.rows("write HERE 14 2 1 => 1 !state-text: timeout; no write was sent")
         self.stand_in({**FAN, (5, 3, 4): "silent"})
-        self.rows("write HERE 5 3 1 => 1 !the text of state 1: timeout; nothing was sent")
+        self.rows("write HERE 5 3 1 => 1 !the text of state 1: timeout; no write was sent")
         self.assertEqual(device.written, [])
 
     def test_a_word_that_may_be_two_states(self):
         device = self.stand_in(CROSSED)
         self.rows(
             """
-            write HERE 14 5 1 => 2 !1 may be 1 (Off) or 2 (1): by --type unsigned it is the number; nothing was sent
-            write HERE 14 6 '' => 2 !no number and no state: ; it has on; nothing was sent
-            write HERE 5 6 active => 2 !active may be 0 (Active) or 1 (Inactive): give its number; nothing was sent
-            write HERE 5 6 INACTIVE => 2 !INACTIVE may be 0 (Active) or 1 (Inactive): give its number; nothing was sent
+            write HERE 14 5 1 => 2 !1 may be 1 (Off) or 2 (1): by --type unsigned it is the number; no write was sent
+            write HERE 14 6 '' => 2 !no number and no state: ; it has on; no write was sent
+            write HERE 5 6 active => 2 !active may be 0 (Active) or 1 (Inactive): give its number; no write was sent
+            write HERE 5 6 INACTIVE => 2 !INACTIVE may be 0 (Active) or 1 (Inactive): give its number; no write was sent
             """
         )
         self.assertEqual(device.written, [])
@@ -272,7 +271,7 @@ class Write(harness.SiteTest):
         words = ["14", "2", "off", "--property", "relinquish-default", "--dry-run"]
         out = self.run_site("write", "HERE", *words)[1].splitlines()[2:]
         self.assertEqual(out[0], "before: 2 (Heat)")
-        self.assertEqual(out[1], "write 1 (Off): nothing was sent, as was asked for")
+        self.assertEqual(out[1], "write 1 (Off): checked, no write was sent")
         self.stand_in({**MODE, (14, 2, 110): ("error", 2, 27)})
         out = self.run_site("write", "HERE", "14", "2", "3")[1].splitlines()[2:]
         self.assertEqual(out, ["before: 1", "write 3: ok", "now: 3"])
@@ -285,7 +284,7 @@ class Write(harness.SiteTest):
             wanted = ["before: 0", "priority-array: " + told, "write 20 at priority 8: ok"]
             wanted += ["now: 20", "priority-array: " + told]
             self.assertEqual((out[0], out[1].splitlines()[2:]), (0, wanted))
-        self.rows("write HERE 1 1 null => 2 !null lets go of a priority")
+        self.rows("write HERE 1 1 null => 2 !null releases a priority")
         device.keep = lambda *_: None
         found = self.run_site("write", "HERE", "1", "1", "null", "--priority", "8")
         self.assertEqual(device.written[-1], ((1, 1, 85), NULL, 8))
@@ -299,7 +298,7 @@ class Write(harness.SiteTest):
         )
         self.assertEqual(
             (status, out.splitlines()[-1]),
-            (0, "write 20 at priority 8: nothing was sent, as was asked for"),
+            (0, "write 20 at priority 8: checked, no write was sent"),
         )
         self.assertEqual(device.written, [])
 
@@ -340,13 +339,13 @@ class Write(harness.SiteTest):
         device = self.stand_in(VALVE)
         with open("/dev/full", "w", encoding="utf-8") as full:
             found = self.run_site("write", "HERE", "1", "1", "20", "--priority", "8", stdout=full)
-        told = "bacsite: writing failed; nothing was sent\n"
+        told = "bacsite: writing failed; no write was sent\n"
         self.assertEqual((found[0], found[2], device.written), (3, told, []))
         out, into = os.pipe()
         os.close(out)
         found = self.run_site("write", "HERE", "1", "1", "20", "--priority", "8", stdout=into)
         os.close(into)
-        told = "bacsite: nothing was sent\n"
+        told = "bacsite: no write was sent\n"
         self.assertEqual((found[0], found[2], device.written), (3, told, []))
 
     def test_a_tool_that_sends_nothing(self):
@@ -356,7 +355,7 @@ class Write(harness.SiteTest):
         os.chmod(self.path("bound/bactool", script % harness.TOOL), 0o755)
         words = ["write", "--tools", "IN/bound", "HERE", "1", "1", "20", "--priority", "8"]
         status, out, _ = self.run_site(*words)
-        last = "write 20 at priority 8: nothing was sent: bactool: bind failed"
+        last = "write 20 at priority 8: no write was sent: bactool: bind failed"
         self.assertEqual((status, out.splitlines()[3:], device.written), (3, [last], []))
 
     def test_an_output_that_fails_behind_the_write_says_how_that_ended(self):
@@ -442,8 +441,8 @@ class Write(harness.SiteTest):
 
 class Faults(harness.SiteTest):
     def test_whatever_fails_behind_a_sent_write_is_told(self):
-        device, asking = self.stand_in(VALVE), Calls(harness.TOOL, 300, 2, 1)
-        place = Place(device.address, What(1, 1, 85), is_present_value=True)
+        device, asking = self.stand_in(VALVE), Tools(harness.TOOL, 300, 2, 1)
+        place = Place(device.address, PropertyRef(1, 1, 85), is_present_value=True)
         order = write.Order(None, place, "20", None, 8, dry=False)
         for part, told in (("_sent", write.NOT_KNOWN), ("_read_back", "ok")):
             with mock.patch("bacsite.write." + part, side_effect=OSError("no space")):
@@ -465,18 +464,27 @@ HERE 1 1 -11 --priority 9
 HERE 1 1 30 --priority 10
 """
 
-    def test_it_stops_at_the_first_that_is_not_sure(self):
+    def test_all_lines_are_checked_before_the_first_write(self):
         device = self.stand_in(ALL)
-        path = self.path("writes", self.LINES)
+        found = self.run_site("write-list", self.path("writes", self.LINES))
+        told = "bacsite: line 6: 1:1 analog-output takes -10 to 100, not -11; no write was sent\n"
+        self.assertEqual((found, device.written), ((2, "", told), []))
+
+    def test_it_stops_at_the_first_that_is_not_sure(self):
+        """A limit that is another one only once the first lines were written."""
+        limits = {(1, 1, 69): [real("c1200000"), real("c1200000"), real("c1200000"), real("41200000")]}
+        device = self.stand_in({**ALL, **limits})
+        lines = self.LINES.replace("-11", "9").replace("1 1 20", "1 1 20").splitlines()
+        path = self.path("writes-2", "\n".join(lines[:5] + lines[5:6]) + "\n")
         status, out, err = self.run_site("write-list", path)
-        told = "bacsite: line 6: 1:1 analog-output takes -10 to 100, not -11; nothing was sent; "
-        self.assertEqual((status, err), (2, told + "3 of 5 were done before\n"))
+        told = "bacsite: line 6: 1:1 analog-output takes 10 to 100, not 9; no write was sent; "
+        self.assertEqual((status, err), (1, told + "2 of 4 lines written before\n"))
         written = [((1, 1, 85), real("41a00000"), 8), ((40, 1, 85), string("-5"), 0)]
         self.assertEqual(device.written, written)
         parts = out.split("\n\n")
         self.assertEqual([it.split("\n")[3] for it in parts[:3]], [
             "write 20 at priority 8: ok",
-            'write "Room  5": nothing was sent, as was asked for',
+            'write "Room  5": checked, no write was sent',
             'write "-5": ok',
         ])
 
@@ -484,7 +492,7 @@ HERE 1 1 30 --priority 10
         device = self.stand_in(ALL, writes="refuse")
         lines = "HERE 14 2 heat\nHERE 14 2 off\n"
         status, out, _ = self.run_site("write-list", "-", stdin=self.spelled(lines))
-        last = "stopped at line 1: 0 of 2 were done before"
+        last = "stopped at line 1: 0 of 2 lines written before"
         self.assertEqual((status, out.splitlines()[-1]), (1, last))
         self.assertEqual(len(device.written), 1)
 
@@ -500,7 +508,7 @@ HERE 1 1 30 --priority 10
             found = self.run_site("write-list", "-", stdin=self.spelled("HERE 14 2 2\n" + line))
             with self.subTest(line=line):
                 self.assertEqual((found[:2], found[2][: 17 + len(why)]), ((2, ""), "bacsite: line 2: " + why))
-                self.assertTrue(found[2].endswith("; nothing was sent\n"))
+                self.assertTrue(found[2].endswith("; no write was sent\n"))
         self.rows("write-list /dev/null => 2 !no write in /dev/null")
         self.assertEqual(device.written, [])
 
@@ -508,7 +516,7 @@ HERE 1 1 30 --priority 10
         device = self.stand_in(ALL)
         path = self.path("dry", "HERE 14 2 heat\nHERE 14 2 off\n")
         status, out, _ = self.run_site("write-list", path, "--dry-run")
-        self.assertEqual((status, out.count("nothing was sent, as was asked for")), (0, 2))
+        self.assertEqual((status, out.count("checked, no write was sent")), (0, 2))
         self.assertEqual(device.written, [])
 
 
@@ -544,13 +552,13 @@ class Endings(unittest.TestCase):
             ),
             (
                 Outcome(2, [], "bactool: bad value 1"),
-                "nothing was sent: bactool: bad value 1",
+                "no write was sent: bactool: bad value 1",
                 2,
                 False,
             ),
             (
                 Outcome(3, [], "bactool: bind failed"),
-                "nothing was sent: bactool: bind failed",
+                "no write was sent: bactool: bind failed",
                 3,
                 False,
             ),
@@ -566,7 +574,7 @@ class Endings(unittest.TestCase):
                 3,
                 True,
             ),
-            (Outcome(None, [], "cannot run x"), "nothing was sent: cannot run x", 3, False),
+            (Outcome(None, [], "cannot run x"), "no write was sent: cannot run x", 3, False),
         ):
             with self.subTest(outcome=outcome):
                 ending = ending_of(outcome)

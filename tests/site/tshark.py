@@ -1,7 +1,7 @@
 #!/usr/bin/env python3
 """Compares each datagram of captures, as bacsite reads it, with what tshark says of it; by hand.
 
-Usage: tests/site/tshark.py [--keep] CAPTURE ..; what begins as BACnet/IP does is taken for it, at
+Usage: tests/site/tshark.py [--keep] CAPTURE ..; a datagram that begins like BACnet/IP counts as it, at
 any port. Compared are the type of the APDU, invoke id, service, of a read or write the object and
 the property, of an Error class and code, and the reason of a Reject or an Abort. With --keep what
 tshark says is kept beside each capture, for the tests.
@@ -12,11 +12,8 @@ import sys
 
 import harness  # noqa: F401  it makes bacsite known
 from bacsite.bodies import error_body, read_ack, read_body, write_body
-from bacsite.capture.frames import Passed, datagram_of
-from bacsite.messages import ABORT, COMPLEX, CONFIRMED, ERROR, REJECT, SEGMENT, UNCONFIRMED
-from bacsite.messages import message_of
-from bacsite.capture.pcap import packets_of
-from bacsite.answers import READ, WRITE
+from bacsite.messages import ABORT, COMPLEX, CONFIRMED, ERROR, READ, REJECT, SEGMENT, UNCONFIRMED, WRITE, message_of
+from bacsite.capture.pcap import Passed, datagram_of, packets_of
 
 TYPES = "type invoke_id confirmed_service unconfirmed_service".split()
 PLACES = "objectType instance_number property_identifier".split()
@@ -36,7 +33,7 @@ def asked_of_tshark(path):
 
 
 def told_by_tshark(lines):
-    """Of each packet whether tshark can't read it, and its fields; none where it is no BACnet/IP.
+    """For each packet whether tshark can't read it, and its fields; none if it is not BACnet/IP.
 
     It can't read stations of seven octets, which BACnet has, and takes what an ICMP packet quotes
     for a datagram of its own.
@@ -67,7 +64,7 @@ def told_by_bacsite(packet):
     reader = BODIES.get((apdu.kind, apdu.service)) if apdu.part is None else None
     body = reader(apdu.body) if reader else None
     if body:
-        found.update(zip(FIELDS[4:7], map(str, body.what)))
+        found.update(zip(FIELDS[4:7], map(str, body.ref)))
     both = error_body(apdu.body) if apdu.kind == ERROR else None
     if both:
         found.update(zip(FIELDS[7:9], map(str, both)))

@@ -14,7 +14,7 @@ stepped : {A B E : Type 0} (x : Result A E) (f : A → Result B E) (y : B) → (
     → (a : A) × (x ≡ Ok a) × (f a ≡ Ok y)
 stepped = grind arith
 
--- A step that went well behind a test, for what there is.
+-- A step that went well after a test, for what there is.
 passed : {A B E : Type 0} (b : Bool) (bad : E) (o : Option A) (none : E) (f : A → Result B E) (y : B)
     → (if b then Err bad else (ok_or o none >>= f)) ≡ Ok y → (a : A) × (f a ≡ Ok y)
 passed = grind arith

@@ -1,4 +1,4 @@
--- What the worked examples compute with. Who unfolds `computed` unfolds all of it.
+-- The definitions that the worked examples compute with. Unfolding `computed` unfolds all of them.
 use Rattle.bac_wire.specs.{behind_closing, behind_items, behind_opening, contents_of, context_at, enclosed_at, kind_at}
 use Rattle.bac_wire.specs.{length_at, long_length_at, number_at, object_at, plain, plain_tag, region_at, shape_at}
 use Rattle.bac_wire.specs.{tag_at, tag_number_at, value_at, Inner.Datum.tagged}

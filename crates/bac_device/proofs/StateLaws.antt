@@ -76,7 +76,7 @@ none_chosen : (writes : List Write) (object : Identifier) (priority : ℕ) → N
 none_chosen [] _ _ _ = refl
 none_chosen (_ ∷ writes) object priority (other, none) = grind (arith, none_chosen writes object priority none)
 
--- where no write is to the object its places are NULL
+-- if no write is to the object, its places are NULL
 pub place_none : (writes : List Write) (object : Identifier) (priority : ℕ) → NoneTo object writes
     → place writes object priority ≡ place [] object priority
 unfolding place
@@ -89,7 +89,7 @@ find_map : {A B : Type 0} (f : A → B) (test : B → Bool) (xs : List A)
 find_map f _ [] = refl
 find_map f test (x ∷ xs) = grind (arith, find_map f test xs)
 
--- the point that is an object stands as the writes say
+-- the point that is an object is as the writes say
 pub at_after : (device : DeviceState) (writes : List Write) (object : Identifier) → Holds device writes
     → standing_at device object ≡ option_map (standing_after writes) (point_at (points_of device) object)
 unfolding standing_after
@@ -154,13 +154,13 @@ each_ordered P device from datagram each =
 
 -- ---- one more point
 
--- a point that none of the writes is to stands as it was added
+-- a point to which no write goes is as it was added
 untouched : (writes : List Write) (point : Description) → NoneTo point.object writes
     → standing_after writes point ≡ standing_after [] point
 unfolding standing_after
 untouched _ _ none = grind (arith, map_same, place_none)
 
--- a device with one more point holds the writes that it held, where none of them is to the point
+-- a device with one more point holds the writes that it held, if none of them goes to the point
 more_held : (device : DeviceState) (point : Description) (writes : List Write) → Holds device writes
     → NoneTo point.object writes → Holds (with_point device point) writes
 unfolding standing_after
@@ -172,7 +172,7 @@ described_object : (point : Given) (d : Description) → description_of point �
 unfolding description_of
 described_object = grind arith
 
--- a device to which a point was added holds the writes that it held, where none of them is to the point
+-- a device to which a point was added holds the writes that it held, if none of them goes to the point
 pub added_held : (device : DeviceState) (standing : Standing) (point : Given) (writes : List Write)
     → Some standing ≡ option_map (standing_after []) (description_of point) → Holds device writes
     → NoneTo point.object writes
@@ -236,11 +236,11 @@ pub carried_routable : (from : Station) (datagram : List ℕ) (delivery : Delive
     → IfSome delivery.peer.route IsRoutable
 carried_routable = grind arith
 
--- what is sent to the peer of a delivery where this is the reply
+-- what is sent to the peer of a delivery if this is the reply
 abbrev sent : Delivery → Option Message → Option (Station × List ℕ)
 sent d reply = reply >>= (λ m. Some (d.peer, wrapped d.peer.route false (laid_out m)))
 
--- What is sent to whom a datagram is from takes the APDU of the reply, where each such reply is short.
+-- A datagram to the sender of another one takes the APDU of the reply, if each such reply is short.
 reply_takes : (device : DeviceState) (from to : Station) (datagram reply : List ℕ) (d : Delivery) (m : Message)
     (P : Message → Type 0) → Carries from datagram d → IsLaidOut d.apdu m
     → ((x : Message) → P x → length (laid_out x) ≤ 1476) → IfSome (reply_message device d.broadcast m) P

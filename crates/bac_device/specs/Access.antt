@@ -1,4 +1,4 @@
--- What is read of a device, and which writes it accepts (clauses 15.5 and 15.9).
+-- The values that a device gives, and the writes that it accepts (clauses 15.5 and 15.9).
 use Rattle.std.specs.Option.{ok_or, option_and_then}
 use Rattle.std.specs.Prelude.{Err, if◌then◌else◌, is_some, None, not, Ok, Option, Result, Some, ℕ, ◌&&◌, ◌==◌, ◌||◌}
 use Rattle.{bac_wire.specs.Identifier.Identifier, bac_pdu.specs.{Order, Reference, ◌>>=◌}}
@@ -17,7 +17,7 @@ property_of device object number =
       standing ← ok_or (standing_at device object) UnknownObject
       ok_or (point_property standing number) UnknownProperty
 
--- What is asked for: a property, or an element of it; or why it can't be read.
+-- The value that is asked for, of a property or an element of it; or why it cannot be read.
 unfoldable pub read_property : DeviceState → Reference → Result Property Failure
 read_property device r = do
   property ← property_of device r.object r.property
@@ -25,14 +25,14 @@ read_property device r = do
 
 -- ---- WriteProperty (clause 15.9)
 
--- The point whose present value the reference names, where points of its type can be written.
+-- The point whose present value the reference names, if points of its type can be written.
 abbrev pub commanded_point : DeviceState → Reference → Option Standing
 commanded_point device r =
     if not (r.property == 85) || is_device device.info r.object then None
     else option_and_then (λ standing. if is_commandable standing.point.kind.role then Some standing else None)
     (standing_at device r.object)
 
--- The priority of a write: 16, the least urgent, where it names none. Priority 6 is kept for minimum on and off times
+-- The priority of a write: 16, the least urgent, if it names none. Priority 6 is kept for minimum on and off times
 -- (clause 19.2), and is refused.
 abbrev pub urgency : Option ℕ → Result ℕ Failure
 urgency None = Ok 16
@@ -46,8 +46,8 @@ ordered_write standing o = do
   value ← written_value standing.point o.value
   Ok (record { object = o.reference.object; priority = priority; value = value })
 
--- The write that is ordered, or the first failure that applies: an unknown object, an unknown property, an index at
--- what is no array, a property that can't be written, and then those of the point.
+-- The write that is ordered, or the first failure that applies: an unknown object, an unknown property, an index at a
+-- property that is not an array, a property that cannot be written, and then those of the point.
 unfoldable pub accepted_write : DeviceState → Order → Result Write Failure
 accepted_write device o = do
   property ← property_of device o.reference.object o.reference.property

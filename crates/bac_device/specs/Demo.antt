@@ -4,7 +4,7 @@ use Rattle.bac_device.specs.{declared.kind.Family.TheVariants.{Analog, Binary, M
 use Rattle.bac_device.specs.Point.{Given, Description, described}
 use Rattle.bac_device.specs.declared.kind.Role.TheVariants as roles
 
--- What is given of a point: its object type, instance, name, start and extra.
+-- The description of a point: its object type, instance, name, start and extra.
 abbrev pub row : ℕ → ℕ → List ℕ → ℕ → ℕ → Given
 row kind instance name start extra =
     record { object = record { kind = kind; instance = instance }; name = name; start = start; extra = extra }

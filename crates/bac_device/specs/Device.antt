@@ -37,12 +37,12 @@ standing_at device object = find (λ standing. same_object standing.point.object
 abbrev pub point_at : List Description → Identifier → Option Description
 point_at points object = find (λ point. same_object point.object object) points
 
--- The present value of the object after these writes. None where it is no point.
+-- The present value of the object after these writes. `None` if it is not a point.
 abbrev pub present_after : List Description → List Write → Identifier → Option ℕ
 present_after points writes object =
     option_map (λ point. present (standing_after writes point)) (point_at points object)
 
--- What the place of this priority of the object holds after these writes. None where it has no such place.
+-- What the place of this priority of the object holds after these writes. `None` if it has no such place.
 abbrev pub place_after : List Description → List Write → Identifier → ℕ → Option (Option ℕ)
 place_after points writes object priority =
     option_and_then (λ point. place_at (standing_after writes point) priority) (point_at points object)

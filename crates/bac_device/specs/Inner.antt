@@ -1,4 +1,4 @@
--- What only private clauses say. No promise of this crate rests on it.
+-- Definitions that only private clauses use. No promise of this crate rests on them.
 pub mod Places
 pub mod Property
 pub mod Reply

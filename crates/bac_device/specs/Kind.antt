@@ -40,19 +40,19 @@ abbrev pub place_value : Family → Option ℕ → Datum
 place_value family None = null
 place_value family (Some n) = value_of family n
 
--- The number that a value stands for. None where it is of another family.
+-- The number that a value stands for. `None` if it is of another family.
 abbrev pub number_in : Family → Datum → Option ℕ
 number_in Analog (real octets) = Some (from_be_bytes w32 octets)
 number_in Binary (enumerated n) = Some n
 number_in MultiState (unsigned n) = Some n
 number_in _ _ = None
 
--- What a value asks a place to hold: NULL, or the number of a value of the family. None where it is of another family.
+-- What a value asks a place to hold: NULL, or the number of a value of the family. `None` if it is of another family.
 abbrev pub place_in : Family → Datum → Option (Option ℕ)
 place_in family null = Some None
 place_in family value = option_map Some (number_in family value)
 
--- The value that these octets are. None where they are no value, or more than one.
+-- The value that these octets are. `None` if they are no value, or more than one.
 unfoldable pub one_value : List ℕ → Option Datum
 one_value octets = value_at octets >>= (λ (value, rest). whole_of value rest)
 

@@ -14,11 +14,11 @@ longest_name = 64
 abbrev pub no_instance : ℕ
 no_instance = 4194303
 
--- The octets of the greatest APDU that the device takes.
+-- The octets of the greatest APDU that the device accepts.
 abbrev pub greatest_apdu : ℕ
 greatest_apdu = 1476
 
--- The number of "no segmentation" (clause 21, BACnetSegmentation): the device neither sends nor takes segments.
+-- The number of "no segmentation" (clause 21, BACnetSegmentation): the device neither sends nor accepts segments.
 abbrev pub no_segmentation : ℕ
 no_segmentation = 3
 

@@ -17,7 +17,7 @@ pub record Write : Type 0 where
 abbrev pub is_to : Identifier → ℕ → Write → Bool
 is_to object priority write = same_object object write.object && (priority == write.priority)
 
--- The value of the last write to the object at the priority; NULL where there is none.
+-- The value of the last write to the object at the priority; NULL if there was no such write.
 unfoldable pub place : List Write → Identifier → ℕ → Option ℕ
 place writes object priority =
     option_and_then (λ write. write.value) (last_or None (filter (is_to object priority) writes))
@@ -45,13 +45,13 @@ present standing = unwrap_or (option_flatten (find is_some standing.places)) sta
 
 -- ---- what is asked of a point, and one write
 
--- What the place of this priority holds. None where the point has no such place.
+-- What the place of this priority holds. `None` if the point has no such place.
 unfoldable pub place_at : Standing → ℕ → Option (Option ℕ)
 place_at standing priority =
     if not (is_commandable standing.point.kind.role) || priority == 0 then None
     else slice_get standing.places (priority - 1)
 
--- The number, where the point allows it; NULL is always allowed.
+-- The number, if the point allows it; NULL is always allowed.
 abbrev pub in_range : Description → Option ℕ → Result (Option ℕ) Failure
 in_range point None = Ok None
 in_range point (Some n) = if allows point.kind.family point.extra n then Ok (Some n) else Err OutOfRange
@@ -62,7 +62,7 @@ unfoldable pub written_value : Description → List ℕ → Result (Option ℕ) 
 written_value point octets =
     ok_or (option_and_then (place_in point.kind.family) (one_value octets)) WrongType >>= in_range point
 
--- The point, where the place of this priority holds this.
+-- The point, with this value in the place of this priority.
 abbrev pub with_place : Standing → ℕ → Option ℕ → Standing
 with_place standing priority value = record standing { places = slice_set standing.places (priority - 1) value }
 

@@ -4,7 +4,7 @@ use Rattle.bac_wire.specs.{identifier, ◌>>=◌, Identifier.Identifier}
 use Rattle.bac_device.specs.{declared.{kind.Kind.Kind, point.Point.Point}, Kind.{allows, allows_extra, kind_of}}
 use Rattle.bac_device.specs.Limits.{longest_name, no_instance}
 
--- What is given of a point that is to be added.
+-- The description of a point to add.
 pub record Given : Type 0 where
   pub object : Identifier
   pub name : List ℕ
@@ -40,7 +40,7 @@ abbrev pub described : Kind → Given → Description
 described kind point =
     record { kind = kind; object = point.object; name = point.name; start = point.start; extra = point.extra }
 
--- The point that is given, where its object type is one of a point, and a point of that kind can be so.
+-- The point that is given, if its object type is one of a point, and a point of that kind can be so.
 unfoldable pub description_of : Given → Option Description
 description_of point = do
   kind ← kind_of point.object.kind

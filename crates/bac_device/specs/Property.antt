@@ -8,7 +8,7 @@ use Rattle.bac_device.specs.declared.kind.{Family.{Family, TheVariants.{Analog, 
 use Rattle.bac_device.specs.{Kind.{is_commandable, place_value, value_of}, Places.{present, Standing}}
 use Rattle.bac_device.specs.declared.kind.Role.TheVariants as roles
 
--- The values of a property. Where it is an array, an index can choose from them.
+-- The values of a property. If it is an array, an index can choose from them.
 pub record Property : Type 0 where
   pub is_array : Bool
   pub values : List Datum
@@ -30,7 +30,7 @@ abbrev pub region_octets : Property → List ℕ
 region_octets property = flat_map plain property.values
 
 -- What an index chooses. Without one it is the whole property. An array has at 0 the number of its elements, and then
--- these, from 1 on; what is no array has none.
+-- these, from 1 on; a property that is not an array has none.
 unfoldable pub element : Property → Option ℕ → Result Property Failure
 element property None = Ok property
 element property (Some index) =
@@ -48,8 +48,8 @@ extra_value Binary roles.Value extra number = None
 extra_value Binary role extra number = if number == 84 then Some (enumerated extra) else None
 extra_value MultiState role extra number = if number == 74 then Some (unsigned extra) else None
 
--- The properties that only points of some types have: priority-array and relinquish-default where they can be written;
--- units, polarity and number-of-states.
+-- The properties that only points of some types have: priority-array and relinquish-default, if the point can be
+-- written; units, polarity and number-of-states.
 unfoldable pub kind_property : Standing → ℕ → Option Property
 kind_property standing number =
     if number == 87 && is_commandable standing.point.kind.role

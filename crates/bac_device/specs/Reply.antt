@@ -13,12 +13,12 @@ use Rattle.bac_device.specs.{Places.{put, Write}, Point.Description, Property.{P
 
 -- ---- the replies to confirmed requests
 
--- What is made of a body that was read; where it was not, a Reject with the reason.
+-- The reply to a body that was read; if it was not read, a Reject with the reason.
 abbrev pub unless_rejected : {A : Type 0} → ℕ → (A → Message) → Result A RejectReason → Message
 unless_rejected id made (Ok x) = made x
 unless_rejected id made (Err reason) = reject id (reason_number reason)
 
--- What is made of a result; where there is none, an Error with the failure.
+-- The reply to a result; if there is none, an Error with the failure.
 abbrev pub unless_failed : {A : Type 0} → ℕ → ℕ → (A → Message) → Result A Failure → Message
 unless_failed id service made (Ok x) = made x
 unless_failed id service made (Err failure) = error id service (error_octets (error_class failure) (error_code failure))
@@ -27,7 +27,7 @@ unless_failed id service made (Err failure) = error id service (error_octets (er
 abbrev pub object_in_reply : Info → Identifier → Identifier
 object_in_reply info object = if is_device info object then device_object info else object
 
--- What is acknowledged: the object, the property and the index that were asked for, and the values.
+-- An acknowledgement: the object, the property and the index that were asked for, and the values.
 abbrev pub acknowledged : DeviceState → Reference → Property → ReadAck
 acknowledged device r property =
     record { reference = record r { object = object_in_reply device.info r.object }; value = region_octets property }
@@ -59,13 +59,13 @@ full_reply device None id service body =
     else if service == 15 then write_reply device id body
     else reject id 9
 
--- The reply, or an Abort where it would have more octets than the requester announced (clause 5.4.5).
+-- The reply, or an Abort if it would have more octets than the requester announced (clause 5.4.5).
 abbrev pub fitting : ℕ → ℕ → Message → Message
 fitting code id full = if nat_le (length (laid_out full)) (announced_size code) then full else refused id
 
 -- ---- Who-Is (clause 16.10)
 
--- The I-Am of the device: its identifier, the greatest APDU that it takes, no segmentation, and its vendor.
+-- The I-Am of the device: its identifier, the greatest APDU that it accepts, no segmentation, and its vendor.
 abbrev pub i_am : Info → Message
 i_am info = unconfirmed 0 (i_am_octets (record {
   device = device_object info;
@@ -74,7 +74,7 @@ i_am info = unconfirmed 0 (i_am_octets (record {
   vendor = own_vendor;
 }))
 
--- The I-Am, where the body of a Who-Is asks for the device.
+-- The I-Am, if the body of a Who-Is asks for the device.
 unfoldable pub who_is_reply : Info → List ℕ → Option Message
 who_is_reply info body =
     option_and_then (λ who. if asks who info.instance then Some (i_am info) else None) (who_is_of body)

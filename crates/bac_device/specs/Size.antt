@@ -4,8 +4,8 @@ use Rattle.bac_pdu.specs.{Carries, confirmed, Delivery, IsLaidOut, Message, Stat
 use Rattle.{bac_pdu.specs.Datagram.Takes, bac_device.specs.Turns.Arrival}
 
 -- How long the APDU of a reply is. To a confirmed request it has no more octets than the request's code announces, the
--- greatest APDU that the requester takes, or it is the Abort 71 id 04. To an unconfirmed request it has fifteen octets,
--- as an I-Am has. There is no reply to another APDU.
+-- greatest APDU that the requester accepts, or it is the Abort 71 id 04. To an unconfirmed request it has fifteen
+-- octets, as an I-Am has. There is no reply to another APDU.
 abbrev pub FitsRequest : Message → List ℕ → Type 0
 FitsRequest (confirmed part code id service body) apdu =
     (length apdu ≤ announced_size code) ⊎ (apdu ≡ 0x71 ∷ id ∷ 0x04 ∷ [])

@@ -18,7 +18,7 @@ const LEAST_URGENT: u8 = 16;
 const MINIMUM_TIMES: u8 = 6;
 
 impl Device {
-    /// The write that a request orders, where the device accepts it; else why it does not.
+    /// Returns the write that a request orders, if the device accepts it; otherwise why it does not.
     #[tactic(auto, unfolding(crate::specs::accepted_write))]
     pub(crate) fn accepted_write(&self, request: &WriteRequest<'_>) -> Result<PlaceWrite, Failure>
         requires { IfSome request.now.priority IsPriority }
@@ -31,7 +31,7 @@ impl Device {
             }
             return Err(Failure::WriteDenied);
         };
-        // A present value is no array.
+        // A present value is not an array.
         if request.index.is_some() {
             return Err(Failure::NotAnArray);
         }
@@ -39,7 +39,7 @@ impl Device {
     }
 }
 
-// The write that a request orders of a point.
+// Returns the write that a request orders of a point.
 #[tactic(auto, unfolding(crate::specs::ordered_write))]
 fn ordered_write(point: &StandingPoint, request: &WriteRequest<'_>) -> Result<PlaceWrite, Failure>
     requires { IfSome request.now.priority IsPriority }
@@ -54,7 +54,7 @@ fn ordered_write(point: &StandingPoint, request: &WriteRequest<'_>) -> Result<Pl
     })
 }
 
-// The priority of a write: the least urgent where it names none, and never the one that is kept.
+// Returns the priority of a write: the least urgent if it names none, and never the reserved one.
 fn urgency(priority: Option<u8>) -> Result<u8, Failure>
     requires { IfSome priority IsPriority }
     ensures value { result ≡ spec.urgency priority }

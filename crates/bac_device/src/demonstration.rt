@@ -8,8 +8,8 @@ use crate::info::DeviceInfo;
 use crate::point::{Point, StandingPoint};
 use bac_wire::ObjectId;
 
-/// A device with the eleven demonstration points: three analog inputs, and a point of each other type. Give it a name
-/// that none of them has.
+/// Returns a device with the eleven demonstration points: three analog inputs, and a point of each other type. Give it
+/// a name that none of them has.
 #[tactic(auto, unfolding(crate::specs::description_of, crate::specs::kind_of))]
 pub fn demo(info: DeviceInfo) -> Device
     ensures { result ≡ device_after info demo_points [] }

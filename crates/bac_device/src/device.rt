@@ -44,7 +44,7 @@ pub enum AddFault {
 
 /// A small BACnet device with points that can be commanded.
 ///
-/// It has a fixed size, takes no memory, and sends nothing itself.
+/// It has a fixed size, needs no memory, and sends nothing itself.
 #[derive(Drop)]
 pub struct Device {
     info: DeviceInfo,
@@ -60,7 +60,7 @@ impl Model for Device {
 }
 
 impl Device {
-    /// A device without points.
+    /// Returns a device without points.
     pub fn new(info: DeviceInfo) -> Self
         ensures { result ≡ device_after info [] [] }
     {
@@ -99,8 +99,8 @@ impl Device {
         Ok(())
     }
 
-    /// The number of the present value of a point (clause 19.2), as in [`Point::start`]: what the most urgent place
-    /// that is not NULL holds, or `start`. None where the object is no point.
+    /// Returns the number of the present value of a point (clause 19.2), as in [`Point::start`]: what the most urgent
+    /// place that is not NULL holds, or `start`. `None` if the object is not a point.
     #[tactic(auto, using(crate::proofs::present_held))]
     pub fn present(&self, object: ObjectId) -> Option<u32>
         ensures standing { result ≡ option_map present (standing_at self.now (identifier object)) }
@@ -111,8 +111,8 @@ impl Device {
         Some(point.present())
     }
 
-    /// What a commandable point has at a priority; `Some(None)` is NULL. None where the object is no commandable point,
-    /// or the priority is not 1 to 16.
+    /// Returns what a commandable point has at a priority; `Some(None)` is NULL. `None` if the object is not a
+    /// commandable point, or the priority is not 1 to 16.
     #[tactic(auto, using(crate::proofs::place_held))]
     pub fn place(&self, object: ObjectId, priority: u8) -> Option<Option<u32>>
         ensures standing { result ≡ option_and_then (λ standing. place_at standing priority)
@@ -131,14 +131,14 @@ impl Device {
         self.points.push(point);
     }
 
-    /// What the device is known by.
+    /// Returns what the device is known by.
     pub(crate) fn info(&self) -> &DeviceInfo
         ensures { result.now ≡ self.now.info }
     {
         &self.info
     }
 
-    /// The property of this number of the object.
+    /// Returns the property of this number of the object.
     #[tactic(auto, unfolding(crate::specs::property_of))]
     pub(crate) fn property(&self, object: ObjectId, number: u32) -> Result<Property<'_>, Failure>
         ensures value { result_seen property_seen result ≡ property_of self.now (identifier object) number }
@@ -151,7 +151,7 @@ impl Device {
         point.property(number).ok_or(Failure::UnknownProperty)
     }
 
-    /// The point whose present value this property is, where it can be written.
+    /// Returns the point whose present value this property is, if it can be written.
     #[tactic(auto, unfolding(crate::specs::property_of, crate::specs::point_property))]
     pub(crate) fn commanded_point(&self, object: ObjectId, number: u32) -> Option<&StandingPoint>
         ensures point { option_copied result
@@ -176,7 +176,7 @@ impl Device {
         put_in(&mut self.points, write);
     }
 
-    // The device's own property of this number.
+    // Returns the device's own property of this number.
     #[tactic(auto, unfolding(crate::specs::device_property))]
     fn own_property(&self, number: u32) -> Option<Property<'_>>
         ensures value { option_map property_seen result ≡ device_property self.now number }
@@ -191,7 +191,7 @@ impl Device {
         }
     }
 
-    // The point that is this object.
+    // Returns the point that is this object.
     fn point(&self, object: ObjectId) -> Option<&StandingPoint>
         ensures { option_copied result ≡ standing_at self.now (identifier object) }
     {
@@ -199,7 +199,7 @@ impl Device {
     }
 }
 
-// Whether one of the points has this name.
+// Returns whether one of the points has this name.
 fn has_name(points: &[StandingPoint], name: &str) -> bool
     ensures { result ≡ list_any (λ standing. bytes_eq standing.point.name name.now) points.now }
 {
@@ -215,7 +215,7 @@ fn put_in(points: &mut [StandingPoint], write: &PlaceWrite)
     }
 }
 
-// The value of a property of every device of this kind.
+// Returns the value of a property of every device of this kind.
 #[tactic(auto, unfolding(crate::specs::fixed_value))]
 fn fixed_value(number: u32) -> Option<Value<'static>>
     ensures value { option_map datum result ≡ fixed_value number }
@@ -241,7 +241,7 @@ fn fixed_value(number: u32) -> Option<Value<'static>>
     }
 }
 
-// A text as a value.
+// Returns a text as a value.
 fn text(octets: &'static str) -> Value<'static>
     ensures value { datum result ≡ char_string 0 octets.now }
     ensures sound { IsSound (datum result) }

@@ -22,16 +22,31 @@ fn examples_of_reads()
     // Units (degrees Fahrenheit), and the number of states.
     ensures extra { Exchanges (has (of 117 outdoor) (enumerated 64) ∷ has (of 74 season) (unsigned 4) ∷ []) }
 
-    // The device replies under its own instance where it is asked as any device.
+    // The binary output has normal polarity (0) and a normal event state (0). It is in service, and none of its four
+    // flags is set (12.7).
+    ensures standing { Exchanges
+        (has (of 84 fan) (enumerated 0) ∷ has (of 36 fan) (enumerated 0) ∷ has (of 81 fan) (0x10 ∷ [])
+        ∷ has (of 111 fan) (0x82 ∷ 0x04 ∷ 0x00 ∷ []) ∷ []) }
+
+    // The device's own (12.11): its type (8), operational (0), vendor 260, protocol version 1 and revision 4, APDUs of
+    // up to 1476 octets, no segmentation (3), a timeout of 3000 milliseconds, 3 retries, and the database revision 1.
+    ensures fixed { Exchanges
+        (has (of 79 own) (enumerated 8) ∷ has (of 112 own) (enumerated 0)
+        ∷ has (of 120 own) (0x22 ∷ 0x01 ∷ 0x04 ∷ []) ∷ has (of 98 own) (unsigned 1) ∷ has (of 139 own) (unsigned 4)
+        ∷ has (of 62 own) (0x22 ∷ 0x05 ∷ 0xc4 ∷ []) ∷ has (of 107 own) (enumerated 3)
+        ∷ has (of 11 own) (0x22 ∷ 0x0b ∷ 0xb8 ∷ []) ∷ has (of 73 own) (unsigned 3) ∷ has (of 155 own) (unsigned 1)
+        ∷ []) }
+
+    // Asked as any device, it replies under its own instance.
     ensures device { Exchanges
         ((read (of 75 any_device), is (of 75 own) (0xc4 ∷ 0x02 ∷ 0x00 ∷ 0x04 ∷ 0xd2 ∷ [])) ∷ []) }
 
-    // An array whole, how many elements it has, an element, and one past the last.
+    // A whole array, the number of its elements, an element, and one past the last.
     ensures array { Exchanges
         (has (of 87 valve) (replicate 16 0x00) ∷ has (element_of 0 87 valve) (unsigned 16)
         ∷ has (element_of 3 87 valve) null ∷ has_no (element_of 17 87 valve) 2 42 ∷ []) }
 
-    // No such object, no such property, and an index at what is no array.
+    // An unknown object, an unknown property, and an index for a property that is not an array.
     ensures failures { Exchanges
         (has_no (of 85 nothing) 1 31 ∷ has_no (of 87 outdoor) 2 32 ∷ has_no (element_of 0 85 outdoor) 2 50 ∷ []) }
 
@@ -41,29 +56,34 @@ fn examples_of_reads()
         ∷ []) }
 {}
 
-// A present value is written, and what is present then.
+// A write of a present value, and the value after it.
 #[tactic(none)]
 fn examples_of_writes()
-    // At two priorities: the more urgent one is present until NULL lets it go, then the other one, and at last the
-    // default.
+    // At two priorities: the more urgent value is present until NULL relinquishes it, then the other one, and at last
+    // the default.
     ensures places { Exchanges
         (makes (write valve twenty) ∷ has (of 85 valve) twenty
         ∷ makes (write_at 8 valve thirty) ∷ has (of 85 valve) thirty
         ∷ makes (write_at 8 valve null) ∷ has (of 85 valve) twenty
         ∷ makes (write_at 16 valve null) ∷ has (of 85 valve) zero_real ∷ []) }
 
+    // On, and the third of four seasons.
+    ensures kinds { Exchanges
+        (makes (write fan (enumerated 1)) ∷ has (of 85 fan) (enumerated 1)
+        ∷ makes (write season (unsigned 3)) ∷ has (of 85 season) (unsigned 3) ∷ []) }
+
     // Without a priority it is the last of the sixteen.
     ensures least_urgent { Exchanges
         (makes (write valve twenty) ∷ has (element_of 16 87 valve) twenty ∷ has (element_of 8 87 valve) null ∷ []) }
 
-    // Refused: an input, priority 6, another type, and a state past the last. Nothing is written.
+    // Refused: an input, priority 6, another type, and a state past the last. No value changes.
     ensures failures { Exchanges
         (refuses (write outdoor twenty) 2 40 ∷ refuses (write_at 6 valve twenty) 2 40
         ∷ refuses (write valve (unsigned 5)) 2 9 ∷ refuses (write season (unsigned 5)) 2 37
         ∷ has (of 85 season) (unsigned 1) ∷ []) }
 {}
 
-// Which replies fit a request, and what is said of replies and of writes.
+// Which replies fit a request, and which replies and writes the definitions allow.
 #[tactic(none)]
 fn examples_of_fitting()
     // To a requester that takes 50 octets the reply has 50, or it is the Abort, and it goes back to the desk.
@@ -75,7 +95,7 @@ fn examples_of_fitting()
     ensures each_too_long { RepliesFit (asked ∷ []) (Some (desk, datagram 0x00 fifty_one) ∷ []) → ⊥ }
     ensures too_few { RepliesFit (asked ∷ []) [] → ⊥ }
 
-    // None of the writes is to analog-output 1.
+    // No write is to analog-output 1.
     ensures none { NoneTo valve_id (twenty_at_8 other_id ∷ []) }
     ensures one { NoneTo valve_id (twenty_at_8 other_id ∷ twenty_at_8 valve_id ∷ []) → ⊥ }
 
@@ -99,7 +119,7 @@ fn examples_of_devices()
     ensures room { device_room ≡ 32 }
     ensures longest { longest_name ≡ 64 }
 
-    // The most urgent place that is not NULL is present, and what there was to begin with where all are.
+    // The most urgent value that is not NULL is present; if all are NULL, the one from the beginning.
     ensures present { present_after demo_points (twenty_at_8 valve_id ∷ []) valve_id ≡ Some 0x41a00000 }
     ensures let_go { present_after demo_points (twenty_at_8 valve_id ∷ release_at_8 valve_id ∷ []) valve_id ≡ Some 0 }
     ensures no_point { present_after demo_points [] (record { kind = 1; instance = 99 }) ≡ None }
@@ -108,14 +128,14 @@ fn examples_of_devices()
     ensures no_place { place_after demo_points [] valve_id 17 ≡ None }
     ensures zeroth { place_after demo_points [] valve_id 0 ≡ None }
 
-    // What a device can be known by.
+    // The identities that a device can have.
     ensures known { IsInfo small }
     ensures last { IsInfo (record small { instance = 4194302 }) }
     ensures every { IsInfo (record small { instance = 4194303 }) → ⊥ }
     ensures nameless { IsInfo (record small { name = [] }) → ⊥ }
     ensures long { IsInfo (record small { name = replicate 65 0x61 }) → ⊥ }
 
-    // Why a point can't be added.
+    // The reasons why a point can't be added.
     ensures added { add_point empty (given_as valve_id (codes "valve")) ≡ Ok (record empty {
       standings =
           standing_after [] (record {

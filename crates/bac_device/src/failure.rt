@@ -21,7 +21,7 @@ const OBJECT: u32 = 1;
 const PROPERTY: u32 = 2;
 
 impl Failure {
-    /// The number of the error class.
+    /// Returns the number of the error class.
     pub(crate) fn class(self) -> u32
         ensures { result ≡ error_class self }
     {
@@ -31,7 +31,7 @@ impl Failure {
         }
     }
 
-    /// The number of the error code.
+    /// Returns the number of the error code.
     pub(crate) fn code(self) -> u32
         ensures { result ≡ error_code self }
     {

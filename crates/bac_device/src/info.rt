@@ -29,7 +29,7 @@ impl Model for DeviceInfo {
 }
 
 impl DeviceInfo {
-    /// The device of this instance and name. None where the instance is more than 4194302, or where the name has no
+    /// Returns the device of this instance and name. `None` if the instance is more than 4194302, or if the name has no
     /// octet or more than 64.
     pub fn new(instance: u32, name: &str) -> Option<Self>
         ensures valid { IsSome result ↔ IsInfo (record { instance = instance; name = name.now }) }
@@ -42,14 +42,14 @@ impl DeviceInfo {
         Some(DeviceInfo { instance, name })
     }
 
-    /// The device object.
+    /// Returns the device object.
     pub(crate) fn object(&self) -> ObjectId
         ensures { identifier result ≡ device_object self.now }
     {
         ObjectId::new(DEVICE, self.instance).unwrap()
     }
 
-    /// Whether the object is the device: its own, or the one that stands for every device.
+    /// Returns whether the object is the device: its own, or the one that stands for every device.
     pub(crate) fn is_object(&self, object: ObjectId) -> bool
         ensures { result ≡ is_device self.now (identifier object) }
     {
@@ -57,14 +57,14 @@ impl DeviceInfo {
             && (object.instance() == self.instance || object.instance() == NO_INSTANCE)
     }
 
-    /// The instance of the device's object.
+    /// Returns the instance of the device's object.
     pub(crate) fn instance(&self) -> u32
         ensures { result ≡ self.now.instance }
     {
         self.instance
     }
 
-    /// The name of the device.
+    /// Returns the name of the device.
     pub(crate) fn name(&self) -> &str
         ensures { result.now ≡ self.now.name }
     {

@@ -1,4 +1,4 @@
-//! The types of points, and the values that each takes.
+//! The types of points, and the values that each accepts.
 
 ghost use Rattle.std.specs.Prelude.{IsTrue, option_map, ◌<◌, ◌^◌, ◌≡◌};
 ghost use Rattle.bac_wire.specs.{datum, IsSound};
@@ -30,7 +30,7 @@ pub(crate) enum Role {
 }
 
 impl Kind {
-    /// The kind of this object type, where it is one of a point (clause 21, BACnetObjectType).
+    /// Returns the kind of this object type, if it is one of a point (clause 21, BACnetObjectType).
     #[tactic(auto, unfolding(crate::specs::kind_of))]
     pub(crate) fn from_number(number: u16) -> Option<Self>
         ensures { result ≡ spec.kind_of number }
@@ -50,7 +50,7 @@ impl Kind {
         Some(Kind { family, role })
     }
 
-    /// Whether `extra` is one that a point of this kind can have.
+    /// Returns whether `extra` is one that a point of this kind can have.
     pub(crate) fn allows_extra(self, extra: u32) -> bool
         ensures { result ≡ spec.allows_extra self.family self.role extra }
     {
@@ -64,7 +64,7 @@ impl Kind {
 }
 
 impl Family {
-    /// The value that stands for what a place of a priority array holds.
+    /// Returns the value that stands for what a place of a priority array holds.
     pub(crate) fn place_value(self, place: Option<u32>) -> Value<'static>
         ensures value { datum result ≡ spec.place_value self place }
         ensures sound { IsSound (datum result) }
@@ -75,7 +75,7 @@ impl Family {
         }
     }
 
-    /// The value that stands for the number of a present value.
+    /// Returns the value that stands for the number of a present value.
     pub(crate) fn value(self, number: u32) -> Value<'static>
         ensures value { datum result ≡ spec.value_of self number }
         ensures sound { IsSound (datum result) }
@@ -87,7 +87,7 @@ impl Family {
         }
     }
 
-    /// What a value asks a place to hold. None where it is of another type.
+    /// Returns what a value asks a place to hold. `None` if it is of another type.
     pub(crate) fn place_in(self, value: &Value<'_>) -> Option<Option<u64>>
         ensures { result ≡ spec.place_in self (datum value.now) }
     {
@@ -97,7 +97,7 @@ impl Family {
         }
     }
 
-    /// The number that a value stands for. None where it is of another type.
+    /// Returns the number that a value stands for. `None` if it is of another type.
     pub(crate) fn number_in(self, value: &Value<'_>) -> Option<u64>
         ensures { result ≡ spec.number_in self (datum value.now) }
     {
@@ -109,7 +109,7 @@ impl Family {
         }
     }
 
-    /// Whether a present value can have this number. `extra` is the number of states.
+    /// Returns whether a present value can have this number. `extra` is the number of states.
     pub(crate) fn allows(self, extra: u32, number: u64) -> bool
         ensures value { result ≡ spec.allows self extra number }
         ensures fits { IsTrue result → number < 2 ^ 32 }
@@ -123,7 +123,7 @@ impl Family {
 }
 
 impl Role {
-    /// Whether points of this role have a priority array (clause 19.2).
+    /// Returns whether points of this role have a priority array (clause 19.2).
     pub(crate) fn is_commandable(self) -> bool
         ensures { result ≡ spec.is_commandable self }
     {
@@ -131,7 +131,7 @@ impl Role {
     }
 }
 
-/// The one value that the octets are.
+/// Returns the one value that the octets are.
 #[tactic(auto, unfolding(crate::specs::one_value))]
 pub(crate) fn one_value(octets: &[u8]) -> Option<Value<'_>>
     ensures { option_map datum result ≡ spec.one_value octets.now }

@@ -1,4 +1,4 @@
-//! What holds of the definitions that the contracts cite, and of the public types. Each function has an empty body, and
+//! Laws of the definitions that the contracts cite, and of the public types. Each function has an empty body, and
 //! its clause is the law.
 
 ghost use Rattle.std.specs.{Option.ForSome, Prelude.{List, Option, ℕ, ◌≡◌}};
@@ -46,13 +46,13 @@ pub fn limits()
     ensures name { NAME_OCTETS ≡ longest_name }
 {}
 
-/// A clone is what it was cloned from, and takes no memory.
+/// A clone is what it was cloned from, and needs no memory.
 pub fn clones<'a>()
     ensures fault { MakesCopies ⟦<AddFault as Clone>⟧.is_clone ⟦<AddFault as Clone>⟧.is_infallible }
     ensures point { MakesCopies ⟦<Point<'a> as Clone>⟧.is_clone ⟦<Point<'a> as Clone>⟧.is_infallible }
 {}
 
-/// What `==` compares: which of the four a fault is.
+/// `==` compares which of the four a fault is.
 pub fn equals()
     ensures fault { EqualsBy (λ fault. fault) ⟦<AddFault as PartialEq>⟧.eq }
 {}

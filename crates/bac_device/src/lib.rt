@@ -2,12 +2,12 @@
 //! 19.2).
 //!
 //! [`DeviceInfo::new`] says what the device is known by, [`Device::new`] makes it, and [`Device::add`] gives it points,
-//! each a [`Point`]; [`demo`] has eleven of them. [`Device::answer`] makes the reply to a datagram, where there is one,
+//! each a [`Point`]; [`demo`] has eleven of them. [`Device::answer`] makes the reply to a datagram, if there is one,
 //! and makes the write that it accepts. [`Device::present`] and [`Device::place`] say what a point has.
 //! `specs/Reply.antt` says which reply comes: a function of the writes that were accepted before.
 //!
-//! Of `examples_of_writes` in `src/examples.rt`, which is proved: what is written to the demonstration device, and read
-//! back.
+//! From `examples_of_writes` in `src/examples.rt`, which is proved: what is written to the demonstration device, and
+//! read back.
 //!
 //! ```text
 //! ensures places { Exchanges
@@ -17,10 +17,10 @@
 //!     ∷ makes (write_at 16 valve null) ∷ has (of 85 valve) zero_real ∷ []) }
 //! ```
 //!
-//! The caller keeps to this: it sends what [`Device::answer`] leaves in the frame to the peer that it answers. No call
-//! has a condition.
+//! The caller must keep to this: it sends what [`Device::answer`] leaves in the frame to the peer that it answers. No
+//! call has a condition.
 //!
-//! Calls, of `one_valve` of `bac_uses` (`src/device.rt`), where it is proved that none of them can fail:
+//! Calls, from `one_valve` of `bac_uses` (`src/device.rt`), which proves that none of them can fail:
 //!
 //! ```rust
 //! let mut device = Device::new(DeviceInfo::new(1234, "Heating").unwrap());

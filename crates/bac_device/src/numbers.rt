@@ -69,10 +69,10 @@ pub(crate) const NO_INSTANCE: u32 = 4_194_303;
 /// The system status of a device that works.
 pub(crate) const OPERATIONAL: u32 = 0;
 
-/// The octets of the longest APDU that the device takes.
+/// The octets of the longest APDU that the device accepts.
 pub(crate) const MAX_APDU: u64 = 1476;
 
-/// The device neither sends nor takes segments.
+/// The device neither sends nor accepts segments.
 pub(crate) const NO_SEGMENTATION: u32 = 3;
 
 /// The number of the vendor, which is this project's own choice.

@@ -81,7 +81,7 @@ impl Default for StandingPoint {
 }
 
 impl StandingPoint {
-    /// The point that is described, with every place NULL. None where it is none that a device can have.
+    /// Returns the described point, with every place NULL. `None` if no device can have it.
     #[tactic(auto, unfolding(crate::specs::description_of, crate::specs::standing_after, crate::specs::place))]
     pub(crate) fn new(point: &Point<'_>) -> Option<Self>
         ensures { result ≡ option_map (standing_after []) (description_of (given point.now)) }
@@ -111,28 +111,28 @@ impl StandingPoint {
         self.id
     }
 
-    /// Whether the object is this point.
+    /// Returns whether the object is this point.
     pub(crate) fn is_object(&self, object: ObjectId) -> bool
         ensures { result ≡ same_object self.now.point.object (identifier object) }
     {
         self.id == object
     }
 
-    /// Whether the point has this name.
+    /// Returns whether the point has this name.
     pub(crate) fn has_name(&self, name: &str) -> bool
         ensures { result ≡ bytes_eq self.now.point.name name.now }
     {
         self.name.as_str() == name
     }
 
-    /// Whether the point can be written.
+    /// Returns whether the point can be written.
     pub(crate) fn is_commandable(&self) -> bool
         ensures { result ≡ is_commandable self.now.point.kind.role }
     {
         self.kind.role.is_commandable()
     }
 
-    /// What the place of this priority holds. None where the point has no such place.
+    /// Returns what the place of this priority holds. `None` if the point has no such place.
     #[tactic(auto, unfolding(crate::specs::place_at))]
     pub(crate) fn place(&self, priority: u8) -> Option<Option<u32>>
         ensures { result ≡ place_at self.now priority }
@@ -143,8 +143,8 @@ impl StandingPoint {
         self.places.get(usize::from(priority) - 1).copied()
     }
 
-    /// What the octets of a value ask a place to hold. They have to be one value, of the type of the point and in its
-    /// range, or NULL.
+    /// Returns what the octets of a value ask a place to hold. They have to be one value, of the type of the point and
+    /// in its range, or NULL.
     #[tactic(auto, unfolding(crate::specs::written_value))]
     pub(crate) fn value_in(&self, octets: &[u8]) -> Result<Option<u32>, Failure>
         ensures { result ≡ written_value self.now.point octets.now }
@@ -158,7 +158,7 @@ impl StandingPoint {
         }
     }
 
-    /// Makes the write, where it is to this point.
+    /// Makes the write, if it is to this point.
     pub(crate) fn put(&mut self, write: &PlaceWrite)
         ensures { self.new ≡ put (write_seen write.now) self.old }
     {
@@ -167,7 +167,7 @@ impl StandingPoint {
         }
     }
 
-    /// The number of the present value.
+    /// Returns the number of the present value.
     pub(crate) fn present(&self) -> u32
         ensures { result ≡ present self.now }
     {
@@ -177,7 +177,7 @@ impl StandingPoint {
         }
     }
 
-    /// The property of this number.
+    /// Returns the property of this number.
     #[tactic(auto, unfolding(crate::specs::point_property))]
     pub(crate) fn property(&self, number: u32) -> Option<Property<'_>>
         ensures value { option_map property_seen result ≡ point_property self.now number }
@@ -199,7 +199,7 @@ impl StandingPoint {
         }
     }
 
-    // The property of this number, where it is one that only points of some types have.
+    // Returns the property of this number, if it is one that only points of some types have.
     #[tactic(auto, unfolding(crate::specs::kind_property))]
     fn property_by_kind(&self, number: u32) -> Option<Property<'_>>
         ensures value { option_map property_seen result ≡ kind_property self.now number }
@@ -226,7 +226,7 @@ impl StandingPoint {
     }
 }
 
-// The first of the places that is not NULL.
+// Returns the first of the places that is not NULL.
 fn first_set(places: &[Option<u32>]) -> Option<&Option<u32>>
     ensures { option_copied result ≡ find is_some places.now }
 {

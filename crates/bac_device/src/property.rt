@@ -16,7 +16,7 @@ use bac_wire::{Frame, Full, ObjectId, Value, write_value};
 pub(crate) enum Property<'a> {
     /// One value.
     Single(Value<'a>),
-    /// A list without elements, which is no array.
+    /// A list without elements, which is not an array.
     EmptyList,
     /// The array of the objects of the device: the device, then these points.
     ObjectList(ObjectId, &'a [StandingPoint]),
@@ -25,7 +25,7 @@ pub(crate) enum Property<'a> {
 }
 
 impl<'a> Property<'a> {
-    /// What an index chooses: without one all, with 0 the number of elements, else the element, counted from 1.
+    /// Returns what an index chooses: without one all, with 0 the number of elements, else the element, counted from 1.
     #[tactic(auto, unfolding(crate::specs::element))]
     pub(crate) fn element(self, index: Option<u32>) -> Result<Property<'a>, Failure>
         requires { IsSoundProperty self }
@@ -47,14 +47,14 @@ impl<'a> Property<'a> {
         Ok(Property::Single(value))
     }
 
-    /// Whether an index can choose an element.
+    /// Returns whether an index can choose an element.
     pub(crate) fn is_array(&self) -> bool
         ensures { result ≡ (property_seen self.now).is_array }
     {
         matches!(self, Property::ObjectList(..) | Property::PriorityArray(..))
     }
 
-    /// How many values there are.
+    /// Returns how many values there are.
     pub(crate) fn count(&self) -> usize
         ensures { result ≡ length (property_seen self.now).values }
     {
@@ -66,7 +66,7 @@ impl<'a> Property<'a> {
         }
     }
 
-    /// The value at this position, counted from 0.
+    /// Returns the value at this position, counted from 0.
     pub(crate) fn value_at(&self, position: usize) -> Option<Value<'a>>
         requires { IsSoundProperty self.now }
         ensures value { option_map datum result ≡ slice_get (property_seen self.now).values position }
@@ -81,8 +81,8 @@ impl<'a> Property<'a> {
     }
 }
 
-/// Appends the octets of the values, one after the other. It is `Full` only where there is no room for them; some of
-/// them may then have been appended.
+/// Appends the octets of the values, one after the other. It is `Full` only if there is no room for them; some of them
+/// may then have been appended.
 pub(crate) fn append_region(frame: &mut Frame, property: &Property<'_>) -> Result<(), Full>
     requires { IsSoundProperty property.now }
     ensures ok { OnOk result (frame.new ≡ frame.old ++ region_octets (property_seen property.now)) }
@@ -98,7 +98,7 @@ pub(crate) fn append_region(frame: &mut Frame, property: &Property<'_>) -> Resul
     Ok(())
 }
 
-// The object at this position of the object list.
+// Returns the object at this position of the object list.
 fn object_at(device: ObjectId, points: &[StandingPoint], position: usize) -> Option<Value<'static>>
     ensures value { option_map datum result
         ≡ slice_get (object (identifier device) ∷ point_objects points.now) position }
@@ -111,7 +111,7 @@ fn object_at(device: ObjectId, points: &[StandingPoint], position: usize) -> Opt
     Some(Value::Object(point.id()))
 }
 
-// The value of the place at this position of a priority array.
+// Returns the value of the place at this position of a priority array.
 fn place_at(family: Family, places: &[Option<u32>], position: usize) -> Option<Value<'static>>
     ensures value { option_map datum result ≡ slice_get (map (place_value family) places.now) position }
     ensures sound { IfSome result (λ value. IsSound (datum value)) }

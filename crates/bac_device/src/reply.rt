@@ -35,9 +35,9 @@ struct Request<'a> {
 }
 
 impl Device {
-    /// Answers a datagram that came from this peer: makes the frame the reply's datagram, and says whom it is for.
-    /// None, with an empty frame, where the device is silent. A write that the datagram orders is made where the device
-    /// accepts it.
+    /// Replies to a datagram that came from this peer: writes the reply's datagram into the frame, and returns its
+    /// receiver. None, with an empty frame, if the device is silent. A write that the datagram orders is made if the
+    /// device accepts it.
     ///
     /// There is a reply to a Who-Is that asks for the device, and to a confirmed request that was not sent to all. An
     /// APDU of more octets than the requester announced becomes an Abort. That of an I-Am has fifteen octets. In walks
@@ -68,7 +68,7 @@ impl Device {
         self.answer_into(from, datagram, frame, work)
     }
 
-    // The same, where the frame is empty at first.
+    // Replies to a datagram as `answer_into` says, in a frame that is empty at first.
     #[tactic(auto, using(bac_pdu::proofs::DatagramLaws::carried_no_longer), unfolding(crate::specs::reply_of, crate::specs::write_in_datagram, crate::specs::Inner::reply_apdu, crate::specs::Inner::write_in_apdu))]
     fn answer_into(
         &mut self,
@@ -89,12 +89,12 @@ impl Device {
         self.reply(carried.broadcast, carried.apdu, frame, work)?;
         match wrap_within(carried.peer, false, frame) {
             Ok(()) => Some(carried.peer),
-            // What is announced at most fits a frame behind any header.
+            // The greatest announced size fits a frame after any header.
             Err(Full) => unreachable!(),
         }
     }
 
-    // Appends the reply to the octets of an APDU to an empty frame; an accepted write is made. None where there is no
+    // Appends the reply to the octets of an APDU to an empty frame; an accepted write is made. `None` if there is no
     // reply.
     #[tactic(auto, using(crate::proofs::request_write, bac_pdu::proofs::DatagramLaws::confirmed_no_longer), unfolding(crate::specs::Inner::reply_apdu, crate::specs::Inner::write_in_apdu))]
     fn reply(
@@ -229,7 +229,7 @@ impl Device {
         }
     }
 
-    // The property that a request asks for, or the element of it.
+    // Returns the property that a request asks for, or the element of it.
     #[tactic(auto, unfolding(crate::specs::read_property))]
     fn read_property(&self, request: &ReadRequest) -> Result<Property<'_>, Failure>
         ensures value { result_seen property_seen result ≡ read_property self.now (reference request.now) }
@@ -260,7 +260,7 @@ impl Device {
             property: request.property,
             index: request.index,
         };
-        // The body is put behind it.
+        // The body is put after it.
         write_apdu(
             frame,
             &Apdu::ComplexAck {
@@ -275,7 +275,7 @@ impl Device {
         end_ack(frame)
     }
 
-    // The object that a reply names: the device under its own instance.
+    // Returns the object that a reply names: the device under its own instance.
     fn object_in_reply(&self, object: ObjectId) -> ObjectId
         ensures { identifier result ≡ spec.object_in_reply self.now.info (identifier object) }
     {
@@ -288,7 +288,7 @@ impl Device {
     }
 }
 
-// Appends the I-Am to an empty frame, where the body of a Who-Is asks for the device. Else None.
+// Appends the I-Am to an empty frame, if the body of a Who-Is asks for the device. Otherwise `None`.
 #[tactic(auto, using(crate::proofs::length_i_am), unfolding(crate::specs::who_is_reply))]
 fn introduce(info: &DeviceInfo, body: &[u8], frame: &mut Frame) -> Option<()>
     requires { frame.old ≡ [] }
@@ -314,7 +314,7 @@ fn i_am(info: &DeviceInfo, frame: &mut Frame) -> Result<(), Full>
         segmentation: NO_SEGMENTATION,
         vendor: VENDOR,
     };
-    // The body is put behind it.
+    // The body is put after it.
     write_apdu(
         frame,
         &Apdu::Unconfirmed {
@@ -348,7 +348,7 @@ fn append_error(id: u8, service: u8, failure: Failure, frame: &mut Frame) -> Res
     ensures full { OnErr result
         (frame_room < length (laid_out (error id service (error_octets (error_class failure) (error_code failure))))) }
 {
-    // The body is put behind it.
+    // The body is put after it.
     write_apdu(
         frame,
         &Apdu::Error {

@@ -77,7 +77,7 @@ module _ (purpose : Purpose) (call : Call) where
 all_by : (events : List Event) (j : ℕ) → length events ≤ j → clock events j ≡ greatest_tick events
 all_by _ j le = ap greatest_tick (take_all j _ le)
 
--- Where no event moves the clock by more than d, further events that do not are added.
+-- If no event moves the clock by more than d, further events that do not are added.
 steady_more : (d : ℕ) (first next : List Event) → ((j : ℕ) → 1 < j → clock first (suc j) ≤ clock first j + d) →
     greatest_tick (first ++ next) ≤ greatest_tick first + d → (j : ℕ) → 1 < j
     → clock (first ++ next) (suc j) ≤ clock (first ++ next) j + d
@@ -103,7 +103,7 @@ greatest_tick-append (_ ∷ first) next = greatest_tick-append first next
 
 -- ---- a send and a wait are asked for while the request is open
 
--- Behind these entries the time was told since the last wait.
+-- After these entries the time was told since the last wait.
 abbrev IsTimely : Entry → Type 0
 IsTimely (Timed time) = Unit {0}
 IsTimely (Posted to octets) = Unit {0}
@@ -113,7 +113,7 @@ module _ (purpose : Purpose) (call : Call) where
   abbrev IsOpen : List Entry → Type 0
   IsOpen gained = end_in purpose call (events_of purpose call gained) ≡ None
 
-  -- What is asked but the time is asked once the time was told, of a call whose request is open.
+  -- Everything except the time is asked after the time, of a call whose request is open.
   record IsReady (gained : List Entry) (last : Entry) : Type 0 where
     timely : IsTimely last
     unended : IsOpen gained
@@ -135,7 +135,7 @@ module _ (purpose : Purpose) (call : Call) where
     abbrev bound : ℕ
     bound = first + suc call.retries * (call.timeout + longest)
 
-    -- Of these events none moves the clock by more than so much; and this time was told.
+    -- None of these events moves the clock by more than so much; and this time was given.
     record IsSteady (all : List Event) (now : ℕ) : Type 0 where
       steady : (j : ℕ) → 1 < j → clock all (suc j) ≤ clock all j + longest
       reached : now ≤ greatest_tick all
@@ -163,7 +163,8 @@ module _ (purpose : Purpose) (call : Call) where
         (never_due (rules_for call) all (asked purpose call) (grind (arith, still))) in
         omega (arith, is.reached, all_by all (length all) (omega arith), soon)
 
-    -- What holds of the clock behind these entries, the last of which is this one, and n waits; `now` was told last.
+    -- The facts about the clock after these entries, the last of which is this one, and n waits; `now` was the last
+    -- time.
     record IsAt (before : List Entry) (last : Entry) (n now : ℕ) : Type 0 where
       came_last : last_or (Some (Timed first)) before ≡ Some last
       steady : IsSteady (events before) now
@@ -175,7 +176,7 @@ module _ (purpose : Purpose) (call : Call) where
     abbrev Goes : List Entry → List Entry → Type 0
     Goes before rest = Follows (move purpose call) (Timed first ∷ before) rest
 
-    -- Behind a send nothing else has changed.
+    -- After a send nothing else has changed.
     at_send : (before : List Entry) (last x : Entry) (n now : ℕ) → IsAt before last n now → handed_of x ≡ []
         → (question_of x ≡ ForTime → ⊥) → next_move (move purpose call) (Timed first ∷ before) ≡ Asks (question_of x)
         → IsAt (before ++ x ∷ []) x n now

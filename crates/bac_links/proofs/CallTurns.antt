@@ -1,4 +1,4 @@
--- Who asks by his moves asks alike where he is answered alike; and a call, turn by turn.
+-- Tools that ask by their moves, and are answered alike, ask alike; and a call, turn by turn.
 use Rattle.std.proofs.Common.{[], All, ap, append-nil, append_assoc, arith, Err, false, flat_map, IfErr, IfOk, inl, inr}
 use Rattle.std.proofs.Common.{length, List, nat_lt, None, Ok, Option, refl, Result, slice_get, Some, subst, suc, sym}
 use Rattle.std.proofs.{Common.{true, zero, ℕ, ◌++◌, ◌+◌, ◌<◌, ◌∙◌, ◌∷◌, ◌≡◌, ◌≢◌, ◌≤◌, ◌⊎◌}, lemmas.Bool.cases_Bool}
@@ -35,7 +35,7 @@ gains_both = grind (arith, append_assoc)
 pub gains_none : {Origin : Type 0} (a : Account Origin) → GainsAll [] a a
 gains_none a = sym (ap (with_history a) (append-nil a.history))
 
--- ---- who asks by his moves, and is answered alike, asks alike
+-- ---- tools that ask by their moves, and are answered alike, ask alike
 
 pub last_push : {A : Type 0} (o : Option A) (xs : List A) (x : A) → last_or o (xs ++ x ∷ []) ≡ Some x
 last_push o [] x = refl
@@ -65,7 +65,7 @@ module _ {X : Type 0} (wait n : ℕ) where
   pub turns_over : most_turns ≤ n → turn ≡ Over (Err TurnsSpent)
   turns_over over = rw (le-ltb n _ over) refl
 
--- What was asked and what was answered make the entry.
+-- The question and the answer make the entry.
 one_entry : (x y : Entry) → question_of x ≡ question_of y → answer_of x ≡ answer_of y → x ≡ y
 one_entry = grind arith
 
@@ -76,7 +76,7 @@ module _ {R : Type 0} (move : List Entry → Option Entry → Move R) where
   follows_push _ (y ∷ xs) x (asks, later) due =
       (asks, follows_push _ xs x later (ap (next_move move) (append_assoc _ _ xs) ∙ due))
 
-  -- What holds at first, and behind each entry more that follows, holds behind all that follow.
+  -- What holds at first, and after each entry more that follows, holds after all that follow.
   pub followed : (P : List Entry → Type 0)
       → ((xs : List Entry) (x : Entry) → Follows move [] xs → next_move move xs ≡ Asks (question_of x) → P xs
       → P (xs ++ x ∷ [])) → P [] → (xs : List Entry) → Follows move [] xs → P xs
@@ -118,13 +118,13 @@ module _ {R : Type 0} (move : List Entry → Option Entry → Move R) where
         → Follows move [] (other ++ other_rest) → GoOnAlike IsCutOff EndAlike PrintAlike r s rest other_rest
     so_far = grind (arith, go_on, follows_behind)
 
--- What was gained, by a history as it stands.
+-- The entries that were gained, by the present history.
 pub played : {Origin R : Type 0} {move : List Entry → Option Entry → Move R} {seen left : Account Origin} {result : R}
     {gained : List Entry} (plays : Plays move seen left result) → left.history ≡ seen.history ++ gained
     → plays.gained ≡ gained
 played = grind (arith, append_cancel_left)
 
--- So these entries were asked by the moves that were due, and behind them it is over.
+-- So these entries were asked by the moves that were due, and after them it is over.
 pub record PlaysAll {R : Type 0} (move : List Entry → Option Entry → Move R) (gained : List Entry) (result : R) : Type 0
   where
     pub follows : Follows move [] gained
@@ -163,7 +163,7 @@ slice_get-last (x ∷ events) event = slice_get-last events event
 
 module _ (rules : Rules) (by_invoke_id : AnswersByInvokeId rules) (small : rules.most_open ≤ 255) (events : List Event)
     (event : Event) where
-  -- What is kept before the last event does not rest on it.
+  -- The state before the last event does not rest on it.
   state_before : state_at rules 0 (events ++ event ∷ []) (length events) ≡ state_at rules 0 events (length events)
   state_before =
       let first = run_first rules 0 _ by_invoke_id small (length events)
@@ -173,7 +173,7 @@ module _ (rules : Rules) (by_invoke_id : AnswersByInvokeId rules) (small : rules
       ∙ ap (λ xs. (folded rules (initial 0) 0 xs).after) (take-append_seam events (event ∷ []))
       ∙ ap (λ r. r.after) whole
 
-  -- The step of the last event tells what the look-ahead says of it, and leaves what that says is kept.
+  -- The step of the last event gives the notes that the look-ahead says, and leaves the state that it says.
   last_step : step rules (state_at rules 0 events (length events)) event ≡ record {
     notes = output rules 0 (events ++ event ∷ []) (length events);
     after = state_at rules 0 (events ++ event ∷ []) (suc (length events));
@@ -216,7 +216,7 @@ not_silent _ x y e none = grind (arith, nat_tests, e, none)
 none_if : (x : Option End) → ((y : End) → x ≡ Some y → ⊥) → x ≡ None
 none_if = grind arith
 
--- ---- what is told at a position
+-- ---- the notes at a position
 
 -- The sends and the end that the look-ahead places at position i.
 abbrev placed : Rules → List Event → ℕ → Accepted → List Note
@@ -235,12 +235,12 @@ record TellsPlaced (rules : Rules) (events : List Event) (a : Accepted) (i : ℕ
   sends : posts (output rules 0 events i) ≡ posts (send_notes rules events i a)
   ends : endings (output rules 0 events i) ≡ endings (end_notes i a.request (end rules events a))
 
--- What is read of notes, where nothing is read of a dropped datagram.
+-- A reading of notes that reads nothing of a dropped datagram.
 module _ {X : Type 0} (read : Note → List X) (silent : read Dropped ≡ []) where
   dropped : (notes : List Note) → flat_map read (or_dropped notes) ≡ flat_map read notes
   dropped = grind (arith, silent)
 
-  -- Where one request was accepted before, a later event tells what is placed there.
+  -- If one request was accepted before, the notes of a later event are those that are placed there.
   news_told : (rules : Rules) (events : List Event) (i : ℕ) (a : Accepted) → accepted rules 0 events i ≡ a ∷ []
       → (a.position ≡ i → ⊥) →
       (event : Event) → AsksNothing event → slice_get events i ≡ Some event
@@ -444,7 +444,7 @@ pub one_post : (state : State) (ticket : ℕ) (to : Station) (octets : List ℕ)
     → Some (to, octets) ≡ to_send state ticket → posts (sent state ticket) ≡ Posted to octets ∷ []
 one_post _ _ to octets e = rw (← e) refl
 
--- Where one request is open and a tick ends it, the tick sends nothing.
+-- If one request is open and a tick ends it, the tick sends nothing.
 unsent_at_end : (rules : Rules) (state : State) (now : ℕ) → IsAlone state →
     endings (step rules state (Tick now)).notes ≡ None ∷ [] → posts (step rules state (Tick now)).notes ≡ []
 unsent_at_end = grind (arith, cases_Bool)
@@ -502,7 +502,7 @@ module _ {purpose : Purpose} {call : Call} {time : ℕ} (more : List Entry) {cli
   same_so : (x : Entry) → handed_of x ≡ [] → CarriesOn purpose call time (handed (more ++ x ∷ [])) client
   same_so = grind (arith, handed_push, append-nil)
 
-  -- What is heard in a call whose request stays open.
+  -- A datagram in a call whose request stays open.
   heard_on : (wait : ℕ) (heard : Heard) (left : Client)
       → endings (heard_step (rules_of client) client.state heard).notes ≡ [] →
       left ≡ keeping client (heard_step (rules_of client) client.state heard).after
@@ -524,7 +524,7 @@ module _ {purpose : Purpose} {call : Call} {time : ℕ} (more : List Entry) {cli
 -- ---- the next move
 
 module _ (purpose : Purpose) (call : Call) where
-  -- The move behind one more entry.
+  -- The move after one more entry.
   abbrev Behind : List Entry → Entry → Move Comes → Type 0
   Behind gained x next = next_move (move purpose call) (gained ++ x ∷ []) ≡ next
 
@@ -537,14 +537,14 @@ module _ (purpose : Purpose) (call : Call) where
       ≡ or_ended (end_in purpose call (events_of purpose call (gained ++ Waited wait heard ∷ []))) (Asks ForTime)
   behind_wait = grind (arith, behind)
 
-  -- Behind a time the request is sent where it is due, if it has not ended.
+  -- After a time the request is sent where it is due, if it has not ended.
   behind_now : (gained : List Entry) (now : ℕ) → next_move (move purpose call) (gained ++ Timed now ∷ [])
       ≡ or_ended (end_in purpose call (events_of purpose call (gained ++ Timed now ∷ [])))
       (or_sent (sent_last purpose call (events_of purpose call (gained ++ Timed now ∷ [])))
       (turn_after (wait_of call) (waits_in (gained ++ Timed now ∷ []))))
   behind_now = grind (arith, behind)
 
-  -- Where it stays open a turn begins then.
+  -- If it stays open, a turn begins then.
   behind_time : (gained : List Entry) (now : ℕ)
       → end_in purpose call (events_of purpose call (gained ++ Timed now ∷ [])) ≡ None →
       next_move (move purpose call) (gained ++ Timed now ∷ [])
@@ -552,7 +552,7 @@ module _ (purpose : Purpose) (call : Call) where
       (turn_after (wait_of call) (waits_in (gained ++ Timed now ∷ [])))
   behind_time = grind (arith, behind_now)
 
--- ---- behind a time, with the request open
+-- ---- after a time, with the request open
 
 module _ {purpose : Purpose} {call : Call} {time : ℕ} (more : List Entry) {client : Client} {n : ℕ}
     (carried : CarriesOn purpose call time (handed more) client)
@@ -564,7 +564,7 @@ module _ {purpose : Purpose} {call : Call} {time : ℕ} (more : List Entry) {cli
   follows_sent = grind (arith, follows_push)
 
   module _ {Origin : Type 0} {seen left : Account Origin} where
-    -- What is due was sent, or nothing is.
+    -- The due request was sent, or none is due.
     goes_on : OneOrNone due → GainsAll (Timed time ∷ (more ++ due)) seen left → Underway purpose call seen left client n
     goes_on (inl none) gains = grind (arith, append-nil)
     goes_on (inr (to, octets, one)) gains =
@@ -582,7 +582,7 @@ module _ {purpose : Purpose} {call : Call} {time : ℕ} (more : List Entry) {cli
         turned : (x : Entry) → waits_in (x ∷ []) ≡ 0 → waits_in (more ++ x ∷ []) ≡ n
         turned x none = let e = waits_push more x in omega (arith, e, none, turns)
 
-    -- What is due could not be sent.
+    -- The due request could not be sent.
     loses : (to : Station) (octets : List ℕ) → due ≡ Posted to octets ∷ [] →
         GainsAll (Timed time ∷ (more ++ Unposted to octets ∷ [])) seen left
         → Plays (move purpose call) seen left (Err SendFailed)
@@ -746,7 +746,7 @@ module _ {Origin W : Type 0} (purpose : Purpose) (call : Call) (contents : W →
       → Plays (move purpose call) seen left (Err fault) → Tells purpose call contents before after seen left (Err fault)
   fails_so = grind arith
 
-  -- What is shown of an end is what the call tells.
+  -- The text of an end is what the call prints.
   pub shown_so : (ending : Option Outcome) (result : Result Exit ToolFault)
       → TookOrFailed contents before after (ending_line purpose ending) result →
       IfOk result (λ exit. exit ≡ exit_of purpose ending) → IfErr result (λ fault. fault ≡ WriteFailed) →

@@ -187,7 +187,7 @@ ArePlayed-prop : (stage : ToPlay) (xs : List Entry) → IsProp (ArePlayed stage 
 ArePlayed-prop _ [] = Unit-prop
 ArePlayed-prop stage (x ∷ xs) = ×_prop (IsPlayed-prop stage x) (ArePlayed-prop (behind stage x) xs)
 
--- What was kept as sent is what the history says.
+-- The list of sends that was kept is that of the history.
 pub sent_so : {scenes : List Scene} {xs : List Entry} {next time : ℕ} {sent : List Sending}
     → ∥ HasPlayed scenes xs next time sent ∥₁ → sent ≡ sendings (at_first scenes) xs
 sent_so stands = ∥∥₁_elim stands (Coded-set (coded_list coded_sending) _ _) (λ it. it.sendings)

@@ -238,7 +238,7 @@ module _ (search : Search) where
     extended xs ys (taken, rest, e, took) =
         (taken, rest ++ ys, ap (λ (zs : List ℕ). zs ++ ys) e ∙ append_assoc _ rest ys, took)
 
-    -- It was cut off behind a wait.
+    -- It was cut off after a wait.
     pub record WasCut (result : Result Exit ToolFault) (gained : List Entry) : Type 0 where
       pub failed : result ≡ Err WriteFailed
       pub waited : 0 < waits_in gained
@@ -250,7 +250,7 @@ module _ (search : Search) where
       pub over : (next_move (search_move search) gained ≡ Over result) ⊎ WasCut result gained
       pub printed : Printed contents before after (lines_in gained) result
 
-    -- Where more could have been asked it was cut off, and it printed a front of any lines more.
+    -- If more could have been asked it was cut off, and it printed a front of any lines more.
     cut_off : (result : Result Exit ToolFault) (first more : List Entry) (x : Entry) → Stops result first
         → next_move (search_move search) first ≡ Asks (question_of x)
         → (result ≡ Err WriteFailed) × Printed contents before after (lines_in (first ++ more)) result
@@ -325,6 +325,16 @@ replies-append device (x ∷ xs) ys =
 pub arrivals-push : (gained : List Entry) (x : Entry) → arrivals_in (gained ++ x ∷ []) ≡ arrivals_in gained ++ came_by x
 arrivals-push = grind (arith, flat_map-append, append-nil)
 
+-- The line of one datagram.
+abbrev alone : List Entry → Station → List ℕ → Station × List ℕ
+alone before to octets = (to, octets)
+
+-- One entry more, and how many were sent.
+sent_more : (before gained : List Entry) (x : Entry) → length (sent_behind alone before (gained ++ x ∷ []))
+    ≡ length (sent_behind alone before gained) + length (sent_in (x ∷ []))
+sent_more before [] x = grind arith
+sent_more before (y ∷ gained) x = grind (arith, sent_more (before ++ y ∷ []) gained x)
+
 -- ---- the next move
 
 module _ (count : ℕ) (before : DeviceState) where
@@ -353,7 +363,7 @@ module _ (count : ℕ) (before : DeviceState) where
 
 -- A server after n waits.
 pub record ServeGoes {Origin : Type 0} (before device : DeviceState) (seen link : Account Origin)
-    (count came n : ℕ) : Type 0 where
+    (count came sent n : ℕ) : Type 0 where
   pub gained : List Entry
   pub gains : GainsAll gained seen link
   pub follows : Follows (serve_move count before) [] gained
@@ -361,22 +371,23 @@ pub record ServeGoes {Origin : Type 0} (before device : DeviceState) (seen link 
   pub turns : waits_in gained ≡ n
   pub device_is : device ≡ device_behind before (arrivals_in gained)
   pub came_is : came ≡ length (arrivals_in gained)
+  pub sent_is : sent ≡ length (sent_in gained)
 
 pub serves_none : {Origin : Type 0} {device : DeviceState} {seen : Account Origin} {count : ℕ}
-    → ServeGoes device device seen seen count 0 0
+    → ServeGoes device device seen seen count 0 0 0
 serves_none = grind (arith, gains_none)
 
-module _ {Origin : Type 0} {before device : DeviceState} {seen mid : Account Origin} {count came n : ℕ}
-    (goes : ServeGoes before device seen mid count came n) where
+module _ {Origin : Type 0} {before device : DeviceState} {seen mid : Account Origin} {count came sent n : ℕ}
+    (goes : ServeGoes before device seen mid count came sent n) where
   -- How it ends.
-  served : (result : Result Exit ToolFault) → next_move (serve_move count before) goes.gained ≡ Over result
+  served : (result : Result ℕ ToolFault) → next_move (serve_move count before) goes.gained ≡ Over result
       → Serves count before device seen mid result
   served _ over = record {
     plays = grind arith;
     device = goes.device_is;
   }
 
-  pub serve_done : came ≡ count → Serves count before device seen mid (Ok Good)
+  pub serve_done : came ≡ count → Serves count before device seen mid (Ok sent)
   serve_done all = served _ (grind arith)
 
   turn_so : came < count → next_move (serve_move count before) goes.gained ≡ turn_after serve_wait n
@@ -397,7 +408,7 @@ module _ {Origin : Type 0} {before device : DeviceState} {seen mid : Account Ori
     gains_one : {left : Account Origin} → GainsAll (Waited serve_wait heard ∷ []) mid left → GainsAll awaited seen left
     gains_one more = gains_both _ _ _ _ _ goes.gains more
 
-    -- What holds of these entries behind the wait, where they are no further waits.
+    -- What holds of these entries after the wait, if they are no further waits.
     record IsBehind (gained : List Entry) : Type 0 where
       arrived : arrivals_in gained ≡ arrivals_in goes.gained ++ brought_by heard
       waits : waits_in gained ≡ suc n
@@ -417,13 +428,14 @@ module _ {Origin : Type 0} {before device : DeviceState} {seen mid : Account Ori
       device_is : after ≡ device_behind before (arrivals_in gained)
       device_is = grind (arith, behind-append)
 
-      on_with : {left : Account Origin} (brought : ℕ) → brought ≡ length (brought_by heard) → GainsAll gained seen left
+      on_with : {left : Account Origin} (brought replied : ℕ) → brought ≡ length (brought_by heard)
+          → sent + replied ≡ length (sent_in gained) → GainsAll gained seen left
           → Follows (serve_move count before) [] gained
           → next_move (serve_move count before) gained ≡ serve_next count gained
-          → ServeGoes before after seen left count (came + brought) (suc n)
+          → ServeGoes before after seen left count (came + brought) (sent + replied) (suc n)
       on_with = grind (arith, device_is, length-append, replies_are, flat_map-append)
 
-      fails_with : {left : Account Origin} (result : Result Exit ToolFault) → GainsAll gained seen left
+      fails_with : {left : Account Origin} (result : Result ℕ ToolFault) → GainsAll gained seen left
           → Follows (serve_move count before) [] gained → next_move (serve_move count before) gained ≡ Over result
           → Serves count before after seen left result
       fails_with _ gains follows over = record {
@@ -445,28 +457,37 @@ module _ {Origin : Type 0} {before device : DeviceState} {seen mid : Account Ori
     next_silent = grind (arith, behind_receive)
 
   module _ {after : DeviceState} {left : Account Origin} (within : n < most_turns) (fewer : came < count) where
-    pub serve_on : (brought : ℕ) → ServesTurn device after mid left (Ok brought) →
-        ServeGoes before after seen left count (came + brought) (suc n)
-    serve_on brought turn =
+    pub serve_on : (brought replied : ℕ) → ServesTurn device after mid left (Ok (brought, replied)) →
+        ServeGoes before after seen left count (came + brought) (sent + replied) (suc n)
+    serve_on brought replied turn =
         go (replies_of device (brought_by turn.heard)) refl (one_at_most device turn.heard) turn.gains
       where
+        sent_so : (rs : List Reply) → replies_of device (brought_by turn.heard) ≡ rs → sends_of rs ≡ []
+            → sent + replied ≡ length (sent_in (awaited turn.heard))
+        sent_so rs e none =
+            let more = sent_more [] goes.gained (Waited serve_wait turn.heard) in
+            let count = turn.sent in grind (arith, goes.sent_is)
+
         silent : (rs : List Reply) → replies_of device (brought_by turn.heard) ≡ rs → AtMostOne rs → sends_of rs ≡ []
             → GainsAll (Waited serve_wait turn.heard ∷ []) mid left →
-            ServeGoes before after seen left count (came + brought) (suc n)
+            ServeGoes before after seen left count (came + brought) (sent + replied) (suc n)
         silent rs e few none more =
-            on_with turn.heard turn.leaves _ (behind_waited turn.heard) _ turn.came
+            on_with turn.heard turn.leaves _ (behind_waited turn.heard) _ _ turn.came (sent_so rs e none)
             (gains_one _ more) (follows_wait turn.heard within fewer)
             (next_silent _ turn.received rs e few none)
 
         go : (rs : List Reply) → replies_of device (brought_by turn.heard) ≡ rs → AtMostOne rs
             → GainsAll (Waited serve_wait turn.heard ∷ sends_of rs) mid left →
-            ServeGoes before after seen left count (came + brought) (suc n)
+            ServeGoes before after seen left count (came + brought) (sent + replied) (suc n)
         go [] e few more = silent [] e few refl more
         go (None ∷ []) e few more = silent (None ∷ []) e few refl more
         go (Some (to, octets) ∷ []) e few more =
             let x = Posted to octets in
-            on_with turn.heard turn.leaves (awaited turn.heard ++ x ∷ []) (behind_sent turn.heard x refl refl) _
-            turn.came (gains_wait _ _ more)
+            let waited = sent_more [] goes.gained (Waited serve_wait turn.heard) in
+            let posted = sent_more [] (awaited turn.heard) x in
+            let count_so = turn.sent in
+            on_with turn.heard turn.leaves (awaited turn.heard ++ x ∷ []) (behind_sent turn.heard x refl refl) _ _
+            turn.came (grind (arith, goes.sent_is)) (gains_wait _ _ more)
             (follows_sent _ within fewer turn.received x to octets e refl)
             (gained_more count before (awaited turn.heard) x)
         go (r ∷ s ∷ rs) e few more = absurd few
@@ -504,7 +525,7 @@ defined = grind (arith, replied_after, left_after)
 -- ---- two servers that are answered alike, over devices in the same state, ask and send alike, and end alike
 
 module _ (count : ℕ) (before after after' : DeviceState) where
-  abbrev EndAlike : Result Exit ToolFault → Result Exit ToolFault → Type 0
+  abbrev EndAlike : Result ℕ ToolFault → Result ℕ ToolFault → Type 0
   EndAlike result result' = (result ≡ result') × (after ≡ after')
 
   pub servings_so_far : {Origin Other : Type 0} → AskAlike Origin Other (Serves count before after)
@@ -527,17 +548,17 @@ module _ {D A : Type 0} (told : List Entry → Station → List ℕ → D)
   sending before (Asks (ToSend to octets)) = told before to octets ∷ []
   sending before _ = []
 
-  -- What was due was sent, or is to be sent next; where a send failed, all but that one.
+  -- The due requests were sent, or are to be sent next; if a send failed, all except that one.
   abbrev IsSent : List Entry → Move (Result A ToolFault) → Type 0
   IsSent xs (Over result) = AllSent (due xs) (sent_behind told [] xs) result
   IsSent xs (Asks question) = due xs ≡ sent_behind told [] xs ++ sending xs (Asks question)
 
-  -- Behind a send that failed it is over with that fault, and behind nothing else.
+  -- After a send that failed it is over with that fault, and after nothing else.
   abbrev FailsThere : Entry → Move (Result A ToolFault) → Type 0
   FailsThere (Unposted to octets) next = next ≡ Over (Err SendFailed)
   FailsThere _ next = next ≢ Over (Err SendFailed)
 
-  -- What is due grows by what is to be sent next.
+  -- The list of due sends grows by the next one.
   pub record SendsDues : Type 0 where
     pub first : IsSent [] (next_move move [])
     pub grows : (xs : List Entry) (x : Entry) → Follows move [] xs → next_move move xs ≡ Asks (question_of x)
@@ -559,10 +580,6 @@ module _ {D A : Type 0} (told : List Entry → Station → List ℕ → D)
         → AllSent (due gained) (sent_behind told [] gained) result
     all_sent plays = rw plays.over at (sent_so_far _ plays.follows)
 
--- What is told of a datagram alone.
-abbrev alone : List Entry → Station → List ℕ → Station × List ℕ
-alone before to octets = (to, octets)
-
 -- ---- a server
 
 module _ (count : ℕ) (device : DeviceState) where
@@ -577,13 +594,14 @@ module _ (count : ℕ) (device : DeviceState) where
     fails = grind (arith, nat_tests);
   }
 
-  module _ {gained : List Entry} {result : Result Exit ToolFault}
+  module _ {gained : List Entry} {result : Result ℕ ToolFault}
       (plays : PlaysAll (serve_move count device) gained result) where
     pub server_sent : AllSent (replies_due gained) (sent_in gained) result
     server_sent = all_sent alone (serve_move count device) replies_due server_dues plays
 
-    -- A server hears no more datagrams than it is to, and that many where it answers.
-    pub as_many : (length (arrivals_in gained) ≤ count) × IfOk result (λ answer. length (arrivals_in gained) ≡ count)
+    -- A server hears no more datagrams than it is to, and that many where it answers, with the number of its replies.
+    pub as_many : (length (arrivals_in gained) ≤ count)
+        × IfOk result (λ replies. (length (arrivals_in gained) ≡ count) × (replies ≡ length (sent_in gained)))
     as_many =
         let most = followed (serve_move count device) (λ xs. length (arrivals_in xs) ≤ count)
         (grind (arith, arrivals-push, length-append, nat_tests)) (omega arith) gained plays.follows in
@@ -592,12 +610,12 @@ module _ (count : ℕ) (device : DeviceState) where
 -- ---- a search
 
 module _ (search : Search) where
-  -- The Who-Is is due behind the first entry.
+  -- The Who-Is is due after the first entry.
   abbrev who_is_due : List Entry → List (Station × List ℕ)
   who_is_due [] = []
   who_is_due (_ ∷ _) = (station search.to, who_is_to search) ∷ []
 
-  -- A search asks for the time first, and behind a wait.
+  -- A search asks for the time first, and after a wait.
   at_times : (xs : List Entry) → Follows (search_move search) [] xs → next_move (search_move search) xs ≡ Asks ForTime
       → (xs ≡ []) ⊎ (0 < waits_in xs)
   at_times = followed (search_move search)

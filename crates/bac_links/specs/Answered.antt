@@ -46,7 +46,7 @@ module _ (Origin Other : Type 0) {A : Type 0} (Runs : Account Origin → Account
 
 -- ---- what was printed
 
--- With this result a writer took the text; where it failed, a front of it.
+-- With this result a writer took the text; if it failed, a front of it.
 abbrev pub Printed : {W A : Type 0} → (W → Option (List ℕ)) → (before after : Checked W) → (text : List ℕ)
     → Result A ToolFault → Type 0
 Printed contents before after text (Err WriteFailed) = TakesFront contents before after text

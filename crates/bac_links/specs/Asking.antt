@@ -4,13 +4,13 @@ use Rattle.std.specs.Prelude.{Err, if◌then◌else◌, List, nat_lt, None, Opti
 use Rattle.{bac_pdu.specs.Station, bac_links.specs.declared.fault.ToolFault.{ToolFault, TheVariants.TurnsSpent}}
 use Rattle.bac_links.specs.{History.{Account, Entry, GainsAll, Posted, Timed, Unposted, Waited}, Limits.most_turns}
 
--- What is asked of a link: a datagram, in a wait of so long; the time; that a datagram is sent.
+-- A question to a link: a datagram, in a wait of so long; the time; that a datagram is sent.
 pub data Question : Type 0 where
   ForDatagram : (wait : ℕ) → Question
   ForTime : Question
   ToSend : (to : Station) (octets : List ℕ) → Question
 
--- What was asked in an entry.
+-- The question of an entry.
 abbrev pub question_of : Entry → Question
 question_of (Waited wait heard) = ForDatagram wait
 question_of (Timed time) = ForTime
@@ -22,7 +22,7 @@ pub data Move (R : Type 0) : Type 0 where
   Asks : (question : Question) → Move R
   Over : (result : R) → Move R
 
--- The next move behind these entries: a tool has its moves by all of them, and by the last.
+-- The next move after these entries: a tool has its moves by all of them, and by the last.
 abbrev pub next_move : {R : Type 0} → (List Entry → Option Entry → Move R) → List Entry → Move R
 next_move move entries = move entries (last_or None entries)
 
@@ -46,7 +46,7 @@ waits_in [] = zero
 waits_in (Waited wait heard ∷ later) = suc (waits_in later)
 waits_in (_ ∷ later) = waits_in later
 
--- Which times were told, one after another.
+-- The times that were given, one after another.
 abbrev pub times_in : List Entry → List ℕ
 times_in [] = []
 times_in (Timed time ∷ later) = time ∷ times_in later

@@ -23,7 +23,7 @@ rules_for call = client_rules call.timeout call.retries
 abbrev pub Comes : Type 0
 Comes = Result (Option Outcome) ToolFault
 
--- Where the request has ended the call is over.
+-- If the request has ended, the call is over.
 abbrev pub or_ended : Option End → Move Comes → Move Comes
 or_ended (Some x) other = Over (Ok x.outcome)
 or_ended None other = other
@@ -49,7 +49,7 @@ module _ (purpose : Purpose) (call : Call) where
   abbrev pub is_sent_last : List Event → Bool
   is_sent_last events = list_any (nat_eq (length events - 1)) (sends (rules_for call) events asked)
 
-  -- The request is asked for behind the first event.
+  -- The request is asked for after the first event.
   abbrev pub with_request : List Event → List Event
   with_request [] = []
   with_request (first ∷ later) = first ∷ Ask (station call.to) (service_of purpose) call.body.items ∷ later
@@ -58,8 +58,8 @@ module _ (purpose : Purpose) (call : Call) where
   abbrev pub events_of : List Entry → List Event
   events_of gained = with_request (handed gained)
 
-  -- The next move of a call, behind what came last: the time comes first, and after each wait but one that brings the
-  -- end; behind a time the request is sent where it is due; and then the next turn begins.
+  -- The next move of a call, after what came last: the time comes first, and after each wait but one that brings the
+  -- end; after a time the request is sent where it is due; and then the next turn begins.
   abbrev pub move : List Entry → Option Entry → Move Comes
   move gained None = Asks ForTime
   move gained (Some (Timed time)) =

@@ -1,4 +1,4 @@
--- What is printed of how a call's request ended, and how the tool ends then.
+-- The text of how a call's request ended, and how the tool ends then.
 use Rattle.std.specs.Option.{option_map_or}
 use Rattle.std.specs.Prelude.{[], codes, if◌then◌else◌, is_some, List, None, Option, Some, ℕ, ◌++◌, ◌∷◌}
 use Rattle.{bac_pdu.specs.{ack_of, ReadAck}, bac_tsm.specs.{Outcome, Simple, Events.Complex}}
@@ -6,8 +6,8 @@ use Rattle.bac_print.specs.{Outcomes.outcome_text, Values.region_text}
 use Rattle.bac_links.specs.declared.ending.Purpose.{Purpose, TheVariants.{Reading, Writing}}
 use Rattle.bac_links.specs.declared.exit.Exit.{Exit, TheVariants.{Bad, Good}}
 
--- What is printed of how the request ended: of a read the value; `bad-ack` where the acknowledgement can't be read, or
--- is not one of the service; else the outcome, as `ok` of a write.
+-- The text of how the request ended: for a read the value; `bad-ack` if the acknowledgement can't be read, or is not of
+-- this service; otherwise the outcome, such as `ok` of a write.
 abbrev pub ending_text : Purpose → Option Outcome → List ℕ
 ending_text Reading (Some (Complex body)) =
     option_map_or (λ (ack : ReadAck). region_text ack.value) (ack_of body) (codes "bad-ack")

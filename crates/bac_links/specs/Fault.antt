@@ -1,4 +1,4 @@
--- Which faults are the link's, and which the writer's; and what is told of them.
+-- The faults of the link and those of the writer; and their messages.
 use Rattle.std.specs.Prelude.{Bool, codes, Err, false, List, Result, true, ℕ}
 use Rattle.bac_links.specs.declared.fault.ToolFault.{ToolFault, TheVariants.{ReceiveFailed, SendFailed, TurnsSpent}}
 use Rattle.bac_links.specs.declared.fault.ToolFault.TheVariants.{WriteFailed}
@@ -14,13 +14,13 @@ abbrev pub is_write_fault : {A : Type 0} → Result A ToolFault → Bool
 is_write_fault (Err WriteFailed) = true
 is_write_fault _ = false
 
--- What is told of it.
+-- Its message.
 abbrev pub tool_fault_text : ToolFault → List ℕ
 tool_fault_text SendFailed = codes "sending failed"
 tool_fault_text ReceiveFailed = codes "receiving failed"
 tool_fault_text TurnsSpent = codes "turns spent"
 tool_fault_text WriteFailed = codes "writing failed"
 
--- What is told where there is no link to be had.
+-- The message if no link is available.
 abbrev pub link_fault_text : List ℕ
 link_fault_text = codes "bind failed"

@@ -1,4 +1,4 @@
--- Where a link in memory stands behind all that it was asked.
+-- The state of a link in memory after all that it was asked.
 use Rattle.std.specs.Prelude.{◌≡◌, ℕ, List, [], ◌∷◌, drop}
 use Rattle.bac_links.specs.{History.Entry, Played.{Scene, ToPlay, at_first, behind, ArePlayed, Sending, sendings}}
 

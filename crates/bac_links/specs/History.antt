@@ -29,7 +29,7 @@ GainsAll gained before after = after ≡ record before { history = before.histor
 abbrev pub Gains : {Origin : Type 0} → Entry → Account Origin → Account Origin → Type 0
 Gains entry = GainsAll (entry ∷ [])
 
--- What is heard where `receive` answers this and leaves these octets in its datagram.
+-- The datagram that is heard if `receive` answers this and leaves these octets in its datagram.
 abbrev pub heard_by : {E : Type 0} → Result (Option Peer) E → List ℕ → Heard
 heard_by (Ok None) octets = Silence
 heard_by (Ok (Some from)) octets = Arrived (station from) octets

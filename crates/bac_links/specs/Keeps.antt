@@ -1,9 +1,9 @@
--- What holds of a link over a socket, behind all that it was asked.
+-- What holds of a link over a socket, after all that it was asked.
 use Rattle.std.specs.Prelude.{◌≡◌, ℕ, Bool, false, List, [], ◌∷◌}
 use Rattle.bac_links.specs.{SystemCall.SystemCall, History.Entry}
 use Rattle.bac_links.specs.{Socket.{Logs, AreCallsFor, waits_behind, time_behind}, declared.udp.OnRefusal.OnRefusal}
 
--- How long the receives wait behind these entries, and the time.
+-- How long the receives wait after these entries, and the time.
 abbrev pub waits_behind_all : ℕ → List Entry → ℕ
 waits_behind_all waits [] = waits
 waits_behind_all waits (entry ∷ later) = waits_behind_all (waits_behind waits entry) later

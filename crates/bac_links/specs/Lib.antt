@@ -14,8 +14,8 @@ pub mod Handed
 pub mod Ending
 pub mod Call
 pub mod Search
-pub mod Serve
 pub mod Sent
+pub mod Serve
 pub mod Progress
 pub mod Inner
 unfoldable pub use Limits.*
@@ -34,8 +34,8 @@ unfoldable pub use Handed.*
 unfoldable pub use Ending.*
 unfoldable pub use Call.*
 unfoldable pub use Search.*
-unfoldable pub use Serve.*
 unfoldable pub use Sent.*
+unfoldable pub use Serve.*
 unfoldable pub use Progress.*
 pub use Rattle.bac_links.specs.{Answered.answers_of, Call.Tells, declared.ending.Purpose.{Purpose, TheVariants.Writing}}
 pub use Rattle.bac_links.specs.declared.{exit.Exit.{Exit, TheVariants.{Bad, Good}}, fault.ToolFault.ToolFault}

@@ -7,7 +7,7 @@ pub record Scene : Type 0 where
   pub heard : Heard
   pub time : Option ℕ
 
--- Where a link in memory stands: the scenes that are to come, and its time.
+-- The state of a link in memory: the scenes that are to come, and its time.
 pub record ToPlay : Type 0 where
   pub scenes : List Scene
   pub time : ℕ
@@ -26,7 +26,7 @@ abbrev pub behind_wait : (wait : ℕ) → List Scene → (time : ℕ) → ToPlay
 behind_wait wait [] time = record { scenes = []; time = min (time + wait) (2 ^ 64 - 1) }
 behind_wait wait (scene ∷ later) time = record { scenes = later; time = unwrap_or scene.time time }
 
--- Where the link stands behind an entry: a wait alone changes that.
+-- The state of the link after an entry: only a wait changes it.
 abbrev pub behind : ToPlay → Entry → ToPlay
 behind stage (Waited wait heard) = behind_wait wait stage.scenes stage.time
 behind stage _ = stage
@@ -48,12 +48,12 @@ pub record Sending : Type 0 where
   pub to : Station
   pub octets : List ℕ
 
--- What was sent in an entry at this time.
+-- The datagram that was sent in an entry at this time.
 abbrev pub sending_in : (time : ℕ) → Entry → List Sending
 sending_in time (Posted to octets) = record { time = time; to = to; octets = octets } ∷ []
 sending_in time _ = []
 
--- What was sent in these entries, one after another.
+-- The datagrams that were sent in these entries, one after another.
 abbrev pub sendings : ToPlay → List Entry → List Sending
 sendings stage [] = []
 sendings stage (entry ∷ later) = sending_in stage.time entry ++ sendings (behind stage entry) later

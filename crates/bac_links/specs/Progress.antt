@@ -4,7 +4,7 @@ use Rattle.bac_links.specs.History.{Entry, Waited, Timed}
 
 -- A clock shows `time_behind n` once n waits are over.
 module _ (time_behind : ℕ → ℕ) where
-  -- The times that were told among these entries, behind so many waits, are those of the clock.
+  -- The times that were told among these entries, after so many waits, are those of the clock.
   abbrev pub AreTold : (waits : ℕ) → List Entry → Type 0
   AreTold n [] = ⊤
   AreTold n (Waited wait heard ∷ later) = AreTold (suc n) later

@@ -45,8 +45,8 @@ module _ (search : Search) where
   abbrev pub found_in : List Entry → List Found
   found_in = flat_map (found_by search.who)
 
-  -- Behind a time and so many waits: behind none the Who-Is is due; else the search is over once the timeout has
-  -- passed. It is good to have found a device.
+  -- After a time and so many waits: after none the Who-Is is due; else the search is over once the timeout has passed.
+  -- It is good to have found a device.
   abbrev pub behind_time : List Entry → (waits : ℕ) → Move (Result Exit ToolFault)
   behind_time gained zero = Asks (ToSend (station search.to) who_is_to)
   behind_time gained (suc n) =
@@ -54,7 +54,7 @@ module _ (search : Search) where
       then Over (Ok (if nat_lt 0 (length (found_in gained)) then Good else Bad))
       else turn_after (turn_wait search.timeout) (suc n)
 
-  -- The next move of a search, behind what came last: the time comes first, and after each wait.
+  -- The next move of a search, after what came last: the time comes first, and after each wait.
   abbrev pub search_move : List Entry → Option Entry → Move (Result Exit ToolFault)
   search_move gained None = Asks ForTime
   search_move gained (Some (Timed time)) = behind_time gained (waits_in gained)

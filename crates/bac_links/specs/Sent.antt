@@ -1,10 +1,10 @@
--- What was sent over a link, by its history.
+-- The datagrams that were sent over a link, by its history.
 use Rattle.std.specs.Prelude.{[], Err, length, List, map, Result, ℕ, ◌++◌, ◌-◌, ◌∷◌, ◌≡◌}
 use Rattle.{bac_pdu.specs.Station, bac_tsm.specs.Lookahead.sends, bac_text.specs.declared.jobs.Call.Call}
 use Rattle.bac_links.specs.{Call.{asked, events_of, rules_for}, declared.ending.Purpose.Purpose}
 use Rattle.bac_links.specs.{declared.fault.ToolFault.{ToolFault, TheVariants.SendFailed}, History.{Entry, Posted}}
 
--- The datagrams that were sent behind these entries, in their order, each with what is told of it there.
+-- The datagrams that were sent after these entries, in their order, each with its note there.
 abbrev pub sent_behind : {D : Type 0} → (List Entry → Station → List ℕ → D) → (before later : List Entry) → List D
 sent_behind told before [] = []
 sent_behind told before (Posted to octets ∷ later) =

@@ -4,9 +4,9 @@ use Rattle.std.specs.Prelude.{[], Err, if◌then◌else◌, length, List, nat_le
 use Rattle.bac_pdu.specs.{Station}
 use Rattle.bac_device.specs.{Arrival, DeviceState, Reply.{reply_of, with_write, write_in_datagram}}
 use Rattle.bac_links.specs.Asking.{Asks, Move, Over, Plays, ToSend, turn_after, waits_in}
-use Rattle.bac_links.specs.declared.exit.Exit.{Exit, TheVariants.Good}
 use Rattle.bac_links.specs.declared.fault.ToolFault.{ToolFault, TheVariants.{ReceiveFailed, SendFailed}}
 use Rattle.bac_links.specs.{History.{Account, Arrived, Entry, Failure, Unposted, Waited}, Limits.serve_wait}
+use Rattle.bac_links.specs.Sent.{sent_in}
 
 -- The datagram that came by an entry, if one did.
 abbrev pub came_by : Entry → List Arrival
@@ -32,21 +32,22 @@ replies_of device [] = []
 replies_of device (came ∷ later) =
     reply_of device came.from came.datagram ∷ replies_of (device_next device came) later
 
--- Where there is a reply it is sent.
-abbrev pub or_reply : Option (Option (Station × List ℕ)) → Move (Result Exit ToolFault) → Move (Result Exit ToolFault)
+-- If there is a reply, it is sent.
+abbrev pub or_reply : Option (Option (Station × List ℕ)) → Move (Result ℕ ToolFault) → Move (Result ℕ ToolFault)
 or_reply (Some (Some (to, octets))) other = Asks (ToSend to octets)
 or_reply _ other = other
 
 module _ (count : ℕ) where
-  -- Once as many datagrams came as were asked for it is over, which is good; else a turn begins.
-  abbrev pub serve_next : List Entry → Move (Result Exit ToolFault)
+  -- Once as many datagrams came as were asked for it is over, with the number of replies that were sent; else a turn
+  -- begins.
+  abbrev pub serve_next : List Entry → Move (Result ℕ ToolFault)
   serve_next gained =
       if nat_le count (length (arrivals_in gained))
-      then Over (Ok Good)
+      then Over (Ok (length (sent_in gained)))
       else turn_after serve_wait (waits_in gained)
 
-  -- The next move of a server, behind what came last: the reply to a datagram is sent before the next wait.
-  abbrev pub serve_move : DeviceState → List Entry → Option Entry → Move (Result Exit ToolFault)
+  -- The next move of a server, after what came last: the reply to a datagram is sent before the next wait.
+  abbrev pub serve_move : DeviceState → List Entry → Option Entry → Move (Result ℕ ToolFault)
   serve_move device gained (Some (Waited wait Failure)) = Over (Err ReceiveFailed)
   serve_move device gained (Some (Waited wait (Arrived from octets))) =
       or_reply (last_or None (replies_of device (arrivals_in gained))) (serve_next gained)
@@ -56,6 +57,6 @@ module _ (count : ℕ) where
 -- What a device that serves over a link answers and sends, and what is left of both, however the server ends and
 -- whatever the link is.
 pub record Serves {Origin : Type 0} (count : ℕ) (before after : DeviceState) (seen left : Account Origin)
-    (result : Result Exit ToolFault) : Type 0 where
+    (result : Result ℕ ToolFault) : Type 0 where
   pub plays : Plays (serve_move count before) seen left result
   pub device : after ≡ device_behind before (arrivals_in plays.gained)

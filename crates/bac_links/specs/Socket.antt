@@ -43,7 +43,7 @@ BindsAtMost at calls = (calls ≡ []) ⊎ Binds at calls
 -- ---- the time
 
 -- The time of a link: how many whole milliseconds have passed by its clock since it was made, up to the greatest
--- number. Where the clock failed it is the time before.
+-- number. If the clock failed, it is the time before.
 abbrev pub time_by : Option Duration → ℕ → ℕ
 time_by (Some passed) before = min (as_nanos passed / 1_000_000) (2 ^ 64 - 1)
 time_by None before = before
@@ -72,7 +72,7 @@ pub record Sends (refused : OnRefusal) (to : Station) (octets : List ℕ) (good 
 
 -- ---- a wait
 
--- The peer that these octets came from, where they are not too many to be heard.
+-- The peer that these octets came from, if they are not too many to be heard.
 abbrev pub heard_from : SocketAddr → List ℕ → Option Peer
 heard_from address octets = if nat_le (length octets) longest_datagram then peer_at address else None
 
@@ -88,7 +88,7 @@ is_quiet refused HostUnreachable = is_lost refused
 is_quiet refused NetworkUnreachable = is_lost refused
 is_quiet refused kind = false
 
--- What is heard where a receive is answered so.
+-- The datagram that is heard if a receive is answered so.
 abbrev pub hears : OnRefusal → Result (List ℕ × SocketAddr) ErrorKind → Heard
 hears refused (Ok (octets, from)) =
     option_map_or (λ peer. Arrived (station peer) octets) (heard_from from octets) Silence
@@ -111,7 +111,7 @@ pub record IsUnlimited (waits wait : ℕ) (heard : Heard) (calls : List SystemCa
   pub failed : heard ≡ Failure
   pub asked : calls ≡ limits waits wait false
 
--- A socket whose receives wait so long was asked for a datagram once, with room for one octet more than is heard; where
+-- A socket whose receives wait so long was asked for a datagram once, with room for one octet more than is heard; if
 -- they are to wait another time, this was set before. This was heard, or the other time could not be set.
 abbrev pub Waits : OnRefusal → (waits wait : ℕ) → Heard → List SystemCall → Type 0
 Waits refused waits wait heard calls =
@@ -119,7 +119,7 @@ Waits refused waits wait heard calls =
 
 -- ---- a whole history
 
--- How long the socket's receives wait behind an entry, and the time. Behind a failure there is no further wait.
+-- How long the socket's receives wait after an entry, and the time. After a failure there is no further wait.
 abbrev pub waits_behind : ℕ → Entry → ℕ
 waits_behind waits (Waited wait heard) = max wait 1
 waits_behind waits _ = waits
@@ -154,6 +154,6 @@ pub record OverSocket : Type 0 where
 abbrev pub account_over : OnRefusal → (calls : List SystemCall) → List Entry → Account OverSocket
 account_over refused calls history = record { made = record { refused = refused; calls = calls }; history = history }
 
--- Behind the calls that the socket had made before, its log has those for the entries of the history, and no others.
+-- After the calls that the socket had made before, its log has those for the entries of the history, and no others.
 abbrev pub LogsHistory : Account OverSocket → (log : List SystemCall) → Type 0
 LogsHistory account = Logs (AreCallsFor account.made.refused 0 0 account.history) account.made.calls

@@ -19,9 +19,9 @@ use bac_text::Call;
 use bac_tsm::{Client, Config, DueEntry, Outcome};
 use std::io::Write;
 
-/// Reads a property (clause 15.5): sends the request, waits for how it ends, and prints that in a line, as `4290999a`,
-/// `error 2 32` or `timeout`. It is good to have read a value. What the answer says of the object and the property is
-/// not compared with what was asked.
+/// Reads a property (clause 15.5): sends the request, waits for how it ends, and prints that in a line, such as
+/// `4290999a`, `error 2 32` or `timeout`. It is good to have read a value. What the answer says of the object and the
+/// property is not compared with what was asked.
 ///
 /// # Errors
 ///
@@ -43,7 +43,7 @@ pub fn run_read<L: Link, W: Write>(
     run(Purpose::Reading, call, link, writer)
 }
 
-/// Writes a property (clause 15.9): sends the request, waits for how it ends, and prints that in a line, as `ok`,
+/// Writes a property (clause 15.9): sends the request, waits for how it ends, and prints that in a line, such as `ok`,
 /// `error 2 40` or `timeout`. `ok` is good: the property was written.
 ///
 /// # Errors

@@ -29,7 +29,7 @@ pub(crate) enum Ending<'d> {
     TimedOut,
 }
 
-/// Prints the line that tells how the request ended.
+/// Prints the line of how the request ended.
 pub(crate) fn show_ending<W: Write>(
     purpose: Purpose,
     ending: Ending<'_>,

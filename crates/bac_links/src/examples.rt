@@ -1,4 +1,4 @@
-//! Examples of what is said of links and tools, worked out by computation. They show what the definitions mean.
+//! Examples of links and tools, worked out by computation. They show what the definitions mean.
 
 ghost use Rattle.std.specs.declared.io.ErrorKind.TheVariants.{TimedOut};
 ghost use Rattle.std.specs.Prelude.{[], codes, Err, false, None, Ok, Some, true, ℕ, ◌∷◌, ◌≡◌};
@@ -12,13 +12,14 @@ ghost use Rattle.bac_links.specs.{sent_in, Serves, Silence, Tells, Timed, Times,
 ghost use Rattle.bac_links.specs.{TurnsSpent, Unposted, Waited, Waits, waits_in, who_is_to, WriteFailed, Writing};
 ghost use Rattle.bac_links.specs.{declared.udp.OnRefusal.TheVariants.IsLost, Inner.{answered, asked_so, AsksInVain}};
 ghost use Rattle.bac_links.specs.Inner.{AsksTime, bad, broken, call, deaf, desk, device, good, IsNothing, local, lost};
+ghost use Rattle.bac_tsm.specs.{Ask, Tick};
 ghost use Rattle.bac_links.specs.Inner.{nobody, NoCut, once_asked, one_step, quiet_link, Same, search, SendsOnly};
 ghost use Rattle.bac_links.specs.Inner.{steady, to_desk, twice_asked, unsearched, unsent, unwritten, write};
 
-// What a clock tells, and how long waits take by it.
+// The times of a clock, and how long waits take by it.
 #[tactic(none)]
 fn examples_of_time()
-    // Behind one wait it is 50 by the clock.
+    // After one wait the clock shows 50.
     ensures told { AreTold steady 0 (Timed 0 ∷ Waited 50 Silence ∷ Timed 50 ∷ []) }
     ensures told_otherwise { AreTold steady 0 (Timed 0 ∷ Waited 50 Silence ∷ Timed 49 ∷ []) → ⊥ }
     ensures prompt { ArePrompt steady 50 3 }
@@ -33,15 +34,17 @@ fn examples_of_time()
     ensures longest { longest_datagram ≡ 2047 }
 {}
 
-// What was heard and sent, by the entries of a history.
+// The datagrams that the entries of a history heard and sent.
 #[tactic(none)]
 fn examples_of_entries()
-    // What could not be sent was not.
+    // A send that failed is not counted.
     ensures sent { sent_in (Posted desk (1 ∷ []) ∷ Timed 0 ∷ Unposted desk (2 ∷ []) ∷ Posted desk (3 ∷ []) ∷ [])
         ≡ (desk, 1 ∷ []) ∷ (desk, 3 ∷ []) ∷ [] }
     ensures all { AllSent {D = ℕ} (1 ∷ 2 ∷ []) (1 ∷ 2 ∷ []) good }
     ensures one_less { AllSent {D = ℕ} (1 ∷ 2 ∷ []) (1 ∷ []) good → ⊥ }
+    ensures other_sent { AllSent {D = ℕ} (1 ∷ 2 ∷ []) (1 ∷ 3 ∷ []) good → ⊥ }
     ensures lost { AllSent {D = ℕ} (1 ∷ 2 ∷ []) (1 ∷ []) unsent }
+    ensures other_lost { AllSent {D = ℕ} (1 ∷ 2 ∷ []) (3 ∷ []) unsent → ⊥ }
     ensures none_lost { AllSent {D = ℕ} (1 ∷ 2 ∷ []) (1 ∷ 2 ∷ []) unsent → ⊥ }
     ensures two_lost { AllSent {D = ℕ} (1 ∷ 2 ∷ []) [] unsent → ⊥ }
     ensures came { arrivals_in (Waited 1000 Silence ∷ Waited 1000 (Arrived desk (7 ∷ [])) ∷ Waited 1000 Failure ∷ [])
@@ -51,12 +54,12 @@ fn examples_of_entries()
     ensures posts { posted good desk [] ≡ Posted desk [] }
     ensures posts_not { posted unsent desk [] ≡ Unposted desk [] }
 
-    // A history gains an entry, and no other.
+    // A history gains one entry, and nothing else.
     ensures gained { Gains (Timed 5) (quiet_link []) (quiet_link (Timed 5 ∷ [])) }
     ensures other_gained { Gains (Timed 5) (quiet_link []) (quiet_link (Timed 6 ∷ [])) → ⊥ }
     ensures not_gained { Gains (Timed 5) (quiet_link []) (quiet_link []) → ⊥ }
 
-    // The first wait hears the first scene, and then it is its time; what was sent was sent then.
+    // The first wait hears the first scene, whose time the clock then shows; the send has that time too.
     ensures played { PlaysItsScenes (quiet_link (Waited 50 Silence ∷ Timed 5 ∷ [])) }
     ensures other_time { PlaysItsScenes (quiet_link (Waited 50 Silence ∷ Timed 6 ∷ [])) → ⊥ }
     ensures other_heard { PlaysItsScenes (quiet_link (Waited 50 Failure ∷ [])) → ⊥ }
@@ -66,15 +69,16 @@ fn examples_of_entries()
     // A scene is a step of the link.
     ensures step { account_with one_step [] ≡ quiet_link [] }
 
-    // A log has what the system was asked for, and no more. Where the clock fails the time is that before.
+    // A log has the calls that were made, and no others. If the clock fails, the time stays as it was.
     ensures nothing { Logs IsNothing [] [] }
     ensures something { Logs IsNothing [] (Elapsed None ∷ []) → ⊥ }
+    ensures log_changed { Logs IsNothing (Elapsed None ∷ []) (Limit 5 false ∷ []) → ⊥ }
     ensures time { Times 5 5 (Elapsed None ∷ []) }
     ensures later { Times 5 6 (Elapsed None ∷ []) → ⊥ }
     ensures unread { Times 5 5 [] → ⊥ }
 {}
 
-// Whose fault it is that a tool could not go on, and what is told of it.
+// Whose fault ends a tool, and the message of each fault.
 #[tactic(none)]
 fn examples_of_ends()
     ensures of_link { is_link_fault unsent ≡ true }
@@ -88,20 +92,23 @@ fn examples_of_ends()
     ensures bind { link_fault_text ≡ codes "bind failed" }
 {}
 
-// What a call asks, sends, prints and answers.
+// A call: its questions, its sends, its line and its answer.
 #[tactic(none)]
 fn examples_of_calls()
-    // Its request is accepted where it is asked for behind the first time, and at no other event.
+    // Its request is accepted after the first time, and at no other event.
     ensures accepted { IsAccepted Writing call once_asked }
     ensures unaccepted { IsAccepted Writing call [] → ⊥ }
     ensures twice { IsAccepted Writing call twice_asked → ⊥ }
+    ensures other_service { IsAccepted Writing call (Tick 0 ∷ Ask desk 12 [] ∷ []) → ⊥ }
+    ensures other_body { IsAccepted Writing call (Tick 0 ∷ Ask desk 15 (1 ∷ []) ∷ []) → ⊥ }
+    ensures other_peer { IsAccepted Writing call (Tick 0 ∷ Ask (record desk { port = 47809 }) 15 [] ∷ []) → ⊥ }
 
     // It is sent at the second event.
     ensures sent { sent_at Writing call answered ≡ (1, desk, write) ∷ [] }
     ensures unsent { sent_at Writing call lost ≡ [] }
     ensures due { sends_of_call Writing call answered ≡ (1, desk, write) ∷ [] }
 
-    // What was written is told by `ok`. What could not be sent is told by nothing.
+    // After a write the line is `ok`. If the send failed, there is no line.
     ensures told { Tells Writing call unknown unasked (having (codes "ok\n")) (asked_so []) (asked_so answered) good }
     ensures told_lost { Tells Writing call unknown unasked unasked (asked_so []) (asked_so lost) (Err SendFailed) }
     ensures bad_end { Tells Writing call unknown unasked (having (codes "ok\n")) (asked_so []) (asked_so answered) bad
@@ -113,7 +120,7 @@ fn examples_of_calls()
     ensures unwritten { Tells Writing call unknown unasked unasked (asked_so []) (asked_so lost) unwritten → ⊥ }
 {}
 
-// What a search asks, prints and answers, and how a server ends.
+// A search: its questions, its lines and its answer; and how a server ends.
 #[tactic(none)]
 fn examples_of_searches_and_servers()
     ensures who_is { who_is_to search ≡ 0x81 ∷ 0x0a ∷ 0x00 ∷ 0x08 ∷ 0x01 ∷ 0x00 ∷ 0x10 ∷ 0x08 ∷ [] }
@@ -127,12 +134,12 @@ fn examples_of_searches_and_servers()
     // A server whose first wait fails leaves the device as it was.
     ensures served { Serves 1 (device 7) (device 7) (asked_so []) (asked_so deaf) (Err ReceiveFailed) }
     ensures other_device { Serves 1 (device 7) (device 8) (asked_so []) (asked_so deaf) (Err ReceiveFailed) → ⊥ }
-    ensures not_served { Serves 1 (device 7) (device 7) (asked_so []) (asked_so []) good → ⊥ }
-    ensures served_none { Serves 0 (device 7) (device 7) (asked_so []) (asked_so []) good }
-    ensures replied { Serves 0 (device 7) (device 7) (asked_so []) (asked_so []) bad → ⊥ }
+    ensures not_served { Serves 1 (device 7) (device 7) (asked_so []) (asked_so []) (Ok 0) → ⊥ }
+    ensures served_none { Serves 0 (device 7) (device 7) (asked_so []) (asked_so []) (Ok 0) }
+    ensures replied { Serves 0 (device 7) (device 7) (asked_so []) (asked_so []) (Ok 1) → ⊥ }
 {}
 
-// What the system is asked for a link over a socket.
+// The calls of the system for a link over a socket.
 #[tactic(none)]
 fn examples_of_sockets()
     ensures bound { Binds to_desk (Bind (local 47808) ∷ []) }
@@ -142,7 +149,7 @@ fn examples_of_sockets()
     ensures unbound { BindsAtMost to_desk [] }
     ensures bound_twice { BindsAtMost to_desk (Bind (local 47808) ∷ Bind (local 47808) ∷ []) → ⊥ }
 
-    // A send is good where all octets went, or where what is refused is lost.
+    // A send is good if all octets went, or if a refused datagram counts as lost.
     ensures sent { Sends Fails desk (1 ∷ 2 ∷ []) true (SendTo (1 ∷ 2 ∷ []) (local 47808) (Some 2) ∷ []) }
     ensures sent_half { Sends Fails desk (1 ∷ 2 ∷ []) true (SendTo (1 ∷ 2 ∷ []) (local 47808) (Some 1) ∷ []) → ⊥ }
     ensures lost { Sends IsLost desk (1 ∷ 2 ∷ []) true (SendTo (1 ∷ 2 ∷ []) (local 47808) None ∷ []) }
@@ -150,7 +157,7 @@ fn examples_of_sockets()
     ensures sent_other { Sends Fails desk [] true (SendTo (1 ∷ []) (local 47808) (Some 1) ∷ []) → ⊥ }
     ensures not_sent { Sends Fails desk [] true [] → ⊥ }
 
-    // A wait of 50 milliseconds sets the limit where it is another, and receives once.
+    // A wait of 50 milliseconds sets the limit if it was another, and receives once.
     ensures waited { Waits Fails 0 50 (Arrived desk (7 ∷ []))
         (Limit 50000000 true ∷ Receive 2048 (Ok (7 ∷ [], local 47808)) ∷ []) }
     ensures waited_again { Waits Fails 50 50 Silence (Receive 2048 (Err TimedOut) ∷ []) }
@@ -159,7 +166,7 @@ fn examples_of_sockets()
     ensures not_heard { Waits Fails 50 50 Silence [] → ⊥ }
     ensures other_heard { Waits Fails 50 50 Failure (Receive 2048 (Err TimedOut) ∷ []) → ⊥ }
 
-    // The log of a socket has the calls for its history, behind those that it had made before.
+    // The log of a socket has the calls for its history, after those that it made before.
     ensures logged { LogsHistory (account_over Fails (Elapsed None ∷ []) (Timed 0 ∷ []))
         (Elapsed None ∷ Elapsed None ∷ []) }
     ensures not_logged { LogsHistory (account_over Fails [] (Timed 0 ∷ [])) [] → ⊥ }
@@ -167,7 +174,7 @@ fn examples_of_sockets()
     ensures other_time { LogsHistory (account_over Fails [] (Timed 5 ∷ [])) (Elapsed None ∷ []) → ⊥ }
 {}
 
-// That two tools are alike.
+// Two tools that are alike.
 #[tactic(none)]
 fn examples_of_tools()
     // Both ask the time, and end with it.

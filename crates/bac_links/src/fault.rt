@@ -20,7 +20,7 @@ pub enum ToolFault {
 }
 
 impl ToolFault {
-    /// What is told of it.
+    /// Its message.
     pub fn message(&self) -> Message
         ensures { message_text result ≡ tool_fault_text self.now }
     {

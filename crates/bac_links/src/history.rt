@@ -1,4 +1,4 @@
-//! What is noted of a link and of its socket, in proofs alone.
+//! The notes on a link and its socket, in proofs alone.
 ghost use Rattle.std.specs.Borrow.{ftrue};
 ghost use Rattle.bac_links.specs.{Entry, SystemCall.SystemCall};
 

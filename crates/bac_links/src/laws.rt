@@ -25,7 +25,7 @@ use std::io::Write;
 
 /// However a server ends, and whatever its link is, the device has its info and its points as before.
 pub fn a_server_keeps_its_points<L: Link>()
-    ensures { (count : ℕ) (before after : DeviceState) (seen left : Account L.Origin) (result : Result ExitValue Fault)
+    ensures { (count : ℕ) (before after : DeviceState) (seen left : Account L.Origin) (result : Result ℕ Fault)
         → Serves count before after seen left result
         → (after.info ≡ before.info) × (points_of after ≡ points_of before) }
 {}
@@ -33,16 +33,16 @@ pub fn a_server_keeps_its_points<L: Link>()
 /// For any writes that leave the points as they stand in the device before, the replies of a server are those of the
 /// definition; and however it ends, the points stand afterwards as the writes that it accepted leave them.
 pub fn a_server_replies_as_defined<L: Link>()
-    ensures { (count : ℕ) (before after : DeviceState) (seen left : Account L.Origin) (result : Result ExitValue Fault)
+    ensures { (count : ℕ) (before after : DeviceState) (seen left : Account L.Origin) (result : Result ℕ Fault)
         (gained : List Entry) (writes : List Change)
         → Serves count before after seen left result → left.history ≡ seen.history ++ gained → Holds before writes
         → AreDefined before writes (arrivals_in gained) (replies_of before (arrivals_in gained)) after }
 {}
 
 /// What a server sent, in its order, are the replies of the definition to the datagrams that it heard, after any writes
-/// that leave the points as they stand in the device before; where a send failed, all but that one.
+/// that leave the points as they stand in the device before; if a send failed, all but that one.
 pub fn a_server_sends_its_replies<L: Link>()
-    ensures { (count : ℕ) (before after : DeviceState) (seen left : Account L.Origin) (result : Result ExitValue Fault)
+    ensures { (count : ℕ) (before after : DeviceState) (seen left : Account L.Origin) (result : Result ℕ Fault)
         (gained : List Entry) (writes : List Change)
         → Serves count before after seen left result → left.history ≡ seen.history ++ gained → Holds before writes
         → AllSent (flat_map option_to_list (replies_to before.info (points_of before) writes (arrivals_in gained)))
@@ -50,16 +50,18 @@ pub fn a_server_sends_its_replies<L: Link>()
 {}
 
 /// No server hears more datagrams than it is to answer, and one that is over with an answer heard that many. (One that
-/// heard as many ends with a fault where its last reply could not be sent.)
+/// heard as many ends with a fault if its last reply could not be sent.) Its answer is the number of replies that it
+/// sent.
 pub fn a_server_hears_as_many<L: Link>()
-    ensures { (count : ℕ) (before after : DeviceState) (seen left : Account L.Origin) (result : Result ExitValue Fault)
+    ensures { (count : ℕ) (before after : DeviceState) (seen left : Account L.Origin) (result : Result ℕ Fault)
         (gained : List Entry) → Serves count before after seen left result → left.history ≡ seen.history ++ gained
-        → (length (arrivals_in gained) ≤ count) × IfOk result (λ answer. length (arrivals_in gained) ≡ count) }
+        → (length (arrivals_in gained) ≤ count) × IfOk result (λ replies. (length (arrivals_in gained) ≡ count)
+        × (replies ≡ length (sent_in gained))) }
 {}
 
 /// No call waits for ever. Take any clock whose times are those that the link told, as the link's own: where by it no
 /// turn takes longer than so long, the call ends, its last wait with it, within the timeout and so long, for each time
-/// that the request is sent (clause 5.4.4). Of a clock that stands that says nothing: then the turns run out.
+/// that the request is sent (clause 5.4.4). For a clock that stands still this says nothing: then the turns run out.
 pub fn a_call_ends_in_time<L: Link, W: Write>()
     ensures { (purpose : Purpose) (call : Call) (before after : Checked W) (seen left : Account L.Origin)
         (result : Result ExitValue Fault) (gained : List Entry) (time_behind : ℕ → ℕ) (longest : ℕ)
@@ -79,7 +81,7 @@ pub fn a_call_is_accepted<L: Link, W: Write>()
 {}
 
 /// What a call sent, and at which events, is what the look-ahead says of its one request among the events of its whole
-/// history, and no more; where a send failed, all but that one.
+/// history, and no more; if a send failed, all but that one.
 pub fn a_call_sends_as_the_look_ahead_says<L: Link, W: Write>()
     ensures { (purpose : Purpose) (call : Call) (before after : Checked W) (seen left : Account L.Origin)
         (result : Result ExitValue Fault) (gained : List Entry)
@@ -87,7 +89,7 @@ pub fn a_call_sends_as_the_look_ahead_says<L: Link, W: Write>()
         → AllSent (sends_of_call purpose call gained) (sent_at purpose call gained) result }
 {}
 
-/// What a search sent is its Who-Is, once; where that failed, nothing.
+/// What a search sent is its Who-Is, once; if that failed, nothing.
 pub fn a_search_sends_one_who_is<L: Link, W: Write>()
     ensures { (search : Search) (before after : Checked W) (seen left : Account L.Origin)
         (result : Result ExitValue Fault) (gained : List Entry)
@@ -103,8 +105,8 @@ pub fn no_call_ends_unasked<L: Link, W: Write>()
 
 /// A call is a function of what it is for and of what its link answers. Take two calls for the same, over any two links
 /// and into any two writers. As far as they were answered alike, they asked alike; then they ask the same next, or both
-/// are over. Where neither writer failed they ended alike, and both printed the same line; where one failed, it took a
-/// front of that line.
+/// are over. If neither writer failed they ended alike, and both printed the same line; if one failed, it took a front
+/// of that line.
 pub fn a_call_is_a_function<K: Link, L: Link, V: Write, W: Write>()
     ensures { (purpose : Purpose) (call : Call) (before after : Checked V) (other_before other_after : Checked W)
         → AskAlike K.Origin L.Origin (Tells purpose call V.contents before after)
@@ -133,13 +135,13 @@ pub fn a_server_is_a_function<K: Link, L: Link>()
         (λ result other. (result ≡ other) × (after ≡ other_after)) (λ result other. ⊤) }
 {}
 
-/// Whoever used a link in memory, it answered as the steps say that it was made of: each wait heard the next one, once
-/// there was none nothing, and each time was the time then.
+/// However a link in memory was used, it answered as the steps say that it was made of: each wait heard the next one,
+/// once there was none nothing, and each time was the time then.
 pub fn a_memory_link_plays_its_steps<A: Allocator + Copy>(link: &MemoryLink<A>)
     ensures { PlaysItsScenes (⟦<MemoryLink<A> as Link>⟧.seen link.now) }
 {}
 
-/// Whoever used a link over a socket, the log has, behind the calls that the socket had made before, those for the
+/// However a link over a socket was used, the log has, after the calls that the socket had made before, those for the
 /// entries of the history, one after another, and no others. (`∥ ∥₁`: there is a way to part the log so.)
 pub fn a_socket_logs_the_history<S: Socket + Drop>(link: &UdpLink<S>)
     ensures { ∥ LogsHistory (⟦<UdpLink<S> as Link>⟧.seen link.now) (S.log link.now.socket) ∥₁ }

@@ -7,11 +7,11 @@
 //!
 //! Whole runs over links in memory, with what they send and print, are tests of `tool_trials` (`src/tests/links`).
 //!
-//! A call, of `bac_uses` (`src/links.rt`), where it is proved that the read was made and nothing else, and that where
-//! it met no fault the writer took the line of how it ended, and the exit is that of this end:
+//! A call, from `bac_uses` (`src/links.rt`). There it is proved that the read was made and nothing else, and that if it
+//! met no fault, the writer took the line of how it ended, and the exit is that of this end:
 //!
 //! ```rust
-//! let mut link = UdpLink::bind_with(rt, alloc, anywhere, OnRefusal::Fails)?;
+//! let mut link = UdpLink::bind_with(sockets, anywhere, OnRefusal::Fails)?;
 //! Ok((run_read(call, &mut link, writer), link))
 //! ```
 #![tactic(auto)]
@@ -29,6 +29,7 @@ mod memory;
 mod search;
 mod serving;
 mod socket;
+mod sockets;
 mod turns;
 mod udp;
 
@@ -42,6 +43,7 @@ pub use link::{Link, LinkFault};
 pub use memory::{MemoryLink, Step};
 pub use search::run_whois;
 pub use serving::serve;
-pub use socket::{NoSocket, Socket, SystemSocket};
+pub use socket::{Socket, SystemSocket};
+pub use sockets::{NoSocket, Sockets};
 pub use turns::{most_turns, turn_wait};
 pub use udp::{OnRefusal, UdpLink};

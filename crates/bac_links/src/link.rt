@@ -15,7 +15,7 @@ use thiserror::Error;
 pub struct LinkFault;
 
 impl LinkFault {
-    /// What is told where there is no link to be had. A send or a receive that failed is told as a `ToolFault`.
+    /// The message if no link is available. A send or a receive that failed is reported as a `ToolFault`.
     pub fn message(&self) -> Message
         ensures { message_text result ≡ link_fault_text }
     {
@@ -54,7 +54,7 @@ pub trait Link {
         ensures fault { has_failed self.new ≡ has_failed self.old }
         ensures told { Gains (Timed result) (seen self.old) (seen self.new) };
 
-    /// Whether a send or a receive has failed.
+    /// Returns whether a send or a receive has failed.
     fn failed(&self) -> bool
         ensures { result ≡ has_failed self.now };
 }

@@ -17,7 +17,7 @@ use std::alloc::{AllocError, Allocator, Global};
 pub enum Step<'a> {
     /// Nothing comes, and this is the time then.
     Quiet(u64),
-    /// A datagram comes at this time. One of more than 2,047 octets is not heard, and a route of its peer is left off.
+    /// A datagram comes at this time. One of more than 2,047 octets is not heard, and a route of its peer is dropped.
     Packet(u64, Peer, &'a [u8]),
     /// The receive fails, and the time stays.
     Broken,

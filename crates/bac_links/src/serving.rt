@@ -3,7 +3,6 @@ ghost use Rattle.std.specs.Prelude.{false, IfOk, ◌≡◌, ◌≤◌};
 ghost use Rattle.bac_links.specs.{is_link_fault, Serves, Inner.ServesTurn};
 
 use crate::datagram::Datagram;
-use crate::exit::Exit;
 use crate::fault::ToolFault;
 use crate::link::Link;
 use crate::turns::most_turns;
@@ -14,56 +13,57 @@ use bac_work::begin;
 // How long a server waits for a datagram, in milliseconds.
 const SERVE_WAIT: u32 = 1_000;
 
-/// Answers datagrams until `count` of them came, which is good.
+/// Answers datagrams until `count` of them came: how many replies were sent.
 ///
 /// # Errors
 ///
-/// `SendFailed` and `ReceiveFailed` where the link failed so; the reply that could not be sent is lost. `TurnsSpent`
-/// after 65,536 turns of at most a second in which fewer datagrams came.
-pub fn serve<L: Link>(link: &mut L, device: &mut Device, count: u32) -> Result<Exit, ToolFault>
+/// `SendFailed` and `ReceiveFailed` if the link failed so; the reply that could not be sent is lost. `TurnsSpent` after
+/// 65,536 turns of at most a second in which fewer datagrams came.
+pub fn serve<L: Link>(link: &mut L, device: &mut Device, count: u32) -> Result<u32, ToolFault>
     requires { L.has_failed link.old ≡ false }
     ensures fault { L.has_failed link.new ≡ is_link_fault result }
     ensures told { Serves count device.old device.new (L.seen link.old) (L.seen link.new) result }
 {
     if count == 0 {
-        return Ok(Exit::Good);
+        return Ok(0);
     }
     let mut datagram = Datagram::new();
     let mut frame = Frame::new();
-    let mut came = 0;
+    let (mut came, mut sent) = (0, 0);
     for _turn in 0..most_turns() {
-        let brought = serve_turn(link, device, &mut datagram, &mut frame)?;
+        let (brought, replied) = serve_turn(link, device, &mut datagram, &mut frame)?;
         came += brought;
+        sent += replied;
         if came == count {
-            return Ok(Exit::Good);
+            return Ok(sent);
         }
     }
     Err(ToolFault::TurnsSpent)
 }
 
-// Answers the next datagram, if one comes, and says how many that are: one, or none.
+// Replies to the next datagram, if one comes. Returns how many came, one or none, and how many replies were sent.
 #[tactic(auto, using(crate::proofs::gains_both))]
 fn serve_turn<L: Link>(
     link: &mut L,
     device: &mut Device,
     datagram: &mut Datagram,
     frame: &mut Frame,
-) -> Result<u32, ToolFault>
+) -> Result<(u32, u32), ToolFault>
     requires { L.has_failed link.old ≡ false }
     ensures fault { L.has_failed link.new ≡ is_link_fault result }
-    ensures few { IfOk result (λ brought. brought ≤ 1) }
+    ensures few { IfOk result (λ (brought, replied). (brought ≤ 1) × (replied ≤ brought)) }
     ensures told { ServesTurn device.old device.new (L.seen link.old) (L.seen link.new) result }
 {
     let from = match link.receive(SERVE_WAIT, datagram) {
         Ok(Some(from)) => from,
-        Ok(None) => return Ok(0),
+        Ok(None) => return Ok((0, 0)),
         Err(_) => return Err(ToolFault::ReceiveFailed),
     };
     let Some(to) = device.answer(from, datagram.as_slice(), frame, &mut begin()) else {
-        return Ok(1);
+        return Ok((1, 0));
     };
     match link.send(to, frame.as_slice()) {
-        Ok(()) => Ok(1),
+        Ok(()) => Ok((1, 1)),
         Err(_) => Err(ToolFault::SendFailed),
     }
 }

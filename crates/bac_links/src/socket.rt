@@ -4,11 +4,9 @@ ghost use Rattle.std.specs.{Prelude.{length, take, ◌++◌, ◌∷◌, ◌≡�
 ghost use Rattle.bac_links.specs.{Bind, Elapsed, Limit, Receive, SendTo};
 
 use crate::history::{CallNote, Log};
-use crate::link::LinkFault;
+use std::io;
 use std::net::{Net, SocketAddr, UdpSocket};
 use std::time::{Clock, Duration, Instant};
-use std::{fmt, io};
-use thiserror::Error;
 
 /// A UDP socket and its clock, which remember what they were asked and answered. Each method is one call of the system.
 pub trait Socket {
@@ -22,12 +20,12 @@ pub trait Socket {
     fn set_read_timeout(&mut self, limit: Duration) -> io::Result<()>
         ensures { log self.new ≡ log self.old ++ Limit (as_nanos limit) (is_ok result) ∷ [] };
 
-    /// Sends a datagram to this address, and tells how many octets went.
+    /// Sends a datagram to this address, and returns how many octets went.
     fn send_to(&mut self, octets: &[u8], to: SocketAddr) -> io::Result<usize>
         ensures bound { WritesAtMost result octets.now }
         ensures log { log self.new ≡ log self.old ++ SendTo octets.now to (result_ok result) ∷ [] };
 
-    /// Waits for a datagram, puts as much of it there as there is room for, and tells how much and from where it came.
+    /// Waits for a datagram, and puts as much of it there as fits. Returns how much, and from where it came.
     fn recv_from(&mut self, room: &mut [u8]) -> io::Result<(usize, SocketAddr)>
         ensures within { IfOk result (λ (taken, from). taken ≤ length room.new) }
         ensures log { log self.new ≡ log self.old ++ Receive (length room.old)
@@ -36,19 +34,6 @@ pub trait Socket {
     /// How long ago the socket was made.
     fn elapsed(&mut self) -> io::Result<Duration>
         ensures { log self.new ≡ log self.old ++ Elapsed (result_ok result) ∷ [] };
-}
-
-/// There is no socket to be had, no memory, or no clock. What the system was asked for it is kept.
-#[derive(Drop, Error)]
-#[error("{}", LinkFault.message())]
-pub struct NoSocket {
-    pub log: Log,
-}
-
-impl fmt::Debug for NoSocket {
-    fn fmt<W: fmt::Write>(&self, f: &mut fmt::Formatter<W>) -> fmt::Result {
-        f.write_str("NoSocket")
-    }
 }
 
 /// A UDP socket of the system, and its clock.
@@ -65,21 +50,21 @@ pub struct SystemSocket<R: Drop, S: Drop = UdpSocket> {
 }
 
 impl<R: Net + Clock + Clone + Drop> SystemSocket<R> {
-    // A socket at this address, or at a free port of it where the port is 0. It keeps a duplicate of the one that was
-    // bound, whose descriptor is past those of the standard streams, also where one of these is closed.
-    pub(crate) fn bind(rt: &R, at: SocketAddr) -> Result<Self, NoSocket>
+    // Binds a socket at this address, or at a free port of it if the port is 0. It keeps a duplicate of the one that
+    // was bound, whose descriptor is past those of the standard streams, even if one of these is closed.
+    pub(crate) fn bind(rt: &R, at: SocketAddr) -> Result<Self, Log>
         ensures ok { IfOk result (λ socket. socket.log.items ≡ Bind at ∷ []) }
-        ensures err { IfErr result (λ none. none.log.items ≡ Bind at ∷ []) }
+        ensures err { IfErr result (λ log. log.items ≡ Bind at ∷ []) }
     {
         let bound = UdpSocket::bind(rt, at);
         let mut log = Log::new();
         log.push(&CallNote::Bind(at));
         let Ok(bound) = bound else {
-            return Err(NoSocket { log });
+            return Err(log);
         };
         let same: Result<_, _> = rt.clone();
         let (Ok(socket), Ok(made), Ok(rt)) = (bound.try_clone(), Instant::now(rt), same) else {
-            return Err(NoSocket { log });
+            return Err(log);
         };
         Ok(SystemSocket {
             rt,

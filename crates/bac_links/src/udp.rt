@@ -9,7 +9,8 @@ ghost use Rattle.bac_links.specs.{peer_at, posted, Sends, time_by, Timed, Times,
 use crate::datagram::{DATAGRAM_OCTETS, Datagram};
 use crate::history::{EntryNote, History, Log};
 use crate::link::{Link, LinkFault};
-use crate::socket::{NoSocket, Socket, SystemSocket};
+use crate::socket::{Socket, SystemSocket};
+use crate::sockets::{NoSocket, Sockets};
 use bac_pdu::Peer;
 use std::alloc::Global;
 use std::io;
@@ -50,13 +51,37 @@ pub struct UdpLink<S: Socket + Drop> {
 }
 
 impl<R: Net + Clock + Clone + Drop> UdpLink<SystemSocket<R>> {
-    /// A link over a socket at this address, or at a free port of it where the port is 0. `refused` says what becomes
-    /// of a datagram that the system refuses to send.
+    /// A link over a socket at this address, or at a free port of it if the port is 0. A datagram that the system
+    /// refuses to send is a send that fails.
     ///
     /// # Errors
     ///
-    /// `NoSocket` where there is no such socket to be had, no memory, or no clock.
-    pub fn bind_with(rt: &R, alloc: Global, at: Peer, refused: OnRefusal) -> Result<Self, NoSocket>
+    /// `LinkFault` if no such socket, no memory or no clock is available.
+    pub fn bind(rt: &R, alloc: Global, at: Peer) -> Result<Self, LinkFault>
+        ensures sound { IfOk result (λ link. ⟦<UdpLink<SystemSocket<R>> as Link>⟧.has_failed link ≡ false) }
+        ensures refused { IfOk result (λ link. link.refused ≡ OnRefusal.Fails) }
+        ensures at { IfOk result (λ link. Binds at link.socket.log.items) }
+        ensures made { IfOk result (λ link. ⟦<UdpLink<SystemSocket<R>> as Link>⟧.seen link
+            ≡ account_over OnRefusal.Fails link.socket.log.items []) }
+        ensures begun { IfOk result (λ link. (link.time ≡ 0) × (link.wait_ms ≡ 0)) }
+    {
+        let same: Result<_, _> = rt.clone();
+        let Ok(rt) = same else {
+            return Err(LinkFault);
+        };
+        match Self::bind_with(Sockets::new(rt, alloc), at, OnRefusal::Fails) {
+            Ok(link) => Ok(link),
+            Err(_) => Err(LinkFault),
+        }
+    }
+
+    /// The same of these sockets, which are given up for it. `refused` says what becomes of a datagram that the system
+    /// refuses to send.
+    ///
+    /// # Errors
+    ///
+    /// `NoSocket` if no such socket, no memory or no clock is available. It keeps the sockets.
+    pub fn bind_with(sockets: Sockets<R>, at: Peer, refused: OnRefusal) -> Result<Self, NoSocket<R>>
         ensures sound { IfOk result (λ link. ⟦<UdpLink<SystemSocket<R>> as Link>⟧.has_failed link ≡ false) }
         ensures refused { IfOk result (λ link. link.refused ≡ refused) }
         ensures at { IfOk result (λ link. Binds at link.socket.log.items) }
@@ -64,10 +89,15 @@ impl<R: Net + Clock + Clone + Drop> UdpLink<SystemSocket<R>> {
             ≡ account_over refused link.socket.log.items []) }
         ensures begun { IfOk result (λ link. (link.time ≡ 0) × (link.wait_ms ≡ 0)) }
         ensures none { IfErr result (λ none. BindsAtMost at none.log.items) }
+        ensures kept { IfErr result (λ none. none.sockets ≡ sockets) }
     {
-        match buffer(alloc) {
-            Ok(buffer) => Ok(Self::with(SystemSocket::bind(rt, address_of(at))?, buffer, refused)),
-            Err(LinkFault) => Err(NoSocket { log: Log::new() }),
+        let Ok(buffer) = buffer(sockets.alloc) else {
+            let log = Log::new();
+            return Err(NoSocket { sockets, log });
+        };
+        match SystemSocket::bind(&sockets.rt, address_of(at)) {
+            Ok(socket) => Ok(Self::with(socket, buffer, refused)),
+            Err(log) => Err(NoSocket { sockets, log }),
         }
     }
 }
@@ -77,7 +107,7 @@ impl<S: Socket + Drop> UdpLink<S> {
     ///
     /// # Errors
     ///
-    /// `LinkFault` where there is no memory.
+    /// `LinkFault` if there is no memory.
     pub fn over(socket: S, alloc: Global, refused: OnRefusal) -> Result<Self, LinkFault>
         ensures sound { IfOk result (λ link. ⟦<UdpLink<S> as Link>⟧.has_failed link ≡ false) }
         ensures refused { IfOk result (λ link. link.refused ≡ refused) }
@@ -88,7 +118,7 @@ impl<S: Socket + Drop> UdpLink<S> {
         Ok(Self::with(socket, buffer(alloc)?, refused))
     }
 
-    // The same, with room for a datagram.
+    // A link over this socket, with this room for a datagram.
     fn with(socket: S, buffer: Vec<u8>, refused: OnRefusal) -> Self
         requires { vec_len buffer ≡ longest_datagram + 1 }
         ensures sound { ⟦<UdpLink<S> as Link>⟧.has_failed result ≡ false }
@@ -194,7 +224,7 @@ impl<S: Socket + Drop> Link for UdpLink<S> {
     }
 }
 
-// Where a peer is on the network: a route has no part in it.
+// The address of a peer on the network. A route has no part in it.
 fn address_of(peer: Peer) -> SocketAddr
     ensures { IsAddressOf (station peer) result }
 {
@@ -219,7 +249,7 @@ fn post<S: Socket>(
     }
 }
 
-// The next datagram within the wait, where there is one that a `Datagram` holds.
+// Returns the next datagram within the wait, if there is one that a `Datagram` holds.
 fn next_datagram<S: Socket>(
     socket: &mut S,
     set_ms: &mut u32,
@@ -244,7 +274,7 @@ fn next_datagram<S: Socket>(
     }
 }
 
-// The socket waits at most so long from now on. The system is asked only where that is another time than the one set.
+// The socket waits at most so long from now on. The system is asked only if that is another time than the one set.
 fn limit_wait<S: Socket>(socket: &mut S, set_ms: &mut u32, wait_ms: u32) -> Result<(), LinkFault>
     ensures limited { OnOk result (set_ms.new ≡ wait_ms) }
     ensures unlimited { OnErr result (wait_ms ≢ set_ms.old) }
@@ -266,7 +296,7 @@ fn wait_of(wait_ms: u32) -> Duration
     Duration::from_millis(u64::from(wait_ms))
 }
 
-// Keeps the octets that came from there, and tells the peer. None where they are too many.
+// Keeps the octets that came from there, and returns the peer; or none, if they are too many.
 fn keep(from: SocketAddr, octets: &[u8], datagram: &mut Datagram) -> Option<Peer>
     ensures peer { result ≡ heard_from from octets.now }
     ensures held { MatchOption result (datagram.new ≡ datagram.old) (λ peer. datagram.new ≡ octets.now) }

@@ -46,7 +46,7 @@ module _ {A : Type 0} (Spells : List ℕ → A → Type 0) where
 
 -- ---- a whole body
 
--- a record that was read, where nothing is left
+-- a record that was read, if nothing is left
 pub whole_ended : {A : Type 0} (x y : A) (rest : List ℕ) → whole_of x rest ≡ Some y → (rest ≡ []) × (x ≡ y)
 whole_ended = grind (arith, none-some)
 
@@ -118,7 +118,7 @@ pub needs_ok : {A : Type 0} (octets : List ℕ) (found : Option A) (x : A) → (
     → unless_missing octets found ≡ Ok x
 needs_ok = grind (arith, none-some)
 
--- what a step reads, where octets are left
+-- what a step reads, if octets are left
 pub step_ok : {A P : Type 0} {Spells : List ℕ → P → Type 0} {made : A → P} {at : List ℕ → Option (A × List ℕ)}
     → IsStep Spells made at
     → at [] ≡ None → (octets : List ℕ) (x : A) (rest : List ℕ) → Begins Spells octets (made x) rest
@@ -134,7 +134,7 @@ pub needs_fails : {A : Type 0} (octets : List ℕ) (found : Option A) (reason : 
     → ((reason ≡ MissingParameter) × (octets ≡ [])) ⊎ ((reason ≡ InvalidTag) × (found ≡ None) × (octets ≡ [] → ⊥))
 needs_fails = grind arith
 
--- the result, where no octet is left
+-- the result, if no octet is left
 abbrev pub ended : {A : Type 0} → A → List ℕ → Result A RejectReason
 ended x rest = ok_or (whole_of x rest) TooMany
 
@@ -147,8 +147,8 @@ ended_err = grind arith
 
 -- ---- the outcome of a body
 
--- a function that reads a body: it takes what is whole and nothing else; where it fails the body has that fault, and
--- none that comes before
+-- a function that reads a body: it takes what is whole and nothing else; if it fails the body has that fault, and none
+-- that comes before
 pub record IsJudge {A : Type 0} (IsWhole : List ℕ → A → Type 0) (HasFault : List ℕ → RejectReason → Type 0)
     (of : List ℕ → Result A RejectReason) : Type 0 where
   pub takes : (body : List ℕ) (x : A) → of body ≡ Ok x → IsWhole body x
@@ -203,7 +203,7 @@ reference_takes body r rest e =
     subst (λ ((r, rest) : Reference × List ℕ). SpellsTo SpellsParameter body (reference_parameters r) rest) same
     (behind, first, (after, second, optional_begins 2 _ (numbered_step 2) after))
 
--- what stands behind a reference is no longer than the body
+-- the octets after a reference are no more than the body
 pub reference_no_longer : (body rest : List ℕ) (r : Reference) → Ok (r, rest) ≡ reference_at body
     → length rest ≤ length body
 reference_no_longer body rest r e =
@@ -363,7 +363,7 @@ out_of_range : (b : Bool) (o : Order) (reason : RejectReason) → cond b (Ok o) 
     → (b ≡ false) × (reason ≡ OutOfRange)
 out_of_range = grind arith
 
--- what was read, with nothing behind the priority
+-- what was read, with nothing after the priority
 order_takes : (body x v rest : List ℕ) (r : Reference) (p : Option ℕ) → reference_at body ≡ Ok (r, x)
     → unless_missing x (enclosed_at 3 x) ≡ Ok (v, rest)
     → (let (priority, last) = optional_at 4 rest in ended priority last ≡ Ok p)

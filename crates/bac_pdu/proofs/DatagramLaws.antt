@@ -10,7 +10,8 @@ use Rattle.byteorder.specs.{Endian.big_number, Numbers.big_number-reads_back}
 use Rattle.bac_wire.proofs.TagLaws.{bind_some, chosen, found_at, only_if, Took, took, took_as, unless}
 use Rattle.{bac_wire.specs.{◌>>=◌, Front.IsReader}, bac_pdu.specs.{abort, address_at, address_octets, announced_at}}
 use Rattle.bac_pdu.specs.{announced_size, apdu_of, behind_control, behind_hops, bit, broadcast, carried, Carries}
-use Rattle.bac_pdu.specs.{complex_ack, complex_ack_of, confirmed, confirmed_of, counted_at, Delivery, error, Flags}
+use Rattle.bac_pdu.specs.{complex_ack, complex_ack_of, confirmed, confirmed_of, counted_at, Delivery, error, everyone}
+use Rattle.bac_pdu.specs.{Flags}
 use Rattle.bac_pdu.specs.{forwarded, forwarded_at, front_count, header_at, is_answerable, is_for_all, is_routable}
 use Rattle.bac_pdu.specs.{IsLaidOut, IsRoutable, IsWritable, laid_out, link_at, Message, network_address}
 use Rattle.bac_pdu.specs.{NetworkAddress, NetworkHeader, numbered_of, origin_at, part_at, part_flags, part_octets}
@@ -33,7 +34,7 @@ same_octets a b e =
     ∙ sym b.unused in
     (count, cc (address, behind, take-append-drop a.count a.octets, take-append-drop b.count b.octets))
 
--- routes are equal just where they lead to the same station
+-- routes are equal exactly if they lead to the same station
 pub route_decides : (a b : Route) → (route_eq.it a b ≡ true) ↔ (network_address a ≡ network_address b)
 route_decides a b = (
   (λ e.
@@ -51,7 +52,7 @@ routes_decide : (a b : Option Route)
     → (option_eq route_eq.it a b ≡ true) ↔ (option_map network_address a ≡ option_map network_address b)
 routes_decide = grind (arith, none-some, route_decides, same_Some)
 
--- peers are equal just where they are the same station
+-- peers are equal exactly if they are the same station
 pub peer_decides : (p q : Peer) → (peer_eq.it p q ≡ true) ↔ (station p ≡ station q)
 peer_decides = grind (arith, routes_decide, eqb-true, eq-eqb)
 
@@ -93,7 +94,7 @@ announced_again : (b : Bool) (front : List ℕ) (station : Option NetworkAddress
     → SpellsAnnounced b front station → announced_at b (front ++ rest) ≡ found_at station rest
 announced_again = grind (arith, address_again)
 
--- one octet where there is a hop count, and none where there is none
+-- one octet if there is a hop count, and none otherwise
 abbrev SpellsHops : Bool → List ℕ → Type 0
 SpellsHops b octets = length octets ≡ cond b 1 0
 
@@ -187,6 +188,20 @@ header_written (Some station) false routable =
       expected = refl;
     }
 
+-- so is what is written for all stations of a network
+pub everyone_written : (network : ℕ) → network < 65536 → IsWrittenHeader (Some (everyone network)) false
+everyone_written network small =
+    record {
+      spelled = without_source _ 32 _ _ refl refl (address_spells _ small) refl;
+      expected = refl;
+    }
+
+-- and it is read back as that, with the octets after it
+pub everyone_back : (network : ℕ) (apdu : List ℕ) → network < 65536
+    → header_at (plain_header (Some (everyone network)) false ++ apdu)
+    ≡ found_at (record { destination = Some (everyone network); source = None }) apdu
+everyone_back network apdu small = header_reader.again _ _ apdu (everyone_written network small).spelled
+
 -- ---- which headers are ignored
 
 routable : (to : NetworkAddress) → (is_routable to ≡ true) ↔ IsRoutable to
@@ -241,7 +256,7 @@ delivered_as sender to_all header apdu =
       apdu = apdu;
     }
 
--- the delivery, where the header is heeded
+-- the delivery, if the header is heeded
 abbrev heeded_as : Station → Bool → NetworkHeader → List ℕ → Option Delivery
 heeded_as sender to_all header apdu =
     cond (is_for_all header.destination && is_answerable header.source) (Some (delivered_as sender to_all header apdu))
@@ -370,7 +385,76 @@ pub local_front : (expect : Bool) (size : ℕ) (header : List ℕ) → size ≤ 
 unfolding front_octets
 local_front = grind arith
 
--- an APDU behind its front takes it to the station
+-- the ten octets before an APDU for all stations of a network
+pub across_front : (network size : ℕ) (header : List ℕ) → network < 65536 → size ≤ 1487
+    → header ≡ plain_header (Some (everyone network)) false
+    → 129 ∷ 10 ∷ (10 + size) / 256 ∷ (10 + size) % 256 ∷ slice_index_or header 0 0 ∷ slice_index_or header 1 0
+    ∷ slice_index_or header 2 0 ∷ slice_index_or header 3 0 ∷ slice_index_or header 4 0 ∷ slice_index_or header 5 0 ∷ []
+    ≡ front_octets (Some (everyone network)) false size
+unfolding front_octets
+across_front = grind arith
+
+-- what is written for all stations of a network goes there
+pub everyone_takes : (network : ℕ) (apdu : List ℕ) → network < 65536
+    → length (wrapped (Some (everyone network)) false apdu) < 65536
+    → Takes (Some (everyone network)) false apdu (wrapped (Some (everyone network)) false apdu)
+unfolding wrapped
+everyone_takes network apdu small fits =
+    let n : ℕ = 4 + length (plain_header (Some (everyone network)) false ++ apdu) in
+    let counted = big_number-reads_back 2 n [] (omega arith) in
+    let header = everyone_written network small in
+    record {
+      high = n / 256 % 256;
+      low = n % 256;
+      header = plain_header (Some (everyone network)) false;
+      whole = refl;
+      counted = counted ∙ omega arith;
+      headed = header.spelled;
+      expected = header.expected;
+    }
+
+-- an APDU after that front is the datagram for all stations of the network
+pub across_made : {T E : Type 0} (result : Result T E) (network size : ℕ) (apdu front frame : List ℕ)
+    → size ≡ length apdu → front ≡ front_octets (Some (everyone network)) false size
+    → OnOk result (frame ≡ front ++ apdu) → OnOk result (frame ≡ wrapped (Some (everyone network)) false apdu)
+across_made = grind (arith, front_before)
+
+-- an APDU after that front goes to all stations of the network
+pub across_takes : {T E : Type 0} (result : Result T E) (network size : ℕ) (apdu front frame : List ℕ)
+    → network < 65536 → size ≡ length apdu → size ≤ 1487 → front ≡ front_octets (Some (everyone network)) false size
+    → OnOk result (frame ≡ front ++ apdu) → OnOk result (Takes (Some (everyone network)) false apdu frame)
+across_takes = grind (arith, front_before, count_wrapped, everyone_takes)
+
+-- what goes to all stations of all networks is carried to each station; what goes to those of one, to none that has no
+-- router between
+pub all_carry : (from : Station) (apdu datagram : List ℕ) → Takes (Some (everyone 65535)) false apdu datagram
+    → carried from datagram
+    ≡ Some (record
+    { peer = record { ip = from.ip; port = from.port; route = None }; broadcast = true; apdu = apdu })
+all_carry _ apdu _ t =
+    let counted : big_number 2 (t.high ∷ t.low ∷ []) ≡ 4 + length (t.header ++ apdu) = t.counted ∙ ap length t.whole
+    ∙ omega arith in
+    ap (carried _) t.whole ∙ carried_again_at _ 10 _ _ [] _ _ _ _ _ counted unicast t.headed
+    (record { destined = refl; answerable = _ })
+
+-- a header with a destination other than all networks is not heeded
+unheeded : (from : Station) (function high low : ℕ) (header apdu : List ℕ) (network : NetworkHeader)
+    → big_number 2 (high ∷ low ∷ []) ≡ 4 + length (header ++ apdu) → SpellsHeader header network
+    → is_for_all network.destination ≡ false
+    → carried from (129 ∷ 10 ∷ high ∷ low ∷ (header ++ apdu)) ≡ None
+unfolding carried link_at
+unheeded _ _ _ _ _ apdu _ counted headed other =
+    rw (eq-eqb _ _ counted, header_reader.again _ _ apdu headed) (grind (arith, other))
+
+pub none_carry : (from : Station) (network : ℕ) (apdu datagram : List ℕ) → network < 65535
+    → Takes (Some (everyone network)) false apdu datagram → carried from datagram ≡ None
+none_carry _ network apdu _ small t =
+    let counted : big_number 2 (t.high ∷ t.low ∷ []) ≡ 4 + length (t.header ++ apdu) = t.counted ∙ ap length t.whole
+    ∙ omega arith in
+    let other : is_for_all (Some (everyone network)) ≡ false = grind arith in
+    ap (carried _) t.whole ∙ unheeded _ 10 _ _ _ _ _ counted t.headed other
+
+-- an APDU after its front takes it to the station
 pub put_front_takes : {T E : Type 0} (result : Result T E) (to : Option NetworkAddress) (expect : Bool) (apdu : List ℕ)
     (size : ℕ) (front frame : List ℕ)
     → IfSome to IsRoutable → size ≡ length apdu → front ≡ front_octets to expect size

@@ -64,7 +64,7 @@ pub read_octets_short : (r : Reference) → length (read_octets r) ≤ 45
 unfolding plain_parameter
 read_octets_short = grind (arith, length-append, context_short, index_short)
 
--- What is appended to no octets is the body, since there is room for it.
+-- Appended to no octets, the body is whole, since there is room for it.
 pub read_alone : {A E : Type 0} (result : Result A E) (before after : List ℕ) (r : Reference) → before ≡ []
     → Appends before (read_octets r) after result → after ≡ read_octets r
 read_alone (Ok x) _ _ r none appended = appended.ok ∙ ap (λ (octets : List ℕ). octets ++ read_octets r) none
@@ -268,7 +268,7 @@ order_is_written o named region urgent = grind (arith, write_shortest, order_kno
 
 -- ---- the body of a ReadProperty-ACK in its parts
 
--- an answer is what stands before its value, the value, and what stands behind it
+-- an answer is the octets before its value, the value, and the octets after it
 pub ack_parts : (a : ReadAck) → ack_octets a ≡ (ack_front a.reference ++ a.value) ++ ack_end
 ack_parts = grind (arith, ack_written, append_assoc)
 

@@ -33,7 +33,7 @@ abbrev pub Flags : ℕ → Option Part → Type 0
 Flags first None = bit 3 first ≡ false
 Flags first (Some part) = (bit 3 first ≡ true) × (part.more ≡ bit 2 first)
 
--- The sequence number and the window size, which stand behind the invoke id where the APDU is a part.
+-- The sequence number and the window size, which follow the invoke id if the APDU is a part.
 abbrev pub part_octets : Option Part → List ℕ
 part_octets None = []
 part_octets (Some part) = part.sequence ∷ part.window ∷ []
@@ -79,7 +79,7 @@ IsWritable (confirmed part code id service body) = code < 16
 IsWritable segment_ack = ⊥
 IsWritable _ = Unit {0}
 
--- The octets of the greatest APDU that a code announces, by its low four bits; the codes above 5 are taken as 0.
+-- The octets of the greatest APDU that a code announces, by its low four bits; the codes above 5 count as 0.
 abbrev pub announced_size : ℕ → ℕ
 announced_size code = slice_index_or (50 ∷ 128 ∷ 206 ∷ 480 ∷ 1024 ∷ 1476 ∷ []) (code % 16) 50
 

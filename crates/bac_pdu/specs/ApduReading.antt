@@ -3,14 +3,14 @@ use Rattle.std.specs.Prelude.{[], Bool, false, if◌then◌else◌, List, None, 
 use Rattle.{bac_wire.specs.◌>>=◌, bac_pdu.specs.Apdu.{abort, complex_ack, confirmed, error, Message, reject}}
 use Rattle.bac_pdu.specs.{Apdu.{segment_ack, simple_ack, unconfirmed}, Bits.bit, declared.apdu.Part.Part}
 
--- The part where the flag says that there is one, and the octets behind it.
+-- The part, if the flag says that there is one, and the octets after it.
 abbrev pub part_at : ℕ → List ℕ → Bool → Option (Option Part × List ℕ)
 part_at first octets false = Some (None, octets)
 part_at first (sequence ∷ window ∷ octets) true =
     Some (Some (record { more = bit 2 first; sequence = sequence; window = window }), octets)
 part_at first _ true = None
 
--- The service, and the body behind it.
+-- The service, and the body after it.
 abbrev pub service_at : List ℕ → Option (ℕ × List ℕ)
 service_at [] = None
 service_at (service ∷ body) = Some (service, body)
@@ -22,19 +22,19 @@ parts_at first octets = do
   (service, body) ← service_at behind
   Some (part, service, body)
 
--- The Confirmed-Request behind a first octet.
+-- The Confirmed-Request after a first octet.
 abbrev pub confirmed_of : ℕ → List ℕ → Option Message
 confirmed_of first (second ∷ id ∷ octets) =
     parts_at first octets >>= (λ (part, service, body). Some (confirmed part (second % 16) id service body))
 confirmed_of first _ = None
 
--- The ComplexACK behind a first octet.
+-- The ComplexACK after a first octet.
 abbrev pub complex_ack_of : ℕ → List ℕ → Option Message
 complex_ack_of first (id ∷ octets) =
     parts_at first octets >>= (λ (part, service, body). Some (complex_ack part id service body))
 complex_ack_of first _ = None
 
--- The APDU behind a first octet, where its type has the invoke id, one octet more, and perhaps a rest.
+-- The APDU after a first octet, if its type has the invoke id, one octet more, and perhaps a rest.
 abbrev pub numbered_of : (ℕ → ℕ → List ℕ → Message) → List ℕ → Option Message
 numbered_of made (id ∷ octet ∷ rest) = Some (made id octet rest)
 numbered_of made _ = None

@@ -11,7 +11,7 @@ pub record Delivery : Type 0 where
   pub broadcast : Bool
   pub apdu : List ℕ
 
--- What was opened by the code, without where its octets lie in memory.
+-- An opened datagram of the code, without where its octets lie in memory.
 abbrev pub delivery : Carried → Delivery
 delivery carried = record { peer = station carried.peer; broadcast = carried.broadcast; apdu = carried.apdu.now }
 
@@ -19,7 +19,7 @@ delivery carried = record { peer = station carried.peer; broadcast = carried.bro
 abbrev pub originator : List ℕ → List ℕ → Station
 originator ip port = record { ip = big_number 4 ip; port = big_number 2 port; route = None }
 
--- Who sent a datagram of this function, and whether to all: 10 is an Original-Unicast-NPDU and 11 an
+-- The sender of a datagram of this function, and whether it was sent to all: 10 is an Original-Unicast-NPDU and 11 an
 -- Original-Broadcast-NPDU, from where the datagram came; 4 is a Forwarded-NPDU, from the address and port in its next
 -- six octets, and always to all.
 pub data SpellsOrigin (from : Station) : ℕ → List ℕ → Station → Bool → Type 0 where

@@ -4,30 +4,30 @@ use Rattle.std.specs.Prelude.{nat_lt, None, Option, Some, take, true, ℕ, ◌&&
 use Rattle.{byteorder.specs.Endian.big_number, bac_wire.specs.{◌>>=◌, TagReading.two_at}, bac_pdu.specs.Bits.bit}
 use Rattle.bac_pdu.specs.{Datagram.{Delivery, originator}, Header.NetworkHeader, Peer.{NetworkAddress, Station}}
 
--- As many octets as the first one says, and those behind them.
+-- As many octets as the first one says, and those after them.
 abbrev pub counted_at : List ℕ → Option (List ℕ × List ℕ)
 counted_at [] = None
 counted_at (count ∷ octets) = if nat_lt (length octets) count then None else Some (take count octets, drop count octets)
 
--- The network and the address of a station, and the octets behind them.
+-- The network and the address of a station, and the octets after them.
 unfoldable pub address_at : List ℕ → Option (NetworkAddress × List ℕ)
 address_at octets = do
   (network, behind) ← two_at octets
   (address, rest) ← counted_at behind
   Some (record { network = network; address = address }, rest)
 
--- The address that a bit announces, where it does, and the octets behind it.
+-- The address that a bit announces, if it does, and the octets after it.
 abbrev pub announced_at : Bool → List ℕ → Option (Option NetworkAddress × List ℕ)
 announced_at false octets = Some (None, octets)
 announced_at true octets = address_at octets >>= (λ (address, rest). Some (Some address, rest))
 
--- The octets behind the hop count, which stands there where a destination does.
+-- The octets after the hop count, which is there if there is a destination.
 abbrev pub behind_hops : Bool → List ℕ → Option (List ℕ)
 behind_hops false octets = Some octets
 behind_hops true [] = None
 behind_hops true (_ ∷ octets) = Some octets
 
--- The network header behind this control octet, and the APDU behind it.
+-- The network header after this control octet, and the APDU after it.
 abbrev pub behind_control : ℕ → List ℕ → Option (NetworkHeader × List ℕ)
 behind_control control octets = do
   (destination, behind) ← announced_at (bit 5 control) octets
@@ -35,19 +35,19 @@ behind_control control octets = do
   apdu ← behind_hops (bit 5 control) after
   Some (record { destination = destination; source = source }, apdu)
 
--- The network header at the front, of version 1 and with bit 7 clear, and the APDU behind it.
+-- The network header at the front, of version 1 and with bit 7 clear, and the APDU after it.
 unfoldable pub header_at : List ℕ → Option (NetworkHeader × List ℕ)
 header_at (version ∷ control ∷ octets) =
     if version == 1 then (if bit 7 control then None else behind_control control octets) else None
 header_at _ = None
 
--- The originator that a Forwarded-NPDU names, which is always for all, and the octets behind it.
+-- The originator that a Forwarded-NPDU names, which is always for all, and the octets after it.
 abbrev pub forwarded_at : List ℕ → Option ((Station × Bool) × List ℕ)
 forwarded_at (a ∷ b ∷ c ∷ d ∷ e ∷ f ∷ octets) =
     Some ((originator (a ∷ b ∷ c ∷ d ∷ []) (e ∷ f ∷ []), true), octets)
 forwarded_at _ = None
 
--- Who sent a datagram of this function, whether it was sent to all, and the octets behind.
+-- The sender of a datagram of this function, whether it was sent to all, and the octets after.
 abbrev pub origin_at : ℕ → Station → List ℕ → Option ((Station × Bool) × List ℕ)
 origin_at function from octets =
     if function == 10 then Some ((from, false), octets)
@@ -55,8 +55,8 @@ origin_at function from octets =
     else if function == 4 then forwarded_at octets
     else None
 
--- Who sent the datagram, whether it was sent to all, and the octets behind the link header. Its length has to be the
--- datagram's.
+-- The sender of the datagram, whether it was sent to all, and the octets after the link header. Its length has to be
+-- the datagram's.
 unfoldable pub link_at : Station → List ℕ → Option ((Station × Bool) × List ℕ)
 link_at from (kind ∷ function ∷ high ∷ low ∷ octets) =
     if kind == 129
@@ -77,7 +77,7 @@ is_for_all destination = option_map_or (λ to. to.network == 65535) destination 
 abbrev pub is_answerable : Option NetworkAddress → Bool
 is_answerable source = option_map_or is_routable source true
 
--- What the datagram carries, or nothing where it is ignored.
+-- What the datagram carries, or nothing if it is ignored.
 unfoldable pub carried : Station → List ℕ → Option Delivery
 carried from datagram = do
   ((sender, to_all), behind) ← link_at from datagram

@@ -16,7 +16,7 @@ abbrev pub asks : WhoIs → ℕ → Bool
 asks limits.All instance = true
 asks (limits.Range low high) instance = nat_le low instance && nat_le instance high
 
--- What a device says of itself: its identifier, the longest APDU that it takes, its segmentation and its vendor.
+-- What a device says of itself: its identifier, the longest APDU that it accepts, its segmentation and its vendor.
 pub record Introduction : Type 0 where
   pub device : Identifier
   pub max_apdu : ℕ

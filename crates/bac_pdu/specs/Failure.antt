@@ -2,7 +2,7 @@
 use Rattle.std.specs.{List.flat_map, Prelude.{[], List, ℕ, ◌∷◌}}
 use Rattle.bac_wire.specs.{enumerated, plain, Spells, Front.SpellsTo}
 
--- The body of an Error: the class and the code stand at the front, and what follows is not looked at.
+-- The body of an Error: the class and the code come first, and the octets after them are not looked at.
 abbrev pub IsErrorBody : List ℕ → ℕ × ℕ → Type 0
 IsErrorBody body (class, code) =
     (rest : List ℕ) × SpellsTo Spells body (enumerated class ∷ enumerated code ∷ []) rest

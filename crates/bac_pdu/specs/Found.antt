@@ -15,7 +15,7 @@ abbrev pub introduced_in : Message → Option Introduction
 introduced_in (unconfirmed service body) = if service == 0 then introduction_of body else None
 introduced_in _ = None
 
--- The device that introduces itself in a datagram, where it is one that is asked for; else none.
+-- The device that introduces itself in a datagram, if the Who-Is asks for it; otherwise `None`.
 unfoldable pub found_of : WhoIs → Station → List ℕ → Option Found
 found_of who from octets = do
   delivery ← carried from octets

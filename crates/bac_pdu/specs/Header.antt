@@ -14,7 +14,7 @@ pub record SpellsAddress (octets : List ℕ) (station : NetworkAddress) : Type 0
   pub whole : octets ≡ high ∷ low ∷ length station.address ∷ station.address
   pub number : station.network ≡ big_number 2 (high ∷ low ∷ [])
 
--- The octets are an address where the bit that announces one is set, and nothing where it is not.
+-- The octets are an address if the bit that announces one is set, and nothing if it is not.
 abbrev pub SpellsAnnounced : Bool → List ℕ → Option NetworkAddress → Type 0
 SpellsAnnounced false octets None = octets ≡ []
 SpellsAnnounced true octets (Some station) = SpellsAddress octets station

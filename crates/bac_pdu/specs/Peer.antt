@@ -1,5 +1,5 @@
--- Who a datagram is from or for.
-use Rattle.std.specs.{Prelude.{ℕ, ◌<◌, ◌≤◌, List, length, take, Option}, Option.option_map}
+-- The sender or receiver of a datagram.
+use Rattle.std.specs.{Prelude.{[], ℕ, ◌<◌, ◌≤◌, List, length, take, Option}, Option.option_map}
 use Rattle.bac_pdu.specs.declared.{route.Route.Route, peer.Peer.Peer}
 
 -- A station of another network: the number of its network and its address there (clause 6.2.2).
@@ -7,7 +7,7 @@ pub record NetworkAddress : Type 0 where
   pub network : ℕ
   pub address : List ℕ
 
--- An IP address and a port, and a route where a router stands there: the station behind it.
+-- An IP address and a port, and a route if a router is there: the station behind the router.
 pub record Station : Type 0 where
   pub ip : ℕ
   pub port : ℕ
@@ -19,6 +19,10 @@ pub record IsRoutable (to : NetworkAddress) : Type 0 where
   pub global : to.network < 65535
   pub shortest : 1 ≤ length to.address
   pub longest : length to.address ≤ 7
+
+-- All stations of a network, as a network header names them: no octet of address. 65535 stands for all networks.
+abbrev pub everyone : ℕ → NetworkAddress
+everyone network = record { network = network; address = [] }
 
 -- The station that a route leads to.
 abbrev pub network_address : Route → NetworkAddress

@@ -26,7 +26,7 @@ pub record Order : Type 0 where
 
 -- ---- the records of the code, without where their octets lie in memory
 
--- A property by the object, its number and an index, as each of the records has them.
+-- A property, by its object, number and index, from each of the records.
 abbrev pub named : ObjectId → ℕ → Option ℕ → Reference
 named id number element = record { object = identifier id; property = number; index = element }
 
@@ -44,7 +44,7 @@ order w = record { reference = named w.object w.property w.index; value = w.valu
 
 -- ---- the parameters in their order
 
--- The object, the property under tag 1 and, where it is an element, its index under tag 2.
+-- The object, the property under tag 1 and, if it is an element, its index under tag 2.
 abbrev pub reference_parameters : Reference → List Parameter
 reference_parameters r = object r.object ∷ numbered 1 r.property ∷ option_to_list (option_map (numbered 2) r.index)
 
@@ -90,10 +90,10 @@ ack_octets a = flat_map plain_parameter (ack_parameters a)
 abbrev pub write_octets : Order → List ℕ
 write_octets o = flat_map plain_parameter (order_parameters o)
 
--- What stands before the value in the body of a ReadProperty-ACK: the parameters, and an opening tag 3.
+-- The octets before the value in the body of a ReadProperty-ACK: the parameters, and an opening tag 3.
 abbrev pub ack_front : Reference → List ℕ
 ack_front r = read_octets r ++ plain_tag (opening_tag 3)
 
--- What stands behind the value: a closing tag 3.
+-- The octets after the value: a closing tag 3.
 abbrev pub ack_end : List ℕ
 ack_end = plain_tag (closing_tag 3)

@@ -5,29 +5,28 @@ use Rattle.{bac_wire.specs.{enclosed_at, number_at, object_at}, bac_pdu.specs.de
 use Rattle.bac_pdu.specs.declared.reject.RejectReason.TheVariants.{InvalidTag, MissingParameter, OutOfRange, TooMany}
 use Rattle.bac_pdu.specs.{Property.{Order, ReadAck, Reference}, Steps.◌>>=◌}
 
--- What was read, and the octets behind it; where nothing was read, all octets are left.
+-- The thing that was read, and the octets after it; if nothing was read, all octets are left.
 abbrev pub or_none : {A : Type 0} → List ℕ → Option (A × List ℕ) → Option A × List ℕ
 or_none octets None = (None, octets)
 or_none octets (Some (x, rest)) = (Some x, rest)
 
--- A number under this tag where there is one.
+-- A number under this tag, if there is one.
 abbrev pub optional_at : ℕ → List ℕ → Option ℕ × List ℕ
 optional_at number octets = or_none octets (number_at number octets)
 
--- What was read; where no octet is left for it, a parameter is missing; where something else stands there, the tag is
--- invalid.
+-- The thing that was read. If no octet is left, a parameter is missing; if something else is there, the tag is invalid.
 abbrev pub unless_missing : {A : Type 0} → List ℕ → Option A → Result A RejectReason
 unless_missing [] found = Err MissingParameter
 unless_missing (x ∷ xs) found = ok_or found InvalidTag
 
--- The property that the front of a body names, and the octets behind it.
+-- The property that the front of a body names, and the octets after it.
 unfoldable pub reference_at : List ℕ → Result (Reference × List ℕ) RejectReason
 reference_at body = do
   (object, behind) ← unless_missing body (object_at 0 body)
   (property, after) ← unless_missing behind (number_at 1 behind)
   let (index, rest) = optional_at 2 after in Ok (record { object = object; property = property; index = index }, rest)
 
--- The result, where no octet is left.
+-- The result, if no octet is left.
 abbrev pub whole_of : {A : Type 0} → A → List ℕ → Option A
 whole_of x [] = Some x
 whole_of x (_ ∷ _) = None
@@ -53,7 +52,7 @@ write_of body = do
         then Ok (record { reference = reference; value = value; priority = priority })
         else Err OutOfRange
 
--- What the body of a ReadProperty-ACK says. Where a request would be rejected for its body, it says nothing.
+-- What the body of a ReadProperty-ACK says. If a request would be rejected for its body, it says nothing.
 unfoldable pub ack_of : List ℕ → Option ReadAck
 ack_of body = result_ok (do
   (reference, behind) ← reference_at body

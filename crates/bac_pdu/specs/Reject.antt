@@ -22,7 +22,7 @@ HasMore {A} IsWhole body = (x : A) × (rest : List ℕ) × Begins IsWhole body x
 abbrev pub LacksReference : List ℕ → Type 0
 LacksReference body = (body ≡ []) ⊎ ((id : Identifier) × SpellsAll SpellsParameter body (object id ∷ []))
 
--- What is wrong with the body of a ReadProperty, by reason: it has more octets than it should; no property is named; or
+-- The faults of the body of a ReadProperty, by reason: it has more octets than it should; no property is named; or
 -- anything else. The two other reasons never apply.
 abbrev pub ReadFault : List ℕ → RejectReason → Type 0
 ReadFault body TooMany = HasMore IsReadBody body
@@ -30,7 +30,7 @@ ReadFault body MissingParameter = LacksReference body
 ReadFault body InvalidTag = Unit {0}
 ReadFault body _ = ⊥
 
--- What is wrong with the body of a WriteProperty, by reason: a priority that there is not; more octets than it should
+-- The faults of the body of a WriteProperty, by reason: a priority that does not exist; more octets than it should
 -- have; no property or no value; or anything else. `UnknownService` never applies.
 abbrev pub WriteFault : List ℕ → RejectReason → Type 0
 WriteFault body OutOfRange = (o : Order) × SpellsAll SpellsParameter body (order_parameters o)
@@ -45,8 +45,7 @@ abbrev pub IsFirst : {A : Type 0} → (A → Type 0) → List A → A → Type 0
 IsFirst Applies [] x = ⊥
 IsFirst Applies (y ∷ ys) x = (Applies y × (x ≡ y)) ⊎ ((Applies y → ⊥) × IsFirst Applies ys x)
 
--- The outcome is the record that the body is; where it is none, the reason to reject it: the first that applies, in
--- this order.
+-- The outcome is the record that the body is, or the reason to reject it: the first that applies, in this order.
 pub record IsOutcome {A : Type 0} (IsWhole : List ℕ → A → Type 0) (HasFault : List ℕ → RejectReason → Type 0)
     (body : List ℕ) (outcome : Result A RejectReason) : Type 0 where
   pub whole : IfOk outcome (IsWhole body)

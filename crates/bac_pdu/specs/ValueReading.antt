@@ -12,7 +12,7 @@ who_is_of body = do
   (high, rest) ← number_at 1 behind
   whole_of (limits.Range low high) rest
 
--- What the body of an I-Am says, where its object is a device.
+-- What the body of an I-Am says, if its object is a device.
 unfoldable pub introduction_of : List ℕ → Option Introduction
 introduction_of body = do
   (device, behind) ← kind_at object_in body

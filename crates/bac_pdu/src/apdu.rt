@@ -11,7 +11,7 @@ use bac_wire::{Frame, Full};
 
 /// An APDU (clause 20.1). `id` is the invoke id, `service` the number of the service choice.
 ///
-/// A `part` stands where the APDU is one of several; `code` is that of the greatest APDU that the requester takes.
+/// `part` is given if the APDU is one of several; `code` is that of the greatest APDU that the requester accepts.
 #[derive(Clone, Copy, Debug, PartialEq, Eq)]
 pub enum Apdu<'a> {
     Confirmed {
@@ -47,14 +47,14 @@ pub enum Apdu<'a> {
         reason: u8,
     },
     Abort {
-        /// Whether the one who answers sent it.
+        /// Whether the answering side sent it.
         server: bool,
         id: u8,
         reason: u8,
     },
 }
 
-/// Where an APDU stands among the parts of a longer message (clause 5.2).
+/// The place of an APDU among the parts of a longer message (clause 5.2).
 #[derive(Clone, Copy, Debug, PartialEq, Eq)]
 pub struct Part {
     /// Whether more parts follow.
@@ -65,7 +65,8 @@ pub struct Part {
     pub window: u8,
 }
 
-/// The APDU that the octets are. None where they are none, where the type is unknown, or where the layout is cut.
+/// Returns the APDU that the octets are. `None` if there are no octets, if the type is unknown, or if the layout is
+/// cut.
 ///
 /// Bits and octets that the layout of the type does not name are not looked at.
 #[tactic(auto, unfolding(crate::specs::apdu_of))]
@@ -107,7 +108,7 @@ pub fn read_apdu(octets: &[u8]) -> Option<Apdu<'_>>
 }
 
 /// Appends the APDU, with 0 in each bit that is not looked at. It must be no SegmentACK, and a code must be below 16.
-/// `Full`, with the frame unchanged, only where there is no room for it.
+/// `Full`, with the frame unchanged, only if there is no room for it.
 #[inline(always)]
 pub fn write_apdu(frame: &mut Frame, apdu: &Apdu<'_>) -> Result<(), Full>
     requires { IsWritable (message apdu.now) }
@@ -121,8 +122,8 @@ pub fn write_apdu(frame: &mut Frame, apdu: &Apdu<'_>) -> Result<(), Full>
 /// 20.1.2) they make an APDU of 480, which is what code 3 announces, and fits a frame of ARCNET (clause 20.1.2.5).
 pub const LONGEST_BODY: usize = 476;
 
-/// The octets of the greatest APDU that a code announces (clause 20.1.2.5), by its low four bits. Codes above 5 are
-/// taken as 0.
+/// Returns the octets of the greatest APDU that a code announces (clause 20.1.2.5), by its low four bits. Codes above 5
+/// count as 0.
 pub fn announced(code: u8) -> u16
     ensures { result ≡ announced_size code }
 {
@@ -136,7 +137,7 @@ pub fn announced(code: u8) -> u16
     }
 }
 
-// The rest of a Confirmed-Request.
+// Reads the rest of a Confirmed-Request.
 fn read_confirmed(first: u8, octets: &[u8]) -> Option<Apdu<'_>>
     ensures { option_map message result ≡ confirmed_of first octets.now }
 {
@@ -153,7 +154,7 @@ fn read_confirmed(first: u8, octets: &[u8]) -> Option<Apdu<'_>>
     })
 }
 
-// The rest of a ComplexACK.
+// Reads the rest of a ComplexACK.
 fn read_complex_ack(first: u8, octets: &[u8]) -> Option<Apdu<'_>>
     ensures { option_map message result ≡ complex_ack_of first octets.now }
 {
@@ -169,7 +170,7 @@ fn read_complex_ack(first: u8, octets: &[u8]) -> Option<Apdu<'_>>
     })
 }
 
-// The part, the service and the body.
+// Reads the part, the service and the body.
 #[tactic(auto, unfolding(crate::specs::parts_at))]
 fn read_parts(first: u8, octets: &[u8]) -> Option<(Option<Part>, u8, &[u8])>
     ensures { option_map (λ x. (x.0, x.1, x.2.now)) result ≡ parts_at first octets.now }
@@ -241,7 +242,7 @@ fn flags_of(part: Option<Part>) -> u8
     }
 }
 
-// What stands before the body of a message that can have a part.
+// Returns the octets before the body of a message that can have a part.
 #[inline(always)]
 fn head_of(begin: &[u8], part: Option<Part>, service: u8) -> ArrayVec<u8, 6>
     requires { length begin.now < 4 }
@@ -257,7 +258,7 @@ fn head_of(begin: &[u8], part: Option<Part>, service: u8) -> ArrayVec<u8, 6>
     head
 }
 
-// Appends the head and the body. Where there is no room for both, nothing is appended.
+// Appends the head and the body. If there is no room for both, nothing is appended.
 #[tactic(auto, using(bac_wire::proofs::TagLaws::in_parts))]
 fn append_both(frame: &mut Frame, head: &[u8], body: &[u8]) -> Result<(), Full>
     ensures { Appends frame.old (head.now ++ body.now) frame.new result }

@@ -3,7 +3,7 @@
 ghost use Rattle.std.specs.Prelude.{◌<◌, ◌≡◌};
 ghost use Rattle.bac_pdu.specs.{bit};
 
-/// Whether the bit of this number is set; bit 0 is the lowest.
+/// Returns whether the bit of this number is set; bit 0 is the lowest.
 pub(crate) fn has_bit(octet: u8, number: u8) -> bool
     requires { number < 8 }
     ensures { result ≡ bit number octet }

@@ -1,10 +1,13 @@
 //! Datagrams whole: what one carries, and the one that takes an APDU to a peer.
 
-ghost use Rattle.std.specs.Prelude.{IfOk, IfSome, length, OnErr, OnOk, option_map, ◌+◌, ◌<◌, ◌^◌, ◌≡◌, ◌≤◌};
-ghost use Rattle.{bac_wire.specs.frame_room, bac_pdu.specs.carried};
+ghost use Rattle.std.specs.Prelude.{false, IfOk, IfSome, length, OnErr, OnOk, option_map, Some, ◌+◌, ◌<◌, ◌^◌, ◌≡◌};
+ghost use Rattle.std.specs.Prelude.{◌≤◌};
+ghost use Rattle.{bac_wire.specs.frame_room, bac_pdu.specs.{carried, everyone}};
 ghost use Rattle.bac_pdu.specs.{delivery, IsRoutable, link_at, origin_at, station, Takes, wrapped, Inner.front_octets};
 
-use crate::header::{HEADER_OCTETS, header_and_rest, local_header, network_header};
+use crate::header::{
+    HEADER_OCTETS, broadcast_header, header_and_rest, local_header, network_header,
+};
 use crate::peer::Peer;
 use crate::route::Route;
 use arrayvec::ArrayVec;
@@ -14,11 +17,11 @@ use byteorder::{BigEndian, ByteOrder};
 /// What a datagram carries.
 #[derive(Clone, Copy, Debug)]
 pub struct Carried<'a> {
-    /// Who sent it, and whom a reply is for.
+    /// The sender, to which a reply goes.
     pub peer: Peer,
     /// Whether it was sent to more than one station.
     pub broadcast: bool,
-    /// The octets behind both headers.
+    /// The octets after both headers.
     pub apdu: &'a [u8],
 }
 
@@ -38,10 +41,10 @@ const ALL_NETWORKS: u16 = 0xffff;
 // The octets before an APDU, at most: of the link header and of the network header.
 const FRONT_OCTETS: usize = 4 + HEADER_OCTETS;
 
-/// What the datagram that came from this address and port carries (Annex J and clause 6).
+/// Returns the contents of the datagram that came from this address and port (Annex J and clause 6).
 ///
 /// The peer is `from`, or the originator that a Forwarded-NPDU names, with the source of the network header as its
-/// route; the route of `from` is not looked at. None where the datagram is ignored: a link header that is cut, of
+/// route; the route of `from` is not looked at. `None` if the datagram is ignored: a link header that is cut, of
 /// another type or function, or with a length that is not the datagram's; a network header that is cut, of another
 /// version or a message of the network layer; a destination other than all networks; a source that no route leads to.
 #[tactic(auto, unfolding(crate::specs::carried))]
@@ -74,7 +77,7 @@ pub fn open_datagram(from: Peer, datagram: &[u8]) -> Option<Carried<'_>>
 
 /// Makes the frame the unicast datagram that takes the APDU to the peer, and says in it whether a reply is expected.
 ///
-/// `Full`, with the frame unchanged, only where the datagram has more octets than a frame: an APDU of more than 1,491
+/// `Full`, with the frame unchanged, only if the datagram has more octets than a frame: an APDU of more than 1,491
 /// octets, or with a route of more than 1,487 less those of its address; so never for one of at most 1,480.
 #[tactic(auto, using(crate::proofs::front_before, crate::proofs::length_front, crate::proofs::length_wrapped, crate::proofs::put_front_takes))]
 pub fn wrap(to: Peer, expect: bool, apdu: &[u8], frame: &mut Frame) -> Result<(), Full>
@@ -92,7 +95,7 @@ pub fn wrap(to: Peer, expect: bool, apdu: &[u8], frame: &mut Frame) -> Result<()
 }
 
 /// Makes the frame, which holds an APDU, the datagram that `wrap` would make of it. Nothing is copied but within the
-/// frame. `Full`, with the frame unchanged, only where the datagram has more octets than a frame.
+/// frame. `Full`, with the frame unchanged, only if the datagram has more octets than a frame.
 #[tactic(auto, using(crate::proofs::front_before, crate::proofs::length_front, crate::proofs::length_wrapped, crate::proofs::put_front_takes))]
 #[inline(always)]
 pub fn wrap_within(to: Peer, expect: bool, frame: &mut Frame) -> Result<(), Full>
@@ -112,7 +115,25 @@ pub fn wrap_within(to: Peer, expect: bool, frame: &mut Frame) -> Result<(), Full
     }
 }
 
-// Who sent the datagram, whether to all, and the octets behind the link header.
+/// Makes the frame, which holds an APDU, the unicast datagram by which a router is asked to broadcast it in this
+/// network, or, if the number is 65535, in all networks that it knows: the destination is the network, with no octet
+/// of address (clause 6.2.2). No reply is expected. The number must not be 0. `Full`, with the frame unchanged, only if
+/// the APDU has more than 1,487 octets.
+#[tactic(auto, using(crate::proofs::across_made, crate::proofs::across_takes))]
+pub fn wrap_across(network: u16, frame: &mut Frame) -> Result<(), Full>
+    requires { 0 < network }
+    ensures ok { OnOk result (frame.new ≡ wrapped (Some (everyone network)) false frame.old) }
+    ensures whole { OnOk result (Takes (Some (everyone network)) false frame.old frame.new) }
+    ensures full { OnErr result (1487 < length frame.old) }
+    ensures err { OnErr result (frame.new ≡ frame.old) }
+{
+    if frame.len() > FRAME_OCTETS - 10 {
+        return Err(Full);
+    }
+    frame.prepend(&front_across(network, frame.len()))
+}
+
+// Returns the sender of the datagram, whether it was sent to all, and the octets after the link header.
 #[tactic(auto, unfolding(crate::specs::link_at))]
 fn link_and_rest(from: Peer, datagram: &[u8]) -> Option<(Peer, bool, &[u8])>
     ensures { option_map (λ x. ((station x.0, x.1), x.2.now)) result ≡ link_at (station from) datagram.now }
@@ -126,7 +147,8 @@ fn link_and_rest(from: Peer, datagram: &[u8]) -> Option<(Peer, bool, &[u8])>
     origin_and_rest(*function, from, rest)
 }
 
-// Who sent a datagram of this function, whether to all, and the octets behind those that say it.
+// Returns the sender of a datagram of this function, whether it was sent to all, and the octets after those that say
+// it.
 fn origin_and_rest(function: u8, from: Peer, octets: &[u8]) -> Option<(Peer, bool, &[u8])>
     ensures { option_map (λ x. ((station x.0, x.1), x.2.now)) result ≡ origin_at function (station from) octets.now }
 {
@@ -148,8 +170,8 @@ fn origin_and_rest(function: u8, from: Peer, octets: &[u8]) -> Option<(Peer, boo
     }
 }
 
-// What stands before an APDU of this size: the link header and the network header. `Full` where no frame has room for
-// these and the APDU.
+// Returns the octets before an APDU of this size: the link header and the network header. `Full` if no frame has room
+// for these and the APDU.
 #[tactic(auto, unfolding(crate::specs::Inner::front_octets))]
 fn front_of(to: Peer, expect: bool, size: usize) -> Result<ArrayVec<u8, FRONT_OCTETS>, Full>
     requires { size < 2 ^ 63 }
@@ -174,7 +196,7 @@ fn front_of(to: Peer, expect: bool, size: usize) -> Result<ArrayVec<u8, FRONT_OC
     Ok(front)
 }
 
-// What stands before an APDU of this size for a station of this network.
+// Returns the octets before an APDU of this size for a station of this network.
 #[tactic(auto, using(crate::proofs::local_front))]
 fn local_front(expect: bool, size: usize) -> [u8; 6]
     requires { size ≤ frame_room }
@@ -183,4 +205,17 @@ fn local_front(expect: bool, size: usize) -> [u8; 6]
     let [high, low] = (6 + size as u16).to_be_bytes();
     let [version, control] = local_header(expect);
     [BACNET_IP, UNICAST, high, low, version, control]
+}
+
+// Returns the octets before an APDU of this size for all stations of a network.
+#[tactic(auto, using(crate::proofs::across_front))]
+fn front_across(network: u16, size: usize) -> [u8; 10]
+    requires { size ≤ 1487 }
+    ensures { result ≡ front_octets (Some (everyone network)) false size }
+{
+    let [high, low] = (10 + size as u16).to_be_bytes();
+    let [version, control, first, second, count, hops] = broadcast_header(network);
+    [
+        BACNET_IP, UNICAST, high, low, version, control, first, second, count, hops,
+    ]
 }

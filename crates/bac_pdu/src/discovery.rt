@@ -20,7 +20,7 @@ const HIGH_LIMIT: u8 = 1;
 
 /// Which devices are asked to answer (clause 16.10): all, or those with an instance between two limits, both included.
 ///
-/// Where low is above high it asks none.
+/// If low is above high, it asks no device.
 #[derive(Clone, Copy, Debug, PartialEq, Eq)]
 pub enum WhoIs {
     All,
@@ -28,7 +28,7 @@ pub enum WhoIs {
 }
 
 impl WhoIs {
-    /// Whether it asks the device with this instance.
+    /// Returns whether it asks the device with this instance.
     pub fn asks(self, instance: u32) -> bool
         ensures { result ≡ asks self instance }
     {
@@ -44,15 +44,15 @@ impl WhoIs {
 pub struct IAm {
     /// An object of type 8.
     pub device: ObjectId,
-    /// The octets of the longest APDU that it takes.
+    /// The octets of the longest APDU that it accepts.
     pub max_apdu: u64,
-    /// The number of the segmentation that it supports; 3 is none.
+    /// The number of the segmentation that it supports; 3 means no segmentation.
     pub segmentation: u32,
     /// The number of its vendor.
     pub vendor: u64,
 }
 
-/// Which devices the body of a Who-Is asks. None where the body is not whole.
+/// Returns which devices the body of a Who-Is asks. `None` if the body is not whole.
 #[tactic(auto, unfolding(crate::specs::who_is_of))]
 pub fn read_whois(body: &[u8]) -> Option<WhoIs>
     ensures value { result ≡ who_is_of body.now }
@@ -68,7 +68,7 @@ pub fn read_whois(body: &[u8]) -> Option<WhoIs>
     Some(WhoIs::Range { low, high })
 }
 
-/// What the body of an I-Am says. None where the body is not whole, or where the object is no device.
+/// Returns the contents of the body of an I-Am. `None` if the body is not whole, or if the object is not a device.
 #[tactic(auto, unfolding(crate::specs::introduction_of))]
 pub fn read_iam(body: &[u8]) -> Option<IAm>
     ensures value { option_map introduction result ≡ introduction_of body.now }
@@ -88,8 +88,8 @@ pub fn read_iam(body: &[u8]) -> Option<IAm>
     })
 }
 
-/// Appends the body of a Who-Is, each number in its fewest octets. `Full`, with the frame unchanged, only where there
-/// is no room for it.
+/// Appends the body of a Who-Is, each number in its fewest octets. `Full`, with the frame unchanged, only if there is
+/// no room for it.
 #[tactic(auto, using(crate::proofs::limits_back, crate::proofs::who_is_shortest, std::proofs::lemmas::Result::on_ok_weaker))]
 pub fn write_whois(frame: &mut Frame, who: &WhoIs) -> Result<(), Full>
     ensures appended { Appends frame.old (who_is_octets who.now) frame.new result }
@@ -102,7 +102,7 @@ pub fn write_whois(frame: &mut Frame, who: &WhoIs) -> Result<(), Full>
 }
 
 /// Appends the body of an I-Am, each number in its fewest octets. The object must be a device. `Full`, with the frame
-/// unchanged, only where there is no room for it.
+/// unchanged, only if there is no room for it.
 pub fn write_iam(frame: &mut Frame, i_am: &IAm) -> Result<(), Full>
     requires { (identifier i_am.now.device).kind ≡ 8 }
     ensures appended { Appends frame.old (i_am_octets (introduction i_am.now)) frame.new result }
@@ -116,7 +116,7 @@ pub fn write_iam(frame: &mut Frame, i_am: &IAm) -> Result<(), Full>
     whole_or_nothing(frame, start, appended)
 }
 
-// Appends the body of a Who-Is. Where there is no room, a front of it may stay.
+// Appends the body of a Who-Is. If there is no room, a front of it may stay.
 fn append_limits(frame: &mut Frame, who: &WhoIs) -> Result<(), Full>
     ensures appended { AppendsFront frame.old (who_is_octets who.now) frame.new result }
     ensures known { OnOk result (HasLimits who.now) }
@@ -130,7 +130,7 @@ fn append_limits(frame: &mut Frame, who: &WhoIs) -> Result<(), Full>
     }
 }
 
-// Appends the body of an I-Am. Where there is no room, a front of it may stay.
+// Appends the body of an I-Am. If there is no room, a front of it may stay.
 #[tactic(auto, using(bac_wire::proofs::TagLaws::in_parts))]
 fn append_introduction(frame: &mut Frame, i_am: &IAm) -> Result<(), Full>
     requires { (identifier i_am.now.device).kind ≡ 8 }

@@ -12,13 +12,13 @@ use crate::service::I_AM;
 /// A device that introduced itself, and where it is.
 #[derive(Debug, Drop)]
 pub struct Found {
-    /// Who sent its I-Am.
+    /// The sender of its I-Am.
     pub peer: Peer,
     /// What it says of itself.
     pub device: IAm,
 }
 
-/// The device that introduces itself in a datagram from this peer, where the Who-Is asks it. Else None.
+/// Returns the device that introduces itself in a datagram from this peer, if the Who-Is asks for it. Otherwise `None`.
 #[tactic(auto, unfolding(crate::specs::found_of))]
 pub fn read_found(who: WhoIs, from: Peer, datagram: &[u8]) -> Option<Found>
     ensures { option_map found_seen result ≡ found_of who (station from) datagram.now }

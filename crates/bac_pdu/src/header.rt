@@ -1,7 +1,8 @@
 //! The network header, read and written.
 
-ghost use Rattle.std.specs.Prelude.{◌≡◌, ◌≤◌, IfSome, length, option_map};
-ghost use Rattle.bac_pdu.specs.{address_at, announced_at, behind_hops, header_at, IsRoutable, network_address};
+ghost use Rattle.std.specs.Prelude.{◌≡◌, ◌≤◌, false, IfSome, length, option_map, Some};
+ghost use Rattle.bac_pdu.specs.{address_at, announced_at, behind_hops, everyone, header_at, IsRoutable};
+ghost use Rattle.bac_pdu.specs.{network_address};
 ghost use Rattle.bac_pdu.specs.{plain_header, Inner.{address_seen, header_seen}};
 
 use crate::bits::has_bit;
@@ -43,8 +44,8 @@ const HOPS: u8 = 255;
 /// The octets of a header that is written, at most.
 pub(crate) const HEADER_OCTETS: usize = 13;
 
-/// The network header at the front, and the APDU behind it. None where it is cut, of another version, or a message of
-/// the network layer.
+/// Returns the network header at the front, and the APDU after it. `None` if it is cut, of another version, or a
+/// message of the network layer.
 #[tactic(auto, unfolding(crate::specs::header_at))]
 pub(crate) fn header_and_rest(octets: &[u8]) -> Option<(Header<'_>, &[u8])>
     ensures { option_map (λ x. (header_seen x.0, x.1.now)) result ≡ header_at octets.now }
@@ -68,7 +69,7 @@ pub(crate) fn header_and_rest(octets: &[u8]) -> Option<(Header<'_>, &[u8])>
     ))
 }
 
-/// The network header of a datagram for a station, which is the destination where it is of another network.
+/// Returns the network header of a datagram for a station, which is its destination if it is in another network.
 pub(crate) fn network_header(route: Option<Route>, expect: bool) -> ArrayVec<u8, HEADER_OCTETS>
     ensures value { result.items ≡ plain_header (option_map network_address route) expect }
     ensures short { length result.items ≤ HEADER_OCTETS }
@@ -91,14 +92,22 @@ pub(crate) fn network_header(route: Option<Route>, expect: bool) -> ArrayVec<u8,
     header
 }
 
-/// The same for a station of this network.
+/// Returns the network header of a datagram for all stations of a network.
+pub(crate) fn broadcast_header(network: u16) -> [u8; 6]
+    ensures { result ≡ plain_header (Some (everyone network)) false }
+{
+    let [high, low] = network.to_be_bytes();
+    [VERSION, DESTINED, high, low, 0, HOPS]
+}
+
+/// Returns the network header of a datagram for a station of this network.
 pub(crate) fn local_header(expect: bool) -> [u8; 2]
     ensures { result ≡ plain_header None expect }
 {
     [VERSION, if expect { EXPECTS_REPLY } else { 0 }]
 }
 
-// The address that the control octet announces, if it does, and the octets behind.
+// Returns the address that the control octet announces, if it does, and the octets after.
 fn announced_and_rest(announced: bool, octets: &[u8]) -> Option<(Option<Address<'_>>, &[u8])>
     ensures { option_map (λ x. (option_map address_seen x.0, x.1.now)) result
         ≡ announced_at announced octets.now }
@@ -110,7 +119,7 @@ fn announced_and_rest(announced: bool, octets: &[u8]) -> Option<(Option<Address<
     Some((Some(address), rest))
 }
 
-// A network and an address in it, of as many octets as the one before it says, and the octets behind.
+// Returns a network and an address in it, of as many octets as the one before it says, and the octets after.
 #[tactic(auto, unfolding(crate::specs::address_at))]
 fn address_and_rest(octets: &[u8]) -> Option<(Address<'_>, &[u8])>
     ensures { option_map (λ x. (address_seen x.0, x.1.now)) result ≡ address_at octets.now }
@@ -123,7 +132,7 @@ fn address_and_rest(octets: &[u8]) -> Option<(Address<'_>, &[u8])>
     Some((Address { network, address }, rest))
 }
 
-// The octets behind the hop count that stands where a destination does.
+// Returns the octets after the hop count, which is there if a destination is.
 fn rest_behind_hops(destined: bool, octets: &[u8]) -> Option<&[u8]>
     ensures { option_map (λ x. x.now) result ≡ behind_hops destined octets.now }
 {

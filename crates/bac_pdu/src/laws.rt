@@ -1,8 +1,8 @@
-//! What holds of the definitions that the contracts cite. Each function has an empty body, and its clause is the law;
+//! Laws of the definitions that the contracts cite. Each function has an empty body, and its clause is the law;
 //! those at the end are `clone` or `==` of types, and say what a clone is, or what is compared.
 
 ghost use Rattle.std.specs.{List.AllByRecursion, Prelude.{[], Bool, false, IfSome, length, List, Option, Result, ℕ}};
-ghost use Rattle.std.specs.Prelude.{◌++◌, ◌+◌, ◌<◌, ◌^◌, ◌↔◌, ◌∷◌, ◌≡◌};
+ghost use Rattle.std.specs.Prelude.{None, Some, true, ◌++◌, ◌+◌, ◌<◌, ◌^◌, ◌↔◌, ◌∷◌, ◌≡◌};
 ghost use Rattle.bac_wire.specs.{enumerated, EqualsBy, MakesCopies, Datum.IsDatum};
 ghost use Rattle.bac_pdu.specs.{ack_end, ack_front, ack_octets, ack_of, ack_parameters, ack_seen, apdu_of, carried};
 ghost use Rattle.bac_pdu.specs.{Carries, Delivery, error_octets, error_of, front_count, i_am_octets, Introduction};
@@ -11,6 +11,7 @@ ghost use Rattle.bac_pdu.specs.{IsLaidOut, IsOutcome, IsParameter, IsPriority, I
 ghost use Rattle.bac_pdu.specs.{IsWritable, IsWriteBody, laid_out, longest_body, Message, message, network_address};
 ghost use Rattle.bac_pdu.specs.{NetworkAddress, Order, order, order_parameters, Range, read_octets, read_of, ReadAck};
 ghost use Rattle.bac_pdu.specs.{ReadFault, Reference, reference, reference_parameters, RejectReason, Station, station};
+ghost use Rattle.bac_pdu.specs.{everyone, header_at, plain_header};
 ghost use Rattle.bac_pdu.specs.{Takes, who_is_octets, who_is_of, WhoIs, wrapped, write_octets, write_of, WriteFault};
 ghost use Rattle.bac_pdu.specs.declared.discovery.WhoIs.TheVariants.{All};
 
@@ -40,7 +41,7 @@ pub fn in_words()
     ensures error { (body : List ℕ) (x : ℕ × ℕ) → (error_of body ≡ Some x) ↔ IsErrorBody body x }
 {}
 
-/// What is written is read back: a datagram for a station without a route, an APDU, and the body of each kind.
+/// Written octets are read back: a datagram for a station without a route, an APDU, and the body of each kind.
 pub fn come_back()
     ensures taken { (from : Station) (expect : Bool) (apdu datagram : List ℕ)
         → Takes None expect apdu datagram → carried from datagram
@@ -61,7 +62,7 @@ pub fn come_back()
         → error_of (error_octets class code ++ rest) ≡ Some (class, code) }
 {}
 
-/// What is written round an APDU is a datagram in the standard's words, of so many octets, and takes no other APDU to
+/// The headers around an APDU make a datagram in the standard's words, of this many octets, that takes no other APDU to
 /// the station; an answer is written in three parts.
 pub fn wrapped_round()
     ensures words { (to : Option NetworkAddress) (expect : Bool) (apdu : List ℕ) → IfSome to IsRoutable
@@ -71,6 +72,23 @@ pub fn wrapped_round()
     ensures length { (to : Option NetworkAddress) (expect : Bool) (apdu : List ℕ)
         → length (wrapped to expect apdu) ≡ front_count to + length apdu }
     ensures parts { (a : ReadAck) → ack_octets a ≡ (ack_front a.reference ++ a.value) ++ ack_end }
+{}
+
+/// A header for all stations of a network names that network and no address, and is read back so. For all networks it
+/// is carried to each station that it comes to, as sent to all; for one network no station heeds it, only the router
+/// that should pass it on.
+pub fn goes_across()
+    ensures words { (network : ℕ) (apdu : List ℕ) → network < 65536
+        → length (wrapped (Some (everyone network)) false apdu) < 65536
+        → Takes (Some (everyone network)) false apdu (wrapped (Some (everyone network)) false apdu) }
+    ensures read_back { (network : ℕ) (apdu : List ℕ) → network < 65536
+        → header_at (plain_header (Some (everyone network)) false ++ apdu)
+        ≡ Some (record { destination = Some (everyone network); source = None }, apdu) }
+    ensures for_all { (from : Station) (apdu datagram : List ℕ)
+        → Takes (Some (everyone 65535)) false apdu datagram → carried from datagram
+        ≡ Some (record { peer = record from { route = None }; broadcast = true; apdu = apdu }) }
+    ensures for_one { (from : Station) (network : ℕ) (apdu datagram : List ℕ) → network < 65535
+        → Takes (Some (everyone network)) false apdu datagram → carried from datagram ≡ None }
 {}
 
 /// The numbers that the code names: of the services and of the object type of devices, as the standard has them (clause
@@ -89,7 +107,7 @@ pub fn limits()
     ensures body { LONGEST_BODY ≡ longest_body }
 {}
 
-/// A clone is what it was cloned from, and takes no memory.
+/// A clone is what it was cloned from, and needs no memory.
 pub fn clones()
     ensures peer { MakesCopies ⟦<Peer as Clone>⟧.is_clone ⟦<Peer as Clone>⟧.is_infallible }
     ensures route { MakesCopies ⟦<Route as Clone>⟧.is_clone ⟦<Route as Clone>⟧.is_infallible }
@@ -105,7 +123,7 @@ pub fn clones()
     ensures reason { MakesCopies ⟦<RejectReason as Clone>⟧.is_clone ⟦<RejectReason as Clone>⟧.is_infallible }
 {}
 
-/// What `==` compares: all that each says, wherever the octets that it borrows lie.
+/// `==` compares all that each says, wherever the octets that it borrows lie.
 pub fn equals()
     ensures peer { EqualsBy station ⟦<Peer as PartialEq>⟧.eq }
     ensures route { EqualsBy network_address ⟦<Route as PartialEq>⟧.eq }

@@ -1,13 +1,13 @@
 //! Headers, APDUs and service bodies of BACnet/IP (ANSI/ASHRAE 135, Annex J and clauses 6, 20.1 and 21).
 //!
 //! On the way in, [`open_datagram`] says from whom a datagram is and which APDU it carries, [`read_apdu`] what that
-//! APDU is, and a reader of each service, as [`read_read`] or [`read_ack`], what its body says; [`read_found`] reads
-//! the I-Am that a datagram carries. On the way out, a writer of each service, as [`write_read`], makes the body in a
+//! APDU is, and a reader of each service, like [`read_read`] or [`read_ack`], what its body says; [`read_found`] reads
+//! the I-Am that a datagram carries. On the way out, a writer of each service, like [`write_read`], makes the body in a
 //! frame; [`write_apdu`] makes the APDU, and [`wrap`] the datagram round it. `specs/Datagram.antt` and
 //! `specs/Apdu.antt` say what the octets mean.
 //!
-//! Of `examples_of_datagrams` in `src/examples.rt`, which is proved: a whole request, ReadProperty (0C) with invoke id
-//! 1.
+//! From `examples_of_datagrams` in `src/examples.rt`, which is proved: a whole request, ReadProperty (0C) with invoke
+//! id 1.
 //!
 //! ```text
 //! // Seventeen octets (11), for one device (0A), which is to reply (04).
@@ -15,12 +15,11 @@
 //!     0x81 ∷ 0x0a ∷ 0x00 ∷ 0x11 ∷ 0x01 ∷ 0x04 ∷ 0x00 ∷ 0x05 ∷ 0x01 ∷ 0x0c ∷ read_octets present_value }
 //! ```
 //!
-//! The caller keeps to this: an APDU that is written is no SegmentACK, and its code at most 15; a value is whole items
-//! (`is_region` of `bac_wire`), a priority 1 to 16, and the object of an I-Am a device. Octets that are read may be
-//! any.
+//! The caller must keep to this: an APDU that is written is not a SegmentACK, and its code at most 15; a value is whole
+//! items (`is_region` of `bac_wire`), a priority 1 to 16, and the object of an I-Am a device. Octets that are read may
+//! be any.
 //!
-//! Calls, of `asking` of `bac_uses` (`src/pdu.rt`), where it is proved that there is room, and which datagram comes of
-//! them:
+//! Calls, from `asking` of `bac_uses` (`src/pdu.rt`), which proves that there is room, and which datagram they make:
 //!
 //! ```rust
 //! write_read(&mut body, &request).unwrap();
@@ -55,7 +54,7 @@ mod value;
 mod writing;
 
 pub use apdu::{Apdu, LONGEST_BODY, Part, announced, read_apdu, write_apdu};
-pub use datagram::{Carried, open_datagram, wrap, wrap_within};
+pub use datagram::{Carried, open_datagram, wrap, wrap_across, wrap_within};
 pub use discovery::{DEVICE, IAm, WhoIs, read_iam, read_whois, write_iam, write_whois};
 pub use failure::{read_error, write_error};
 pub use found::{Found, read_found};

@@ -25,8 +25,8 @@ const VALUE: u8 = 3;
 
 pub(crate) const PRIORITY: u8 = 4;
 
-/// The object, the property and the index at the front of a body, which name a property or an element of it, and the
-/// octets behind.
+/// Returns the object, the property and the index at the front of a body, which name a property or an element of it,
+/// and the octets after.
 #[tactic(auto, unfolding(crate::specs::reference_at))]
 pub(crate) fn reference_and_rest(
     body: &[u8],
@@ -49,7 +49,7 @@ pub(crate) fn reference_and_rest(
     Ok((object, property, index, rest))
 }
 
-/// A number under a context tag of this number, where there is one.
+/// Returns the number under a context tag of this number, if there is one, and the octets after it.
 pub(crate) fn optional_and_rest(number: u8, octets: &[u8]) -> (Option<u32>, &[u8])
     ensures { let found = optional_at number octets.now in (result.0 ≡ found.0) × (result.1.now ≡ found.1) }
 {
@@ -59,7 +59,7 @@ pub(crate) fn optional_and_rest(number: u8, octets: &[u8]) -> (Option<u32>, &[u8
     }
 }
 
-/// The number in one to four octets under a context tag of this number.
+/// Returns the number in one to four octets under a context tag of this number.
 #[tactic(auto, unfolding(bac_wire::specs::ParameterReading::number_at))]
 pub(crate) fn number_and_rest(number: u8, octets: &[u8]) -> Option<(u32, &[u8])>
     ensures { option_map (λ x. (x.0, x.1.now)) result ≡ number_at number octets.now }
@@ -68,7 +68,7 @@ pub(crate) fn number_and_rest(number: u8, octets: &[u8]) -> Option<(u32, &[u8])>
     Some((number_in(contents)?, rest))
 }
 
-/// The whole items between an opening and a closing tag 3.
+/// Returns the whole items between an opening and a closing tag 3.
 #[tactic(auto, unfolding(bac_wire::specs::ParameterReading::enclosed_at))]
 pub(crate) fn enclosed_and_rest<'a>(
     octets: &'a [u8],
@@ -83,7 +83,7 @@ pub(crate) fn enclosed_and_rest<'a>(
     Some((items, rest))
 }
 
-/// Appends the parameters that name a property. Where there is no room, a front of them may stay.
+/// Appends the parameters that name a property. If there is no room, a front of them may stay.
 #[tactic(auto, using(bac_wire::proofs::TagLaws::in_parts, crate::proofs::optional_plain), unfolding(crate::specs::plain_parameter))]
 #[inline(always)]
 pub(crate) fn append_reference(
@@ -100,7 +100,7 @@ pub(crate) fn append_reference(
     append_optional(body, INDEX, index)
 }
 
-/// Appends a number in its fewest octets, where there is one. Where there is no room, nothing is appended.
+/// Appends a number in its fewest octets, if there is one. If there is no room, nothing is appended.
 pub(crate) fn append_optional(body: &mut Frame, number: u8, n: Option<u32>) -> Result<(), Full>
     requires { number < 15 }
     ensures appended { Appends body.old (optional_octets number n) body.new result }
@@ -112,7 +112,7 @@ pub(crate) fn append_optional(body: &mut Frame, number: u8, n: Option<u32>) -> R
     }
 }
 
-/// Appends a number in its fewest octets. Where there is no room, nothing is appended.
+/// Appends a number in its fewest octets. If there is no room, nothing is appended.
 pub(crate) fn append_number(body: &mut Frame, number: u8, n: u32) -> Result<(), Full>
     requires { number < 15 }
     ensures appended { Appends body.old (number_octets number n) body.new result }
@@ -128,7 +128,7 @@ pub(crate) fn append_number(body: &mut Frame, number: u8, n: u32) -> Result<(), 
     append_context(body, number, &contents[..count])
 }
 
-/// Appends whole items between an opening and a closing tag 3. Where there is no room, a front of that may stay.
+/// Appends whole items between an opening and a closing tag 3. If there is no room, a front of that may stay.
 #[tactic(auto, using(bac_wire::proofs::TagLaws::in_parts))]
 pub(crate) fn append_enclosed(body: &mut Frame, items: &[u8]) -> Result<(), Full>
     ensures { AppendsFront body.old (enclosed_octets 3 items.now) body.new result }
@@ -138,7 +138,7 @@ pub(crate) fn append_enclosed(body: &mut Frame, items: &[u8]) -> Result<(), Full
     append_closing(body)
 }
 
-/// Appends an opening tag 3. Where there is no room, nothing is appended.
+/// Appends an opening tag 3. If there is no room, nothing is appended.
 #[tactic(auto, using(crate::proofs::opening_octet))]
 pub(crate) fn append_opening(body: &mut Frame) -> Result<(), Full>
     ensures { Appends body.old (plain_tag (opening_tag 3)) body.new result }
@@ -146,7 +146,7 @@ pub(crate) fn append_opening(body: &mut Frame) -> Result<(), Full>
     body.append(&[16 * VALUE + 14])
 }
 
-/// Appends a closing tag 3. Where there is no room, nothing is appended.
+/// Appends a closing tag 3. If there is no room, nothing is appended.
 #[tactic(auto, using(crate::proofs::closing_octet))]
 pub(crate) fn append_closing(body: &mut Frame) -> Result<(), Full>
     ensures { Appends body.old (plain_tag (closing_tag 3)) body.new result }
@@ -154,7 +154,7 @@ pub(crate) fn append_closing(body: &mut Frame) -> Result<(), Full>
     body.append(&[16 * VALUE + 15])
 }
 
-// The object's identifier under a context tag of this number.
+// Returns the object's identifier under a context tag of this number.
 #[tactic(auto, unfolding(bac_wire::specs::ParameterReading::object_at))]
 fn object_and_rest(number: u8, octets: &[u8]) -> Option<(ObjectId, &[u8])>
     ensures { option_map (λ x. (identifier x.0, x.1.now)) result ≡ object_at number octets.now }
@@ -167,7 +167,7 @@ fn object_and_rest(number: u8, octets: &[u8]) -> Option<(ObjectId, &[u8])>
     Some((object, rest))
 }
 
-// The contents under a context tag of this number.
+// Returns the contents under a context tag of this number.
 #[tactic(auto, unfolding(bac_wire::specs::ParameterReading::context_at))]
 #[inline(always)]
 fn context_and_rest(number: u8, octets: &[u8]) -> Option<(&[u8], &[u8])>
@@ -214,7 +214,7 @@ fn rest_behind_closing(octets: &[u8]) -> Option<&[u8]>
     }
 }
 
-// Appends an object's identifier. Where there is no room, nothing is appended.
+// Appends an object's identifier. If there is no room, nothing is appended.
 fn append_object(body: &mut Frame, number: u8, id: ObjectId) -> Result<(), Full>
     requires { number < 15 }
     ensures appended { Appends body.old (object_octets number (identifier id)) body.new result }
@@ -225,7 +225,7 @@ fn append_object(body: &mut Frame, number: u8, id: ObjectId) -> Result<(), Full>
     append_four(body, number, &contents)
 }
 
-// Appends a tag of one octet, and the four octets that it counts. Where there is no room, nothing is appended.
+// Appends a tag of one octet, and the four octets that it counts. If there is no room, nothing is appended.
 #[tactic(auto, using(crate::proofs::four_context))]
 fn append_four(body: &mut Frame, number: u8, contents: &[u8; 4]) -> Result<(), Full>
     requires { number < 15 }
@@ -235,7 +235,7 @@ fn append_four(body: &mut Frame, number: u8, contents: &[u8; 4]) -> Result<(), F
     body.append(&[16 * number + 12, a, b, c, d])
 }
 
-// Appends a number in one octet behind a tag of one octet. Where there is no room, nothing is appended.
+// Appends a number in one octet after a tag of one octet. If there is no room, nothing is appended.
 #[tactic(auto, using(crate::proofs::one_number))]
 fn append_octet(body: &mut Frame, number: u8, n: u8) -> Result<(), Full>
     requires { number < 15 }
@@ -244,7 +244,7 @@ fn append_octet(body: &mut Frame, number: u8, n: u8) -> Result<(), Full>
     body.append(&[16 * number + 9, n])
 }
 
-// Appends a tag of one octet, and the contents that it counts, at most four octets. Where there is no room, nothing is
+// Appends a tag of one octet, and the contents that it counts, at most four octets. If there is no room, nothing is
 // appended.
 #[tactic(auto, using(crate::proofs::short_context))]
 fn append_context(body: &mut Frame, number: u8, contents: &[u8]) -> Result<(), Full>

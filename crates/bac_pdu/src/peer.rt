@@ -1,8 +1,8 @@
-//! Who a datagram is from, or for.
+//! The sender or receiver of a datagram.
 
 use crate::route::Route;
 
-/// Where datagrams come from and go to: an IP address, a port and, for a station of another network, the way on from
+/// The sender or receiver of a datagram: an IP address, a port and, for a station of another network, the way on from
 /// the router there.
 ///
 /// 127.0.0.1 is `0x7f00_0001`.

@@ -54,8 +54,7 @@ pub struct Ack<'a> {
 ///
 /// # Errors
 ///
-/// `TooMany` where a front of the body is whole, `MissingParameter` where it is empty or an object alone, else
-/// `InvalidTag`.
+/// `TooMany` if a front of the body is whole, `MissingParameter` if it is empty or an object alone, else `InvalidTag`.
 #[tactic(auto, unfolding(crate::specs::read_of))]
 pub fn read_read(body: &[u8]) -> Result<ReadRequest, RejectReason>
     ensures value { result_seen reference result ≡ read_of body.now }
@@ -75,8 +74,8 @@ pub fn read_read(body: &[u8]) -> Result<ReadRequest, RejectReason>
 ///
 /// # Errors
 ///
-/// `OutOfRange` where it is whole but for a priority that is not 1 to 16, `TooMany` where a front of the body is whole,
-/// `MissingParameter` where it ends before the property or the value, else `InvalidTag`.
+/// `OutOfRange` if it is whole except for a priority that is not 1 to 16, `TooMany` if a front of the body is whole,
+/// `MissingParameter` if it ends before the property or the value, else `InvalidTag`.
 #[tactic(auto, using(crate::proofs::reference_no_longer), unfolding(crate::specs::write_of))]
 pub fn read_write<'a>(body: &'a [u8], work: &mut Work) -> Result<WriteRequest<'a>, RejectReason>
     ensures value { result_seen order result ≡ write_of body.now }
@@ -107,8 +106,8 @@ pub fn read_write<'a>(body: &'a [u8], work: &mut Work) -> Result<WriteRequest<'a
     })
 }
 
-/// What the body of a ReadProperty-ACK says: a property, and its value. None where the body is not whole, or where more
-/// follows. In the walk over the value at most two tags are read for each octet of the body.
+/// Returns what the body of a ReadProperty-ACK says: a property, and its value. `None` if the body is not whole, or if
+/// more follows. In the walk over the value at most two tags are read for each octet of the body.
 #[tactic(auto, using(crate::proofs::value_there, crate::proofs::reference_no_longer), unfolding(crate::specs::ack_of))]
 pub fn read_ack<'a>(body: &'a [u8], work: &mut Work) -> Option<Ack<'a>>
     ensures value { option_map ack_seen result ≡ ack_of body.now }
@@ -129,7 +128,7 @@ pub fn read_ack<'a>(body: &'a [u8], work: &mut Work) -> Option<Ack<'a>>
 }
 
 /// Appends the body of a ReadProperty, the `read`, each number in its fewest octets. `Full`, with the frame unchanged,
-/// only where there is no room for it.
+/// only if there is no room for it.
 pub fn write_read(frame: &mut Frame, request: &ReadRequest) -> Result<(), Full>
     ensures appended { Appends frame.old (read_octets (reference request.now)) frame.new result }
     ensures shortest { OnOk result
@@ -142,8 +141,8 @@ pub fn write_read(frame: &mut Frame, request: &ReadRequest) -> Result<(), Full>
 }
 
 /// Appends the body of a WriteProperty, the second `write`, each number in its fewest octets. The value must be whole
-/// items, with at most 32 opening tags open at once, and a priority 1 to 16. `Full`, with the frame unchanged, only
-/// where there is no room for it.
+/// items, with at most 32 opening tags open at once, and a priority 1 to 16. `Full`, with the frame unchanged, only if
+/// there is no room for it.
 pub fn write_write(frame: &mut Frame, request: &WriteRequest<'_>) -> Result<(), Full>
     requires region { IsRegion deepest request.now.value.now }
     requires priority { IfSome request.now.priority IsPriority }
@@ -157,7 +156,7 @@ pub fn write_write(frame: &mut Frame, request: &WriteRequest<'_>) -> Result<(), 
 }
 
 /// Appends the body of a ReadProperty-ACK, each number in its fewest octets. The value must be whole items, with at
-/// most 32 opening tags open at once. `Full`, with the frame unchanged, only where there is no room for it.
+/// most 32 opening tags open at once. `Full`, with the frame unchanged, only if there is no room for it.
 pub fn write_ack(frame: &mut Frame, ack: &Ack<'_>) -> Result<(), Full>
     requires { IsRegion deepest ack.now.value.now }
     ensures appended { Appends frame.old (ack_octets (ack_seen ack.now)) frame.new result }
@@ -169,8 +168,8 @@ pub fn write_ack(frame: &mut Frame, ack: &Ack<'_>) -> Result<(), Full>
     whole_or_nothing(frame, start, appended)
 }
 
-/// Appends what stands before the value in the body of a ReadProperty-ACK, each number in its fewest octets. `Full`,
-/// with the frame unchanged, only where there is no room for it.
+/// Appends the octets before the value in the body of a ReadProperty-ACK, each number in its fewest octets. `Full`,
+/// with the frame unchanged, only if there is no room for it.
 pub fn begin_ack(frame: &mut Frame, request: &ReadRequest) -> Result<(), Full>
     ensures { Appends frame.old (ack_front (reference request.now)) frame.new result }
 {
@@ -179,7 +178,7 @@ pub fn begin_ack(frame: &mut Frame, request: &ReadRequest) -> Result<(), Full>
     whole_or_nothing(frame, start, appended)
 }
 
-/// Appends what stands behind the value in the body of a ReadProperty-ACK. `Full`, with the frame unchanged, only where
+/// Appends the octets after the value in the body of a ReadProperty-ACK. `Full`, with the frame unchanged, only if
 /// there is no room for it.
 pub fn end_ack(frame: &mut Frame) -> Result<(), Full>
     ensures { Appends frame.old ack_end frame.new result }
@@ -187,7 +186,7 @@ pub fn end_ack(frame: &mut Frame) -> Result<(), Full>
     append_closing(frame)
 }
 
-// Appends the body of a WriteProperty. Where there is no room, a front of it may stay.
+// Appends the body of a WriteProperty. If there is no room, a front of it may stay.
 fn append_order(frame: &mut Frame, request: &WriteRequest<'_>) -> Result<(), Full>
     ensures appended { AppendsFront frame.old (write_octets (order request.now)) frame.new result }
     ensures known { OnOk result (AllByRecursion IsParameter (reference_parameters (order request.now).reference)) }
@@ -197,7 +196,7 @@ fn append_order(frame: &mut Frame, request: &WriteRequest<'_>) -> Result<(), Ful
     append_optional(frame, PRIORITY, request.priority.map(u32::from))
 }
 
-// Appends the body of a ReadProperty-ACK. Where there is no room, a front of it may stay.
+// Appends the body of a ReadProperty-ACK. If there is no room, a front of it may stay.
 fn append_ack(frame: &mut Frame, ack: &Ack<'_>) -> Result<(), Full>
     ensures appended { AppendsFront frame.old (ack_octets (ack_seen ack.now)) frame.new result }
     ensures known { OnOk result (AllByRecursion IsParameter (reference_parameters (ack_seen ack.now).reference)) }
@@ -206,8 +205,7 @@ fn append_ack(frame: &mut Frame, ack: &Ack<'_>) -> Result<(), Full>
     append_enclosed(frame, ack.value)
 }
 
-// Appends what stands before the value in the body of a ReadProperty-ACK. Where there is no room, a front of it may
-// stay.
+// Appends the octets before the value in the body of a ReadProperty-ACK. If there is no room, a front of it may stay.
 fn append_ack_front(frame: &mut Frame, request: &ReadRequest) -> Result<(), Full>
     ensures { AppendsFront frame.old (ack_front (reference request.now)) frame.new result }
 {

@@ -3,15 +3,15 @@
 ghost use Rattle.std.specs.Prelude.{◌≡◌};
 ghost use Rattle.bac_pdu.specs.{reason_number};
 
-/// What is wrong with a confirmed request that is rejected (clause 18.9): the fault is its sender's, who is told by a
-/// Reject. Which reason a body gets is this project's choice.
+/// The fault of a confirmed request that is rejected (clause 18.9): it is its sender's, which gets a Reject. Which
+/// reason a body gets is this project's choice.
 #[derive(Clone, Copy, Debug, PartialEq, Eq)]
 pub enum RejectReason {
     /// Something else stands where a parameter was expected.
     InvalidTag,
     /// The body ends where a parameter has to stand.
     MissingParameter,
-    /// The body is whole but for a priority that is not 1 to 16.
+    /// The body is whole except for a priority that is not 1 to 16.
     OutOfRange,
     /// The body is whole, and more follows.
     TooMany,
@@ -20,7 +20,7 @@ pub enum RejectReason {
 }
 
 impl RejectReason {
-    /// The number that stands for the reason in a Reject.
+    /// Returns the number that stands for the reason in a Reject.
     pub fn number(self) -> u8
         ensures { result ≡ reason_number self }
     {

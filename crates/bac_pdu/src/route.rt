@@ -11,7 +11,7 @@ const ROOM: usize = ADDRESS_OCTETS + 1;
 /// The way from a router to a station of another network: the number of the network, and the station's address in it
 /// (clause 6.2.2).
 ///
-/// The octets that an address leaves over are 0, so that routes are equal where they lead to the same station.
+/// The octets that an address does not need are 0, so that routes are equal if they lead to the same station.
 #[derive(Clone, Copy, Debug, PartialEq, Eq)]
 pub struct Route {
     network: u16,
@@ -27,7 +27,7 @@ pub struct Route {
 impl Route {
     ghost use Rattle.bac_pdu.specs.Peer.{IsRoutable, network_address};
 
-    /// The route to a station. None where the network is 0 (the sender's own) or 65535 (all networks), or where the
+    /// Returns the route to a station. `None` if the network is 0 (the sender's own) or 65535 (all networks), or if the
     /// address has no octet or more than seven.
     pub fn new(network: u16, address: &[u8]) -> Option<Self>
         ensures valid { IsSome result ↔ IsRoutable (record { network = network; address = address.now }) }
@@ -50,7 +50,7 @@ impl Route {
         })
     }
 
-    /// The number of the network, 1 to 65534.
+    /// Returns the number of the network, 1 to 65534.
     pub fn network(&self) -> u16
         ensures value { result ≡ (network_address self.now).network }
         ensures fits { IsRoutable (network_address self.now) }
@@ -58,7 +58,7 @@ impl Route {
         self.network
     }
 
-    /// The station's address in its network, one to seven octets.
+    /// Returns the station's address in its network, one to seven octets.
     pub fn address(&self) -> &[u8]
         ensures value { result.now ≡ (network_address self.now).address }
         ensures fits { IsRoutable (network_address self.now) }

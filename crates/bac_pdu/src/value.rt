@@ -5,7 +5,7 @@ ghost use Rattle.bac_wire.specs.{identifier, kind_at, ParameterReading.{enumerat
 
 use bac_wire::{ObjectId, Value, value_and_rest};
 
-/// The Enumerated at the front, and the octets behind it.
+/// Returns the Enumerated at the front, and the octets after it.
 #[tactic(auto, unfolding(bac_wire::specs::ParameterReading::kind_at))]
 pub(crate) fn enumerated_and_rest(octets: &[u8]) -> Option<(u32, &[u8])>
     ensures { option_map (λ x. (x.0, x.1.now)) result ≡ kind_at enumerated_in octets.now }
@@ -16,7 +16,7 @@ pub(crate) fn enumerated_and_rest(octets: &[u8]) -> Option<(u32, &[u8])>
     }
 }
 
-/// The Unsigned at the front, and the octets behind it.
+/// Returns the Unsigned at the front, and the octets after it.
 #[tactic(auto, unfolding(bac_wire::specs::ParameterReading::kind_at))]
 pub(crate) fn unsigned_and_rest(octets: &[u8]) -> Option<(u64, &[u8])>
     ensures { option_map (λ x. (x.0, x.1.now)) result ≡ kind_at unsigned_in octets.now }
@@ -27,7 +27,7 @@ pub(crate) fn unsigned_and_rest(octets: &[u8]) -> Option<(u64, &[u8])>
     }
 }
 
-/// The ObjectIdentifier at the front, and the octets behind it.
+/// Returns the ObjectIdentifier at the front, and the octets after it.
 #[tactic(auto, unfolding(bac_wire::specs::ParameterReading::kind_at))]
 pub(crate) fn identifier_and_rest(octets: &[u8]) -> Option<(ObjectId, &[u8])>
     ensures { option_map (λ x. (identifier x.0, x.1.now)) result ≡ kind_at object_in octets.now }

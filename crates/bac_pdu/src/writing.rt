@@ -1,12 +1,11 @@
-//! What is written is appended whole, or not at all.
+//! Writers append a whole, or nothing.
 
 ghost use Rattle.std.specs.Prelude.{length, List, ℕ, ◌≡◌, ◌≤◌};
 ghost use Rattle.bac_wire.specs.{Appends, Inner.Writing.AppendsFront};
 
 use bac_wire::{Frame, Full};
 
-/// Keeps what a writer appended behind the first `start` octets, where it is whole. Where it is not, all of it is taken
-/// away.
+/// Keeps what a writer appended after the first `start` octets, if it is whole. If it is not, removes all of it.
 pub(crate) fn whole_or_nothing(
     frame: &mut Frame,
     start: usize,

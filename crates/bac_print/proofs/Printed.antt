@@ -1,4 +1,4 @@
--- What is printed in several pieces, folded or not; what is shown on a page of its own; and the texts of values.
+-- Texts that are printed in several pieces, folded or not; texts on a page of their own; and the texts of values.
 use Rattle.std.proofs.Common.{[], ap, append-nil, append_assoc, arith, Bool, codes, decimal, drop, Err, false, flat_map}
 use Rattle.std.proofs.Common.{get_or, IfSome, if◌then◌else◌, inl, inr, is_err, length, length-append, length-take, List}
 use Rattle.std.proofs.Common.{lit<, min, nat_lt, None, not, Ok, Option, option_map, pos, position, refl, Result, Some}
@@ -173,7 +173,7 @@ pub record PrintsHex {W : Type 0} (contents : W → Option (List ℕ)) (before a
   pub parts : octets ≡ front ++ rest
   pub printed : Prints contents before after (encode_lower front)
 
--- The text was put on a page, folded, where its first line had so much room; and so much is left behind it.
+-- The text was put on a page, folded, if its first line had so much room; and so much is left after it.
 pub record FoldsTo {W : Type 0} (contents : W → Option (List ℕ)) (before after : Page W) (room : ℕ) (text : List ℕ)
     (left : ℕ) : Type 0 where
   pub held : Holds contents before after (folded room text)
@@ -264,7 +264,7 @@ module _ {W : Type 0} {contents : W → Option (List ℕ)} where
       } in
       held_more turned second
 
-  -- What is put on a page that folds no lines was printed.
+  -- Text that is put on a page that folds no lines was printed.
   pub printed_whole : {before after : Page W} {text : List ℕ} → room_of before ≡ None → Holds contents before after text
       → Prints contents before after text
   unfolding Wrote laid_out room_after
@@ -365,8 +365,8 @@ pub ruleset printing_hex = (hex_none, hex_more, take-append-drop)
 -- ---- what is shown on a page of its own
 
 module _ {W : Type 0} {contents : W → Option (List ℕ)} where
-  -- What was printed on an empty page that was finished was written, as it was laid out there, as far as the writer
-  -- didn't fail.
+  -- Text that was printed on an empty page that was then finished was written, as it was laid out there, as far as the
+  -- writer did not fail.
   finished_as : {writer after : Checked W} {first last : Page W} {text : List ℕ} → writer_of first ≡ writer
       → held first ≡ [] →
       Prints contents first last text → Writes contents (writer_of last) after (held last) [] []
@@ -379,7 +379,7 @@ module _ {W : Type 0} {contents : W → Option (List ℕ)} where
       (subst (λ (xs : List ℕ). Writes contents (writer_of first) after (held first) [] xs) (append-nil _)
       (writes_more printed.wrote.writes gone)))
 
-  -- The text itself, where the page's lines are not folded.
+  -- The text itself, if the page's lines are not folded.
   pub finished : {writer after : Checked W} {first last : Page W} {text : List ℕ} → writer_of first ≡ writer
       → held first ≡ [] → room_of first ≡ None →
       Prints contents first last text → Writes contents (writer_of last) after (held last) [] []
@@ -389,7 +389,7 @@ module _ {W : Type 0} {contents : W → Option (List ℕ)} where
       subst (λ (xs : List ℕ). Writes contents writer after [] [] xs)
       (ap (λ (room : Option ℕ). laid_out room text) whole) (finished_as same empty printed gone)
 
-  -- The folded text, where they are.
+  -- The folded text, if the page's lines are folded.
   pub folded_out : {writer after : Checked W} {first last : Page W} {text : List ℕ} {left : ℕ}
       → writer_of first ≡ writer → held first ≡ [] → room_of first ≡ Some left →
       Prints contents first last text → Writes contents (writer_of last) after (held last) [] []
@@ -399,20 +399,20 @@ module _ {W : Type 0} {contents : W → Option (List ℕ)} where
       subst (λ (xs : List ℕ). Writes contents writer after [] [] xs)
       (ap (λ (room : Option ℕ). laid_out room text) folds) (finished_as same empty printed gone)
 
-  -- All of it, where the writer didn't fail.
+  -- The whole text, if the writer did not fail.
   pub all_written : {before after : Checked W} {text : List ℕ} → Writes contents before after [] [] text
       → has_failed after ≡ false →
       Took contents before after text
   all_written {before} {after} {text} p good = grind (arith, append-nil)
 
-  -- The text was written, or, where the writer failed, a front of it.
+  -- The text was written, or, if the writer failed, a front of it.
   pub put : {A E : Type 0} {before after : Checked W} {text : List ℕ} (answer : Result A E)
       → Writes contents before after [] [] text →
       has_failed after ≡ is_err answer → TookOrFailed contents before after text answer
   put (Ok done) written good = all_written written good
   put (Err fault) written _ = (written.taken, written.rest, written.whole, written.took)
 
-  -- The same of a writer that was lent to a page, and is back.
+  -- A writer that was lent to a page, and is back, wrote the text, or, if it failed, a front of it.
   pub shown : {A E : Type 0} {writer after : Checked W} {first last : Page W} {text : List ℕ} {back : Checked W}
       (answer : Result A E) → after ≡ back →
       writer_of first ≡ writer → held first ≡ [] → room_of first ≡ None → Prints contents first last text
@@ -458,13 +458,13 @@ bits_last others last unused =
     ∙ ap (λ (bits : List ℕ). take (8 * length (others ++ last ∷ []) - min unused 8) bits)
     (ap (λ (bits : List ℕ). front ++ bits) (sym (append-nil _)) ∙ sym (flat_map-append octet_bits _ _))
 
--- One more value, and a comma where others follow.
+-- One more value, and a comma if others follow.
 one_more : (first : Datum) (more : List Datum) (behind : List ℕ) → values_of behind ≡ Some more →
     joined (first ∷ more) ≡ (datum_text first ++ separator behind) ++ joined more
 unfolding values_within
 one_more = grind (arith, append-nil, append_assoc)
 
--- What stands behind the first of the values.
+-- The octets after the first of the values.
 behind_first : (value : Datum) (others : List Datum) (found : Option (List Datum))
     → option_map (λ more. value ∷ more) found ≡ Some others →
     (more : List Datum) × (found ≡ Some more) × (others ≡ value ∷ more)
@@ -481,7 +481,7 @@ pub record PrintsFront {W : Type 0} (contents : W → Option (List ℕ)) (before
       (text : List ℕ) × (others : List Datum) × (values_of rest ≡ Some others) × (joined values ≡ text ++ joined others)
       × Prints contents before after text
 
--- The values were printed, where the region is values.
+-- The values were printed, if the region is values.
 abbrev pub PrintsValues : {W : Type 0} → (W → Option (List ℕ)) → Page W → Page W → List ℕ → Type 0
 PrintsValues contents before after region =
     IfSome (values_of region) (λ values. Prints contents before after (joined values))
@@ -513,7 +513,7 @@ module _ {W : Type 0} {contents : W → Option (List ℕ)} where
       PrintsValues contents before after region
   front_whole = grind (arith, printed_as, nothing_left, append-nil)
 
-  -- None or several stand in braces.
+  -- No values, or several, are in braces.
   pub printed_in_braces : {before first second after : Page W} (region : List ℕ) (count : ℕ)
       → Some count ≡ option_map length (values_of region) →
       (count == 1) ≡ false → Prints contents before first (123 ∷ []) → PrintsValues contents first second region
@@ -531,7 +531,7 @@ module _ {W : Type 0} {contents : W → Option (List ℕ)} where
           let other : (length values == 1) ≡ false = ap (λ (n : ℕ). n == 1) (sym same) ∙ several in
           printed_as (opened ⨾ p ⨾ closed) (rw other refl)
 
-  -- What is no values is shown by its octets.
+  -- A region that is not values is shown by its octets.
   pub printed_octets : {before middle after : Page W} (region : List ℕ) → None ≡ option_map length (values_of region) →
       Prints contents before middle (codes "hex ") → Prints contents middle after (encode_lower region) →
       Prints contents before after (region_text region)

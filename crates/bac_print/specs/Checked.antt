@@ -51,7 +51,7 @@ abbrev pub meets_end : StreamCall → Bool
 meets_end (ReadCall room (Ok given)) = length given == 0 && nat_lt 0 room
 meets_end call = false
 
--- Whether the last read was such, one call later: what is no read leaves it.
+-- Whether the last read was such, one call later: a call that is not a read leaves it.
 abbrev pub ended_then : Bool → StreamCall → Bool
 ended_then ended (ReadCall room given) = meets_end (ReadCall room given)
 ended_then ended call = ended
@@ -60,7 +60,7 @@ ended_then ended call = ended
 abbrev pub has_ended : {T : Type 0} → Checked T → Bool
 has_ended checked = fold ended_then false (calls_of checked)
 
--- So many reads gave nothing, though there was room.
+-- This many reads gave nothing, though there was room.
 abbrev pub ends_of : {T : Type 0} → Checked T → ℕ
 ends_of checked = count_by meets_end (calls_of checked)
 
@@ -72,13 +72,13 @@ fresh stream = record {
   reads = 0;
 }
 
--- The reader gave these octets; where it knows those that it has left, they were the first of them.
+-- The reader gave these octets; if it knows those that it has left, they were the first of them.
 pub record Gave {R : Type 0} (left : R → Option (List ℕ)) (before after : Checked R) (given : List ℕ) : Type 0 where
   pub passed : octets_of after ≡ octets_of before ++ given
   pub known : Consumes (left (inner_of before)) (left (inner_of after)) given
 
--- What a writer is asked, from where it has failed, or not, to where it has: only to write, at least one octet each
--- time, and no more once a write failed or took none.
+-- A writer is asked only to write, at least one octet each time, and nothing more once a write failed or took no octet.
+-- The flags say whether it has failed before and after these calls.
 abbrev pub OnlyWrites : Bool → List StreamCall → Bool → Type 0
 OnlyWrites failed [] failed' = failed' ≡ failed
 OnlyWrites failed (WriteCall octets answer ∷ later) failed' = (failed ≡ false) × (octets ≢ [])
@@ -86,7 +86,7 @@ OnlyWrites failed (WriteCall octets answer ∷ later) failed' = (failed ≡ fals
 OnlyWrites failed (_ ∷ later) failed' = ⊥
 
 module _ {W : Type 0} (contents : W → Option (List ℕ)) (before after : Checked W) where
-  -- The writer took these octets; where it knows its octets, they are behind them. It was asked for nothing else.
+  -- The writer took these octets; if it knows its octets, they are after them. It was asked for nothing else.
   pub record Took (taken : List ℕ) : Type 0 where
     pub passed : octets_of after ≡ octets_of before ++ taken
     pub known : Appends (contents (inner_of before)) (contents (inner_of after)) taken
@@ -98,7 +98,7 @@ module _ {W : Type 0} (contents : W → Option (List ℕ)) (before after : Check
   abbrev pub TakesFront : List ℕ → Type 0
   TakesFront text = (taken rest : List ℕ) × (text ≡ taken ++ rest) × Took taken
 
-  -- The writer took the text, or, where it failed, a front of it.
+  -- The writer took the text, or, if it failed, a front of it.
   abbrev pub TookOrFailed : {A E : Type 0} → List ℕ → Result A E → Type 0
   TookOrFailed text (Ok done) = Took text
   TookOrFailed text (Err e) = TakesFront text

@@ -1,4 +1,4 @@
--- What is told of a fault.
+-- The message of a fault.
 use Rattle.std.specs.Prelude.{ℕ, List, ◌++◌, decimal}
 use Rattle.bac_print.specs.declared.message.Message.{Message, TheVariants.{Text, Numbered}}
 

@@ -1,4 +1,4 @@
--- What is printed of values, and of a region of values one after another.
+-- The texts of values, and of a region of values one after another.
 use Rattle.std.specs.{Fmt.signed_decimal, Int.{bit_at, is_in_range}, List.{flat_map, join_with_byte}}
 use Rattle.std.specs.{Option.option_map_or, Prelude.{[], codes, decimal, if◌then◌else◌, length, List, map, min, take}}
 use Rattle.std.specs.Prelude.{ℕ, ◌*◌, ◌++◌, ◌+◌, ◌-◌, ◌==◌, ◌||◌, ◌∷◌}
@@ -26,7 +26,7 @@ lettered letter octets = letter ∷ 39 ∷ (encode_lower octets ++ 39 ∷ [])
 abbrev pub octet_bits : ℕ → List ℕ
 octet_bits octet = map (λ place. 48 + bit_at octet place) (7 ∷ 6 ∷ 5 ∷ 4 ∷ 3 ∷ 2 ∷ 1 ∷ 0 ∷ [])
 
--- The bits of octets in their order, but for the last ones, which are unused and of the last octet (clause 20.2.10).
+-- The bits of octets in their order, except the last ones, which are unused and of the last octet (clause 20.2.10).
 abbrev pub bits_text : ℕ → List ℕ → List ℕ
 bits_text unused octets = take (8 * length octets - min unused 8) (flat_map octet_bits octets)
 
@@ -53,10 +53,10 @@ abbrev pub values_text : List Datum → List ℕ
 values_text values = let joined = join_with_byte 44 (map datum_text values) in
     if length values == 1 then joined else 123 ∷ (joined ++ 125 ∷ [])
 
--- The values that a region is, or, where it is something else, its octets.
+-- The values that a region is, or, if it is something else, its octets.
 abbrev pub region_text : List ℕ → List ℕ
 region_text region = option_map_or values_text (values_of region) (codes "hex " ++ encode_lower region)
 
--- What a ReadProperty-ACK says, where the octets are the body of one (clause 15.5).
+-- What a ReadProperty-ACK says, if the octets are the body of one (clause 15.5).
 abbrev pub ack_text : List ℕ → List ℕ
 ack_text body = option_map_or (λ answer. codes "value " ++ region_text answer.value) (ack_of body) (codes "bad-ack")

@@ -21,7 +21,7 @@ pub struct Checked<T> {
 pub struct WriteFailed;
 
 impl<T> Checked<T> {
-    /// The reader or writer as it is before its first read or write.
+    /// Returns the reader or writer as it is before its first read or write.
     pub fn new(stream: T) -> Self
         ensures { result ≡ fresh stream }
     {
@@ -32,14 +32,14 @@ impl<T> Checked<T> {
         }
     }
 
-    /// Whether a read or a write failed, or a write of at least one octet took none.
+    /// Returns whether a read or a write failed, or a write of at least one octet took none.
     pub fn failed(&self) -> bool
         ensures { result ≡ has_failed self.now }
     {
         self.failed
     }
 
-    /// The reads so far, but no more than `u32::MAX`, where they are spent.
+    /// Returns the number of reads so far, at most `u32::MAX`.
     pub fn reads(&self) -> u32
         ensures { result ≡ min (reads_of self.now) (2 ^ 32 - 1) }
     {
@@ -48,7 +48,7 @@ impl<T> Checked<T> {
 }
 
 impl<R: Read> Checked<R> {
-    /// One read of the reader, into this room.
+    /// Makes one read of the reader, into this room.
     #[tactic(auto, using(crate::proofs::one_read))]
     pub fn read(&mut self, buf: &mut [u8]) -> io::Result<usize>
         ensures bound { ReadsAtMost result buf.new }
@@ -74,7 +74,7 @@ impl<R: Read> Checked<R> {
 }
 
 impl<W: Write> Checked<W> {
-    /// One write to the writer, of these octets.
+    /// Makes one write to the writer, of these octets.
     #[tactic(auto, using(crate::proofs::one_call))]
     pub fn write(&mut self, buf: &[u8]) -> io::Result<usize>
         ensures bound { WritesAtMost result buf.now }
@@ -95,7 +95,7 @@ impl<W: Write> Checked<W> {
         outcome
     }
 
-    /// One flush of the writer.
+    /// Flushes the writer.
     #[tactic(auto, using(crate::proofs::one_call))]
     pub fn flush(&mut self) -> io::Result<()>
         ensures asked { calls_of self.new ≡ calls_of self.old ++ FlushCall result ∷ [] }

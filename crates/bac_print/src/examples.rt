@@ -2,8 +2,8 @@
 
 ghost use Rattle.std.specs.Prelude.{[], ◌∷◌, ◌≡◌, codes, replicate};
 ghost use Rattle.bac_print.specs.{folded, folded_line, left_after, peer_text, Prints, region_text, TookOrFailed};
-ghost use Rattle.bac_print.specs.{Writes, Inner.{unknown, written}};
-ghost use Rattle.bac_print.specs.Inner.{device, failed, far_device, having, page, page_named, PrintsAs, unasked};
+ghost use Rattle.bac_print.specs.{Writes, Inner.{unasked, unknown, written}};
+ghost use Rattle.bac_print.specs.Inner.{device, failed, far_device, having, page, page_named, PrintsAs, refusing};
 
 // A value of each kind (ANSI/ASHRAE 135, 20.2), and the text of its octets.
 #[tactic(none)]
@@ -25,7 +25,7 @@ fn examples_of_values()
     ensures object { PrintsAs (0xc4 ∷ 0x00 ∷ 0xc0 ∷ 0x00 ∷ 0x0f ∷ []) "3:15" }
 {}
 
-// What is printed of a region of no value, of several, of what is no value, and of texts that can't stand as they are.
+// The texts of an empty region, of several values, of octets that are not a value, and of texts with escapes.
 #[tactic(none)]
 fn examples_of_regions()
     ensures empty { region_text [] ≡ codes "{}" }
@@ -36,14 +36,14 @@ fn examples_of_regions()
     ensures other_set { region_text (0x72 ∷ 0x05 ∷ 0xff ∷ []) ≡ codes "5:\"\\xff\"" }
 {}
 
-// The port of a peer is always printed, and its route behind it.
+// The port of a peer is always printed, and its route after it.
 #[tactic(none)]
 fn examples_of_peers()
     ensures plain { peer_text device ≡ codes "127.0.0.1:47808" }
     ensures routed { peer_text far_device ≡ codes "127.0.0.1:47808/5/07" }
 {}
 
-// A writer took a text where it has it now, or a front of it where it failed. A page holds what was not written yet.
+// A writer took a text if it has it now, or a front of it if it failed. A page holds the text that is not written.
 #[tactic(none)]
 fn examples_of_writers()
     ensures took { TookOrFailed unknown unasked unasked [] written }
@@ -52,9 +52,12 @@ fn examples_of_writers()
     ensures took_front { TookOrFailed unknown unasked unasked (1 ∷ []) failed }
     ensures held { Writes unknown unasked unasked (1 ∷ []) (1 ∷ 2 ∷ []) (2 ∷ []) }
     ensures dropped { Writes unknown unasked unasked (1 ∷ []) [] (2 ∷ []) → ⊥ }
+    ensures took_other { Writes unknown unasked (having (9 ∷ [])) (1 ∷ []) (1 ∷ 2 ∷ []) (2 ∷ []) → ⊥ }
+    ensures kept_other { Writes unknown unasked unasked (1 ∷ []) (1 ∷ 3 ∷ []) (2 ∷ []) → ⊥ }
+    ensures asked_again { Writes unknown (refusing 1) (refusing 2) [] [] [] → ⊥ }
 {}
 
-// What is printed on a page is held there until it is written, and the page stays on its way to its writer.
+// A page holds a text until it is written, and keeps its writer.
 #[tactic(none)]
 fn examples_of_pages()
     ensures printed { Prints unknown (page []) (page (1 ∷ [])) (1 ∷ []) }
@@ -65,7 +68,7 @@ fn examples_of_pages()
 {}
 
 // A text of just the room in its line, one of an octet more, and one with a line feed at the edge. The room is known
-// behind them.
+// after them.
 #[tactic(none)]
 fn examples_of_folding()
     ensures longest { folded_line ≡ 4_096 }

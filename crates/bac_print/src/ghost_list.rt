@@ -1,9 +1,9 @@
-//! A list that exists in proofs alone: it takes no memory, and its methods do nothing.
+//! A list that exists in proofs alone: it needs no memory, and its methods do nothing.
 ghost use Rattle.std.specs.{Borrow.ftrue, Coded.coded_list, Prelude.{[], ◌++◌, ◌∷◌, ◌≡◌, List}};
 
 use std::marker::{Model, PhantomData};
 
-/// What was noted so far, in order. A clause reads it as `items`: the values of `T`, of which no code need make one.
+/// The notes so far, in order. A clause reads it as `items`: the values of `T`, of which no code need make one.
 #[derive(Drop)]
 pub struct GhostList<T> {
     of: PhantomData<T>,
@@ -14,7 +14,7 @@ impl<T> Model for GhostList<T> {
     ghost also_owns = { λ _. ftrue };
 }
 
-/// A note of a value of `T`. It may borrow what it tells of.
+/// A note of a value of `T`. It may borrow the value.
 pub trait NoteOf<T> {
     ghost tells: { Self → T };
 }
@@ -27,14 +27,14 @@ impl<T> GhostList<T> {
         GhostList { of: PhantomData }
     }
 
-    /// Puts what this note tells behind the others.
+    /// Puts the items of this note after the others.
     pub fn push<N: NoteOf<T>>(&mut self, note: &N)
         ensures { self.new.items ≡ self.old.items ++ N.tells note.now ∷ [] }
     {
         *self = self.and(note);
     }
 
-    // The list, and what this note tells behind it. It is private, so that no list goes on in two ways.
+    // Returns the list with the items of this note after it. It is private, so that no list goes on in two ways.
     fn and<N: NoteOf<T>>(&self, _note: &N) -> Self
         ensures { result.items ≡ self.now.items ++ N.tells _note.now ∷ [] }
     {

@@ -4,7 +4,7 @@ ghost use Rattle.bac_wire.specs.{EqualsBy, MakesCopies};
 
 use crate::checked::WriteFailed;
 
-/// A clone is what it was cloned from, and takes no memory.
+/// A clone is what it was cloned from, and needs no memory.
 pub fn clones()
     ensures write { MakesCopies ⟦<WriteFailed as Clone>⟧.is_clone ⟦<WriteFailed as Clone>⟧.is_infallible }
 {}

@@ -1,18 +1,18 @@
-//! Text that is printed: numbers, octets, peers, values, and how a request ended. What is read is in `bac_text`.
+//! Text that is printed: numbers, octets, peers, values, and how a request ended. Reading is in `bac_text`.
 //!
 //! [`Checked`] is a reader or a writer that remembers whether it failed, and [`Page`] gathers text for a writer.
 //! [`Page::folding`] makes a page whose long lines go on in lines that begin with `#+`.
 //! [`show_value`] prints values, and [`show_outcome`] how a request ended, each on a page of its own; the methods of
 //! [`Page`] and [`print_outcome`] print on a page that one has. `specs/Values.antt` says what is printed of a value.
 //!
-//! Of `examples_of_values` in `src/examples.rt`, which is proved: octets, and what is printed of them.
+//! From `examples_of_values` in `src/examples.rt`, which is proved: octets, and what is printed of them.
 //!
 //! ```text
 //! ensures real { PrintsAs (0x44 ∷ 0x42 ∷ 0x90 ∷ 0x99 ∷ 0x9a ∷ []) "4290999a" }
 //! ensures octet_string { PrintsAs (0x63 ∷ 0x12 ∷ 0x34 ∷ 0xff ∷ []) "X'1234ff'" }
 //! ```
 //!
-//! The caller keeps to this: the writer that it hands to [`show_value`] or [`show_outcome`] has not failed yet, and
+//! The caller must keep to this: the writer that it hands to [`show_value`] or [`show_outcome`] has not failed yet, and
 //! each [`Page`] is finished ([`Page::finish`]), which says whether its writer failed. Octets may be any.
 #![tactic(auto)]
 

@@ -1,4 +1,4 @@
-//! What is told of a fault.
+//! The message of a fault.
 ghost use Rattle.std.specs.Prelude.{Some};
 ghost use Rattle.bac_print.specs.{message_text, Prints};
 
@@ -6,7 +6,7 @@ use crate::page::Page;
 use std::fmt;
 use std::io::Write;
 
-/// What is told of a fault. It takes no memory.
+/// The message of a fault. It needs no memory.
 #[derive(Debug, Drop)]
 pub enum Message {
     /// This text.

@@ -7,8 +7,8 @@ use crate::ghost_list::{GhostList, NoteOf};
 use std::io::{self, Read, Write};
 use std::marker::Model;
 
-/// A reader or a writer with the transcript of its calls. What is trusted of it is that each of its three methods makes
-/// the call that it notes, and no other: each makes one, which has its own name.
+/// A reader or a writer with the transcript of its calls. It is trusted that each of its three methods makes the call
+/// that it notes, and no other: each makes one, which has its own name.
 #[derive(Drop)]
 pub(crate) struct Noted<T> {
     stream: T,
@@ -16,7 +16,7 @@ pub(crate) struct Noted<T> {
 }
 
 impl<T> Noted<T> {
-    /// The reader or writer before its first call.
+    /// Returns the reader or writer before its first call.
     pub(crate) fn new(stream: T) -> Self
         ensures { result ≡ record { stream = stream; transcript = record { of = record {}; items = [] } } }
     {
@@ -26,7 +26,7 @@ impl<T> Noted<T> {
 }
 
 impl<R: Read> Noted<R> {
-    /// One read of the reader.
+    /// Makes one read of the reader.
     pub(crate) fn read(&mut self, room: &mut [u8]) -> io::Result<usize>
         ensures bound { ReadsAtMost result room.new }
         ensures bytes { ReadConsumes (R.remaining self.old.stream) (R.remaining self.new.stream) result room.new }
@@ -40,7 +40,7 @@ impl<R: Read> Noted<R> {
 }
 
 impl<W: Write> Noted<W> {
-    /// One write to the writer.
+    /// Makes one write to the writer.
     pub(crate) fn write(&mut self, octets: &[u8]) -> io::Result<usize>
         ensures bound { WritesAtMost result octets.now }
         ensures bytes { WriteAppends (W.contents self.old.stream) (W.contents self.new.stream) result octets.now }
@@ -51,7 +51,7 @@ impl<W: Write> Noted<W> {
         answer
     }
 
-    /// One flush of the writer.
+    /// Flushes the writer.
     pub(crate) fn flush(&mut self) -> io::Result<()>
         ensures bytes { Keeps (W.contents self.old.stream) (W.contents self.new.stream) }
         ensures noted { self.new.transcript.items ≡ self.old.transcript.items ++ FlushCall result ∷ [] }

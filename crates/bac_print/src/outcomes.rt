@@ -8,11 +8,11 @@ use crate::page::Page;
 use bac_tsm::Outcome;
 use std::io::Write;
 
-/// Writes how a request ended, as `value 4290999a`, `error 2 32` or `abort 4`.
+/// Writes how a request ended, such as `value 4290999a`, `error 2 32` or `abort 4`.
 ///
 /// # Errors
 ///
-/// `WriteFailed` where the writer failed or took no octet. A front of the text was then written.
+/// `WriteFailed` if the writer failed or took no octet. A front of the text was then written.
 pub fn show_outcome<W: Write>(
     outcome: &Outcome<'_>,
     writer: &mut Checked<W>,

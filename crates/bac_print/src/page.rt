@@ -22,16 +22,16 @@ const LONGEST_NUMBER: usize = 20;
 
 /// Text on its way to a writer. It is gathered in fixed room, and goes to the writer when the room is full or the page
 /// is turned in. After a failed write what is printed is lost, so that it is enough to ask the page once whether it
-/// failed. A page can't be dropped: it is finished.
+/// failed. A page cannot be dropped: it is finished.
 pub struct Page<'w, W> {
     writer: &'w mut Checked<W>,
     held: ArrayVec<u8, PAGE_ROOM>,
-    // How many octets the line that was begun has room for, where lines are folded.
+    // The number of octets that the current line has room for; `None` if lines are not folded.
     room: Option<usize>,
 }
 
 impl<'w, W: Write> Page<'w, W> {
-    /// An empty page on its way to the writer.
+    /// Returns an empty page on its way to the writer.
     pub fn new(writer: &'w mut Checked<W>) -> Self
         ensures same { result.writer.ghost_name ≡ writer.entry.ghost_name }
         ensures writer { writer_of result ≡ writer.old }
@@ -45,7 +45,8 @@ impl<'w, W: Write> Page<'w, W> {
         }
     }
 
-    /// The same, but its lines are folded: what is past 4,096 octets of a line goes on in lines that begin with `#+`.
+    /// Returns an empty page on its way to the writer, whose lines are folded: a line of more than 4,096 octets goes on
+    /// in lines that begin with `#+`.
     pub fn folding(writer: &'w mut Checked<W>) -> Self
         ensures same { result.writer.ghost_name ≡ writer.entry.ghost_name }
         ensures writer { writer_of result ≡ writer.old }
@@ -59,7 +60,7 @@ impl<'w, W: Write> Page<'w, W> {
         }
     }
 
-    /// Whether the writer has failed.
+    /// Returns whether the writer has failed.
     pub fn failed(&self) -> bool
         ensures { result ≡ has_failed (writer_of self.now) }
     {
@@ -80,7 +81,7 @@ impl<'w, W: Write> Page<'w, W> {
     ///
     /// # Errors
     ///
-    /// `WriteFailed` where the writer has failed.
+    /// `WriteFailed` if the writer has failed.
     pub fn finish(self) -> Result<(), WriteFailed>
         ensures printed { Writes W.contents (writer_of self.entry) self.exit.0.now (held self.entry) [] [] }
         ensures failed { has_failed self.exit.0.now ≡ is_err result }
@@ -108,7 +109,7 @@ impl<'w, W: Write> Page<'w, W> {
         }
     }
 
-    // Puts a text on the page, folded, where its first line has room for so many octets; and tells the room behind it.
+    // Puts a text on the page, folded; its first line has `room` for octets. Returns the room after it.
     fn fold(&mut self, text: &[u8], room: usize) -> usize
         ensures text { Holds W.contents self.old self.new (folded room text.now) }
         ensures left { result ≡ left_after room text.now }
@@ -119,7 +120,7 @@ impl<'w, W: Write> Page<'w, W> {
         self.fold_octets(rest, room - front.len())
     }
 
-    // The same, octet by octet.
+    // Prints a text octet by octet, folded, and returns the room that is left in its line.
     fn fold_octets(&mut self, octets: &[u8], room: usize) -> usize
         ensures text { Holds W.contents self.old self.new (folded room octets.now) }
         ensures left { result ≡ left_after room octets.now }
@@ -131,7 +132,7 @@ impl<'w, W: Write> Page<'w, W> {
         left
     }
 
-    // The same of one octet.
+    // Prints one octet, folded, and returns the room that is left in its line.
     fn fold_octet(&mut self, octet: u8, room: usize) -> usize
         ensures text { Holds W.contents self.old self.new (folded_octet room octet) }
         ensures left { result ≡ left_behind room octet }
@@ -167,7 +168,7 @@ impl<'w, W: Write> Page<'w, W> {
         self.hold_or_write(text);
     }
 
-    // Holds the text on an empty page, or writes it where no page has room for it.
+    // Holds the text on an empty page, or writes it if no page has room for it.
     fn hold_or_write(&mut self, text: &[u8])
         requires { held self.old ≡ [] }
         ensures { Holds W.contents self.old self.new text.now }
@@ -213,14 +214,14 @@ impl<W: Write> Page<'_, W> {
     }
 }
 
-// Where the first line feed stands.
+// Returns the position of the first line feed.
 fn feed_position(text: &[u8]) -> Option<usize>
     ensures { result ≡ position (λ octet. octet == 10) text.now }
 {
     text.iter().position(|octet| *octet == b'\n')
 }
 
-/// Writes the decimal digits of a number before a position of the room, and says where they begin.
+/// Writes the decimal digits of a number before a position of the room, and returns where they begin.
 #[tactic(auto, using(std::proofs::lemmas::Fmt::decimal_nonempty))]
 pub(crate) fn write_digits(number: u64, room: &mut [u8], end: usize) -> usize
     requires within { end ≤ length room.old }
@@ -241,7 +242,7 @@ pub(crate) fn write_digits(number: u64, room: &mut [u8], end: usize) -> usize
     start
 }
 
-// Writes the whole text, or nothing where the writer has failed before.
+// Writes the whole text, or nothing if the writer has failed before.
 fn write_on<W: Write>(writer: &mut Checked<W>, text: &[u8])
     ensures { Writes W.contents writer.old writer.new [] [] text.now }
 {

@@ -36,7 +36,7 @@ impl<W: Write> Page<'_, W> {
     }
 }
 
-// Writes an IP address in dotted decimal, a colon and a port at the end of the room, and says where they begin.
+// Writes an IP address in dotted decimal, a colon and a port at the end of the room, and returns where they begin.
 #[tactic(auto, using(crate::proofs::two_octets))]
 fn write_station(ip: u32, port: u16, room: &mut [u8; LONGEST_STATION]) -> usize
     ensures text { drop result room.new ≡ address_text ip ++ 58 ∷ decimal port }
@@ -51,7 +51,7 @@ fn write_station(ip: u32, port: u16, room: &mut [u8; LONGEST_STATION]) -> usize
     write_octet(first, b'.', room, start)
 }
 
-// Writes the number of an octet and a mark before a position of the room, and says where they begin.
+// Writes the number of an octet and a mark before a position of the room, and returns where they begin.
 #[tactic(auto, using(crate::proofs::one_octet))]
 fn write_octet(octet: u8, mark: u8, room: &mut [u8], end: usize) -> usize
     requires within { end ≤ length room.old }

@@ -1,4 +1,4 @@
-//! What is printed of values.
+//! The texts of values.
 ghost use Rattle.std.specs.{Fmt.signed_decimal, Int.is_in_range, List.flat_map};
 ghost use Rattle.std.specs.Prelude.{false, IfSome, is_err, length, option_map, ◌%◌, ◌+◌, ◌<◌, ◌==◌, ◌||◌, ◌≡◌};
 ghost use Rattle.bac_wire.specs.{bit_string, boolean, char_string, datum, identifier, object, value_at, values_of};
@@ -17,7 +17,7 @@ use std::io::Write;
 ///
 /// # Errors
 ///
-/// `WriteFailed` where the writer failed or took no octet. A front of the text was then written.
+/// `WriteFailed` if the writer failed or took no octet. A front of the text was then written.
 pub fn show_value<W: Write>(region: &[u8], writer: &mut Checked<W>) -> Result<(), WriteFailed>
     requires { has_failed writer.old ≡ false }
     ensures text { TookOrFailed W.contents writer.old writer.new (region_text region.now) result }
@@ -74,7 +74,7 @@ impl<W: Write> Page<'_, W> {
         }
     }
 
-    // Prints a comma, where octets follow.
+    // Prints a comma if octets follow.
     #[tactic(auto, using(crate::proofs::no_print))]
     fn print_separator(&mut self, behind: &[u8])
         ensures { Prints W.contents self.old self.new (separator behind.now) }
@@ -196,7 +196,7 @@ impl<W: Write> Page<'_, W> {
         self.print(b"'");
     }
 
-    // Prints the bits of the octets but for the last ones, which are unused.
+    // Prints the bits of the octets except the last ones, which are unused.
     #[tactic(auto, using(crate::proofs::printing, crate::proofs::bits_last, std::proofs::lemmas::List::nil_from_length))]
     fn print_used_bits(&mut self, unused: u8, octets: &[u8])
         ensures { Prints W.contents self.old self.new (bits_text unused octets.now) }
@@ -219,7 +219,7 @@ impl<W: Write> Page<'_, W> {
     }
 }
 
-// The eight bits of an octet as digits, the highest first.
+// Returns the eight bits of an octet as digits, the highest first.
 fn bit_digits(octet: u8) -> [u8; 8]
     ensures { result ≡ octet_bits octet }
 {
@@ -235,28 +235,28 @@ fn bit_digits(octet: u8) -> [u8; 8]
     ]
 }
 
-// The lowest bit of a number as a digit.
+// Returns the lowest bit of a number as a digit.
 fn bit_digit(number: u8) -> u8
     ensures { result ≡ 48 + number % 2 }
 {
     b'0' + number % 2
 }
 
-// Whether an octet of a text in quotes has a backslash before it.
+// Returns whether an octet of a text in quotes has a backslash before it.
 fn is_escaped(octet: u8) -> bool
     ensures { result ≡ (octet == 34 || octet == 92) }
 {
     octet == b'"' || octet == b'\\'
 }
 
-// Whether an octet of a text in quotes may stand for itself.
+// Returns whether an octet of a text in quotes may stand for itself.
 fn is_printable(octet: u8) -> bool
     ensures { result ≡ is_in_range 32 126 octet }
 {
     b' ' <= octet && octet <= b'~'
 }
 
-// How many values the region is, if it is nothing else.
+// Returns how many values the region is, if it is nothing else.
 #[tactic(auto, using(bac_wire::proofs::DatumLaws::counted))]
 fn count_values(region: &[u8]) -> Option<usize>
     ensures { result ≡ option_map length (values_of region.now) }
@@ -271,7 +271,7 @@ fn count_values(region: &[u8]) -> Option<usize>
     Some(count)
 }
 
-// The value at the front, and the octets behind it.
+// Returns the value at the front, and the octets after it.
 fn value_and_rest(octets: &[u8]) -> Option<(Value<'_>, &[u8])>
     ensures value { option_map (λ x. (datum x.0, x.1.now)) result ≡ value_at octets.now }
     ensures shorter { IfSome result (λ x. length x.1.now < length octets.now) }

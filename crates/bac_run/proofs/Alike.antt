@@ -1,215 +1,104 @@
--- Two runs that are answered alike do the same: which act is due is a function of what was done and answered.
-use Rattle.std.proofs.Common.{[], ap, Bool, Err, false, inl, inr, length, List, nat_lt, Ok, refl, Result, subst, suc}
-use Rattle.std.proofs.{Common.{sym, true, ℕ, ◌++◌, ◌-◌, ◌/◌, ◌==◌, ◌∙◌, ◌∷◌, ◌≡◌, ◌⊎◌}, lemmas.Bool.false≢true}
-use Rattle.std.specs.Prelude.{⊤}
+-- Two runs from one stage on: as far as they were answered alike they did and asked the same.
+use Rattle.bac_run.specs.{Rested, Rests, sends_at, Sought}
+use Rattle.std.proofs.Common.{[], ap, append_assoc, Bool, false, inl, inr, length, List, map, refl, subst, suc, sym}
+use Rattle.std.proofs.Common.{true, ℕ, ◌++◌, ◌∙◌, ◌∷◌}
+use Rattle.std.proofs.{Common.{◌≡◌, ◌⊎◌}, lemmas.Bool.false≢true}
 use Rattle.{bac_pdu.specs.Station, bac_tsm.specs.Client.Client}
-use Rattle.bac_script.specs.declared.tracing.TraceFault.TheVariants.{WriteFailed}
 use Rattle.bac_links.specs.{answers_of, Arrived, Entry, Failure, Heard, Posted, Silence, Timed, Unposted, Waited}
-use Rattle.bac_links.specs.{Answered.{answer_of, Brings}, Asking.{ForDatagram, question_of}}
-use Rattle.bac_run.{proofs.Acts.unsent_cut, specs.{Act, acted, Aim, Asked, asked_by, AskNext, Broken, Came, Does}}
-use Rattle.bac_run.specs.{DueIn, Fresh, freshened, Goes, has_line, heard_at, history_of, is_reached, IsAsked, IsCut}
-use Rattle.bac_run.specs.{IsDue, IsPassed, IsUnsent, left_of, Link, longest_row, Looked, moved, moved_in, open_in}
-use Rattle.bac_run.specs.{Outside, Passed, passed_at, Paused, Phase, posts, Read, RunFault, Script, SendFailed, settled}
-use Rattle.bac_run.specs.{settled_in, Stage, Telling, telling, Told, turn_at, Turns}
-
--- ---- a stage that is about more
-
-abbrev pub wider : Stage → List Aim → Stage
-wider stage more = record stage { aims = stage.aims ++ more }
-
-left_wider : (client : Client) (behind : ℕ) (aims more : List Aim)
-    → (rest : List Aim) × (left_of client behind (aims ++ more) ≡ left_of client behind aims ++ rest)
-left_wider client behind [] more = (left_of client behind more, refl)
-left_wider client behind (aim ∷ aims) more = go (is_reached client behind aim) refl (left_wider client behind aims more)
-  where
-    go : (b : Bool) → is_reached client behind aim ≡ b
-        → (rest : List Aim) × (left_of client behind (aims ++ more) ≡ left_of client behind aims ++ rest)
-        → (rest : List Aim)
-        × (left_of client behind ((aim ∷ aims) ++ more) ≡ left_of client behind (aim ∷ aims) ++ rest)
-    go true e later = rw e later
-    go false e later = rw e (more, refl)
-
--- What is settled at a stage that is about more is about more.
-abbrev pub IsWider : (stage other : Stage) → Type 0
-IsWider stage other = (rest : List Aim) × (other ≡ wider stage rest)
-
-settled_in_wider : (stage : Stage) (phase : Phase) (more : List Aim)
-    → IsWider (settled_in stage phase) (settled_in (wider stage more) phase)
-settled_in_wider stage Outside more =
-    let (rest, same) = left_wider stage.client stage.behind stage.aims more in
-    (rest, ap (λ (xs : List Aim). record stage { aims = xs }) same)
-settled_in_wider stage (Looked time) more = (more, refl)
-settled_in_wider stage (Telling time) more = (more, refl)
-settled_in_wider stage Broken more = (more, refl)
-
-pub settled_wider : (stage : Stage) (more : List Aim) → IsWider (settled stage) (settled (wider stage more))
-settled_wider stage more = settled_in_wider stage stage.phase more
-
-telling_wider : (stage : Stage) (time : ℕ) (more : List Aim)
-    → telling (wider stage more) time ≡ wider (telling stage time) more
-telling_wider stage time more = go (nat_lt stage.client.state.clock time) refl
-  where
-    go : (b : Bool) → nat_lt stage.client.state.clock time ≡ b
-        → telling (wider stage more) time ≡ wider (telling stage time) more
-    go true e = rw e refl
-    go false e = rw e refl
-
-heard_wider : (stage : Stage) (time : ℕ) (more : List Aim)
-    → heard_at (wider stage more) time ≡ wider (heard_at stage time) more
-heard_wider stage time more = go (nat_lt (suc stage.behind) longest_row) refl
-  where
-    go : (b : Bool) → nat_lt (suc stage.behind) longest_row ≡ b
-        → heard_at (wider stage more) time ≡ wider (heard_at stage time) more
-    go true e = rw e refl
-    go false e = rw e (telling_wider stage time more)
-
-passed_wider : (stage : Stage) (time : ℕ) (heard : Heard) (more : List Aim)
-    → passed_at (wider stage more) time heard ≡ wider (passed_at stage time heard) more
-passed_wider stage time Silence more = telling_wider stage time more
-passed_wider stage time (Arrived from octets) more = heard_wider stage time more
-passed_wider stage time Failure more = refl
-
-freshened_wider : (timeout : ℕ) (stage : Stage) (time : ℕ) (more : List Aim)
-    → freshened timeout (wider stage more) time ≡ wider (freshened timeout stage time) more
-freshened_wider timeout stage time more =
-    go (open_in stage.client == 0) refl (nat_lt (timeout / 10) (time - stage.client.state.clock)) refl
-  where
-    go : (none : Bool) → (open_in stage.client == 0) ≡ none → (late : Bool)
-        → nat_lt (timeout / 10) (time - stage.client.state.clock) ≡ late
-        → freshened timeout (wider stage more) time ≡ wider (freshened timeout stage time) more
-    go true e late f = rw e (telling_wider stage time more)
-    go false e true f = rw (e, f) refl
-    go false e false f = rw (e, f) refl
-
--- The act is due in this phase, with these aims, also where the stage is about more; and so is the stage behind it.
-moved_in_wider : (timeout : ℕ) (stage : Stage) (phase : Phase) (aims more : List Aim) (act : Act)
-    → DueIn timeout stage phase aims act
-    → moved_in timeout (wider stage more) phase (aims ++ more) act ≡ wider (moved_in timeout stage phase aims act) more
-moved_in_wider timeout stage Outside (Turns until (suc left) ∷ later) more (Read time) due = refl
-moved_in_wider timeout stage Outside (Fresh ∷ later) more (Read time) due =
-    freshened_wider timeout (record stage { aims = later }) time more
-moved_in_wider timeout stage Outside (Does act ∷ later) more other due = refl
-moved_in_wider timeout stage (Looked time) aims more (Came wait from octets) due =
-    heard_wider (acted stage (Came wait from octets)) time more
-moved_in_wider timeout stage (Looked time) aims more (Passed wait heard) due = passed_wider stage time heard more
-moved_in_wider timeout stage (Telling time) aims more act due = refl
-moved_in_wider timeout stage phase aims more act due = search
-
-pub moved_wider : (timeout : ℕ) (stage : Stage) (more : List Aim) (act : Act) → IsDue timeout stage act
-    → IsWider (moved timeout stage act) (moved timeout (wider stage more) act)
-moved_wider timeout stage more act due =
-    rw (moved_in_wider timeout stage stage.phase stage.aims more act due)
-    (settled_wider (moved_in timeout stage stage.phase stage.aims act) more)
+use Rattle.bac_links.specs.{Answered.{answer_of}, Asking.question_of}
+use Rattle.bac_run.proofs.Cut.{AreFedAlike}
+use Rattle.bac_run.specs.{Act, Aim, Asked, asked_by, Came, Does, DueIn, feed_in, feeds_in, Fresh, Goes, has_line, Asks}
+use Rattle.bac_run.specs.{IsCut, IsDue, IsPassed, Looked, moved, NextLine, NoLine, Outside, Passed, Paused, Phase}
+use Rattle.bac_run.specs.{Read}
+use Rattle.bac_run.specs.{Stage, stage_after, Telling, Told, Took, turn_at, Turns}
 
 -- ---- which act is due
 
--- One act asks for something, and the other for the same; answered alike they are one.
-pub record Asking (act other : Act) : Type 0 where
-  pub entry : Entry
-  pub other_entry : Entry
-  pub asks : asked_by act ≡ entry ∷ []
-  pub other_asks : asked_by other ≡ other_entry ∷ []
-  pub question : question_of entry ≡ question_of other_entry
-  pub same : answer_of entry ≡ answer_of other_entry → act ≡ other
+-- Two acts that are due at one stage ask the same; and where they were answered the same they are one.
+abbrev SameDue : Act → Act → Type 0
+SameDue act other = (map question_of (asked_by act) ≡ map question_of (asked_by other))
+    × (asked_by act ≡ asked_by other → act ≡ other)
 
-abbrev pub SameDue : Act → Act → Type 0
-SameDue act other = ((act ≡ other) × (asked_by act ≡ [])) ⊎ Asking act other
-
-one_due : (act : Act) → SameDue act act
-one_due (Asked line event) = inl (refl, refl)
-one_due Paused = inl (refl, refl)
-one_due (Told time) = inl (refl, refl)
-one_due (Read time) =
-    inr (record {
-      entry = Timed time;
-      other_entry = Timed time;
-      asks = refl;
-      other_asks = refl;
-      question = refl;
-      same
-          = λ _. refl;
-    })
-one_due (Came wait from octets) = inr (record {
-  entry = Waited wait (Arrived from octets);
-  other_entry = Waited wait (Arrived from octets);
-  asks = refl;
-  other_asks = refl;
-  question = refl;
-  same = λ _. refl;
-})
-one_due (Passed wait heard) =
-    inr (record {
-      entry = Waited wait heard;
-      other_entry = Waited wait heard;
-      asks = refl;
-      other_asks = refl;
-      question = refl;
-      same = λ _. refl;
-    })
-
-both_due : (act due other : Act) → act ≡ due → other ≡ due → SameDue act other
-both_due act due other is same = rw (is, same) (one_due due)
-
-read_due : (time other : ℕ) → SameDue (Read time) (Read other)
-read_due time other = inr (record {
-  entry = Timed time;
-  other_entry = Timed other;
-  asks = refl;
-  other_asks = refl;
-  question = refl;
-  same = λ e. cc;
-})
-
--- A wait that brings something for which there is a line is not passed over.
-unpassed : (from : Station) (octets : List ℕ) (heard : Heard) → has_line (length octets) ≡ true → IsPassed heard
-    → Brings (Arrived from octets) ≡ Brings heard → ⊥
-unpassed from octets Silence line passed e = absurd (cc)
-unpassed from octets Failure line passed e = absurd (cc)
-unpassed from octets (Arrived peer others) line passed e =
+-- A datagram for which there is a line is not skipped.
+unpassed : (wait wait' : ℕ) (from : Station) (octets : List ℕ) (heard : Heard) → has_line (length octets) ≡ true
+    → IsPassed heard → Waited wait (Arrived from octets) ≡ Waited wait' heard → ⊥
+unpassed wait wait' from octets Silence line passed e = absurd (cc)
+unpassed wait wait' from octets Failure line passed e = absurd (cc)
+unpassed wait wait' from octets (Arrived peer others) line passed e =
     let same : octets ≡ others = cc in
     absurd (false≢true (sym passed ∙ ap (λ (xs : List ℕ). has_line (length xs)) (sym same) ∙ line))
 
-waited_due : (wait other : ℕ) (heard other_heard : Heard) (act other_act : Act)
-    → asked_by act ≡ Waited wait heard ∷ [] → asked_by other_act ≡ Waited other other_heard ∷ [] → wait ≡ other
-    → (Brings heard ≡ Brings other_heard → act ≡ other_act) → SameDue act other_act
-waited_due wait other heard other_heard act other_act asks other_asks same alike = inr (record {
-  entry = Waited wait heard;
-  other_entry = Waited other other_heard;
-  asks = asks;
-  other_asks = other_asks;
-  question = ap (λ (n : ℕ). ForDatagram n) same;
-  same = alike;
-})
+first_is : (x y : Entry) → x ∷ [] ≡ y ∷ [] → x ≡ y
+first_is x y e = cc
 
-pub same_due : (timeout : ℕ) (stage : Stage) (phase : Phase) (aims more : List Aim) (act other : Act)
-    → DueIn timeout stage phase aims act → DueIn timeout (wider stage more) phase (aims ++ more) other
-    → SameDue act other
-same_due timeout stage Outside (Turns until (suc left) ∷ later) more (Read time) (Read now) due too = read_due time now
-same_due timeout stage Outside (Fresh ∷ later) more (Read time) (Read now) due too = read_due time now
-same_due timeout stage Outside (Does act ∷ later) more one other due too = both_due one act other due too
-same_due timeout stage (Looked time) aims more (Came wait from octets) (Came wait' from' octets') (is, _) (is', _) =
-    waited_due wait wait' (Arrived from octets) (Arrived from' octets') (Came wait from octets)
-    (Came wait' from' octets')
-    refl refl (is ∙ sym is') (λ e. cc)
-same_due timeout stage (Looked time) aims more (Came wait from octets) (Passed wait' heard) (is, line) (is', passed) =
-    waited_due wait wait' (Arrived from octets) heard (Came wait from octets) (Passed wait' heard) refl refl
-    (is ∙ sym is') (λ e. absurd (unpassed from octets heard line passed e))
-same_due timeout stage (Looked time) aims more (Passed wait heard) (Came wait' from octets) (is, passed) (is', line) =
-    waited_due wait wait' heard (Arrived from octets) (Passed wait heard) (Came wait' from octets) refl refl
-    (is ∙ sym is') (λ e. absurd (unpassed from octets heard line passed (sym e)))
-same_due timeout stage (Looked time) aims more (Passed wait heard) (Passed wait' heard') (is, _) (is', _) =
-    waited_due wait wait' heard heard' (Passed wait heard) (Passed wait' heard') refl refl (is ∙ sym is') (λ e. cc)
-same_due timeout stage (Telling time) aims more act other due too = both_due act (Told time) other due too
-same_due timeout stage phase aims more act other due too = search
+same_due : (timeout : ℕ) (stage : Stage) (phase : Phase) (aims : List Aim) (act other : Act)
+    → AreFedAlike (feed_in act) (feed_in other) → DueIn timeout stage phase aims act
+    → DueIn timeout stage phase aims other → SameDue act other
+same_due timeout stage Outside (Turns until (suc left) ∷ later) (Read time) (Read now) fed due too = (refl, λ e. cc)
+same_due timeout stage Outside (Fresh ∷ later) (Read time) (Read now) fed due too = (refl, λ e. cc)
+same_due timeout stage Outside (Rests wait ∷ later) (Read time) (Read now) fed due too = (refl, λ e. cc)
+same_due timeout stage Outside (Does act ∷ later) one other fed (is, _) (is', _) = rw (is, is') (refl, λ e. refl)
+same_due timeout stage Outside (NextLine window taken ∷ later) (Took line) (Took other) (same, _) due too =
+    (refl, λ e. same)
+same_due timeout stage Outside (NextLine window taken ∷ later) (Took line) (NoLine reading) (same, _) due too =
+    (refl, λ e. same)
+same_due timeout stage Outside (NextLine window taken ∷ later) (NoLine reading) (Took line) (same, _) due too =
+    (refl, λ e. same)
+same_due timeout stage Outside (NextLine window taken ∷ later) (NoLine reading) (NoLine other) (same, _) due too =
+    (refl, λ e. same)
+same_due timeout stage (Looked time) aims (Came wait from octets) (Came wait' from' octets') fed (is, _) (is', _) =
+    rw (is, is') (refl, λ e. cc)
+same_due timeout stage (Looked time) aims (Came wait from octets) (Passed wait' heard) fed (is, line) (is', passed) =
+    rw (is, is') (refl, λ e. absurd (unpassed _ _ from octets heard line passed (first_is _ _ e)))
+same_due timeout stage (Looked time) aims (Passed wait heard) (Came wait' from octets) fed (is, passed) (is', line) =
+    rw (is, is') (refl, λ e. absurd (unpassed _ _ from octets heard line passed (sym (first_is _ _ e))))
+same_due timeout stage (Looked time) aims (Passed wait heard) (Passed wait' heard') fed (is, _) (is', _) =
+    rw (is, is') (refl, λ e. cc)
+same_due timeout stage (Telling time) aims act other fed due too = rw (due, too) (refl, λ e. refl)
+same_due timeout stage phase aims act other fed due too = search
 
--- ---- what is asked
+-- Acts that take of one input: the first two, and those after them.
+fed_first : (x y : Act) (xs ys : List Act) → AreFedAlike (feed_in x ++ xs) (feed_in y ++ ys)
+    → AreFedAlike (feed_in x) (feed_in y)
+fed_first (Took line) (Took other) xs ys (same, _) = (same, tt)
+fed_first (Took line) (NoLine reading) xs ys (same, _) = (same, tt)
+fed_first (NoLine reading) (Took line) xs ys (same, _) = (same, tt)
+fed_first (NoLine reading) (NoLine other) xs ys (same, _) = (same, tt)
+fed_first x y xs ys fed = tt
 
--- Two lists of what is asked: as far as it is answered alike it is the same, and so is what is asked next.
-abbrev Coheres : List Entry → List Entry → Type 0
-Coheres [] others = ⊤
-Coheres (entry ∷ later) [] = ⊤
-Coheres (entry ∷ later) (other ∷ others) = (question_of entry ≡ question_of other)
-    × (answer_of entry ≡ answer_of other → (entry ≡ other) × Coheres later others)
+fed_later : (x : Act) (xs ys : List Act) → AreFedAlike (feed_in x ++ xs) (feed_in x ++ ys) → AreFedAlike xs ys
+fed_later (Took line) xs ys (_, fed) = fed
+fed_later (NoLine reading) xs ys (_, fed) = fed
+fed_later x xs ys fed = fed
+
+-- ---- what was asked
+
+-- A history begins with these entries.
+abbrev Begins : List Entry → List Entry → (List Entry → Type 0) → Type 0
+Begins [] gained Then = Then gained
+Begins (entry ∷ due) [] Then = ⊥
+Begins (entry ∷ due) (got ∷ gained) Then = (got ≡ entry) × Begins due gained Then
+
+-- A send failed.
+abbrev IsLost : Entry → Entry → Type 0
+IsLost (Posted to octets) got = got ≡ Unposted to octets
+IsLost entry got = ⊥
+
+-- These sends were asked for; or one failed, and that was the last thing.
+abbrev Sends : List Entry → List Entry → (List Entry → Type 0) → Type 0 → Type 0
+Sends [] gained Then Last = Then gained
+Sends (entry ∷ due) [] Then Last = ⊥
+Sends (entry ∷ due) (got ∷ gained) Then Last = ((got ≡ entry) × Sends due gained Then Last)
+    ⊎ (IsLost entry got × (gained ≡ []) × Last)
+
+-- Each of these acts was due, and this was asked of the link. The flag says whether a send failed: nothing was done
+-- after it.
+abbrev pub Steps : (timeout : ℕ) → Stage → Client → List Act → List Entry → Bool → Type 0
+Steps timeout stage client [] gained lost = (gained ≡ []) × (lost ≡ false)
+Steps timeout stage client (act ∷ later) gained lost = IsDue timeout stage act × Begins (asked_by act) gained (λ rest.
+    Sends (sends_at client act) rest
+    (λ more. Steps timeout (moved timeout stage act) (turn_at client act).after later more lost)
+    ((later ≡ []) × (lost ≡ true)))
 
 same_entry : (entry other : Entry) → question_of entry ≡ question_of other → answer_of entry ≡ answer_of other
     → entry ≡ other
@@ -219,219 +108,244 @@ same_entry (Posted to octets) (Posted to' octets') asks says = cc
 same_entry (Unposted to octets) (Unposted to' octets') asks says = cc
 same_entry entry other asks says = absurd (cc)
 
-coheres_front : (front later others : List Entry) → Coheres later others → Coheres (front ++ later) (front ++ others)
-coheres_front [] later others is = is
-coheres_front (entry ∷ front) later others is = (refl, λ _. (refl, coheres_front front later others is))
-
--- The client at the stage behind an act is the one that the act leaves.
-settled_client : (stage : Stage) (phase : Phase) → (settled_in stage phase).client ≡ stage.client
-settled_client stage Outside = refl
-settled_client stage (Looked time) = refl
-settled_client stage (Telling time) = refl
-settled_client stage Broken = refl
-
-telling_client : (stage : Stage) (time : ℕ) → (telling stage time).client ≡ stage.client
-telling_client stage time = go (nat_lt stage.client.state.clock time) refl
-  where
-    go : (b : Bool) → nat_lt stage.client.state.clock time ≡ b → (telling stage time).client ≡ stage.client
-    go true e = rw e refl
-    go false e = rw e refl
-
-heard_client : (stage : Stage) (time : ℕ) → (heard_at stage time).client ≡ stage.client
-heard_client stage time = go (nat_lt (suc stage.behind) longest_row) refl
-  where
-    go : (b : Bool) → nat_lt (suc stage.behind) longest_row ≡ b → (heard_at stage time).client ≡ stage.client
-    go true e = rw e refl
-    go false e = rw e (telling_client stage time)
-
-freshened_client : (timeout : ℕ) (stage : Stage) (time : ℕ) → (freshened timeout stage time).client ≡ stage.client
-freshened_client timeout stage time =
-    go (open_in stage.client == 0) refl (nat_lt (timeout / 10) (time - stage.client.state.clock)) refl
-  where
-    go : (none : Bool) → (open_in stage.client == 0) ≡ none → (late : Bool)
-        → nat_lt (timeout / 10) (time - stage.client.state.clock) ≡ late
-        → (freshened timeout stage time).client ≡ stage.client
-    go true e late f = rw e (telling_client stage time)
-    go false e true f = rw (e, f) refl
-    go false e false f = rw (e, f) refl
-
-passed_client : (stage : Stage) (time : ℕ) (heard : Heard) → (passed_at stage time heard).client ≡ stage.client
-passed_client stage time Silence = telling_client stage time
-passed_client stage time (Arrived from octets) = heard_client stage time
-passed_client stage time Failure = refl
-
-moved_in_client : (timeout : ℕ) (stage : Stage) (phase : Phase) (aims : List Aim) (act : Act)
-    → DueIn timeout stage phase aims act
-    → (moved_in timeout stage phase aims act).client ≡ (turn_at stage.client act).after
-moved_in_client timeout stage Outside (Turns until (suc left) ∷ later) (Read time) due = refl
-moved_in_client timeout stage Outside (Fresh ∷ later) (Read time) due =
-    freshened_client timeout (record stage { aims = later }) time
-moved_in_client timeout stage Outside (Does act ∷ later) other due = refl
-moved_in_client timeout stage (Looked time) aims (Came wait from octets) due =
-    heard_client (acted stage (Came wait from octets)) time
-moved_in_client timeout stage (Looked time) aims (Passed wait heard) due = passed_client stage time heard
-moved_in_client timeout stage (Telling time) aims act due = refl
-moved_in_client timeout stage phase aims act due = search
-
-pub moved_client : (timeout : ℕ) (stage : Stage) (act : Act) → IsDue timeout stage act
-    → (moved timeout stage act).client ≡ (turn_at stage.client act).after
-moved_client timeout stage act due =
-    let before = moved_in timeout stage stage.phase stage.aims act in
-    settled_client before before.phase ∙ moved_in_client timeout stage stage.phase stage.aims act due
-
-coheres_none : (entries : List Entry) → Coheres entries []
-coheres_none [] = tt
-coheres_none (entry ∷ entries) = tt
-
--- Acts that are due at one stage, and what comes behind them.
-act_coheres : (act other : Act) (after : Client) (acts others : List Act) (client : Client) → SameDue act other
-    → (act ≡ other → Coheres (history_of (turn_at client act).after acts) (history_of
-    (turn_at client act).after others))
-    → Coheres (history_of client (act ∷ acts)) (history_of client (other ∷ others))
-act_coheres act other after acts others client (inl (same, none)) later =
-    subst (λ (a : Act). Coheres (history_of client (act ∷ acts)) (history_of client (a ∷ others))) same
-    (coheres_front (asked_by act ++ posts (turn_at client act).notes) _ _ (later same))
-act_coheres act other after acts others client (inr asking) later =
-    rw (asking.asks, asking.other_asks) (
-      asking.question,
-      λ says. (
-        same_entry asking.entry asking.other_entry asking.question says,
-        subst (λ (a : Act). Coheres
-            (posts (turn_at client act).notes ++ history_of (turn_at client act).after acts)
-            (posts (turn_at client a).notes ++ history_of (turn_at client a).after others)) (asking.same says)
-            (coheres_front (posts (turn_at client act).notes) _ _ (later (asking.same says))),
-      ),
-    )
-
--- What some acts ask of the link, from a stage on, and what others do that begin at the same.
-abbrev asked_from : Stage → List Act → List Entry
-asked_from stage acts = history_of stage.client acts
-
-pub histories_cohere : (timeout : ℕ) (stage : Stage) (more : List Aim) (acts others : List Act)
-    → Goes timeout stage acts → Goes timeout (wider stage more) others
-    → Coheres (asked_from stage acts) (asked_from stage others)
-histories_cohere timeout stage more [] others goes goes' = tt
-histories_cohere timeout stage more (act ∷ acts) [] goes goes' = coheres_none (asked_from stage (act ∷ acts))
-histories_cohere timeout stage more (act ∷ acts) (other ∷ others) (due, goes) (due', goes') =
-    let (rest, wide) = moved_wider timeout stage more act due in
-    let client = moved_client timeout stage act due in
-    act_coheres act other (turn_at stage.client act).after acts others stage.client
-    (same_due timeout stage stage.phase stage.aims more act other due due')
-    (λ same. subst (λ (c : Client). Coheres (history_of c acts) (history_of c others)) client
-    (histories_cohere timeout (moved timeout stage act) rest acts others goes
-    (subst (λ (s : Stage). Goes timeout s others) wide
-    (subst (λ (a : Act). Goes timeout (moved timeout (wider stage more) a) others) (sym same) goes'))))
-
--- ---- what was asked
-
--- What a link was asked of what was due: all of it; or what was due before a send that failed, and that.
-abbrev pub Gets : (due gained : List Entry) → Type 0
-Gets [] gained = gained ≡ []
-Gets (entry ∷ due) [] = ⊥
-Gets (entry ∷ due) (got ∷ gained) = ((got ≡ entry) × Gets due gained)
-    ⊎ ((to : Station) × (octets : List ℕ) × (entry ≡ Posted to octets) × (got ≡ Unposted to octets) × (gained ≡ []))
-
-pub gets_all : (due : List Entry) → Gets due due
-gets_all [] = refl
-gets_all (entry ∷ due) = inl (refl, gets_all due)
-
-gets_cut : (sent later : List Entry) (to : Station) (octets : List ℕ)
-    → Gets (sent ++ Posted to octets ∷ later) (sent ++ Unposted to octets ∷ [])
-gets_cut [] later to octets = inr (to, octets, refl, refl, refl)
-gets_cut (entry ∷ sent) later to octets = inl (refl, gets_cut sent later to octets)
-
-gets_whole : (due gained : List Entry) → gained ≡ due → Gets due gained
-gets_whole due gained is = subst (λ (xs : List Entry). Gets due xs) (sym is) (gets_all due)
-
-gets_before : (due gained : List Entry) → IsCut due gained → Gets due gained
-gets_before due gained (sent, later, to, octets, whole, was) = rw (whole, was) (gets_cut sent later to octets)
-
-gets_unsent : (client : Client) (acts : List Act) (gained : List Entry) → IsUnsent client acts gained
-    → Gets (history_of client acts) gained
-gets_unsent client acts gained is = gets_before (history_of client acts) gained (unsent_cut client acts gained is)
-
-pub gets_of : {A : Type 0} (result : Result A RunFault) (client : Client) (acts : List Act) (gained : List Entry)
-    → IsAsked result client acts gained → Gets (history_of client acts) gained
-gets_of (Ok x) client acts gained is = gets_whole (history_of client acts) gained is
-gets_of (Err (Script WriteFailed)) client acts gained (inl is) = gets_whole (history_of client acts) gained is
-gets_of (Err (Script WriteFailed)) client acts gained (inr is) = gets_unsent client acts gained is
-gets_of (Err (Script fault)) client acts gained is = gets_whole (history_of client acts) gained is
-gets_of (Err (Link SendFailed)) client acts gained is = gets_unsent client acts gained is
-gets_of (Err (Link fault)) client acts gained is = gets_whole (history_of client acts) gained is
-
--- What was asked is what was due, whether it could be sent or not.
-asked_as : (entry got : Entry) (due gained : List Entry) → Gets (entry ∷ due) (got ∷ gained)
-    → question_of got ≡ question_of entry
-asked_as entry got due gained (inl (same, _)) = ap question_of same
-asked_as entry got due gained (inr (to, octets, was, is, _)) = ap question_of is ∙ sym (ap question_of was)
+none_both : (xs ys : List Entry) → xs ++ ys ≡ [] → (xs ≡ []) × (ys ≡ [])
+none_both [] ys e = (refl, e)
+none_both (x ∷ xs) ys e = absurd (cc)
 
 none_answered : (xs : List Entry) → answers_of xs ≡ [] → xs ≡ []
 none_answered [] e = refl
 none_answered (x ∷ xs) e = absurd (cc)
 
-none_both : (xs ys : List Entry) → xs ++ ys ≡ [] → (xs ≡ []) × (ys ≡ [])
-none_both [] ys e = (refl, e)
-none_both (x ∷ xs) ys e = absurd (cc)
+heads : (x y : Entry) (xs ys : List Entry) → x ≡ y → xs ≡ ys → x ∷ xs ≡ y ∷ ys
+heads x y xs ys one same = cc
 
-pub next_none : (rest : List Entry) → AskNext [] rest
-next_none [] = tt
-next_none (x ∷ rest) = tt
+-- A send that was made and one that failed are answered otherwise.
+unlike : (entry got lost : Entry) → got ≡ entry → IsLost entry lost → answer_of got ≡ answer_of lost → ⊥
+unlike (Posted to octets) got lost is fails says = absurd (cc)
+unlike entry got lost is fails says = search
 
-none_next : (rest : List Entry) → AskNext rest []
-none_next [] = tt
-none_next (x ∷ rest) = tt
+lost_alike : (entry got other : Entry) → IsLost entry got → IsLost entry other → got ≡ other
+lost_alike (Posted to octets) got other is is' = is ∙ sym is'
+lost_alike entry got other is is' = search
 
-pub next : (due others rest rest' : List Entry) → Coheres due others → Gets due rest → Gets others rest'
-    → AskNext rest rest'
-next due others [] rest' coheres gets gets' = next_none rest'
-next due others (x ∷ rest) [] coheres gets gets' = tt
-next [] others (x ∷ rest) (y ∷ rest') coheres gets gets' = absurd (cc)
-next (entry ∷ due) [] (x ∷ rest) (y ∷ rest') coheres gets gets' = absurd (cc)
-next (entry ∷ due) (other ∷ others) (x ∷ rest) (y ∷ rest') (asks, then) gets gets' =
-    asked_as entry x due rest gets ∙ asks ∙ sym (asked_as other y others rest' gets')
+lost_asks : (entry got : Entry) → IsLost entry got → question_of got ≡ question_of entry
+lost_asks (Posted to octets) got is = ap question_of is
+lost_asks entry got is = search
 
-pub aligned : (due others gained got first rest first' rest' : List Entry) → Coheres due others → Gets due gained
-    → Gets others got → gained ≡ first ++ rest → got ≡ first' ++ rest' → answers_of first ≡ answers_of first'
-    → (first ≡ first') × AskNext rest rest'
-aligned due others gained got [] rest [] rest' coheres gets gets' is is' same = (
-  refl,
-  next due others rest rest' coheres (subst (λ (xs : List Entry). Gets due xs) is gets)
-      (subst (λ (xs : List Entry). Gets others xs) is' gets'),
+-- How two runs go on after they were asked and answered alike.
+module _ (Then : List Entry → List Entry → Type 0)
+    (asks : (x y : Entry) (xs ys : List Entry) → question_of x ≡ question_of y → Then (x ∷ xs) (y ∷ ys)) where
+  abbrev GoOn : (first rest first' rest' : List Entry) → Type 0
+  GoOn first rest first' rest' = (first ≡ first') × Then rest rest'
+
+  abbrev Later : (P Q : List Entry → Type 0) → Type 0
+  Later P Q = (first rest first' rest' : List Entry) → P (first ++ rest) → Q (first' ++ rest')
+      → answers_of first ≡ answers_of first' → GoOn first rest first' rest'
+
+  both_begin : (xs ys first rest first' rest' : List Entry) (P Q : List Entry → Type 0)
+      → map question_of xs ≡ map question_of ys → Begins xs (first ++ rest) P → Begins ys (first' ++ rest') Q
+      → answers_of first ≡ answers_of first' → (xs ≡ ys → Later P Q) → GoOn first rest first' rest'
+  both_begin [] [] first rest first' rest' P Q e is is' says on = on refl first rest first' rest' is is' says
+  both_begin [] (y ∷ ys) first rest first' rest' P Q e is is' says on = absurd (cc)
+  both_begin (x ∷ xs) [] first rest first' rest' P Q e is is' says on = absurd (cc)
+  both_begin (x ∷ xs) (y ∷ ys) [] [] first' rest' P Q e is is' says on = absurd is
+  both_begin (x ∷ xs) (y ∷ ys) [] (p ∷ rest) [] [] P Q e is is' says on = absurd is'
+  both_begin (x ∷ xs) (y ∷ ys) [] (p ∷ rest) [] (q ∷ rest') P Q e (is, _) (is', _) says on =
+      let asked : question_of x ≡ question_of y = cc in
+      (refl, asks p q rest rest' (ap question_of is ∙ asked ∙ sym (ap question_of is')))
+  both_begin (x ∷ xs) (y ∷ ys) [] rest (q ∷ first') rest' P Q e is is' says on = absurd (cc)
+  both_begin (x ∷ xs) (y ∷ ys) (p ∷ first) rest [] rest' P Q e is is' says on = absurd (cc)
+  both_begin (x ∷ xs) (y ∷ ys) (p ∷ first) rest (q ∷ first') rest' P Q e (is, later) (is', later') says on =
+      let asked : question_of x ≡ question_of y = cc in
+      let said : answer_of p ≡ answer_of q = cc in
+      let more : map question_of xs ≡ map question_of ys = cc in
+      let saying : answers_of first ≡ answers_of first' = cc in
+      let one = same_entry p q (ap question_of is ∙ asked ∙ sym (ap question_of is')) said in
+      let (same, then) = both_begin xs ys first rest first' rest' P Q more later later' saying
+      (λ all. on (heads x y xs ys (sym is ∙ one ∙ is') all)) in
+      (heads p q first first' one same, then)
+
+  both_send : (xs first rest first' rest' : List Entry) (P Q : List Entry → Type 0) (Last Last' : Type 0)
+      → Sends xs (first ++ rest) P Last → Sends xs (first' ++ rest') Q Last' → answers_of first ≡ answers_of first'
+      → Later P Q → (Last → Last' → Then [] []) → GoOn first rest first' rest'
+  both_send [] first rest first' rest' P Q Last Last' is is' says on last = on first rest first' rest' is is' says
+  both_send (x ∷ xs) [] [] first' rest' P Q Last Last' is is' says on last = absurd is
+  both_send (x ∷ xs) [] (p ∷ rest) [] [] P Q Last Last' is is' says on last = absurd is'
+  both_send (x ∷ xs) [] (p ∷ rest) [] (q ∷ rest') P Q Last Last' is is' says on last =
+      (refl, asks p q rest rest' (tried p rest P Last is ∙ sym (tried q rest' Q Last' is')))
+    where
+      tried : (got : Entry) (gained : List Entry) (P : List Entry → Type 0) (Last : Type 0)
+          → Sends (x ∷ xs) (got ∷ gained) P Last → question_of got ≡ question_of x
+      tried got gained P Last (inl (same, _)) = ap question_of same
+      tried got gained P Last (inr (lost, _, _)) = lost_asks x got lost
+  both_send (x ∷ xs) [] rest (q ∷ first') rest' P Q Last Last' is is' says on last = absurd (cc)
+  both_send (x ∷ xs) (p ∷ first) rest [] rest' P Q Last Last' is is' says on last = absurd (cc)
+  both_send (x ∷ xs) (p ∷ first) rest (q ∷ first') rest' P Q Last Last' is is' says on last =
+      go (λ here there more. both_send xs first rest first' rest' P Q Last Last' here there more on last) is is' (cc)
+      (cc)
+    where
+      go : (Sends xs (first ++ rest) P Last → Sends xs (first' ++ rest') Q Last' → answers_of first ≡ answers_of first'
+          → GoOn first rest first' rest') → Sends (x ∷ xs) (p ∷ (first ++ rest)) P Last
+          → Sends (x ∷ xs) (q ∷ (first' ++ rest')) Q Last'
+          → answer_of p ≡ answer_of q → answers_of first ≡ answers_of first' → GoOn (p ∷ first) rest (q ∷ first') rest'
+      go more (inl (one, is)) (inl (other, is')) said says =
+          let (same, then) = more is is' says in
+          (heads p q first first' (one ∙ sym other) same, then)
+      go more (inl (one, is)) (inr (lost, _, _)) said says = absurd (unlike x p q one lost said)
+      go more (inr (lost, _, _)) (inl (other, is')) said says = absurd (unlike x q p other lost (sym said))
+      go more (inr (lost, none, is)) (inr (lost', none', is')) said says =
+          let (f, r) = none_both first rest none in
+          let (f', r') = none_both first' rest' none' in
+          (heads p q first first' (lost_alike x p q lost lost') (f ∙ sym f'), rw (r, r') (last is is'))
+
+-- Two runs from one stage on, of which these entries are left: both ask the same next; both did and were asked the
+-- same; or one was asked all that its acts ask, and the other did more, the first act of which was due.
+pub data Next (timeout : ℕ) (stage : Stage) (acts others : List Act) (lost lost' : Bool) (rest rest' : List Entry)
+    : Type 0 where
+  AskBoth : (x y : Entry) (xs ys : List Entry) → rest ≡ x ∷ xs → rest' ≡ y ∷ ys → question_of x ≡ question_of y
+      → Next timeout stage acts others lost lost' rest rest'
+  Same : acts ≡ others → lost ≡ lost' → rest ≡ [] → rest' ≡ [] → Next timeout stage acts others lost lost' rest rest'
+  Less : rest ≡ [] → lost ≡ false → (act : Act) (more : List Act) → others ≡ acts ++ act ∷ more
+      → IsDue timeout (stage_after timeout stage acts) act → Next timeout stage acts others lost lost' rest rest'
+  More : rest' ≡ [] → lost' ≡ false → (act : Act) (more : List Act) → acts ≡ others ++ act ∷ more
+      → IsDue timeout (stage_after timeout stage others) act → Next timeout stage acts others lost lost' rest rest'
+
+module _ (timeout : ℕ) where
+  next_then : (stage : Stage) (act : Act) (acts others : List Act) (lost lost' : Bool) (rest rest' : List Entry)
+      → Next timeout (moved timeout stage act) acts others lost lost' rest rest'
+      → Next timeout stage (act ∷ acts) (act ∷ others) lost lost' rest rest'
+  next_then stage act acts others lost lost' rest rest' (AskBoth x y xs ys is is' asks) = AskBoth x y xs ys is is' asks
+  next_then stage act acts others lost lost' rest rest' (Same same alike is is') =
+      Same (ap (λ (zs : List Act). act ∷ zs) same) alike is is'
+  next_then stage act acts others lost lost' rest rest' (Less is none next more longer due) =
+      Less is none next more (ap (λ (zs : List Act). act ∷ zs) longer) due
+  next_then stage act acts others lost lost' rest rest' (More is none next more longer due) =
+      More is none next more (ap (λ (zs : List Act). act ∷ zs) longer) due
+
+  -- As far as they were answered alike they were asked alike, and so they go on.
+  pub both_go : (stage : Stage) (client : Client) (acts others : List Act) (lost lost' : Bool)
+      → AreFedAlike (feeds_in acts) (feeds_in others) → (first rest first' rest' : List Entry) → Steps timeout stage
+      client acts (first ++ rest) lost
+      → Steps timeout stage client others (first' ++ rest') lost' → answers_of first ≡ answers_of first'
+      → (first ≡ first') × Next timeout stage acts others lost lost' rest rest'
+  both_go stage client [] [] lost lost' fed first rest first' rest' (none, sure) (none', sure') says =
+      let (f, r) = none_both first rest none in
+      let (f', r') = none_both first' rest' none' in
+      (f ∙ sym f', Same refl (sure ∙ sym sure') r r')
+  both_go stage client [] (y ∷ others) lost lost' fed first rest first' rest' (none, sure) (due, _) says =
+      let (f, r) = none_both first rest none in
+      (f ∙ sym (none_answered first' (sym says ∙ ap answers_of f)), Less r sure y others refl due)
+  both_go stage client (x ∷ acts) [] lost lost' fed first rest first' rest' (due, _) (none, sure) says =
+      let (f, r) = none_both first' rest' none in
+      (none_answered first (says ∙ ap answers_of f) ∙ sym f, More r sure x acts refl due)
+  both_go stage client (x ∷ acts) (y ∷ others) lost lost' fed first rest first' rest' (due, is) (due', is') says =
+      let (asks, one) = same_due timeout stage stage.phase stage.aims x y
+      (fed_first x y (feeds_in acts) (feeds_in others) fed) due due' in
+      both_begin (Next timeout stage (x ∷ acts) (y ∷ others) lost lost')
+      (λ p q ps qs same. AskBoth p q ps qs refl refl same) (asked_by x) (asked_by y) first rest first' rest' _ _ asks is
+      is' says
+      (λ all. subst (λ (a : Act). After a) (one all)
+      (here (both_go (moved timeout stage x) (turn_at client x).after acts others lost lost'
+      (fed_later x (feeds_in acts) (feeds_in others)
+      (subst (λ (a : Act). AreFedAlike (feed_in x ++ feeds_in acts) (feed_in a ++ feeds_in others)) (sym (one all))
+      fed)))))
+    where
+      After : Act → Type 0
+      After a = Later (Next timeout stage (x ∷ acts) (a ∷ others) lost lost')
+          (λ p q ps qs same. AskBoth p q ps qs refl refl same)
+          (λ got. Sends (sends_at client x) got
+          (λ more. Steps timeout (moved timeout stage x) (turn_at client x).after acts more lost)
+          ((acts ≡ []) × (lost ≡ true)))
+          (λ got. Sends (sends_at client a) got
+          (λ more. Steps timeout (moved timeout stage a) (turn_at client a).after others more lost')
+          ((others ≡ []) × (lost' ≡ true)))
+
+      Later_on : Type 0
+      Later_on = (first rest first' rest' : List Entry)
+          → Steps timeout (moved timeout stage x) (turn_at client x).after acts (first ++ rest) lost
+          → Steps timeout (moved timeout stage x) (turn_at client x).after others (first' ++ rest') lost'
+          → answers_of first ≡ answers_of first'
+          → (first ≡ first') × Next timeout (moved timeout stage x) acts others lost lost' rest rest'
+
+      here : Later_on → After x
+      here on first rest first' rest' is is' says =
+          both_send (Next timeout stage (x ∷ acts) (x ∷ others) lost lost')
+          (λ p q ps qs same. AskBoth p q ps qs refl refl same) (sends_at client x) first rest first' rest'
+          _ _ _ _ is is' says
+          (λ first rest first' rest' is is' says.
+          let (same, next) = on first rest first' rest' is is' says in
+          (same, next_then stage x acts others lost lost' rest rest' next))
+          (λ (none, cut) (none', cut'). Same (ap (λ (zs : List Act). x ∷ zs) (none ∙ sym none')) (cut ∙ sym cut') refl
+          refl)
+
+-- ---- acts and what they ask, as steps
+
+begins_all : (xs gained : List Entry) (P : List Entry → Type 0) → P gained → Begins xs (xs ++ gained) P
+begins_all [] gained P is = is
+begins_all (x ∷ xs) gained P is = (refl, begins_all xs gained P is)
+
+sends_all : (xs gained : List Entry) (P : List Entry → Type 0) (Last : Type 0) → P gained
+    → Sends xs (xs ++ gained) P Last
+sends_all [] gained P Last is = is
+sends_all (x ∷ xs) gained P Last is = inl (refl, sends_all xs gained P Last is)
+
+sends_cut : (sent later : List Entry) (to : Station) (octets : List ℕ) (P : List Entry → Type 0) (Last : Type 0) → Last
+    → Sends (sent ++ Posted to octets ∷ later) (sent ++ Unposted to octets ∷ []) P Last
+sends_cut [] later to octets P Last is = inr (refl, refl, is)
+sends_cut (x ∷ sent) later to octets P Last is = inl (refl, sends_cut sent later to octets P Last is)
+
+behind : (x : Entry) (due gained : List Entry) (P : List Entry → Type 0)
+    → ((to : Station) (octets : List ℕ) → x ≡ Posted to octets → ⊥) → ((rest : List Entry) → IsCut due rest → P rest)
+    → IsCut (x ∷ due) gained → Begins (x ∷ []) gained P
+behind x due gained P never on ([], later, to, octets, whole, was) = absurd (never to octets (cc))
+behind x due gained P never on (y ∷ sent, later, to, octets, whole, was) =
+    let one : y ≡ x = cc in
+    let rest : due ≡ sent ++ Posted to octets ∷ later = cc in
+    subst (λ (g : List Entry). Begins (x ∷ []) g P) (sym was)
+    (one, on (sent ++ Unposted to octets ∷ []) (sent, later, to, octets, rest, refl))
+
+begins_cut : (act : Act) (due gained : List Entry) (P : List Entry → Type 0)
+    → ((rest : List Entry) → IsCut due rest → P rest) → IsCut (asked_by act ++ due) gained
+    → Begins (asked_by act) gained P
+begins_cut (Came wait from octets) due gained P on cut =
+    behind (Waited wait (Arrived from octets)) due gained P (λ to sent e. cc) on cut
+begins_cut (Passed wait heard) due gained P on cut = behind (Waited wait heard) due gained P (λ to sent e. cc) on cut
+begins_cut (Read time) due gained P on cut = behind (Timed time) due gained P (λ to sent e. cc) on cut
+begins_cut (Asked line event) due gained P on cut = on gained cut
+begins_cut Paused due gained P on cut = on gained cut
+begins_cut (Took line) due gained P on cut = on gained cut
+begins_cut (NoLine reading) due gained P on cut = on gained cut
+begins_cut (Sought to octets) due gained P on cut = on gained cut
+begins_cut (Rested time) due gained P on cut = on gained cut
+begins_cut (Told time) due gained P on cut = on gained cut
+
+-- Acts each of which was due, and what they ask.
+pub steps_of : (timeout : ℕ) (stage : Stage) (client : Client) (acts : List Act) (gained : List Entry) (lost : Bool)
+    → Goes timeout stage acts → Asks client acts gained lost → Steps timeout stage client acts gained lost
+steps_of timeout stage client [] gained lost goes is = is
+steps_of timeout stage client (x ∷ acts) gained lost (due, goes) (inl (rest, is, later)) = (
+  due,
+  subst (λ (g : List Entry). Begins (asked_by x) g (λ got. Sends notes got Then Last))
+      (sym (is ∙ append_assoc (asked_by x) notes rest))
+      (begins_all (asked_by x) (notes ++ rest) (λ got. Sends notes got Then Last)
+      (sends_all notes rest Then Last
+      (steps_of timeout (moved timeout stage x) (turn_at client x).after acts rest lost goes later))),
 )
-aligned due others gained got [] rest (y ∷ first') rest' coheres gets gets' is is' same = absurd (cc)
-aligned due others gained got (x ∷ first) rest [] rest' coheres gets gets' is is' same = absurd (cc)
-aligned [] others gained got (x ∷ first) rest (y ∷ first') rest' coheres gets gets' is is' same =
-    absurd (let bad = sym gets ∙ is in cc)
-aligned (entry ∷ due) [] gained got (x ∷ first) rest (y ∷ first') rest' coheres gets gets' is is' same =
-    absurd (let bad = sym gets' ∙ is' in cc)
-aligned (entry ∷ due) (other ∷ others) gained got (x ∷ first) rest (y
-    ∷ first') rest' (asks, then) gets gets' is is' same =
-    let here = subst (λ (xs : List Entry). Gets (entry ∷ due) xs) is gets in
-    let there = subst (λ (xs : List Entry). Gets (other ∷ others) xs) is' gets' in
-    let says : answer_of x ≡ answer_of y = cc in
-    let later : answers_of first ≡ answers_of first' = cc in
-    let one : x ≡ y = same_entry x y
-    (asked_as entry x due (first ++ rest) here ∙ asks ∙ sym (asked_as other y others (first' ++ rest') there)) says in
-    go one later here there (λ coheres here there.
-    aligned due others (first ++ rest) (first' ++ rest') first rest first' rest' coheres here there refl refl later)
   where
-    go : x ≡ y → answers_of first ≡ answers_of first' → Gets (entry ∷ due) (x ∷ (first ++ rest))
-        → Gets (other ∷ others) (y ∷ (first' ++ rest'))
-        → (Coheres due others → Gets due (first ++ rest) → Gets others (first' ++ rest')
-        → (first ≡ first') × AskNext rest rest') → ((x ∷ first) ≡ (y ∷ first')) × AskNext rest rest'
-    go one later (inl (e, here)) (inl (f, there)) on =
-        let (alike, coheres) = then (sym (ap answer_of e) ∙ ap answer_of one ∙ ap answer_of f) in
-        let (same, more) = on coheres here there in
-        (ap (λ (z : Entry). z ∷ first) one ∙ ap (λ (zs : List Entry). y ∷ zs) same, more)
-    go one later (inr (to, octets, was, is, none)) there on =
-        let (over, out) = none_both first rest none in
-        let over' = none_answered first' (sym later ∙ ap answers_of over) in (
-          ap (λ (z : Entry). z ∷ first) one ∙ ap (λ (zs : List Entry). y ∷ zs) (over ∙ sym over'),
-          subst (λ (zs : List Entry). AskNext zs rest') (sym out) (next_none rest'),
-        )
-    go one later here (inr (to, octets, was, is, none)) on =
-        let (over', out) = none_both first' rest' none in
-        let over = none_answered first (later ∙ ap answers_of over') in (
-          ap (λ (z : Entry). z ∷ first) one ∙ ap (λ (zs : List Entry). y ∷ zs) (over ∙ sym over'),
-          subst (λ (zs : List Entry). AskNext rest zs) (sym out) (none_next rest),
-        )
+    notes : List Entry
+    notes = sends_at client x
+
+    Then : List Entry → Type 0
+    Then more = Steps timeout (moved timeout stage x) (turn_at client x).after acts more lost
+
+    Last : Type 0
+    Last = (acts ≡ []) × (lost ≡ true)
+steps_of timeout stage client (x ∷ acts) gained lost (due, goes) (inr (none, lacks, cut)) =
+    (due, begins_cut x (sends_at client x) gained _ sends cut)
+  where
+    sends : (got : List Entry) → IsCut (sends_at client x) got
+        → Sends (sends_at client x) got
+        (λ more. Steps timeout (moved timeout stage x) (turn_at client x).after acts more lost)
+        ((acts ≡ []) × (lost ≡ true))
+    sends got (sent, behind, to, octets, whole, was) = rw (whole, was) (sends_cut sent behind to octets _ _
+        (none, lacks))

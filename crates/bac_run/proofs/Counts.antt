@@ -1,4 +1,4 @@
--- How many requests are open: no more behind a datagram or a time than before.
+-- How many requests are open: no more after a datagram or a time than before.
 use Rattle.std.proofs.Common.{[], arith, length, length-append, List, None, Option, Some, ℕ, ◌∷◌, ◌≤◌}
 use Rattle.std.specs.List.{flat_map}
 use Rattle.{bac_pdu.specs.Station, bac_tsm.specs.{Outcome, rules_of, Client.Client, Events.Request}}
@@ -32,7 +32,7 @@ kept_few client clock (w ∷ ws) =
       length-append (kept (rules_of client) clock w) (flat_map (kept (rules_of client) clock) ws),
     )
 
--- Where the time was told, no more are open than before.
+-- If the time was told, no more are open than before.
 pub tick_open : (client : Client) (time : ℕ)
     → length (tick (rules_of client) client.state time).after.waiting ≤ length client.state.waiting
 tick_open client time = kept_few client _ client.state.waiting

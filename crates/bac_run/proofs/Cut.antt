@@ -1,136 +1,291 @@
 -- How lines are cut from what the reader gave, and how the reader stands then.
+use Rattle.bac_run.specs.{acts_of_result}
+use Rattle.std.proofs.Common.{IfOk, Ok, Some}
 use Rattle.std.proofs.Common.{[], ap, append-nil, append_assoc, arith, drop, Err, false, inl, inr, length, List, None}
-use Rattle.std.proofs.Common.{Option, option_and_then, refl, Result, subst, sym, take, take-append-drop, ℕ, ◌&&◌, ◌++◌}
-use Rattle.std.proofs.{Common.{◌+◌, ◌==◌, ◌∙◌, ◌∷◌, ◌≡◌, ◌≢◌, ◌≤◌, ◌⊎◌}, lemmas.Bool.cases_Bool}
-use Rattle.std.specs.{List.{AllByRecursion, concat}, Result.result_ok}
-use Rattle.{bac_text.specs.longest_line, bac_print.specs.{Gave, has_failed}, bac_run.specs.acts_of_line}
-use Rattle.bac_run.specs.{acts_of_said, AreCut, AtEnd, Checked, ends_with_return, EndsWithFeed, Failed, fault_of_line}
-use Rattle.bac_run.specs.{fault_of_said, HasNoFeed, IsGood, LineFault, LineTooLong, Open, Reading, said_of}
-use Rattle.bac_script.proofs.Courses.Chunks.{lines-ended, lines-last, lines-rest, next_long, said-whole_long}
-use Rattle.bac_script.specs.{lines, ReaderStands, Said, said, declared.line.LineFault.TheVariants.TooLong}
-use Rattle.bac_script.specs.{Input.CanReadOn, Limits.line_room, NextLine.{IsLineCut, TakesAndKeeps}}
+use Rattle.std.proofs.Common.{length-append, length-take-le, nat_le, ne_eqb, Option, refl, Result}
+use Rattle.std.proofs.Common.{subst, suc, sym, take, take-append-drop, zero, ℕ, ◌&&◌, ◌++◌, ◌-◌, ◌<◌}
+use Rattle.std.proofs.{Common.{◌+◌, ◌==◌, ◌∙◌, ◌∷◌, ◌≡◌, ◌≢◌, ◌≤◌, ◌⊎◌}, lemmas.Bool.{cases_Bool, Decides.nat_tests}}
+use Rattle.std.proofs.lemmas.List.{append_cancel_left}
+use Rattle.std.specs.{List.{concat}, Prelude.if◌then◌else◌}
+use Rattle.{bac_text.specs.longest_line, bac_print.specs.{ends_of, fresh, has_failed}, bac_run.specs.acts_of_line}
+use Rattle.bac_run.specs.{Act, addressed, AtEnd, Checked, ends_with_return, Failed, fault_of_line}
+use Rattle.bac_run.specs.{fault_of_said, Feeds, HasNoFeed, HasNoWhole, IsGood, IsLast, IsUsedUp, IsWhole, LineFault}
+use Rattle.bac_run.specs.{lines_in, LineTooLong, NoLine, Open, Reading, RunFault, said_of, Takes, Took, feeds_in}
+use Rattle.bac_run.specs.{TraceEnd}
+use Rattle.bac_script.proofs.Courses.Chunks.{ends_with_feed-push, said-long, said-whole_long}
+use Rattle.bac_script.specs.{ReaderStands, Said, said, declared.line.LineFault.TheVariants.TooLong}
+use Rattle.bac_script.specs.{Input.CanReadOn, Limits.line_room, Line.without_feed, NextLine.{IsLineCut}}
 
--- ---- lines
+-- ---- what acts take of the input
 
-pub all_push : {A : Type 0} (P : A → Type 0) (xs : List A) (x : A) → AllByRecursion P xs → P x
-    → AllByRecursion P (xs ++ x ∷ [])
-all_push P [] x all is = (is, tt)
-all_push P (y ∷ ys) x (first, later) is = (first, all_push P ys x later is)
+pub lines_fed : (acts : List Act) → lines_in (feeds_in acts) ≡ lines_in acts
+lines_fed [] = refl
+lines_fed (Took line ∷ acts) = ap (λ (ls : List (List ℕ)). line ∷ ls) (lines_fed acts)
+lines_fed (_ ∷ acts) = lines_fed acts
 
-pub cut_all : (xs : List (List ℕ)) → AllByRecursion EndsWithFeed xs → AreCut xs
-cut_all [] all = tt
-cut_all (x ∷ []) (first, _) = inl first
-cut_all (x ∷ y ∷ ys) (first, later) = (first, cut_all (y ∷ ys) later)
+-- What acts take, and what others take once more was given.
+pub feeds_on : (reading : Reading) (xs ys : List Act) (given kept more last : List ℕ) → Feeds Open given kept xs
+    → Feeds reading (kept ++ more) last ys → Feeds reading (given ++ more) last (xs ++ ys)
+feeds_on reading [] ys given kept more last is after =
+    subst (λ (os : List ℕ). Feeds reading (os ++ more) last ys) (sym is) after
+feeds_on reading (Took line ∷ xs) ys given kept more last (rest, is, inl whole, fed) after = (
+  rest ++ more,
+  ap (λ (os : List ℕ). os ++ more) is ∙ append_assoc line rest more,
+  inl whole,
+  feeds_on reading xs ys rest kept more last fed after,
+)
+feeds_on reading (Took line ∷ xs) ys given kept more last (rest, is, inr (over, _, _, _), fed) after = absurd (cc)
+feeds_on reading (NoLine Open ∷ xs) ys given kept more last (is, none, fed) after = absurd none
+feeds_on reading (NoLine AtEnd ∷ xs) ys given kept more last (is, none, fed) after = absurd (cc)
+feeds_on reading (NoLine Failed ∷ xs) ys given kept more last (is, none, fed) after = absurd (cc)
+feeds_on reading (_ ∷ xs) ys given kept more last fed after = absurd fed
 
-pub cut_push : (xs : List (List ℕ)) (x : List ℕ) → AllByRecursion EndsWithFeed xs → EndsWithFeed x ⊎ HasNoFeed x
-    → AreCut (xs ++ x ∷ [])
-cut_push [] x all is = is
-cut_push (y ∷ []) x (first, _) is = (first, is)
-cut_push (y ∷ z ∷ zs) x (first, later) is = (first, cut_push (z ∷ zs) x later is)
+-- Whatever comes after what was given, while reading is open.
+pub feeds_open : (reading : Reading) (xs : List Act) (given kept more : List ℕ) → Feeds Open given kept xs
+    → Feeds reading (given ++ more) (kept ++ more) xs
+feeds_open reading xs given kept more fed =
+    subst (λ (ys : List Act). Feeds reading (given ++ more) (kept ++ more) ys) (append-nil xs)
+    (feeds_on reading xs [] given kept more (kept ++ more) fed refl)
 
-pub concat_push : (xs : List (List ℕ)) (x : List ℕ) → concat (xs ++ x ∷ []) ≡ concat xs ++ x
-concat_push [] x = append-nil x
-concat_push (y ∷ ys) x = grind (arith, append_assoc, concat_push ys x)
+pub feeds_whole : (reading : Reading) (xs : List Act) (given kept : List ℕ) → Feeds reading given kept xs
+    → given ≡ concat (lines_in xs) ++ kept
+feeds_whole reading [] given kept is = is
+feeds_whole reading (Took line ∷ xs) given kept (rest, is, _, fed) =
+    is ∙ ap (λ (os : List ℕ). line ++ os) (feeds_whole reading xs rest kept fed)
+    ∙ sym (append_assoc line (concat (lines_in xs)) kept)
+feeds_whole reading (NoLine over ∷ xs) given kept (_, _, fed) = feeds_whole reading xs given kept fed
+feeds_whole reading (_ ∷ xs) given kept fed = absurd fed
 
--- How a line was cut, in the words of a run.
-pub cut_so : (reading : Reading) (line : List ℕ) → IsLineCut reading line → EndsWithFeed line ⊎ HasNoFeed line
-cut_so Open line (inl c) = inl (c.text, c.no_feed, c.ended)
-cut_so Open line (inr c) = inr c.no_feed
-cut_so AtEnd line c = inr c.no_feed
-cut_so Failed line c = inr c.no_feed
+-- What a reader gave are the lines that were taken, one after another, and what is kept.
+pub given_lines : {R : Type 0} {remaining : R → Option (List ℕ)} {reader reader' : Checked R}
+    {result : Result TraceEnd RunFault} (acts : List Act) (takes : Takes remaining reader reader' acts result)
+    → takes.given ≡ concat (lines_in acts) ++ takes.kept
+given_lines acts takes =
+    feeds_whole takes.reading (feeds_in acts) takes.given takes.kept takes.feeds
+    ∙ ap (λ (ls : List (List ℕ)). concat ls ++ takes.kept) (lines_fed acts)
+
+-- ---- the first line of some octets
+
+-- The first line, if it has at most so many octets.
+first_line : ℕ → List ℕ → List ℕ
+first_line zero octets = []
+first_line (suc n) [] = []
+first_line (suc n) (x ∷ xs) = if x == 10 then x ∷ [] else x ∷ first_line n xs
+
+first_ended : (room : ℕ) (text rest : List ℕ) → HasNoFeed text → length (text ++ 10 ∷ []) ≤ room
+    → first_line room ((text ++ 10 ∷ []) ++ rest) ≡ text ++ 10 ∷ []
+unfolding first_line
+first_ended zero [] rest none short = absurd (omega (arith, short))
+first_ended zero (x ∷ xs) rest none short = absurd (omega (arith, short))
+first_ended (suc n) [] rest none short = refl
+first_ended (suc n) (x ∷ xs) rest (other, none) short =
+    rw (ne_eqb x 10 other)
+    (ap (λ (os : List ℕ). x ∷ os) (first_ended n xs rest none (omega (arith, short))))
+
+first_full : (room : ℕ) (line rest : List ℕ) → HasNoFeed line → length line ≡ room
+    → first_line room (line ++ rest) ≡ line
+unfolding first_line
+first_full zero [] rest none long = refl
+first_full zero (x ∷ xs) rest none long = absurd (omega (arith, long))
+first_full (suc n) [] rest none long = absurd (omega (arith, long))
+first_full (suc n) (x ∷ xs) rest (other, none) long =
+    rw (ne_eqb x 10 other)
+    (ap (λ (os : List ℕ). x ∷ os) (first_full n xs rest none (omega (arith, long))))
+
+first_last : (room : ℕ) (line : List ℕ) → HasNoFeed line → length line < room → first_line room line ≡ line
+unfolding first_line
+first_last zero line none short = absurd (omega (arith, short))
+first_last (suc n) [] none short = refl
+first_last (suc n) (x ∷ xs) (other, none) short =
+    rw (ne_eqb x 10 other) (ap (λ (os : List ℕ). x ∷ os) (first_last n xs none (omega (arith, short))))
+
+took_first : (reading : Reading) (line rest : List ℕ) → IsWhole line ⊎ IsLast reading line rest
+    → first_line line_room (line ++ rest) ≡ line
+took_first reading line rest (inl (inl ((text, none, is), short))) =
+    ap (λ (os : List ℕ). first_line line_room (os ++ rest)) is
+    ∙ first_ended line_room text rest none (subst (λ (os : List ℕ). length os ≤ line_room) is short) ∙ sym is
+took_first reading line rest (inl (inr (none, long))) = first_full line_room line rest none long
+took_first reading line rest (inr (_, over, (none, short), _)) =
+    ap (λ (os : List ℕ). first_line line_room (line ++ os)) over
+    ∙ ap (λ (os : List ℕ). first_line line_room os) (append-nil line) ∙ first_last line_room line none short
+
+pub has_feed : (text rest : List ℕ) → HasNoFeed ((text ++ 10 ∷ []) ++ rest) → ⊥
+has_feed [] rest (other, _) = other refl
+has_feed (x ∷ xs) rest (_, none) = has_feed xs rest none
+
+none_left_of : (line rest : List ℕ) → line ++ rest ≡ [] → line ≡ []
+none_left_of [] rest is = refl
+none_left_of (x ∷ xs) rest is = absurd (cc)
+
+not_empty : (text : List ℕ) → [] ≡ text ++ 10 ∷ [] → ⊥
+not_empty [] is = absurd (cc)
+not_empty (x ∷ xs) is = absurd (cc)
+
+-- A line that is taken is not empty.
+some_taken : (reading : Reading) (line rest : List ℕ) → IsWhole line ⊎ IsLast reading line rest → line ≡ [] → ⊥
+some_taken reading line rest (inl (inl ((text, _, ended), _))) none = not_empty text (sym none ∙ ended)
+some_taken reading line rest (inl (inr (_, long))) none = absurd (let size = rw none at long in omega (arith, size))
+some_taken reading line rest (inr (_, _, _, some)) none = some none
+
+-- Of no octets no line is taken.
+pub none_fed : (reading : Reading) (xs : List Act) (kept : List ℕ) → Feeds reading [] kept xs → lines_in xs ≡ []
+none_fed reading [] kept fed = refl
+none_fed reading (Took line ∷ xs) kept (rest, is, whole, fed) =
+    absurd (some_taken reading line rest whole (none_left_of line rest (sym is)))
+none_fed reading (NoLine over ∷ xs) kept (_, _, fed) = none_fed reading xs kept fed
+none_fed reading (_ ∷ xs) kept fed = absurd fed
+
+-- If no line is left, none is taken.
+none_taken : (reading over : Reading) (line rest given : List ℕ) → given ≡ line ++ rest
+    → IsWhole line ⊎ IsLast reading line rest → over ≡ reading → IsUsedUp over given → ⊥
+none_taken reading Open line rest given is whole same up = up
+none_taken reading AtEnd line rest given is whole same up =
+    some_taken reading line rest whole (none_left_of line rest (sym is ∙ up))
+none_taken reading Failed line rest given is (inl (inl ((text, _, ended), _))) same (none, _) =
+    has_feed text rest (subst HasNoFeed (is ∙ ap (λ (os : List ℕ). os ++ rest) ended) none)
+none_taken reading Failed line rest given is (inl (inr (_, long))) same (_, short) =
+    absurd (omega (arith, long, short, ap (λ (os : List ℕ). length os) is, length-append line rest))
+none_taken reading Failed line rest given is (inr (ended, _, _, _)) same up = absurd (cc)
+
+-- Of two lists of acts, each takes a front of what the other takes.
+abbrev pub AreFedAlike : List Act → List Act → Type 0
+AreFedAlike [] ys = Unit {0}
+AreFedAlike (x ∷ xs) [] = Unit {0}
+AreFedAlike (x ∷ xs) (y ∷ ys) = (x ≡ y) × AreFedAlike xs ys
+
+pub fed_alike : (reading : Reading) (xs ys : List Act) (given kept kept' : List ℕ) → Feeds reading given kept xs
+    → Feeds reading given kept' ys → AreFedAlike xs ys
+fed_alike reading [] ys given kept kept' fed fed' = tt
+fed_alike reading (x ∷ xs) [] given kept kept' fed fed' = tt
+fed_alike reading (Took line ∷ xs) (Took other ∷ ys) given kept kept' (rest, is, whole, fed) (
+  rest',
+  is',
+  whole',
+  fed',
+) =
+    let same : line ≡ other = sym (took_first reading line rest whole)
+    ∙ ap (λ (os : List ℕ). first_line line_room os) (sym is ∙ is') ∙ took_first reading other rest' whole' in
+    let left : rest ≡ rest' = append_cancel_left line rest rest'
+    (sym is ∙ is' ∙ ap (λ (os : List ℕ). os ++ rest') (sym same)) in (
+      ap (λ (l : List ℕ). Took l) same,
+      fed_alike reading xs ys rest kept kept' fed (subst (λ (os : List ℕ). Feeds reading os kept' ys) (sym left) fed'),
+    )
+fed_alike reading (Took line ∷ xs) (NoLine over ∷ ys) given kept kept' (rest, is, whole, _) (same, up, _) =
+    absurd (none_taken reading over line rest given is whole same up)
+fed_alike reading (NoLine over ∷ xs) (Took line ∷ ys) given kept kept' (same, up, _) (rest, is, whole, _) =
+    absurd (none_taken reading over line rest given is whole same up)
+fed_alike reading (NoLine over ∷ xs) (NoLine other ∷ ys) given kept kept' (is, _, fed) (is', _, fed') =
+    (ap (λ (r : Reading). NoLine r) (is ∙ sym is'), fed_alike reading xs ys given kept kept' fed fed')
+fed_alike reading (x ∷ xs) (y ∷ ys) given kept kept' fed fed' = search
+
+-- ---- how a line is cut
 
 -- A line that is too long is bad, and so is its fault.
 said_of_long : (line : List ℕ) → said false line ≡ Err TooLong → said_of line ≡ Err TooLong
 said_of_long line is =
     elim (cases_Bool (length line == longest_line && ends_with_return line)) [
       | inl long ↦ rw long refl
-      | inr short ↦ rw short is
+      | inr short ↦ rw short (ap addressed is)
     ]
 
-pub unsaid : (line : List ℕ) → said false line ≡ Err TooLong → acts_of_line line ≡ None
-unsaid line is = ap (λ (r : Result Said LineFault). option_and_then (acts_of_said line) (result_ok r))
-    (said_of_long line is)
+unsaid : (line : List ℕ) → said false line ≡ Err TooLong → acts_of_line line ≡ None
+unsaid line is = ap (λ (r : Result Said LineFault). acts_of_result line r) (said_of_long line is)
 
 long_fault : (n : ℕ) (line : List ℕ) → said false line ≡ Err TooLong → fault_of_line n line ≡ LineTooLong n
 long_fault n line is = ap (λ (r : Result Said LineFault). fault_of_said n r) (said_of_long line is)
 
--- The next line that was taken asks for what the first line of the octets from there on asks for.
-pub record IsCut (line now : List ℕ) (reading : Reading) : Type 0 where
-  pub whole : List ℕ
-  pub others : List (List ℕ)
-  pub split : lines now reading ≡ whole ∷ others
-  pub same : acts_of_line whole ≡ acts_of_line line
-  pub alike : (n : ℕ) → fault_of_line n whole ≡ fault_of_line n line
+-- The line that a run takes is a front of what was found as the next line: that is cut if it is too long. A good line
+-- is taken whole.
+pub record Cuts (reading : Reading) (line later : List ℕ) : Type 0 where
+  pub front : List ℕ
+  pub rest : List ℕ
+  pub split : line ≡ front ++ rest
+  pub whole : IsWhole front ⊎ IsLast reading front (rest ++ later)
+  pub same : acts_of_line front ≡ acts_of_line line
+  pub alike : (n : ℕ) → fault_of_line n front ≡ fault_of_line n line
+  pub all : IsGood line → rest ≡ []
 
-cut_long : (line held : List ℕ) (reading : Reading) → HasNoFeed line → length line ≡ line_room
-    → IsCut line (line ++ held) reading
-cut_long line held reading none long =
-    let next = next_long line held reading none (omega (arith, long)) in
-    let here = said-whole_long false line none long in
-    let there = next.same false ∙ here in
+front_all : (reading : Reading) (line later : List ℕ) → IsWhole line ⊎ IsLast reading line later
+    → Cuts reading line later
+front_all reading line later whole = record {
+  front = line;
+  rest = [];
+  split = sym (append-nil line);
+  whole = whole;
+  same = refl;
+  alike = λ n. refl;
+  all = λ good. refl;
+}
+
+none_take : (n : ℕ) (xs : List ℕ) → HasNoFeed xs → HasNoFeed (take n xs)
+none_take zero xs none = tt
+none_take (suc n) [] none = tt
+none_take (suc n) (x ∷ xs) (other, none) = (other, none_take n xs none)
+
+said_long : (text : List ℕ) → longest_line < length text → said false (text ++ 10 ∷ []) ≡ Err TooLong
+said_long text long =
+    let line = text ++ 10 ∷ [] in
+    let more = length-append text (10 ∷ []) in
+    let size : length (without_feed line) ≡ length line - 1 =
+    rw (ends_with_feed-push text) (length-take-le (length line - 1) line (omega arith)) in
+    said-long false line (omega (arith, size, more, long))
+
+front_long : (reading : Reading) (text later : List ℕ) → HasNoFeed text → line_room ≤ length text
+    → Cuts reading (text ++ 10 ∷ []) later
+front_long reading text later none long =
+    let front = take line_room text in
+    let size : length front ≡ line_room = length-take-le line_room text long in
+    let here = said-whole_long false front (none_take line_room text none) size in
+    let there = said_long text (omega (arith, long)) in
     record {
-      whole = next.whole;
-      others = next.others;
-      split = next.split;
-      same = unsaid next.whole there ∙ sym (unsaid line here);
-      alike = λ n. long_fault n next.whole there ∙ sym (long_fault n line here);
+      front = front;
+      rest = drop line_room text ++ 10 ∷ [];
+      split = ap (λ (os : List ℕ). os ++ 10 ∷ []) (sym (take-append-drop line_room text))
+          ∙ append_assoc front (drop line_room text) (10 ∷ []);
+      whole = inl (inr (none_take line_room text none, size));
+      same = unsaid front here ∙ sym (unsaid (text ++ 10 ∷ []) there);
+      alike = λ n. long_fault n front here ∙ sym (long_fault n (text ++ 10 ∷ []) there);
+      all = λ good. absurd (good (unsaid (text ++ 10 ∷ []) there));
     }
 
-cut_same : (line now : List ℕ) (reading : Reading) (others : List (List ℕ)) → lines now reading ≡ line ∷ others
-    → IsCut line now reading
-cut_same line now reading others is =
-    record { whole = line; others = others; split = is; same = refl; alike = λ n. refl }
+front_ended : (reading : Reading) (line text later : List ℕ) → line ≡ text ++ 10 ∷ [] → HasNoFeed text
+    → Cuts reading line later
+front_ended reading line text later is none =
+    elim (cases_Bool (nat_le (length line) line_room)) [
+      | inl short ↦ front_all reading line later (inl (inl ((text, none, is), grind (arith, nat_tests, short))))
+      | inr long ↦
+          let more = length-append text (10 ∷ []) in
+          let size = ap (λ (os : List ℕ). length os) is in
+          let many : line_room < length line = grind (arith, nat_tests, long) in
+          subst (λ (os : List ℕ). Cuts reading os later) (sym is)
+          (front_long reading text later none (omega (arith, many, size, more)))
+    ]
 
-pub cut_next : (reading : Reading) (now : List ℕ) (n : ℕ) → reading ≢ Failed → (n ≡ 0 → ⊥) → n ≤ length now
-    → IsLineCut reading (take n now) → (reading ≡ AtEnd → drop n now ≡ []) → IsCut (take n now) now reading
-cut_next Failed now n sure some within cut last = absurd (sure refl)
-cut_next Open now n sure some within (inl c) last =
-    cut_same _ _ _ (lines (drop n now) Open)
-    (ap (λ (xs : List ℕ). lines xs Open) (sym (take-append-drop n now) ∙ ap (λ (xs : List ℕ). xs ++ drop n now) c.ended)
-    ∙ lines-ended c.text (drop n now) Open c.no_feed ∙ ap (λ (xs : List ℕ). xs ∷ lines (drop n now) Open) (sym c.ended))
-cut_next Open now n sure some within (inr c) last =
-    subst (λ (xs : List ℕ). IsCut (take n now) xs Open) (take-append-drop n now)
-    (cut_long (take n now) (drop n now) Open c.no_feed c.long)
-cut_next AtEnd now n sure some within c last =
-    let all : take n now ≡ now = sym (append-nil (take n now))
-    ∙ ap (λ (xs : List ℕ). take n now ++ xs) (sym (last refl)) ∙ take-append-drop n now in
-    cut_same _ _ _ []
-    (rw all (lines-last now (rw all at c.no_feed) (omega (arith, some, within))))
+-- The next line, where reading has not failed.
+pub cut_front : (reading : Reading) (now : List ℕ) (n : ℕ) → reading ≢ Failed → (n ≡ 0 → ⊥) → n ≤ length now
+    → IsLineCut reading (take n now) → (reading ≡ AtEnd → drop n now ≡ []) → Cuts reading (take n now) (drop n now)
+cut_front Failed now n sure some within cut last = absurd (sure refl)
+cut_front Open now n sure some within (inl c) last = front_ended Open (take n now) c.text (drop n now) c.ended c.no_feed
+cut_front Open now n sure some within (inr c) last =
+    front_all Open (take n now) (drop n now) (inl (inr (c.no_feed, c.long)))
+cut_front AtEnd now n sure some within c last =
+    front_all AtEnd (take n now) (drop n now) (inr (refl, last refl, (c.no_feed, c.short), full))
+  where
+    full : take n now ≢ []
+    full none = some (sym (length-take-le n now within) ∙ ap (λ (os : List ℕ). length os) none)
 
--- A line that is good is not too long, so it ends with a line feed, unless reading has ended.
-too_long_bad : (line : List ℕ) → HasNoFeed line → length line ≡ line_room → IsGood line → ⊥
-too_long_bad line none long good = good (unsaid line (said-whole_long false line none long))
-
-pub feed_so : (line : List ℕ) → IsLineCut Open line → IsGood line → EndsWithFeed line
-feed_so line (inl c) good = (c.text, c.no_feed, c.ended)
-feed_so line (inr c) good = absurd (too_long_bad line c.no_feed c.long good)
-
-pub open_cut : (reading : Reading) (line : List ℕ) → reading ≢ Failed → reading ≢ AtEnd → IsLineCut reading line
-    → IsLineCut Open line
-open_cut Open line sure going cut = cut
-open_cut AtEnd line sure going cut = absurd (going refl)
-open_cut Failed line sure going cut = absurd (sure refl)
-
--- One more line that ends with its line feed.
-pub split_push : (taken : List (List ℕ)) (line more : List ℕ) (reading : Reading)
-    → ((more : List ℕ) (reading : Reading) → lines (concat taken ++ more) reading ≡ taken ++ lines more reading)
-    → EndsWithFeed line → lines (concat (taken ++ line ∷ []) ++ more) reading ≡ (taken ++ line
-    ∷ []) ++ lines more reading
-split_push taken line more reading split (text, none, ended) =
-    ap (λ (xs : List ℕ). lines (xs ++ more) reading) (concat_push taken line)
-    ∙ ap (λ (xs : List ℕ). lines xs reading) (append_assoc (concat taken) line more)
-    ∙ split (line ++ more) reading
-    ∙ ap (λ (ls : List (List ℕ)). taken ++ ls)
-    (ap (λ (xs : List ℕ). lines (xs ++ more) reading) ended ∙ lines-ended text more reading none
-    ∙ ap (λ (xs : List ℕ). xs ∷ lines more reading) (sym ended))
-    ∙ sym (append_assoc taken (line ∷ []) (lines more reading))
+-- If reading failed, no whole line is left.
+pub failed_none : {R : Type 0} (remaining : R → Option (List ℕ)) (a b : Checked R) (reading : Reading) (now : List ℕ)
+    (n : ℕ) → reading ≡ Failed → IsLineCut reading (take n now) → ReaderStands remaining reading a b (drop n now)
+    → HasNoWhole now
+failed_none remaining a b reading now n is cut stands =
+    let c = rw is at cut in
+    let s = rw is at stands in
+    let all : take n now ≡ now =
+    sym (append-nil (take n now)) ∙ ap (λ (xs : List ℕ). take n now ++ xs) (sym s.empty) ∙ take-append-drop n now in
+    subst HasNoWhole all (c.no_feed, c.short)
 
 -- ---- how the reader stands
-
--- What came is what was taken and what is kept.
-pub gave_so : {R : Type 0} {remaining : R → Option (List ℕ)} {reader reader' : Checked R} {kept taken : List ℕ}
-    → TakesAndKeeps remaining reader reader' [] kept taken → Gave remaining reader reader' (taken ++ kept)
-gave_so {remaining} {reader} {reader'} t = subst (λ (xs : List ℕ). Gave remaining reader reader' xs) t.order t.gave
 
 pub at_last : {R : Type 0} (remaining : R → Option (List ℕ)) (before after : Checked R) (held : List ℕ)
     (reading : Reading) → ReaderStands remaining reading before after held → reading ≡ AtEnd → held ≡ []
@@ -145,20 +300,20 @@ can_read remaining before after held Failed stands sure = absurd (sure refl)
 
 -- A reader that could be read on, and then on, or not.
 pub reads_on : {R : Type 0} {a b c : Checked R} → CanReadOn a b → CanReadOn b c → CanReadOn a c
-reads_on first then = record { sound = then.sound; unended = then.unended ∙ first.unended }
+reads_on first after = record { sound = after.sound; unended = after.unended ∙ first.unended }
 
 pub reading_on : {R : Type 0} (remaining : R → Option (List ℕ)) (a b c : Checked R) (reading : Reading) → CanReadOn a b
     → ReaderStands remaining reading b c [] → ReaderStands remaining reading a c []
-reading_on remaining a b c Open first then = reads_on first then
-reading_on remaining a b c AtEnd first then = record {
+reading_on remaining a b c Open first after = reads_on first after
+reading_on remaining a b c AtEnd first after = record {
   empty = refl;
-  sound = then.sound;
-  ended = then.ended;
-  once = then.once ∙ ap (λ (n : ℕ). n + 1) first.unended;
-  left = then.left;
+  sound = after.sound;
+  ended = after.ended;
+  once = after.once ∙ ap (λ (n : ℕ). n + 1) first.unended;
+  left = after.left;
 }
-reading_on remaining a b c Failed first then =
-    record { empty = refl; failed = then.failed; unended = then.unended ∙ first.unended }
+reading_on remaining a b c Failed first after =
+    record { empty = refl; failed = after.failed; unended = after.unended ∙ first.unended }
 
 -- What a reader stands like when the next line was found, and nothing more is held or taken.
 pub still_stands : {R : Type 0} (remaining : R → Option (List ℕ)) (a b : Checked R) (held : List ℕ) (reading : Reading)
@@ -175,55 +330,56 @@ open_stands remaining a b held Open sure going stands = stands
 open_stands remaining a b held AtEnd sure going stands = absurd (going refl)
 open_stands remaining a b held Failed sure going stands = absurd (sure refl)
 
--- ---- the last line
-
-not_empty : (text : List ℕ) → [] ≡ text ++ 10 ∷ [] → ⊥
-not_empty [] is = absurd (cc)
-not_empty (x ∷ xs) is = absurd (cc)
+pub still_open : (reading : Reading) → reading ≢ Failed → reading ≢ AtEnd → reading ≡ Open
+still_open Open sure going = refl
+still_open AtEnd sure going = absurd (going refl)
+still_open Failed sure going = absurd (sure refl)
 
 take_none : (n : ℕ) (now : List ℕ) → n ≡ 0 → take n now ≡ []
-take_none n now zero = rw zero refl
+take_none n now empty = rw empty refl
 
--- Where reading is over and the next line is none, nothing is kept.
+-- If reading is over and there is no next line, nothing is kept.
 pub none_left : {R : Type 0} (remaining : R → Option (List ℕ)) (before after : Checked R) (reading : Reading)
     (now : List ℕ) (n : ℕ) → n ≡ 0 → reading ≢ Failed → IsLineCut reading (take n now)
     → ReaderStands remaining reading before after (drop n now) → now ≡ []
-none_left remaining before after Open now n zero sure (inl c) stands =
-    absurd (not_empty c.text (sym (take_none n now zero) ∙ c.ended))
-none_left remaining before after Open now n zero sure (inr c) stands =
-    let long = rw (take_none n now zero) at c.long in absurd (omega (arith, long))
-none_left remaining before after AtEnd now n zero sure c stands = rw zero at stands.empty
-none_left remaining before after Failed now n zero sure c stands = absurd (sure refl)
+none_left remaining before after Open now n empty sure (inl c) stands =
+    absurd (not_empty c.text (sym (take_none n now empty) ∙ c.ended))
+none_left remaining before after Open now n empty sure (inr c) stands =
+    let long = rw (take_none n now empty) at c.long in absurd (omega (arith, long))
+none_left remaining before after AtEnd now n empty sure c stands = rw empty at stands.empty
+none_left remaining before after Failed now n empty sure c stands = absurd (sure refl)
 
--- Where reading failed no line is among what is held.
-pub failed_lines : {R : Type 0} (remaining : R → Option (List ℕ)) (a b : Checked R) (reading : Reading) (now : List ℕ)
-    (n : ℕ) → reading ≡ Failed → IsLineCut reading (take n now) → ReaderStands remaining reading a b (drop n now)
-    → lines now Failed ≡ []
-failed_lines remaining a b reading now n is cut stands =
-    let c = rw is at cut in
-    let s = rw is at stands in
-    let all : take n now ≡ now =
-    sym (append-nil (take n now)) ∙ ap (λ (xs : List ℕ). take n now ++ xs) (sym s.empty) ∙ take-append-drop n now in
-    lines-rest now (rw all at c.no_feed) (rw all at c.short)
-
--- The last line, where reading has ended.
-pub last_line : {R : Type 0} (remaining : R → Option (List ℕ)) (a b : Checked R) (reading : Reading) (now : List ℕ)
-    (n : ℕ) → reading ≡ AtEnd → (n ≡ 0 → ⊥) → n ≤ length now → IsLineCut reading (take n now)
-    → ReaderStands remaining reading a b (drop n now) → lines now AtEnd ≡ take n now ∷ []
-last_line remaining a b reading now n is some within cut stands =
-    let c = rw is at cut in
-    let s = rw is at stands in
-    let all : take n now ≡ now =
-    sym (append-nil (take n now)) ∙ ap (λ (xs : List ℕ). take n now ++ xs) (sym s.empty) ∙ take-append-drop n now in
-    rw all (lines-last now (rw all at c.no_feed) (omega (arith, some, within)))
-
--- Reading has ended where the next line is none.
+-- Reading has ended if there is no next line.
 pub at_end : {R : Type 0} (remaining : R → Option (List ℕ)) (a b : Checked R) (reading : Reading) (now : List ℕ)
     (n : ℕ) → n ≡ 0 → reading ≢ Failed → IsLineCut reading (take n now)
     → ReaderStands remaining reading a b (drop n now) → ReaderStands remaining AtEnd a b []
-at_end remaining a b Open now n zero sure (inl c) stands =
-    absurd (not_empty c.text (sym (take_none n now zero) ∙ c.ended))
-at_end remaining a b Open now n zero sure (inr c) stands =
-    let long = rw (take_none n now zero) at c.long in absurd (omega (arith, long))
-at_end remaining a b AtEnd now n zero sure c stands = still_stands remaining a b (drop n now) AtEnd stands
-at_end remaining a b Failed now n zero sure c stands = absurd (sure refl)
+at_end remaining a b Open now n empty sure (inl c) stands =
+    absurd (not_empty c.text (sym (take_none n now empty) ∙ c.ended))
+at_end remaining a b Open now n empty sure (inr c) stands =
+    let long = rw (take_none n now empty) at c.long in absurd (omega (arith, long))
+at_end remaining a b AtEnd now n empty sure c stands = still_stands remaining a b (drop n now) AtEnd stands
+at_end remaining a b Failed now n empty sure c stands = absurd (sure refl)
+
+-- ---- lines that are good
+
+pub good_so : {acts : List Act} (line : List ℕ) → acts_of_line line ≡ Some acts → IsGood line
+good_so line is none = absurd (let bad = sym is ∙ none in cc)
+
+pub good_line : {acts : List Act} (result : Result (Unit {0}) RunFault) (line : List ℕ) → acts_of_line line ≡ Some acts
+    → IfOk result (λ _. IsGood line)
+good_line (Ok done) line is = good_so line is
+good_line (Err fault) line is = tt
+
+-- ---- how often reading met the end
+
+-- How often reading met the end.
+abbrev pub ends : Reading → ℕ
+ends AtEnd = 1
+ends Open = 0
+ends Failed = 0
+
+pub ends_so : {R : Type 0} (remaining : R → Option (List ℕ)) (reading : Reading) (reader : R) (after : Checked R)
+    → ReaderStands remaining reading (fresh reader) after [] → ends_of after ≡ ends reading
+ends_so remaining Open reader after stands = stands.unended
+ends_so remaining AtEnd reader after stands = stands.once
+ends_so remaining Failed reader after stands = stands.unended

@@ -7,9 +7,10 @@ use Rattle.std.proofs.lemmas.Str.{is_utf8-from_IsUtf8, IsUtf8-from_ascii, Ascii.
 use Rattle.std.specs.{List.{onto_first, slice_split}, Str.{is_utf8, IsAscii, Lines.strip_carriage_return}}
 use Rattle.{bac_tsm.specs.Note, bac_text.specs.{longest_line, Words.is_blank}}
 use Rattle.bac_print.specs.{folded_line, Page.folded}
-use Rattle.bac_script.{proofs.Courses.Chunks.ends_with_feed-push, specs.{Nothing, Said, said}}
+use Rattle.bac_script.{proofs.Courses.Chunks.ends_with_feed-push, specs.{Remark, Said, said}}
 use Rattle.bac_script.specs.{declared.line.LineFault.TheVariants.TooLong, Line.{said_by, said_in, text_of_line}}
-use Rattle.bac_run.proofs.{Lines.text_ended, Plain.{IsPlain, IsPlainOctet, note_plain, plain_on, plain_take}}
+use Rattle.bac_run.proofs.{Lines.text_ended}
+use Rattle.bac_run.proofs.{Plain.{IsPlain, IsPlainLine, IsPlainOctet, note_plain, plain_on, plain_take}}
 use Rattle.bac_run.specs.{HasNoFeed, IsLineOf, LineFault, remark, remarks}
 
 -- From the beginning of a line on.
@@ -52,7 +53,7 @@ line_laid {is_first} {line} {what} rest is =
     ∙ sym (append_assoc is.text (10 ∷ []) (lay rest))
     ∙ ap (λ (l : List ℕ). l ++ lay rest) (sym is.ended)
 
--- ---- a line that begins with # is passed over
+-- ---- a line that begins with # is skipped
 
 feedless : (xs : List ℕ) → IsPlain xs → HasNoFeed xs
 feedless [] is = tt
@@ -66,12 +67,12 @@ mark_plain : IsPlainOctet 35
 mark_plain = ((λ same. absurd (omega (arith, same))), omega arith)
 
 marked : (parts : List (List ℕ))
-    → said_by false (filter (λ word. nat_lt 0 (length word)) (onto_first 35 parts)) ≡ Some Nothing
+    → said_by false (filter (λ word. nat_lt 0 (length word)) (onto_first 35 parts)) ≡ Some Remark
 marked [] = refl
 marked (part ∷ parts) =
     let some : nat_lt 0 (length (35 ∷ part)) ≡ true = grind (arith, nat_tests) in rw some refl
 
-mark_says : (rest : List ℕ) → IsPlain rest → said_in false (Ok (35 ∷ rest)) ≡ Ok Nothing
+mark_says : (rest : List ℕ) → IsPlain rest → said_in false (Ok (35 ∷ rest)) ≡ Ok Remark
 mark_says rest is =
     let text : is_utf8 (35 ∷ rest) ≡ true =
     is_utf8-from_IsUtf8 (35 ∷ rest) (IsUtf8-from_ascii (35 ∷ rest) (ascii (35 ∷ rest) (mark_plain, is))) in
@@ -97,7 +98,7 @@ stripped (x ∷ xs) all =
     ]
 
 pub remark_line : (more : List ℕ) → IsPlain more → length (35 ∷ more) ≤ longest_line
-    → IsLineOf false ((35 ∷ more) ++ 10 ∷ []) Nothing
+    → IsLineOf false ((35 ∷ more) ++ 10 ∷ []) Remark
 remark_line more is short =
     let s = stripped more is in
     record {
@@ -114,10 +115,10 @@ some_positive n is = grind (arith, nat_tests, is)
 plus_plain : IsPlainOctet 43
 plus_plain = ((λ same. absurd (omega (arith, same))), omega arith)
 
--- ---- remarks are passed over, however many lines they have
+-- ---- remarks are skipped, however many lines they have
 
 module _ (Q : List ℕ → Type 0)
-    (skip : (line rest : List ℕ) → IsLineOf false line Nothing → Q rest → Q (line ++ rest)) where
+    (skip : (line rest : List ℕ) → IsLineOf false line Remark → Q rest → Q (line ++ rest)) where
   -- A line was begun, which the text goes on with.
   text_skipped : (text front : List ℕ) (left : ℕ) (rest : List ℕ) → IsPlain text → IsPlain front
       → length (35 ∷ front) + left ≡ folded_line → Q (lay rest)
@@ -144,15 +145,18 @@ module _ (Q : List ℕ → Type 0)
             (remark_line front plain (omega (arith, room))) on))
       ]
 
-  note_skipped : (note : Note) (rest : List ℕ) → Q (lay rest) → Q (lay (remark note ++ rest))
-  note_skipped note rest q =
-      let line = note_plain note in
+  pub plain_skipped : {told : List ℕ} → IsPlainLine told → (rest : List ℕ) → Q (lay rest)
+      → Q (lay ((codes "# " ++ told) ++ rest))
+  plain_skipped {told} line rest q =
       let blank : IsPlainOctet 32 = ((λ same. absurd (omega (arith, same))), omega arith) in
-      let same : remark note ++ rest ≡ 35 ∷ ((32 ∷ line.text) ++ 10 ∷ rest) =
+      let same : (codes "# " ++ told) ++ rest ≡ 35 ∷ ((32 ∷ line.text) ++ 10 ∷ rest) =
       ap (λ (t : List ℕ). (codes "# " ++ t) ++ rest) line.ended
       ∙ ap (λ (t : List ℕ). codes "# " ++ t) (append_assoc line.text (10 ∷ []) rest) in
       subst (λ (t : List ℕ). Q (lay t)) (sym same)
       (text_skipped (32 ∷ line.text) [] 4095 rest (blank, line.plain) tt refl q)
+
+  note_skipped : (note : Note) (rest : List ℕ) → Q (lay rest) → Q (lay (remark note ++ rest))
+  note_skipped note rest q = plain_skipped (note_plain note) rest q
 
   pub remarks_skipped : (notes : List Note) (rest : List ℕ) → Q (lay rest) → Q (lay (remarks notes ++ rest))
   remarks_skipped [] rest q = q

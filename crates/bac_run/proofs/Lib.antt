@@ -2,6 +2,7 @@ pub mod Acts
 pub mod Out
 pub mod Counts
 pub mod Cut
+pub mod Todo
 pub mod Parts
 pub mod Runs
 pub mod Sends
@@ -13,16 +14,12 @@ pub mod Folded
 pub mod Readable
 pub mod Lookahead
 pub mod Alike
-pub mod Ends
-pub mod Ahead
-pub mod Unsent
-pub mod Begun
-pub mod Standing
 pub mod GoOn
 pub use Acts.*
 pub use Out.*
 pub use Counts.*
 pub use Cut.*
+pub use Todo.*
 pub use Parts.*
 pub use Runs.*
 pub use Sends.*
@@ -34,9 +31,4 @@ pub use Folded.*
 pub use Readable.*
 pub use Lookahead.*
 pub use Alike.*
-pub use Ends.*
-pub use Ahead.*
-pub use Unsent.*
-pub use Begun.*
-pub use Standing.*
 pub use GoOn.*

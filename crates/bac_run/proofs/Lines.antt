@@ -1,11 +1,13 @@
--- What is read of the lines of requests.
-use Rattle.std.proofs.Common.{[], ap, append_assoc, arith, false, inl, inr, length, length-append, List, nat_lt, Ok}
-use Rattle.std.proofs.Common.{refl, Result, sym, true, ℕ, ◌&&◌, ◌++◌, ◌==◌, ◌∙◌, ◌∷◌, ◌≡◌, ◌≢◌, ◌≤◌, ◌⊎◌}
+-- The lines of requests are read back.
+use Rattle.std.proofs.Common.{[], ap, append_assoc, arith, Err, false, inl, inr, length, length-append, List, nat_lt}
+use Rattle.std.proofs.Common.{Ok, refl, Result, sym, true, ℕ, ◌&&◌, ◌++◌, ◌==◌, ◌∙◌, ◌∷◌, ◌≡◌, ◌≢◌, ◌≤◌, ◌⊎◌}
 use Rattle.std.proofs.lemmas.{Bool.{cases_Bool, false≢true, Decides.nat_tests}, Grind.common_steps}
 use Rattle.std.specs.Str.Lines.{strip_carriage_return}
 use Rattle.{bac_text.specs.longest_line, bac_script.proofs.Courses.Chunks.{ends_with_feed-none, ends_with_feed-push}}
-use Rattle.{bac_script.specs.{Nothing, Said, said, Line.{said_in, text_of_line}}, bac_run.proofs.ReadBack.line_so}
-use Rattle.bac_run.specs.{ends_with_return, EndsWithFeed, HasNoFeed, IsLineOf, LineFault, said_of, whole_line}
+use Rattle.bac_script.specs.{Blank, Happens, Remark, Said, said, Settings, Line.{Asks, said_in, text_of_line}}
+use Rattle.{bac_tsm.specs.{Ask, Data, Tick}, bac_run.proofs.ReadBack.line_so}
+use Rattle.bac_run.specs.{addressed, ends_with_return, EndsWithFeed, HasNoFeed, IsLineOf, LineFault, said_of}
+use Rattle.bac_run.specs.{whole_line}
 
 -- ---- the line of a request
 
@@ -42,13 +44,30 @@ says_same line text what none short is says =
 same_so : (n m : ℕ) → n ≡ m → (n == m) ≡ true
 same_so n m same = grind (arith, nat_tests, same)
 
+addressed_so : (r : Result Said LineFault) (what : Said) → addressed r ≡ Ok what → r ≡ Ok what
+addressed_so (Ok (Happens (Ask peer service body))) what is =
+    elim (cases_Bool (peer.ip == 0)) [
+      | inl nobody ↦ absurd (let bad = rw nobody at is in cc)
+      | inr somebody ↦ rw somebody at is
+    ]
+addressed_so (Ok Blank) what is = is
+addressed_so (Ok Remark) what is = is
+addressed_so (Ok (Settings timeout retries first)) what is = is
+addressed_so (Ok (Asks arrival)) what is = is
+addressed_so (Ok (Happens (Data from octets))) what is = is
+addressed_so (Ok (Happens (Tick time))) what is = is
+addressed_so (Err fault) what is = is
+
 -- A line that says something is not too long.
 not_long : (line : List ℕ) (what : Said) → said_of line ≡ Ok what
     → (said false line ≡ Ok what) × (ends_with_return line ≡ true → (length line == longest_line) ≡ false)
 not_long line what is =
     elim (cases_Bool (length line == longest_line && ends_with_return line)) [
       | inl long ↦ absurd (let bad = rw long at is in cc)
-      | inr short ↦ (rw short at is, λ returned. grind (arith, nat_tests, short, returned))
+      | inr short ↦ (
+        addressed_so (said false line) what (rw short at is),
+        λ returned. grind (arith, nat_tests, short, returned),
+      )
     ]
 
 read_back : (line : List ℕ) (what : Said) → EndsWithFeed line ⊎ HasNoFeed line → said false line ≡ Ok what
@@ -99,5 +118,5 @@ pub line_read_back : (line : List ℕ) (what : Said) → EndsWithFeed line ⊎ H
 line_read_back line what cut is =
     let (says, room) = not_long line what is in read_back line what cut says room
 
-pub empty_read_back : IsLineOf false (10 ∷ []) Nothing
-empty_read_back = line_so false [] Nothing tt (omega arith) refl
+pub empty_read_back : IsLineOf false (10 ∷ []) Blank
+empty_read_back = line_so false [] Blank tt (omega arith) refl

@@ -1,11 +1,12 @@
--- What is out before a wait.
+-- All output is out before a wait.
 use Rattle.std.proofs.Common.{[], ap, append-nil, append_assoc, false, inl, inr, List, Option, refl, Some, subst, sym}
 use Rattle.std.proofs.Common.{ℕ, ◌++◌, ◌∙◌, ◌∷◌, ◌≡◌, ◌⊎◌}
 use Rattle.{bac_tsm.specs.Client.Client, bac_print.proofs.Printed.{folded-append, laid_out-append, laid_out-none}}
 use Rattle.bac_print.specs.{folded_line, has_failed, held, octets_of, Prints, room_of, writer_of, Writes}
 use Rattle.{bac_print.specs.Page.{folded, laid_out, left_after, Wrote}, bac_run.proofs.Acts.journal-append}
-use Rattle.bac_run.specs.{Act, Checked, client_after, IsOut, IsWait, journal, journal_lines, journal_of, new_client}
-use Rattle.{bac_run.specs.{Page, Session, settings_line, Inner.{HasPassed, IsOutAt}}, bac_script.specs.IsFrontOf}
+use Rattle.bac_run.specs.{Act, Checked, client_after, IsOut, WantsOut, journal, journal_lines, journal_of, new_client}
+use Rattle.{bac_run.specs.{Page, Session, settings_line, Inner.{HasPassed, IsOutAt}}}
+use Rattle.{bac_script.specs.{IsFrontOf, NextLine.IsTurnedIn}}
 
 pub fronts_join : (xs ys zs : List ℕ) → IsFrontOf xs ys → IsFrontOf ys zs → IsFrontOf xs zs
 fronts_join xs ys zs (rest, is) (more, is') =
@@ -15,7 +16,7 @@ fronts_join xs ys zs (rest, is) (more, is') =
 pub journal_front : (session : Session) (acts more : List Act)
     → IsFrontOf (journal_of session acts) (journal_of session (acts ++ more))
 journal_front session acts more =
-    let client = new_client session.config.timeout session.config.retries in
+    let client = new_client session.config.timeout session.config.retries 0 in
     let line = settings_line session.config.timeout session.config.retries in
     let later = journal (client_after client acts) more in (
       folded (left_after folded_line (journal_lines session acts)) later,
@@ -50,12 +51,16 @@ no_split : {A : Type 0} (xs ys : List A) (x : A) → [] ≡ xs ++ x ∷ ys → �
 no_split [] ys x is = absurd (cc)
 no_split (z ∷ xs) ys x is = absurd (cc)
 
--- Where nothing was done nothing was waited for.
-pub out_nothing : {W : Type 0} (session : Session) (before after : Checked W) → IsOut session before after []
-out_nothing session before after earlier later wait waits is = absurd (no_split earlier later wait is)
+-- One act before which nothing has to be out.
+pub out_unwaited : {W : Type 0} (session : Session) (before after : Checked W) (act : Act) → (WantsOut act → ⊥)
+    → IsOut session before after (act ∷ [])
+out_unwaited session before after act never [] later wait waits is =
+    let same : act ≡ wait = cc in absurd (never (subst (λ (a : Act). WantsOut a) (sym same) waits))
+out_unwaited session before after act never (x ∷ []) later wait waits is = absurd (cc)
+out_unwaited session before after act never (x ∷ y ∷ earlier) later wait waits is = absurd (cc)
 
 module _ {W : Type 0} where
-  -- Where nothing is held, all that was told has passed.
+  -- If nothing is held, all that was printed has passed.
   pub passed_here : {p : Page W} {after : Checked W} → has_failed (writer_of p) ≡ false → held p ≡ []
       → IsFrontOf (octets_of (writer_of p)) (octets_of after) → HasPassed p after []
   passed_here {p} {after} sound none front = record {
@@ -66,13 +71,24 @@ module _ {W : Type 0} where
         ∙ append-nil (octets_of (writer_of p)))) front;
   }
 
+  -- Text that was printed before a page was turned in has passed.
+  pub passed_turned : {p q : Page W} → IsTurnedIn p q → HasPassed p (writer_of q) []
+  passed_turned {p} {q} turned = record {
+    sound = turned.sound;
+    front = (
+      turned.later,
+      turned.out ∙ ap (λ (os : List ℕ). (octets_of (writer_of p) ++ os) ++ turned.later)
+          (sym (ap (λ (os : List ℕ). held p ++ os) (laid_out-none (room_of p)) ∙ append-nil (held p))),
+    );
+  }
+
   pub out_none : (client : Client) (p q : Page W) → IsOutAt client p q []
   out_none client p q earlier later wait waits is = absurd (no_split earlier later wait is)
 
-  pub out_one : (client : Client) (p q : Page W) (act : Act) → (IsWait act → HasPassed p (writer_of q) [])
+  pub out_one : (client : Client) (p q : Page W) (act : Act) → (WantsOut act → HasPassed p (writer_of q) [])
       → IsOutAt client p q (act ∷ [])
   out_one client p q act out [] later wait waits is =
-      let same : act ≡ wait = cc in out (subst (λ (a : Act). IsWait a) (sym same) waits)
+      let same : act ≡ wait = cc in out (subst (λ (a : Act). WantsOut a) (sym same) waits)
   out_one client p q act out (x ∷ []) later wait waits is = absurd (cc)
   out_one client p q act out (x ∷ y ∷ earlier) later wait waits is = absurd (cc)
 
@@ -99,7 +115,7 @@ module _ {W : Type 0} {contents : W → Option (List ℕ)} where
   passed_on p q after passed writes =
       record { sound = passed.sound; front = fronts_join _ _ _ passed.front (grown writes) }
 
-  -- What was printed before had passed with it.
+  -- Text that was printed before had passed with it.
   pub passed_before : {p q : Page W} {after : Checked W} {text more : List ℕ} → Prints contents p q text
       → HasPassed q after more → HasPassed p after (text ++ more)
   unfolding Wrote
@@ -147,7 +163,7 @@ module _ {W : Type 0} {contents : W → Option (List ℕ)} where
 
   -- The page was turned in before, or something else was printed.
   pub out_behind : (client : Client) (p q r : Page W) {text : List ℕ} {xs : List Act} → Prints contents p q text
-      → IsOutAt client q r xs → (earlier later : List Act) (wait : Act) → IsWait wait → xs ≡ earlier ++ wait ∷ later
+      → IsOutAt client q r xs → (earlier later : List Act) (wait : Act) → WantsOut wait → xs ≡ earlier ++ wait ∷ later
       → HasPassed p (writer_of r) (text ++ journal client earlier)
   out_behind client p q r printed out earlier later wait waits is =
       passed_before printed (out earlier later wait waits is)

@@ -1,4 +1,4 @@
--- What is read of the lines that a run prints.
+-- Reading back the lines that a run prints.
 use Rattle.std.proofs.Common.{[], All, ap, append-nil, append_assoc, arith, Bool, codes, decimal, drop, false, get_or}
 use Rattle.std.proofs.Common.{inl, inr, length, length-append, List, lit<, lit≤, nat_le, nat_lt, ne_eqb, None, Ok}
 use Rattle.std.proofs.Common.{Option, option_map, position, refl, Result, Some, suc, sym, take, true, unwrap_or, zero}
@@ -362,7 +362,7 @@ dotted_long a b c d one two three four =
 abbrev pub plain : ℕ → ℕ → Station
 plain ip port = record { ip = ip; port = port; route = None }
 
--- What is printed of it.
+-- The text of it.
 record IsPeerText (ip port : ℕ) (text : List ℕ) : Type 0 where
   visible : IsVisible text
   some : 0 < length text

@@ -1,29 +1,37 @@
 -- The journal, read as a script.
-use Rattle.std.proofs.Common.{[], ap, append_assoc, arith, Bool, false, List, None, refl, subst, sym, ℕ, ◌++◌, ◌+◌, ◌∙◌}
+use Rattle.bac_run.specs.{Rested, Sought}
+use Rattle.std.proofs.Common.{[], ap, append-nil, append_assoc, arith, codes, Bool, false, List, None, refl, subst}
+use Rattle.std.proofs.Common.{sym, ℕ, ◌++◌, ◌+◌, ◌∙◌}
 use Rattle.std.{proofs.{Common.{◌∷◌, ◌≡◌}, lemmas.List.Concat.flat_map-append}, specs.List.AllByRecursion}
 use Rattle.bac_tsm.specs.{Data, Event, Note, Tick, Client.Client}
 use Rattle.bac_script.proofs.Courses.{settings_first, text_from, text_is, Chunks.lines-ended}
-use Rattle.bac_script.specs.{Happens, lines, Nothing, Said, Inner.Running.{ran, Stage}}
+use Rattle.bac_script.specs.{Blank, Happens, lines, Remark, Said, Inner.Running.{ran, ScriptStage}}
 use Rattle.bac_script.specs.{Script.{all_said, fault_from, first_fault, said_from, text}, Text.notes_text}
-use Rattle.bac_run.proofs.Folded.{lay, line_laid, remarks_skipped}
+use Rattle.bac_run.proofs.{Folded.{lay, line_laid, plain_skipped, remarks_skipped}, Plain.{IsPlainLine, rest_plain}}
+use Rattle.bac_run.proofs.Plain.{seek_plain}
 use Rattle.bac_run.specs.{Act, AreSettings, Asked, AtEnd, Came, IsLineOf, IsReadBack, journal, journal_of, line_of}
-use Rattle.bac_run.specs.{new_client, notes_of, Passed, Paused, Read, remarks, Session, settings_line, Told, turn_at}
+use Rattle.bac_run.specs.{new_client, NoLine, notes_of, Passed, Paused, Read, remarks, Session, settings_line, Told}
+use Rattle.bac_run.specs.{Took, turn_at}
 
 -- A line that says this, and then the rest.
 line_then : {is_first : Bool} {line : List ℕ} {what : Said} (rest : List ℕ) → IsLineOf is_first line what
     → lines (line ++ rest) AtEnd ≡ line ∷ lines rest AtEnd
 line_then rest is = rw is.ended (lines-ended is.text rest AtEnd is.no_feed)
 
-abbrev on : Client → Stage
+abbrev on : Client → ScriptStage
 on client = record { client = client; writes = [] }
 
--- What is printed of the rest of a journal, from a client on.
+-- The text of the rest of a journal, from a client on.
 abbrev printed : Client → List ℕ → List ℕ
 printed client octets = text_from (on client) (said_from false (lines octets AtEnd))
 
-nothing_then : (client : Client) {line : List ℕ} (rest : List ℕ) → IsLineOf false line Nothing
+blank_then : (client : Client) {line : List ℕ} (rest : List ℕ) → IsLineOf false line Blank
     → printed client (line ++ rest) ≡ printed client rest
-nothing_then client rest is = rw (line_then rest is, is.says) refl
+blank_then client rest is = rw (line_then rest is, is.says) refl
+
+remark_then : (client : Client) {line : List ℕ} (rest : List ℕ) → IsLineOf false line Remark
+    → printed client (line ++ rest) ≡ printed client rest
+remark_then client rest is = rw (line_then rest is, is.says) refl
 
 happens_then : (client : Client) {line : List ℕ} (event : Event) (rest : List ℕ) → IsLineOf false line (Happens event)
     → printed client (line ++ rest)
@@ -34,7 +42,7 @@ remarks_then : (client : Client) (notes : List Note) (rest : List ℕ)
     → printed client (lay (remarks notes ++ rest)) ≡ printed client (lay rest)
 remarks_then client notes rest =
     remarks_skipped (λ xs. printed client xs ≡ printed client (lay rest))
-    (λ line more is same. nothing_then client more is ∙ same) notes rest refl
+    (λ line more is same. remark_then client more is ∙ same) notes rest refl
 
 event_then : (client : Client) {line : List ℕ} (event : Event) (notes : List Note) (rest : List ℕ)
     → IsLineOf false line (Happens event)
@@ -46,21 +54,32 @@ event_then client {line} event notes rest is =
     ∙ happens_then client event (lay (remarks notes ++ rest)) is
     ∙ ap (λ (xs : List ℕ). (ran (on client) (Happens event)).text ++ xs) (remarks_then _ notes rest)
 
--- What is printed at an act, before what is printed of the rest.
+plain_then : (client : Client) {told : List ℕ} (rest : List ℕ) → IsPlainLine told
+    → printed client (lay (((codes "# " ++ told) ++ []) ++ rest)) ≡ printed client (lay rest)
+plain_then client {told} rest is =
+    ap (λ (xs : List ℕ). printed client (lay (xs ++ rest))) (append-nil (codes "# " ++ told))
+    ∙ plain_skipped (λ xs. printed client xs ≡ printed client (lay rest))
+    (λ line more is same. remark_then client more is ∙ same) is rest refl
+
+-- The text at an act comes before that of the rest.
 act_then : (client : Client) (act : Act) (rest : List ℕ) → IsReadBack act
     → printed client (lay ((line_of act ++ remarks (turn_at client act).notes) ++ rest))
     ≡ notes_text (turn_at client act).notes ++ printed (turn_at client act).after (lay rest)
 act_then client (Asked line event) rest is = event_then client event _ rest is
-act_then client Paused rest is = ap (printed client) (line_laid rest is) ∙ nothing_then client (lay rest) is
+act_then client Paused rest is = ap (printed client) (line_laid rest is) ∙ blank_then client (lay rest) is
+act_then client (Sought to octets) rest is = plain_then client rest (seek_plain to octets)
+act_then client (Rested time) rest is = plain_then client rest (rest_plain time)
 act_then client (Came wait from octets) rest is = event_then client (Data from octets) _ rest is
 act_then client (Passed wait heard) rest is = refl
 act_then client (Told time) rest is = event_then client (Tick time) _ rest is
 act_then client (Read time) rest is = refl
+act_then client (Took line) rest is = refl
+act_then client (NoLine reading) rest is = refl
 
 notes_text-append : (xs ys : List Note) → notes_text (xs ++ ys) ≡ notes_text xs ++ notes_text ys
 notes_text-append = grind (arith, flat_map-append)
 
--- What is printed of a journal.
+-- The text of a journal.
 journal_text : (client : Client) (acts : List Act) → AllByRecursion IsReadBack acts
     → printed client (lay (journal client acts)) ≡ notes_text (notes_of client acts)
 journal_text client [] is = refl
@@ -73,13 +92,13 @@ journal_text client (act ∷ later) (here, others) =
 -- The lines of a journal, of which the settings are the first.
 abbrev laid_lines : Session → List Act → List (List ℕ)
 laid_lines session acts = lines (settings_line session.config.timeout session.config.retries
-    ++ lay (journal (new_client session.config.timeout session.config.retries) acts)) AtEnd
+    ++ lay (journal (new_client session.config.timeout session.config.retries 0) acts)) AtEnd
 
 pub replays : (session : Session) (acts : List Act) → AreSettings session → AllByRecursion IsReadBack acts
     → text (journal_of session acts) AtEnd
-    ≡ notes_text (notes_of (new_client session.config.timeout session.config.retries) acts)
+    ≡ notes_text (notes_of (new_client session.config.timeout session.config.retries 0) acts)
 replays session acts settings are =
-    let client = new_client session.config.timeout session.config.retries in
+    let client = new_client session.config.timeout session.config.retries 0 in
     ap (λ (xs : List ℕ). text xs AtEnd) (line_laid (journal client acts) settings)
     ∙ text_is (all_said (laid_lines session acts)) (settings_first (laid_lines session acts))
     ∙ rw (line_then (lay (journal client acts)) settings, settings.says) (journal_text client acts are)
@@ -101,15 +120,25 @@ event_well {line} notes rest is well =
     (line_well (lay (remarks notes ++ rest)) is
     (remarks_skipped Faultless (λ line more. line_well more) notes rest well))
 
+plain_well : {told : List ℕ} (rest : List ℕ) → IsPlainLine told → Faultless (lay rest)
+    → Faultless (lay (((codes "# " ++ told) ++ []) ++ rest))
+plain_well {told} rest is well =
+    subst (λ (xs : List ℕ). Faultless (lay (xs ++ rest))) (sym (append-nil (codes "# " ++ told)))
+    (plain_skipped Faultless (λ line more. line_well more) is rest well)
+
 act_well : (client : Client) (act : Act) (rest : List ℕ) → IsReadBack act → Faultless (lay rest)
     → Faultless (lay ((line_of act ++ remarks (turn_at client act).notes) ++ rest))
 act_well client (Asked line event) rest is well = event_well _ rest is well
 act_well client Paused rest is well =
     subst Faultless (sym (line_laid rest is)) (line_well (lay rest) is well)
+act_well client (Sought to octets) rest is well = plain_well rest (seek_plain to octets) well
+act_well client (Rested time) rest is well = plain_well rest (rest_plain time) well
 act_well client (Came wait from octets) rest is well = event_well _ rest is well
 act_well client (Passed wait heard) rest is well = well
 act_well client (Told time) rest is well = event_well _ rest is well
 act_well client (Read time) rest is well = well
+act_well client (Took line) rest is well = well
+act_well client (NoLine reading) rest is well = well
 
 journal_well : (client : Client) (acts : List Act) → AllByRecursion IsReadBack acts
     → Faultless (lay (journal client acts))
@@ -122,6 +151,6 @@ pub no_fault : (session : Session) (acts : List Act) → AreSettings session →
     → first_fault (lines (journal_of session acts) AtEnd) ≡ None
 unfolding Faultless
 no_fault session acts settings are =
-    let client = new_client session.config.timeout session.config.retries in
+    let client = new_client session.config.timeout session.config.retries 0 in
     ap (λ (xs : List ℕ). first_fault (lines xs AtEnd)) (line_laid (journal client acts) settings)
     ∙ rw (line_then (lay (journal client acts)) settings, settings.says) (journal_well client acts are 2)

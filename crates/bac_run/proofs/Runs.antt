@@ -1,44 +1,50 @@
 -- A run so far, and where it stops.
-use Rattle.std.proofs.Common.{[], ap, append-nil, append_assoc, arith, drop, Err, false, flat_map, IfErr, IfOk, inl}
-use Rattle.std.proofs.Common.{inr, is_some, length, length-append, List, None, Ok, Option, refl, Result, Some, subst}
-use Rattle.std.proofs.Common.{suc, sym, take, unwrap_or, ℕ, ◌++◌, ◌+◌, ◌∙◌, ◌∷◌, ◌≡◌, ◌⊎◌}
-use Rattle.std.{proofs.lemmas.List.Concat.flat_map-append, specs.List.{AllByRecursion, concat}}
-use Rattle.{bac_tsm.specs.Client.Client, bac_print.proofs.Printed.{folded_out, Gave-none, ◌⨾◌}}
-use Rattle.bac_print.specs.{folded_line, has_failed, held, octets_of, Prints, room_of, writer_of, Writes}
+use Rattle.std.proofs.Common.{[], ap, append-nil, append_assoc, arith, drop, Err, false, flat_map, IfOk, inl, inr}
+use Rattle.std.proofs.Common.{length, length-append, List, None, Ok, Option, refl, Result, Some, subst, suc, sym, take}
+use Rattle.std.proofs.Common.{take-append-drop, ℕ, ◌++◌, ◌+◌, ◌<◌, ◌∙◌, ◌∷◌, ◌≡◌, ◌⊎◌}
+use Rattle.std.proofs.lemmas.List.{append_cancel_left, Concat.flat_map-append}
+use Rattle.std.specs.List.{AllByRecursion, concat}
+use Rattle.bac_tsm.specs.Client.{Client}
+use Rattle.bac_print.proofs.Printed.{folded_out, Gave-none, prints_nothing, ◌⨾◌}
+use Rattle.bac_print.specs.{folded_line, Gave, has_failed, held, last_of, Prints, room_of, writer_of, Writes}
+use Rattle.bac_print.specs.Page.{Wrote}
 use Rattle.bac_run.proofs.Acts.{done, failed}
-use Rattle.bac_run.proofs.Cut.{all_push, concat_push, cut_all, cut_push, feed_so, gave_so, IsCut, reading_on, reads_on}
-use Rattle.bac_run.proofs.{Cut.split_push, Out.{out_behind, out_whole, passed_on}, Parts.{quiet_went, went_at}}
-use Rattle.bac_run.proofs.Parts.{went_err, went_failed, went_fault, went_from, went_more, went_still, went_stopped}
-use Rattle.bac_run.proofs.Parts.{went_turned, within_at, within_both, within_fault, within_from, within_turned}
-use Rattle.bac_run.specs.{Act, acts_of_line, acts_or_none, Aim, aims_behind, aims_for, aims_in_room, aims_of}
-use Rattle.bac_run.specs.{aims_of_lines, AllDone, AreSettings, AtEnd, BadLine, Checked, ComesTo, EndsAt, EndsWithFeed}
-use Rattle.bac_run.specs.{Failed, fault_in, fault_of_line, FewOpen, first_stage, Goes, HasNoFeed, inputs_in, IsAsked}
-use Rattle.bac_run.specs.{IsAtRest, IsGood, IsOver, IsOverAt, IsWithin, LineFault, LineTooLong, Link, new_client, Open}
-use Rattle.bac_run.specs.{Page, ReadFailed, Reading, ReceiveFailed, room_for, RunFault, Runs, said_of, Script}
-use Rattle.bac_run.specs.{SendFailed, Session, settings_line, Stage, stage_after, Takes, TraceEnd, TraceFault, Turns}
-use Rattle.bac_run.specs.{TurnsSpent, write_failed, declared.turns.Run.Run}
-use Rattle.bac_run.specs.Inner.{IsNamed, IsOfWait, RunsOn, started, stopped, WentFor, Went.Went}
-use Rattle.bac_script.proofs.Courses.Chunks.{Takes-front, Takes-more}
-use Rattle.bac_script.specs.{lines, ReaderStands, Said, declared.line.LineFault.TheVariants.{Bad, TooLong}}
-use Rattle.bac_script.specs.{declared.tracing.TraceFault.TheVariants.WriteFailed, Input.CanReadOn}
-use Rattle.bac_script.specs.NextLine.{IsLineCut, TakesAndKeeps}
-use Rattle.bac_links.specs.{Account, Entry, most_turns, declared.datagram.Datagram.Datagram}
-use Rattle.bac_links.specs.declared.fault.ToolFault.TheVariants.{WriteFailed as LinkNotWritten}
-
--- What a run is about for lines that were taken.
-abbrev pub taken_aims : (window : ℕ) → List (List ℕ) → List Aim
-taken_aims window [] = []
-taken_aims window (line ∷ later) =
-    (room_for window ∷ aims_for (acts_of_line line)) ++ taken_aims window later
+use Rattle.bac_run.proofs.Cut.{feeds_on, feeds_whole, Cuts, lines_fed, reading_on, reads_on}
+use Rattle.bac_run.proofs.Out.{out_behind, out_whole, passed_before, passed_on, passed_turned}
+use Rattle.bac_run.proofs.Parts.{more_acts, turned_acts, went_at, went_failed, went_from, went_more, went_none}
+use Rattle.bac_run.proofs.{Parts.{went_still, went_stopped, went_took, went_turned}, Todo.done_so}
+use Rattle.bac_run.specs.{Act, acts_of_line, Aim, aims_for, aims_of, AreSettings, AtEnd, Checked, ending, Ends, EndsAt}
+use Rattle.bac_run.specs.{Failed, fault_of_line, feeds_in, Feeds, first_stage, HasNoWhole, IsGood, IsLast, IsOver}
+use Rattle.bac_run.specs.{IsOverAt, IsWhole}
+use Rattle.bac_run.specs.{IsReadWhenDue, IsTold, journal_lines, lines_in, Link, new_client, NextLine}
+use Rattle.bac_run.specs.{NoLine, Open, open_in, Page, ReadFailed, Reading, result_at, room_for, RunFault, Runs}
+use Rattle.bac_run.specs.{Script, Session, settings_line, Stage, stage_by, taking, Took}
+use Rattle.bac_run.specs.{TraceEnd, TraceFault, WantsLine, write_failed, declared.turns.Run.Run}
+use Rattle.bac_run.specs.Inner.{ComesTo, HasPassed, IsOfWait, RunsOn, started, stopped, Went.Went}
+use Rattle.bac_script.specs.{ReaderStands, declared.tracing.TraceFault.TheVariants.WriteFailed, Input.CanReadOn}
+use Rattle.bac_script.specs.NextLine.{ReadForLine, TakesAndKeeps}
+use Rattle.{bac_links.specs.Account, bac_links.specs.declared.datagram.Datagram.Datagram}
 
 -- A run as it begins.
 abbrev pub begins : Session → Datagram → Run
 begins session datagram = record {
   session = session;
-  client = new_client session.config.timeout session.config.retries;
+  client = new_client session.config.timeout session.config.retries 0;
   datagram = datagram;
   behind = 0;
 }
+
+abbrev start : Session → Client
+start session = new_client session.config.timeout session.config.retries 0
+
+-- What the reader gave so far, of which acts took some, and some is held; and it was read only where that was due.
+pub record IsFed {R W : Type 0} (remaining : R → Option (List ℕ)) (session : Session) (reader reader' : Checked R)
+    (held : List ℕ) (page : Page W) (after : Checked W) (acts feeds : List Act) : Type 0 where
+  pub given : List ℕ
+  pub gave : Gave remaining reader reader' given
+  pub feeds_on : Feeds Open given held feeds
+  pub read : IsReadWhenDue session reader reader' given acts
+      (λ earlier. HasPassed page after (journal_lines session earlier))
 
 -- The settings were printed, and lines were taken, and what they ask for was done.
 pub record SoFar {Origin R W : Type 0} (remaining : R → Option (List ℕ)) (contents : W → Option (List ℕ))
@@ -47,166 +53,52 @@ pub record SoFar {Origin R W : Type 0} (remaining : R → Option (List ℕ)) (co
   pub datagram : Datagram
   pub first : Page W
   pub settings : Prints contents page first (settings_line session.config.timeout session.config.retries)
-  pub inputs : List Act
-  pub taken : List (List ℕ)
-  pub went : Went contents (begins session datagram) run first page' seen left
-      (λ later. first_stage session (taken_aims session.window taken ++ later)) (λ later. started run later) done inputs
-  pub cut : AllByRecursion EndsWithFeed taken
-  pub good : AllByRecursion IsGood taken
-  pub split : (more : List ℕ) (reading : Reading) → lines (concat taken ++ more) reading ≡ taken ++ lines more reading
-  pub gives : TakesAndKeeps remaining reader reader' [] held (concat taken)
+  pub feeds : List Act
+  pub went : Went contents (begins session datagram) run first page' seen left (λ (u : Unit {0}). first_stage session)
+      (λ (u : Unit {0}). started run (taking session.window count [])) done feeds
+  pub fed : IsFed remaining session reader reader' held page (writer_of page') went.acts feeds
+  pub good : AllByRecursion IsGood (lines_in feeds)
+  pub counts : count ≡ length (lines_in feeds)
   pub stands : CanReadOn reader reader'
-  pub asked : inputs ≡ flat_map acts_or_none taken
-  pub within : IsWithin session.window (new_client session.config.timeout session.config.retries) went.acts
-  pub counts : count ≡ length taken
 
--- ---- lines that were taken
+-- ---- reads
 
-good_so : (line : List ℕ) (acts : List Act) → acts_of_line line ≡ Some acts → IsGood line
-good_so line acts is none = absurd (let bad = sym is ∙ none in cc)
+-- The last read was due, by more acts and a later writer.
+due_on : {R : Type 0} {session : Session} {reader reader' : Checked R} {given : List ℕ} {acts : List Act}
+    (IsPast IsPast' : List Act → Type 0) (all more : List Act) → all ≡ acts ++ more
+    → ((earlier : List Act) → IsPast earlier → IsPast' earlier)
+    → IsReadWhenDue session reader reader' given acts IsPast → IsReadWhenDue session reader reader' given all IsPast'
+due_on IsPast IsPast' all more is past (inl unread) = inl unread
+due_on IsPast IsPast' all more is past (inr last) =
+    inr (record {
+      before = last.before;
+      held = last.held;
+      earlier = last.earlier;
+      later = last.later ++ more;
+      order = last.order;
+      did = is ∙ ap (λ (xs : List Act). xs ++ more) last.did ∙ append_assoc last.earlier last.later more;
+      took = last.took;
+      no_line = last.no_line;
+      wanted = last.wanted;
+      told = past last.earlier last.told;
+    })
 
-acts_so : (line : List ℕ) (acts : List Act) → acts_of_line line ≡ Some acts → acts_or_none line ≡ acts
-acts_so line acts is = ap (λ (o : Option (List Act)). unwrap_or o []) is
+gave_more : {R : Type 0} {remaining : R → Option (List ℕ)} {a b c : Checked R} {xs ys : List ℕ}
+    → Gave remaining a b xs → Gave remaining b c ys → Gave remaining a c (xs ++ ys)
+gave_more = grind (arith, append_assoc)
 
-flat_push : (xs : List (List ℕ)) (x : List ℕ)
-    → flat_map acts_or_none (xs ++ x ∷ []) ≡ flat_map acts_or_none xs ++ acts_or_none x
-flat_push = grind (arith, flat_map-append, append-nil)
+lines_of : (acts feeds : List Act) → feeds_in acts ≡ feeds → lines_in acts ≡ lines_in feeds
+lines_of acts feeds is = sym (lines_fed acts) ∙ ap lines_in is
 
-all_done_so : (result : Result TraceEnd RunFault) (taken : List (List ℕ)) (acts : List Act) (lines : ℕ)
-    → IfOk result (λ end. end.lines ≡ lines) → inputs_in acts ≡ flat_map acts_or_none taken
-    → AllByRecursion IsGood taken → lines ≡ length taken → AllDone result taken [] acts
-all_done_so (Ok end) taken acts lines is asked good count = (asked, good, refl, is ∙ count)
-all_done_so (Err fault) taken acts lines is asked good count = ([], sym asked ∙ sym (append-nil _))
+lines_push : (xs ys : List Act) → lines_in (xs ++ ys) ≡ lines_in xs ++ lines_in ys
+lines_push = grind (arith, flat_map-append)
 
--- What is all done is done as far as a front of it.
-pub done_front : (result : Result TraceEnd RunFault) (taken : List (List ℕ)) (kept : List ℕ) (acts : List Act)
-    → AllDone result taken kept acts → (rest : List Act) × (flat_map acts_or_none taken ≡ inputs_in acts ++ rest)
-done_front (Ok end) taken kept acts (asked, _, _, _) = ([], sym asked ∙ sym (append-nil _))
-done_front (Err fault) taken kept acts is = is
+all_append : (xs ys : List (List ℕ)) → AllByRecursion IsGood xs → AllByRecursion IsGood ys
+    → AllByRecursion IsGood (xs ++ ys)
+all_append [] ys all more = more
+all_append (x ∷ xs) ys (here, all) more = (here, all_append xs ys all more)
 
--- Where a writer has failed too, what was asked may end with a send that failed.
-asked_cut : (result : Result TraceEnd RunFault) (client : Client) (acts : List Act) (gained : List Entry)
-    → IsAsked result client acts gained → IsAsked (failed TraceEnd write_failed) client acts gained
-asked_cut (Ok end) client acts gained is = inl is
-asked_cut (Err (Script WriteFailed)) client acts gained is = is
-asked_cut (Err (Script fault)) client acts gained is = inl is
-asked_cut (Err (Link SendFailed)) client acts gained is = inr is
-asked_cut (Err (Link fault)) client acts gained is = inl is
-
--- A fault that may come while requests are open says nothing of them.
-pub over_wait : (fault : RunFault) (client : Client) → IsOfWait fault → IsOverAt fault client
-over_wait (Link fault) client is = tt
-over_wait (Script WriteFailed) client is = tt
-over_wait (Script fault) client is = absurd is
-
--- Nothing was read.
-takes_none : {R : Type 0} (remaining : R → Option (List ℕ)) (reader : Checked R) (kept : List ℕ)
-    → TakesAndKeeps remaining reader reader kept kept []
-takes_none remaining reader kept = record { given = []; gave = Gave-none _; order = append-nil kept }
-
--- ---- what a run is about
-
-aims_taken : (window : ℕ) (reading : Reading) (taken later : List (List ℕ)) → AllByRecursion IsGood taken
-    → aims_of_lines window reading (taken ++ later)
-    ≡ taken_aims window taken ++ aims_of_lines window reading later
-aims_taken window reading [] later good = refl
-aims_taken window reading (line ∷ taken) later (here, good) =
-    go (acts_of_line line) refl (aims_taken window reading taken later good)
-  where
-    go : (o : Option (List Act)) → acts_of_line line ≡ o → aims_of_lines window reading (taken ++ later)
-        ≡ taken_aims window taken ++ aims_of_lines window reading later
-        → aims_of_lines window reading ((line ∷ taken) ++ later)
-        ≡ taken_aims window (line ∷ taken) ++ aims_of_lines window reading later
-    go None is rest = absurd (here is)
-    go (Some acts) is rest =
-        rw is
-        (ap (λ (xs : List Aim). room_for window ∷ (flat_map aims_of acts ++ xs)) rest
-        ∙ sym (append_assoc (room_for window ∷ flat_map aims_of acts) (taken_aims window taken)
-        (aims_of_lines window reading later)))
-
-faults_taken : (n : ℕ) (taken later : List (List ℕ)) → AllByRecursion IsGood taken
-    → fault_in n (taken ++ later) ≡ fault_in (n + length taken) later
-faults_taken n [] later good = ap (λ (m : ℕ). fault_in m later) (omega arith)
-faults_taken n (line ∷ taken) later (here, good) =
-    go (acts_of_line line) refl (faults_taken (suc n) taken later good)
-  where
-    go : (o : Option (List Act)) → acts_of_line line ≡ o
-        → fault_in (suc n) (taken ++ later) ≡ fault_in (suc n + length taken) later
-        → fault_in n ((line ∷ taken) ++ later) ≡ fault_in (n + length (line ∷ taken)) later
-    go None is rest = absurd (here is)
-    go (Some acts) is rest = rw is (rest ∙ ap (λ (m : ℕ). fault_in m later) (omega arith))
-
--- The aims of all lines, where some were taken and there is room for the next.
-aims_so_far : (window : ℕ) (reading : Reading) (taken later : List (List ℕ)) → AllByRecursion IsGood taken
-    → aims_of_lines window reading (taken ++ later)
-    ≡ taken_aims window taken ++ (room_for window ∷ aims_in_room window reading later)
-aims_so_far = aims_taken
-
-at_rest : (run : Run) → IsAtRest (started run [])
-at_rest run = (refl, refl)
-
-taken_push : (window : ℕ) (taken : List (List ℕ)) (line : List ℕ) → taken_aims window (taken ++ line ∷ [])
-    ≡ taken_aims window taken ++ (room_for window ∷ aims_for (acts_of_line line))
-taken_push window [] line = append-nil _
-taken_push window (x ∷ xs) line = grind (arith, append_assoc, taken_push window xs line)
-
--- A fault that may come in a wait ends a run wherever it stands.
-ends_wait : (fault : RunFault) (reading : Reading) (ls : List (List ℕ)) (to left : Stage) → IsOfWait fault
-    → ComesTo (failed TraceEnd fault) to left → EndsAt (failed TraceEnd fault) reading ls left
-ends_wait (Link SendFailed) reading ls to left waits is = is
-ends_wait (Link ReceiveFailed) reading ls to left waits is = is
-ends_wait (Link TurnsSpent) reading ls to left waits is = is
-ends_wait (Link LinkNotWritten) reading ls to left waits is = is
-ends_wait (Script WriteFailed) reading ls to left waits is = tt
-ends_wait (Script ReadFailed) reading ls to left waits is = absurd waits
-ends_wait (Script (BadLine n)) reading ls to left waits is = absurd waits
-ends_wait (Script (LineTooLong n)) reading ls to left waits is = absurd waits
-
--- The end of the input ends it at rest.
-ends_all : (result : Result TraceEnd RunFault) (ls : List (List ℕ)) (left : Stage) (run : Run) (count : ℕ)
-    → IfOk result (λ end. end.lines ≡ count) → IfErr result IsOfWait → ComesTo result (started run []) left
-    → fault_in 1 ls ≡ None → length ls ≡ count → EndsAt result AtEnd ls left
-ends_all (Ok end) ls left run count counted waits comes none size =
-    (rw comes (at_rest run), refl, none, counted ∙ sym size)
-ends_all (Err fault) ls left run count counted waits comes none size =
-    ends_wait fault AtEnd ls (started run []) left waits comes
-
--- A reader that failed ends it at rest.
-ends_read : (fault : RunFault) (ls : List (List ℕ)) (left : Stage) (run : Run)
-    → (fault ≡ Script ReadFailed) ⊎ IsOfWait fault → ComesTo (failed TraceEnd fault) (started run []) left
-    → fault_in 1 ls ≡ None → EndsAt (failed TraceEnd fault) Failed ls left
-ends_read fault ls left run (inl is) comes none =
-    rw is (rw (rw is at comes) (at_rest run, refl, none))
-ends_read fault ls left run (inr waits) comes none = ends_wait fault Failed ls (started run []) left waits comes
-
--- A line names its fault, which is none of reading.
-not_read : (n : ℕ) (line : List ℕ) → ReadFailed ≡ fault_of_line n line → ⊥
-not_read n line is = here (said_of line) refl
-  where
-    here : (r : Result Said LineFault) → said_of line ≡ r → ⊥
-    here (Ok one) said_is = absurd (let bad = rw said_is at is in cc)
-    here (Err TooLong) said_is = absurd (let bad = rw said_is at is in cc)
-    here (Err Bad) said_is = absurd (let bad = rw said_is at is in cc)
-
--- So does a line with a fault.
-ends_line : (fault : RunFault) (n : ℕ) (line : List ℕ) (reading : Reading) (ls : List (List ℕ)) (to left : Stage)
-    → IsNamed fault n line → ComesTo (failed TraceEnd fault) to left
-    → (acts_of_line line ≡ None → IsAtRest to) → (acts_of_line line ≡ None
-    → fault_in 1 ls ≡ Some (fault_of_line n line))
-    → EndsAt (failed TraceEnd fault) reading ls left
-ends_line (Link fault) n line reading ls to left named comes rests faulty =
-    ends_wait (Link fault) reading ls to left tt comes
-ends_line (Script WriteFailed) n line reading ls to left named comes rests faulty = tt
-ends_line (Script ReadFailed) n line reading ls to left (none, is) comes rests faulty = absurd (not_read n line is)
-ends_line (Script (BadLine k)) n line reading ls to left (none, is) comes rests faulty =
-    (rw comes (rests none), faulty none ∙ ap (λ (x : TraceFault). Some x) (sym is))
-ends_line (Script (LineTooLong k)) n line reading ls to left (none, is) comes rests faulty =
-    (rw comes (rests none), faulty none ∙ ap (λ (x : TraceFault). Some x) (sym is))
-
-abbrev start : Session → Client
-start session = new_client session.config.timeout session.config.retries
-
--- A wait for room, in the words of the session.
+-- A wait for room, and what a line asks for, in the words of the session.
 pub roomed : {Origin W A : Type 0} {contents : W → Option (List ℕ)} {session : Session} {result : Result A RunFault}
     {c d : Run} {p q : Page W} {s t : Account Origin} → c.session ≡ session
     → Went contents c d p q s t (λ later. started c (room_for c.session.window ∷ later)) (λ later. started d later)
@@ -216,442 +108,469 @@ pub roomed : {Origin W A : Type 0} {contents : W → Option (List ℕ)} {session
 roomed {c} same went =
     went_from (λ later. ap (λ (x : Session). started c (room_for x.window ∷ later)) (sym same)) went
 
-ends_as : (session : Session) (acts : List Act) (result : Result TraceEnd RunFault) (reading : Reading)
-    {ls ls' : List (List ℕ)} {aims aims' : List Aim} → ls ≡ ls' → aims ≡ aims'
-    → EndsAt result reading ls' (stage_after session.config.timeout (first_stage session aims') acts)
-    → EndsAt result reading ls (stage_after session.config.timeout (first_stage session aims) acts)
-ends_as session acts result reading {ls} {ls'} {aims} {aims'} same alike ends =
-    subst (λ (xs : List Aim). EndsAt result reading ls (stage_after session.config.timeout
-    (first_stage session xs) acts))
-    (sym alike)
-    (subst (λ (xs : List (List ℕ)). EndsAt result reading xs
-    (stage_after session.config.timeout (first_stage session aims') acts)) (sym same) ends)
+pub lined : {Origin W A : Type 0} {contents : W → Option (List ℕ)} {session : Session} {result : Result A RunFault}
+    {c d : Run} {p q : Page W} {s t : Account Origin} (o : Option (List Act)) (number : ℕ) (line : List ℕ)
+    → c.session ≡ session
+    → Went contents c d p q s t (λ later. started c (aims_for o c.session.window number line later))
+    (λ later. started d (taking c.session.window number later)) result []
+    → Went contents c d p q s t (λ later. started c (aims_for o session.window number line later))
+    (λ later. started d (taking session.window number later)) result []
+lined {contents = contents} {result = result} {c = c} {d = d} {p = p} {q = q} {s = s} {t = t} o number line same
+    went =
+    subst (λ (x : Session). Went contents c d p q s t (λ later. started c (aims_for o x.window number line later))
+    (λ later. started d (taking x.window number later)) result []) same went
+
+-- A fault that may come while requests are open says nothing of them.
+pub over_wait : (fault : RunFault) (client : Client) → IsOfWait fault → IsOverAt fault client
+over_wait (Link fault) client is = tt
+over_wait (Script WriteFailed) client is = tt
+over_wait (Script fault) client is = absurd is
+
+passed_later : {W : Type 0} {contents : W → Option (List ℕ)} {page p q : Page W} {text more : List ℕ} → Prints
+    contents p q text → HasPassed page (writer_of p) more
+    → HasPassed page (writer_of q) more
+unfolding Wrote
+passed_later {page} {p} {q} printed passed = passed_on page p (writer_of q) passed printed.wrote.writes
+
+same_aims : (o o' : Option (List Act)) (window n m : ℕ) (line other : List ℕ) → o ≡ o' → n ≡ m
+    → ((k : ℕ) → fault_of_line k line ≡ fault_of_line k other)
+    → aims_for o window n line [] ≡ aims_for o' window m other []
+same_aims (Some acts) o' window n m line other is same alike =
+    subst (λ (x : Option (List Act)). aims_for (Some acts) window n line [] ≡ aims_for x window m other []) is
+    (ap (λ (k : ℕ). flat_map aims_of acts ++ taking window k []) same)
+same_aims None o' window n m line other is same alike =
+    subst (λ (x : Option (List Act)). aims_for None window n line [] ≡ aims_for x window m other []) is
+    (ap (λ (fault : TraceFault). ending (Err fault) [])
+    (alike n ∙ ap (λ (k : ℕ). fault_of_line k other) same))
+
+-- The end of the input.
+well_so : (e : Run) (result : Result TraceEnd RunFault) (count : ℕ) (ls : List (List ℕ)) (left : List ℕ)
+    → IfOk result (λ end. end.lines ≡ count) → AllByRecursion IsGood ls → left ≡ [] → count ≡ length ls
+    → IfOk result (λ end. (result_at (started e (Ends (Ok (record { lines = count })) ∷ [])) ≡ Some (Ok end))
+    × AllByRecursion IsGood ls × (left ≡ []) × (end.lines ≡ length ls))
+well_so e (Ok end) count ls left is good none counts =
+    (ap (λ (n : ℕ). Some (Ok (record { lines = n }))) (sym is), good, none, is ∙ counts)
+well_so e (Err fault) count ls left is good none counts = tt
 
 module _ {Origin R W : Type 0} {remaining : R → Option (List ℕ)} {contents : W → Option (List ℕ)} {session : Session}
   where
+    -- Nothing was taken yet.
     pub so_far_none : {page first : Page W} (run : Run) (reader : Checked R) (seen : Account Origin) {held : List ℕ}
         → Prints contents page first (settings_line session.config.timeout session.config.retries)
         → run.session ≡ session → run.client ≡ start session → run.behind ≡ 0 → has_failed reader ≡ false → held ≡ []
         → SoFar remaining contents session run reader reader held page first seen seen 0
-    so_far_none {first} run reader seen printed same is none sound empty =
-        let went = went_still (begins session run.datagram) run first seen same is
-        (λ (later : List Aim). rw (is, none) refl) in
-        record {
-          datagram = run.datagram;
-          first = first;
-          settings = printed;
-          inputs = [];
-          taken = [];
-          went = went;
-          cut = tt;
-          good = tt;
-          split = λ more reading. refl;
-          gives = rw empty (record { given = []; gave = Gave-none _; order = refl });
-          stands = record { sound = sound; unended = refl };
-          asked = refl;
-          within = quiet_went session.window went tt;
-          counts = refl;
-        }
+    so_far_none {first} run reader seen printed same is none sound empty = record {
+      datagram = run.datagram;
+      first = first;
+      settings = printed;
+      feeds = [];
+      went = went_still (begins session run.datagram) run first seen same is (λ u. rw (is, none) refl);
+      fed = record { given = []; gave = Gave-none _; feeds_on = sym empty; read = inl (refl, refl) };
+      good = tt;
+      counts = refl;
+      stands = record { sound = sound; unended = refl };
+    }
 
-    module _ {reader middle : Checked R} {held : List ℕ} {page p q : Page W} {s t u : Account Origin}
+    -- A run that came so far, with so much held; the page was turned in since then.
+    module _ {reader reader' : Checked R} {now : List ℕ} {page first p q : Page W} {s t : Account Origin} {d : Run}
+        {datagram : Datagram} {mid : Unit {0} → Stage} {feeds : List Act}
+        (settings : Prints contents page first (settings_line session.config.timeout session.config.retries))
+        (base : Went contents (begins session datagram) d first p s t (λ (u : Unit {0}). first_stage session) mid done
+        feeds) (fed : IsFed remaining session reader reader' now page (writer_of q) base.acts feeds)
+        (turned : Prints contents p q []) where
+      abbrev both : {e : Run} {r : Page W} {v : Account Origin} {to : Unit {0} → Stage} {ys : List Act} {A : Type 0}
+          {result : Result A RunFault} → Went contents d e q r t v mid to result ys
+          → Went contents (begins session datagram) e first r s v (λ (u : Unit {0}). first_stage session) to result
+          (feeds ++ ys)
+      both last = went_more base (went_turned turned last)
+
+      -- It went on.
+      pub goes_on : {e : Run} {r : Page W} {v : Account Origin} {ys : List Act} {left : List ℕ} {count : ℕ}
+          (last : Went contents d e q r t v mid (λ (u : Unit {0}). started e (taking session.window count [])) done ys)
+          → Feeds Open now left ys → AllByRecursion IsGood (lines_in feeds) → AllByRecursion IsGood (lines_in ys)
+          → count ≡ length (lines_in feeds) + length (lines_in ys) → CanReadOn reader reader'
+          → SoFar remaining contents session e reader reader' left page r s v count
+      goes_on {r = r} {ys = ys} {left = left} last more good also counts stands = record {
+        datagram = datagram;
+        first = first;
+        settings = settings;
+        feeds = feeds ++ ys;
+        went = both last;
+        fed = record {
+          given = fed.given;
+          gave = fed.gave;
+          feeds_on = subst (λ (os : List ℕ). Feeds Open os left (feeds ++ ys)) (append-nil fed.given)
+              (feeds_on Open feeds ys fed.given now [] left fed.feeds_on
+              (subst (λ (os : List ℕ). Feeds Open os left ys) (sym (append-nil now)) more));
+          read = due_on (λ earlier. HasPassed page (writer_of q) (journal_lines session earlier))
+              (λ earlier. HasPassed page (writer_of r) (journal_lines session earlier)) (both last).acts last.acts
+              (more_acts base (went_turned turned last)
+              ∙ ap (λ (xs : List Act). base.acts ++ xs) (turned_acts turned last))
+              (λ earlier passed. passed_later last.prints passed) fed.read;
+        };
+        good = subst (λ (ls : List (List ℕ)). AllByRecursion IsGood ls) (sym (lines_push feeds ys))
+            (all_append (lines_in feeds) (lines_in ys) good also);
+        counts = counts ∙ sym (length-append (lines_in feeds) (lines_in ys))
+            ∙ ap (λ (ls : List (List ℕ)). length ls) (sym (lines_push feeds ys));
+        stands = stands;
+      }
+
+      -- It stopped.
+      pub stops : {e : Run} {r : Page W} {v : Account Origin} {to : Unit {0} → Stage} {ys : List Act}
+          (left : List ℕ) (result : Result TraceEnd RunFault) (reading : Reading) (last : Went contents d e q r t v mid
+          to result ys)
+          → Feeds reading now left ys → ReaderStands remaining reading reader reader' [] → IsOver result e.client
+          → IfOk result (λ end. (result_at (to tt) ≡ Some (Ok end)) × AllByRecursion IsGood (lines_in (feeds ++ ys))
+          × (left ≡ []) × (end.lines ≡ length (lines_in (feeds ++ ys))))
+          → RunsOn remaining contents session reader reader' page r s v result
+      stops {e} {r} {v} {to = to} {ys = ys} left result reading last more stands over well = record {
+        acts = all.acts;
+        takes = record {
+          given = fed.given;
+          kept = left;
+          reading = reading;
+          gave = fed.gave;
+          stands = stands;
+          feeds = subst (λ (xs : List Act). Feeds reading fed.given left xs) (sym all.takes)
+              (subst (λ (os : List ℕ). Feeds reading os left (feeds ++ ys)) (append-nil fed.given)
+              (feeds_on reading feeds ys fed.given now [] left fed.feeds_on
+              (subst (λ (os : List ℕ). Feeds reading os left ys) (sym (append-nil now)) more)));
+          all_done = done_so session all.acts result left (all.goes tt) ends (taken result well);
+        };
+        goes = all.goes tt;
+        ends = ends;
+        read = due_on (λ earlier. HasPassed page (writer_of q) (journal_lines session earlier))
+            (λ earlier. HasPassed page (writer_of r) (journal_lines session earlier)) all.acts last.acts
+            (more_acts base (went_turned turned last)
+            ∙ ap (λ (xs : List Act). base.acts ++ xs) (turned_acts turned last))
+            (λ earlier passed. passed_later last.prints passed) fed.read;
+        prints = settings ⨾ all.prints;
+        out = out_behind (start session) page first r settings all.out;
+        asks = all.asks;
+        over = subst (λ (client : Client). IsOver result client) all.client_is over;
+        within = all.within;
+        fit = all.fit;
+      }
+        where
+          all : Went contents (begins session datagram) e first r s v (λ (u : Unit {0}). first_stage session) to result
+              (feeds ++ ys)
+          all = both last
+
+          ends : EndsAt result (stage_by session all.acts)
+          ends = go result (all.comes tt) well
+            where
+              go : (result : Result TraceEnd RunFault) → ComesTo result (to tt) (stage_by session all.acts)
+                  → IfOk result (λ end. (result_at (to tt) ≡ Some (Ok end))
+                  × AllByRecursion IsGood (lines_in (feeds ++ ys)) × (left ≡ [])
+                  × (end.lines ≡ length (lines_in (feeds ++ ys)))) → EndsAt result (stage_by session all.acts)
+              go (Ok end) comes (is, _, _, _) = ap result_at comes ∙ is
+              go (Err fault) comes none = comes
+
+          taken : (result : Result TraceEnd RunFault)
+              → IfOk result (λ end. (result_at (to tt) ≡ Some (Ok end)) × AllByRecursion IsGood (lines_in (feeds ++ ys))
+              × (left ≡ []) × (end.lines ≡ length (lines_in (feeds ++ ys))))
+              → IfOk result (λ end. AllByRecursion IsGood (lines_in all.acts) × (left ≡ [])
+              × (end.lines ≡ length (lines_in all.acts)))
+          taken (Ok end) (_, good, none, count) =
+              let same = sym (lines_of all.acts (feeds ++ ys) all.takes) in (
+                subst (λ (ls : List (List ℕ)). AllByRecursion IsGood ls) same good,
+                none,
+                count ∙ ap (λ (ls : List (List ℕ)). length ls) same,
+              )
+          taken (Err fault) none = tt
+
+    -- ---- the ways out
+
+    module _ {reader middle reader' : Checked R} {held now : List ℕ} {page p q q' : Page W} {s t u : Account Origin}
         {c d : Run} {count : ℕ} (f : SoFar remaining contents session c reader middle held page p s t count)
         (waited : Went contents c d p q t u (λ later. started c (room_for session.window ∷ later))
-        (λ later. started d later) done []) where
-      -- Lines were taken, and there is room for one more.
-      abbrev at_line : List Aim → Stage
-      at_line later = first_stage session (taken_aims session.window f.taken ++ (room_for session.window ∷ later))
+        (λ later. started d later) done []) (few : open_in d.client < d.session.window)
+        (given : TakesAndKeeps remaining middle reader' held now []) (turned : Prints contents q q' [])
+        (needed : ReadForLine middle reader' q q' held now) where
+      abbrev roomy : Went contents (begins session f.datagram) d f.first q s u (λ (u : Unit {0}). first_stage session)
+          (λ (u : Unit {0}). started d (NextLine session.window count ∷ [])) done (f.feeds ++ [])
+      roomy = went_more f.went (went_at (λ (u : Unit {0}). NextLine session.window count ∷ []) waited)
 
-      roomy : Went contents (begins session f.datagram) d f.first q s u at_line (λ later. started d later) done
-          (f.inputs ++ [])
-      roomy = went_more (went_at (λ later. room_for session.window ∷ later) f.went) waited
+      same_lines : lines_in roomy.acts ≡ lines_in f.feeds
+      same_lines = lines_of roomy.acts (f.feeds ++ []) roomy.takes ∙ ap lines_in (append-nil f.feeds)
 
-      roomy_within : IsWithin session.window (start session) roomy.acts
-      unfolding roomy
-      roomy_within = within_both session.window (went_at (λ later. room_for session.window ∷ later) f.went) waited
-          (within_at session.window f.went (λ later. room_for session.window ∷ later) f.within)
-          (quiet_went session.window waited tt)
+      read_next : ReadForLine middle reader' q q' held now → IsReadWhenDue session reader reader'
+          (f.fed.given ++ given.given) roomy.acts
+          (λ earlier. HasPassed page (writer_of q') (journal_lines session earlier))
+      read_next (inl unread) =
+          let none : given.given ≡ [] = append_cancel_left held given.given []
+          (given.order ∙ unread.kept ∙ sym (append-nil held)) in
+          let past = λ (earlier : List Act) (passed : HasPassed page (writer_of p) (journal_lines session earlier)).
+          passed_later turned (passed_later waited.prints passed) in
+          subst (λ (last : Checked R). IsReadWhenDue session reader last (f.fed.given ++ given.given) roomy.acts
+          (λ earlier. HasPassed page (writer_of q') (journal_lines session earlier))) (sym unread.same)
+          (subst (λ (octets : List ℕ). IsReadWhenDue session reader middle octets roomy.acts
+          (λ earlier. HasPassed page (writer_of q') (journal_lines session earlier)))
+          (sym (ap (λ (os : List ℕ). f.fed.given ++ os) none ∙ append-nil f.fed.given))
+          (due_on (λ earlier. HasPassed page (writer_of p) (journal_lines session earlier))
+          (λ earlier. HasPassed page (writer_of q') (journal_lines session earlier)) roomy.acts _
+          (more_acts f.went (went_at (λ (u : Unit {0}). NextLine session.window count ∷ []) waited)) past f.fed.read))
+      read_next (inr on) = inr (record {
+        before = f.fed.given ++ on.last.before;
+        held = held ++ on.last.before;
+        earlier = roomy.acts;
+        later = [];
+        order = ap (λ (os : List ℕ). f.fed.given ++ os)
+            (append_cancel_left held given.given (on.last.before ++ last_of reader')
+            (given.order ∙ on.last.order ∙ append_assoc held on.last.before (last_of reader')))
+            ∙ sym (append_assoc f.fed.given on.last.before (last_of reader'));
+        did = sym (append-nil roomy.acts);
+        took = ap (λ (os : List ℕ). os ++ on.last.before) (feeds_whole Open f.feeds f.fed.given held f.fed.feeds_on)
+            ∙ append_assoc (concat (lines_in f.feeds)) held on.last.before
+            ∙ ap (λ (ls : List (List ℕ)). concat ls ++ (held ++ on.last.before)) (sym same_lines);
+        no_line = (on.last.no_feed, on.last.short);
+        wanted = subst (λ (stage : Stage). WantsLine session stage) (sym (roomy.comes tt))
+            (count, refl, refl, subst (λ (x : Session). open_in d.client < x.window) roomy.same few);
+        told = subst (λ (os : List ℕ). HasPassed page (writer_of q') os) (append-nil (journal_lines session roomy.acts))
+            (passed_before (f.settings ⨾ roomy.prints) (passed_turned on.turned_in));
+      })
 
-      -- The run as a whole, whatever it came to behind that, about these aims.
-      whole_run : {e : Run} {r : Page W} {v : Account Origin} {to : List Aim → Stage} {inputs : List Act}
-          {reader'' : Checked R} (result : Result TraceEnd RunFault) (reading : Reading) (rest : List ℕ)
-          (front : List Aim → List Aim) (later : List Aim)
-          (all : Went contents (begins session f.datagram) e f.first r s v (λ later. at_line (front later)) to result
-          inputs) → aims_in_room session.window reading (lines rest reading) ≡ front later
-          → Takes remaining reader reader'' all.acts result
-          → octets_of reader'' ≡ octets_of reader ++ (concat f.taken ++ rest)
-          → ReaderStands remaining reading reader reader'' [] → IsOver result e.client
-          → IsWithin session.window (start session) all.acts
-          → EndsAt result reading (f.taken ++ lines rest reading)
-          (stage_after session.config.timeout (at_line (front later)) all.acts)
-          → RunsOn remaining contents session reader reader'' page r s v result
-      whole_run {r = r} result reading rest front later all is takes gave stands over within ends =
-          let all_aims = ap (λ (ls : List (List ℕ)). aims_of_lines session.window reading ls) (f.split rest reading)
-          ∙ aims_so_far session.window reading f.taken (lines rest reading) f.good
-          ∙ ap (λ (others : List Aim). taken_aims session.window f.taken ++ (room_for session.window ∷ others)) is in
-          record {
-            acts = all.acts;
-            takes = takes;
-            course = record {
-              given = concat f.taken ++ rest;
-              reading = reading;
-              gave = gave;
-              stands = stands;
-              goes = subst (λ (xs : List Aim). Goes session.config.timeout (first_stage session xs) all.acts)
-                  (sym all_aims) (all.goes later);
-              ends = ends_as session all.acts result reading (f.split rest reading) all_aims ends;
-            };
-            prints = f.settings ⨾ all.prints;
-            out = out_behind (start session) page f.first r f.settings all.out;
-            asks = all.asks;
-            fit = all.fit;
-            over = subst (λ (client : Client). IsOver result client) all.client_is over;
-            within = within;
-          }
+      fed_next : IsFed remaining session reader reader' now page (writer_of q') roomy.acts (f.feeds ++ [])
+      fed_next = record {
+        given = f.fed.given ++ given.given;
+        gave = gave_more f.fed.gave given.gave;
+        feeds_on = feeds_on Open f.feeds [] f.fed.given held given.given now f.fed.feeds_on given.order;
+        read = read_next needed;
+      }
 
-      module _ {reader' : Checked R} {now : List ℕ} {q' : Page W}
-          (given : TakesAndKeeps remaining middle reader' held now []) (turned : Prints contents q q' []) where
-        gives_now : TakesAndKeeps remaining reader reader' [] now (concat f.taken)
-        gives_now = subst (λ (xs : List ℕ). TakesAndKeeps remaining reader reader' [] now xs) (append-nil
-            (concat f.taken))
-            (Takes-more f.gives given)
+      same_feeds : (ys : List Act) → lines_in ((f.feeds ++ []) ++ ys) ≡ lines_in f.feeds ++ lines_in ys
+      same_feeds ys =
+          lines_push (f.feeds ++ []) ys ∙ ap (λ (xs : List Act). lines_in xs ++ lines_in ys) (append-nil f.feeds)
 
-        gives_line : (n : ℕ)
-            → TakesAndKeeps remaining reader reader' [] (drop n now) (concat (f.taken ++ take n now ∷ []))
-        gives_line n = subst (λ (xs : List ℕ). TakesAndKeeps remaining reader reader' [] (drop n now) xs)
-            (sym (concat_push f.taken (take n now))) (Takes-more f.gives (Takes-front n given))
+      -- The writer fails before more is read.
+      pub stops_unread : ReaderStands remaining Open middle reader' now
+          → RunsOn remaining contents session reader reader' page q' s u (Err write_failed)
+      stops_unread stands =
+          stops f.settings roomy fed_next turned now (Err write_failed) Open
+          (went_stopped TraceEnd d q' u (λ (u : Unit {0}). started d (NextLine session.window count ∷ []))
+          (λ (u : Unit {0}). started d []) WriteFailed (λ u. tt)) refl (reads_on f.stands stands) tt tt
 
-        gave_now : octets_of reader' ≡ octets_of reader ++ (concat f.taken ++ now)
-        gave_now = (gave_so gives_now).passed
+      -- The reader failed.
+      pub stops_reading : {e : Run} {r : Page W} {v : Account Origin} (fault : RunFault)
+          → Went contents d e q' r u v (λ later. started d (ending (Err ReadFailed) later))
+          (λ later. started e later) (stopped fault) [] → IsOver (failed TraceEnd fault) e.client → HasNoWhole now
+          → ReaderStands remaining Failed middle reader' []
+          → RunsOn remaining contents session reader reader' page r s v (failed TraceEnd fault)
+      stops_reading fault last over none stands =
+          stops f.settings roomy fed_next turned {to = λ (u : Unit {0}). started d []} now (failed TraceEnd fault)
+          Failed
+          (went_more (went_none d q' u Failed (λ u. tt) (λ u. refl))
+          (went_failed TraceEnd fault (went_at (λ (u : Unit {0}). []) last)))
+          (refl, none, refl) (reading_on remaining _ _ _ Failed f.stands stands) over tt
 
-        -- It stops, where it may be after a wait, and no further line is taken.
-        takes_no_more : (fault : RunFault) (acts : List Act) → inputs_in acts ≡ f.inputs
-            → Takes remaining reader reader' acts (failed TraceEnd fault)
-        takes_no_more fault acts is = record {
-          taken = f.taken;
-          kept = now;
-          cut = cut_all f.taken f.cut;
-          gave = gave_so gives_now;
-          all_done = ([], grind (arith, append-nil, is, f.asked));
-        }
+      -- It ends where no line is left.
+      pub ends_unread : {e : Run} {r : Page W} {v : Account Origin} (result : Result TraceEnd RunFault) → now ≡ []
+          → IfOk result (λ end. end.lines ≡ count)
+          → Went contents d e q' r u v (λ later. started d (ending (Ok (record { lines = count })) later))
+          (λ later. started e (Ends (Ok (record { lines = count })) ∷ later)) result [] → IsOver result e.client
+          → ReaderStands remaining AtEnd middle reader' []
+          → RunsOn remaining contents session reader reader' page r s v result
+      ends_unread {e} result none counted last over stands =
+          let same = sym (same_feeds (NoLine AtEnd ∷ []) ∙ append-nil (lines_in f.feeds)) in
+          stops f.settings roomy fed_next turned [] result AtEnd
+          (went_more (went_none d q' u AtEnd (λ u. tt) (λ u. refl)) (went_at (λ (u : Unit {0}). []) last))
+          (refl, none, none) (reading_on remaining _ _ _ AtEnd f.stands stands) over
+          (well_so e result count (lines_in ((f.feeds ++ []) ++ NoLine AtEnd ∷ [])) [] counted
+          (subst (λ (ls : List (List ℕ)). AllByRecursion IsGood ls) same f.good) refl
+          (f.counts ∙ ap (λ (ls : List (List ℕ)). length ls) same))
 
-        -- The writer fails before more is read.
-        pub stops_unread : ReaderStands remaining Open middle reader' now
-            → RunsOn remaining contents session reader reader' page q' s u (Err write_failed)
-        stops_unread stands =
-            let stop : Went contents d d q' q' u u (λ later. started d later) (λ later. started d later)
-            (failed TraceEnd write_failed) [] = went_stopped TraceEnd d q' u (λ later. started d later) WriteFailed in
-            let all = went_more roomy (went_turned turned stop) in
-            let aims = aims_in_room session.window Open (lines now Open) in
-            whole_run (Err write_failed) Open now (λ (later : List Aim). later) aims all refl
-            (takes_no_more write_failed all.acts (grind (arith, append-nil, all.of_input))) gave_now
-            (reads_on f.stands stands) tt
-            (within_both session.window roomy (went_turned turned stop) roomy_within
-            (quiet_went session.window (went_turned turned stop) tt)) tt
+      module _ (n number : ℕ) (line : List ℕ) (is : line ≡ take n now) (numbered : number ≡ count + 1)
+          (reading : Reading) (cut : Cuts reading (take n now) (drop n now)) where
+        front_is : acts_of_line cut.front ≡ acts_of_line line
+        front_is = cut.same ∙ ap acts_of_line (sym is)
 
-        -- The reader failed.
-        pub stops_reading : {e : Run} {r : Page W} {v : Account Origin} (fault : RunFault)
-            → Went contents d e q' r u v (λ later. started d (Turns (FewOpen 0) most_turns ∷ later))
-            (λ later. started e later) (stopped fault) []
-            → (fault ≡ Script ReadFailed) ⊎ IsOfWait fault → IsOverAt fault e.client
-            → lines now Failed ≡ [] → ReaderStands remaining Failed middle reader' []
+        abbrev taken : {A : Type 0} {e : Run} {r : Page W} {v : Account Origin} {to : Unit {0} → Stage} {ys : List Act}
+            {result : Result A RunFault} → Went contents d e q' r u v
+            (λ (u : Unit {0}). started d (aims_for (acts_of_line line) session.window number line [])) to result ys
+            → Went contents d e q' r u v (λ (u : Unit {0}). started d (NextLine session.window count ∷ [])) to result
+            (Took cut.front ∷ ys)
+        taken then =
+            went_more (went_took d q' u cut.front (λ u. tt)
+            (λ u. ap (λ (aims : List Aim). started d aims) (same_aims (acts_of_line cut.front) (acts_of_line line)
+            session.window (suc count) number cut.front line front_is (omega (arith, numbered))
+            (λ k. cut.alike k ∙ ap (λ (os : List ℕ). fault_of_line k os) (sym is)))) few) then
+
+        split : now ≡ cut.front ++ (cut.rest ++ drop n now)
+        split = sym (take-append-drop n now) ∙ ap (λ (os : List ℕ). os ++ drop n now) cut.split
+            ∙ append_assoc cut.front cut.rest (drop n now)
+
+        -- It stops at a line.
+        pub stops_line : {e : Run} {r : Page W} {v : Account Origin} (fault : RunFault)
+            → Went contents d e q' r u v
+            (λ later. started d (aims_for (acts_of_line line) session.window number line later))
+            (λ later. started e (taking session.window number later)) (failed (Unit {0}) fault) []
+            → IsOver (failed TraceEnd fault) e.client → ReaderStands remaining reading middle reader' []
             → RunsOn remaining contents session reader reader' page r s v (failed TraceEnd fault)
-        stops_reading {e} fault last named over none stands =
-            let wait = λ (later : List Aim). Turns (FewOpen 0) most_turns ∷ later in
-            let end = went_turned turned (went_err TraceEnd fault (λ (later : List Aim). refl) last) in
-            let all = went_more (went_at wait roomy) end in
-            let no_fault = ap (λ (ls : List (List ℕ)). fault_in 1 (f.taken ++ ls)) none
-            ∙ faults_taken 1 f.taken [] f.good in
-            whole_run (failed TraceEnd fault) Failed now wait [] all
-            (ap (λ (ls : List (List ℕ)). aims_in_room session.window Failed ls) none)
-            (takes_no_more fault all.acts (grind (arith, append-nil, all.of_input))) gave_now
-            (reading_on remaining _ _ _ Failed f.stands stands) over
-            (within_both session.window (went_at wait roomy) end (within_at session.window roomy wait roomy_within)
-            (quiet_went session.window end tt))
-            (ends_read fault (f.taken ++ lines now Failed)
-            (stage_after session.config.timeout (at_line (wait [])) all.acts) e named (all.comes []) no_fault)
+        stops_line fault last over stands =
+            stops f.settings roomy fed_next turned {to = λ (u : Unit {0}). started d []} (cut.rest ++ drop n now)
+            (failed TraceEnd fault) reading
+            (taken (went_failed TraceEnd fault (went_at (λ (u : Unit {0}). []) last)))
+            (cut.rest ++ drop n now, split, cut.whole, refl) (reading_on remaining _ _ _ reading f.stands stands)
+            over tt
 
-        -- It ends where no line is left.
-        pub ends_unread : {e : Run} {r : Page W} {v : Account Origin} (result : Result TraceEnd RunFault) → now ≡ []
-            → IfOk result (λ end. end.lines ≡ count) → IfErr result IsOfWait
-            → Went contents d e q' r u v (λ later. started d (Turns (FewOpen 0) most_turns ∷ later))
-            (λ later. started e later) result [] → IsOver result e.client
-            → ReaderStands remaining AtEnd middle reader' []
-            → RunsOn remaining contents session reader reader' page r s v result
-        ends_unread {e} result none counted waits last over stands =
-            let wait = λ (later : List Aim). Turns (FewOpen 0) most_turns ∷ later in
-            let end = went_turned turned last in
-            let all = went_more (went_at wait roomy) end in
-            let none_read : lines now AtEnd ≡ [] = rw none refl in
-            let no_fault = ap (λ (ls : List (List ℕ)). fault_in 1 (f.taken ++ ls)) none_read
-            ∙ faults_taken 1 f.taken [] f.good in
-            let size = ap (λ (ls : List (List ℕ)). length (f.taken ++ ls)) none_read
-            ∙ ap (λ (ls : List (List ℕ)). length ls) (append-nil f.taken) ∙ sym f.counts in
-            whole_run result AtEnd now wait [] all
-            (ap (λ (ls : List (List ℕ)). aims_in_room session.window AtEnd ls) none_read)
-            (record {
-              taken = f.taken;
-              kept = [];
-              cut = cut_all f.taken f.cut;
-              gave = gave_so (rw none at gives_now);
-              all_done = all_done_so result f.taken all.acts count counted
-                  (grind (arith, append-nil, all.of_input, f.asked)) f.good f.counts;
-            })
-            gave_now (reading_on remaining _ _ _ AtEnd f.stands stands) over
-            (within_both session.window (went_at wait roomy) end (within_at session.window roomy wait roomy_within)
-            (quiet_went session.window end tt))
-            (ends_all result (f.taken ++ lines now AtEnd)
-            (stage_after session.config.timeout (at_line (wait [])) all.acts) e count counted waits
-            (all.comes []) no_fault size)
+        module _ (good : IsGood line) where
+          front_good : IsGood cut.front
+          front_good none = good (sym front_is ∙ none)
 
-        module _ (n : ℕ) (line : List ℕ) (is : line ≡ take n now) where
-          -- It stops at a line.
-          pub stops_line : {e : Run} {r : Page W} {v : Account Origin} (fault : RunFault) (reading : Reading)
-              → IsCut (take n now) now reading → EndsWithFeed (take n now) ⊎ HasNoFeed (take n now)
-              → d.session ≡ session
-              → WentFor contents d e q' r u v (failed (Unit {0}) fault) (acts_of_line line)
-              → IsOverAt fault e.client → IsNamed fault (count + 1) line
-              → ReaderStands remaining reading middle reader' []
-              → RunsOn remaining contents session reader reader' page r s v (failed TraceEnd fault)
-          stops_line {e} fault reading cut one same went over named stands =
-              let whole_is : acts_of_line cut.whole ≡ acts_of_line line = cut.same ∙ ap acts_of_line (sym is) in
-              let behind = aims_behind (is_some (acts_of_line line))
-              (room_for session.window ∷ aims_in_room session.window reading cut.others) in
-              let front = λ (later : List Aim). aims_for (acts_of_line line) ++ later in
-              let here = went_turned turned (went_fault TraceEnd fault went.went) in
-              let all = went_more (went_at front roomy) here in
-              let (rest, done_so) = went.is_done in
-              let flat = flat_push f.taken (take n now) in
-              let asked = ap acts_or_none is in
-              whole_run (failed TraceEnd fault) reading now front behind all
-              (ap (λ (ls : List (List ℕ)). aims_in_room session.window reading ls) cut.split
-              ∙ ap (λ (o : Option (List Act)). aims_for o ++ aims_behind (is_some o) (room_for session.window
-              ∷ aims_in_room session.window reading cut.others)) whole_is)
-              (record {
-                taken = f.taken ++ take n now ∷ [];
-                kept = drop n now;
-                cut = cut_push f.taken (take n now) f.cut one;
-                gave = gave_so (gives_line n);
-                all_done = (rest, grind (arith, append_assoc, append-nil, all.of_input, f.asked, flat, done_so, asked));
-              })
-              gave_now (reading_on remaining _ _ _ reading f.stands stands) over
-              (within_both session.window (went_at front roomy) here (within_at session.window roomy front roomy_within)
-              (within_fault session.window TraceEnd fault turned went.went (rw same at went.within)))
-              (ends_line fault (count + 1) line reading (f.taken ++ lines now reading) (started e behind)
-              (stage_after session.config.timeout (at_line (front behind)) all.acts) named (all.comes behind)
-              (λ none. rw none (at_rest e))
-              (λ none. ap (λ (ls : List (List ℕ)). fault_in 1 (f.taken ++ ls)) cut.split
-              ∙ faults_taken 1 f.taken (cut.whole ∷ cut.others) f.good
-              ∙ rw (whole_is, none) (ap (λ (x : TraceFault). Some x)
-              (cut.alike (1 + length f.taken) ∙ ap (λ (ls : List ℕ). fault_of_line (1 + length f.taken) ls) (sym is)
-              ∙ ap (λ (m : ℕ). fault_of_line m line) (omega (arith, f.counts))))))
+          all_taken : cut.rest ++ drop n now ≡ drop n now
+          all_taken = ap (λ (os : List ℕ). os ++ drop n now)
+              (cut.all (λ none. good (ap acts_of_line is ∙ none)))
 
-          -- One more line, behind which more comes.
-          pub so_far_more : {e : Run} {r : Page W} {v : Account Origin} → IsLineCut Open (take n now)
-              → d.session ≡ session → WentFor contents d e q' r u v done (acts_of_line line)
-              → ReaderStands remaining Open middle reader' (drop n now)
-              → SoFar remaining contents session e reader reader' (drop n now) page r s v (count + 1)
-          so_far_more cut same taken stands =
-              let wanted : acts_of_line (take n now) ≡ Some taken.inputs = ap acts_of_line (sym is) ∙ taken.is_done in
-              let good = good_so (take n now) taken.inputs wanted in
-              let flat = flat_push f.taken (take n now) in
-              let acts = acts_so (take n now) taken.inputs wanted in
-              let ended = feed_so (take n now) cut good in
-              let front = λ (later : List Aim). aims_for (acts_of_line line) ++ later in
-              let aims : taken_aims session.window (f.taken ++ take n now ∷ [])
-              ≡ taken_aims session.window f.taken ++ (room_for session.window ∷ aims_for (acts_of_line line)) =
-              taken_push session.window f.taken (take n now)
-              ∙ ap (λ (xs : List ℕ). taken_aims session.window f.taken ++ (room_for session.window
-              ∷ aims_for (acts_of_line xs))) (sym is) in
-              let here = went_turned turned taken.went in
-              let all = went_more (went_at front roomy) here in
-              let same_stage : (later : List Aim)
-              → first_stage session (taken_aims session.window (f.taken ++ take n now ∷ []) ++ later)
-              ≡ at_line (front later) =
-              λ later. ap (λ (xs : List Aim). first_stage session xs)
-              (ap (λ (xs : List Aim). xs ++ later) aims
-              ∙ append_assoc (taken_aims session.window f.taken) (room_for session.window
-              ∷ aims_for (acts_of_line line))
-              later) in
-              record {
-                datagram = f.datagram;
-                first = f.first;
-                settings = f.settings;
-                inputs = (f.inputs ++ []) ++ taken.inputs;
-                taken = f.taken ++ take n now ∷ [];
-                went = went_from same_stage all;
-                cut = all_push EndsWithFeed f.taken (take n now) f.cut ended;
-                good = all_push IsGood f.taken (take n now) f.good good;
-                split = λ more reading. split_push f.taken (take n now) more reading f.split ended;
-                gives = gives_line n;
-                stands = reads_on f.stands stands;
-                asked = grind (arith, append-nil, f.asked, flat, acts);
-                within = within_from session.window same_stage all
-                    (within_both session.window (went_at front roomy) here
-                    (within_at session.window roomy front roomy_within)
-                    (within_turned session.window turned taken.went (rw same at taken.within)));
-                counts = grind (arith, length-append, f.counts);
-              }
+          -- One more line, after which more comes.
+          pub so_far_more : {e : Run} {r : Page W} {v : Account Origin} → reading ≡ Open
+              → Went contents d e q' r u v
+              (λ later. started d (aims_for (acts_of_line line) session.window number line later))
+              (λ later. started e (taking session.window number later)) done []
+              → CanReadOn middle reader'
+              → SoFar remaining contents session e reader reader' (drop n now) page r s v number
+          so_far_more {e} opened last stands =
+              goes_on f.settings roomy fed_next turned (taken (went_at (λ (u : Unit {0}). []) last)) (
+                cut.rest ++ drop n now,
+                split,
+                subst (λ (x : Reading). IsWhole cut.front ⊎ IsLast x cut.front (cut.rest
+                    ++ drop n now)) opened cut.whole,
+                all_taken,
+              )
+              (subst (λ (xs : List Act). AllByRecursion IsGood (lines_in xs)) (sym (append-nil f.feeds)) f.good)
+              (front_good, tt)
+              (omega (
+                arith,
+                numbered,
+                f.counts,
+                ap (λ (xs : List Act). length (lines_in xs)) (append-nil f.feeds),
+              ))
+              (reads_on f.stands stands)
 
-          -- It ends behind the last line, which may lack its line feed.
-          pub ends_behind : {e g : Run} {r last : Page W} {v w : Account Origin} (result : Result TraceEnd RunFault)
-              → lines now AtEnd ≡ take n now ∷ [] → EndsWithFeed (take n now) ⊎ HasNoFeed (take n now)
-              → drop n now ≡ [] → d.session ≡ session → WentFor contents d e q' r u v done (acts_of_line line)
-              → Went contents e g r last v w
-              (λ later. started e (room_for session.window ∷ Turns (FewOpen 0) most_turns ∷ later))
-              (λ later. started g later) result []
-              → IfOk result (λ end. end.lines ≡ count + 1) → IfErr result IsOfWait → IsOver result g.client
+          all_good : AllByRecursion IsGood (lines_in ((f.feeds ++ []) ++ Took cut.front ∷ NoLine AtEnd ∷ []))
+          all_good = subst (λ (ls : List (List ℕ)). AllByRecursion IsGood ls) (sym (same_feeds (Took cut.front ∷ NoLine
+              AtEnd ∷ [])))
+              (all_append (lines_in f.feeds) (cut.front ∷ []) f.good (front_good, tt))
+
+          -- It ends after the last line, which may lack its line feed.
+          pub ends_behind : {e g h : Run} {r mid last : Page W} {v w x : Account Origin} (result : Result TraceEnd
+              RunFault)
+              → reading ≡ AtEnd → drop n now ≡ [] → Went contents d e q' r u v
+              (λ later. started d (aims_for (acts_of_line line) session.window number line later))
+              (λ later. started e (taking session.window number later)) done []
+              → Went contents e g r mid v w (λ later. started e (room_for session.window ∷ later))
+              (λ later. started g later) done []
+              → Went contents g h mid last w x (λ later. started g (ending (Ok (record { lines = number })) later))
+              (λ later. started h (Ends (Ok (record { lines = number })) ∷ later)) result []
+              → IfOk result (λ end. end.lines ≡ number) → IsOver result h.client
               → ReaderStands remaining AtEnd middle reader' []
-              → RunsOn remaining contents session reader reader' page last s w result
-          ends_behind {g} result split one none same taken then counted waits over stands =
-              let wanted : acts_of_line (take n now) ≡ Some taken.inputs = ap acts_of_line (sym is) ∙ taken.is_done in
-              let good = good_so (take n now) taken.inputs wanted in
-              let flat = flat_push f.taken (take n now) in
-              let acts = acts_so (take n now) taken.inputs wanted in
-              let end = λ (later : List Aim). room_for session.window ∷ Turns (FewOpen 0) most_turns ∷ later in
-              let front = λ (later : List Aim). aims_for (acts_of_line line) ++ end later in
-              let line_then = went_turned turned (went_more (went_at end taken.went) then) in
-              let all = went_more (went_at front roomy) line_then in
-              let all_good = all_push IsGood f.taken (take n now) f.good good in
-              let size : length (f.taken ++ lines now AtEnd) ≡ count + 1 =
-              ap (λ (ls : List (List ℕ)). length (f.taken ++ ls)) split ∙ grind (arith, length-append, f.counts) in
-              let no_fault : fault_in 1 (f.taken ++ lines now AtEnd) ≡ None =
-              ap (λ (ls : List (List ℕ)). fault_in 1 (f.taken ++ ls)) split
-              ∙ ap (λ (ls : List (List ℕ)). fault_in 1 ls) (sym (append-nil (f.taken ++ take n now ∷ [])))
-              ∙ faults_taken 1 (f.taken ++ take n now ∷ []) [] all_good in
-              whole_run result AtEnd now front [] all
-              (ap (λ (ls : List (List ℕ)). aims_in_room session.window AtEnd ls) split
-              ∙ ap (λ (xs : List ℕ). aims_for (acts_of_line xs) ++ aims_behind (is_some (acts_of_line xs)) (end []))
-              (sym is)
-              ∙ ap (λ (o : Option (List Act)). aims_for (acts_of_line line) ++ aims_behind (is_some o)
-              (end [])) taken.is_done)
-              (record {
-                taken = f.taken ++ take n now ∷ [];
-                kept = [];
-                cut = cut_push f.taken (take n now) f.cut one;
-                gave = gave_so (rw none at (gives_line n));
-                all_done = all_done_so result _ all.acts (count + 1) counted
-                    (grind (arith, append-nil, append_assoc, all.of_input, f.asked, flat, acts)) all_good
-                    (grind (arith, length-append, f.counts));
-              })
-              gave_now (reading_on remaining _ _ _ AtEnd f.stands stands) over
-              (within_both session.window (went_at front roomy) line_then
-              (within_at session.window roomy front roomy_within)
-              (within_turned session.window turned (went_more (went_at end taken.went) then)
-              (within_both session.window (went_at end taken.went) then
-              (within_at session.window taken.went end (rw same at taken.within)) (quiet_went session.window then tt))))
-              (ends_all result (f.taken ++ lines now AtEnd)
-              (stage_after session.config.timeout (at_line (front [])) all.acts) g (count + 1) counted waits
-              (all.comes []) no_fault size)
+              → RunsOn remaining contents session reader reader' page last s x result
+          ends_behind {g = g} {h = h} {mid = mid} {w = w} result over none took room end counted closed stands =
+              let nothing = all_taken ∙ none in
+              stops f.settings roomy fed_next turned [] result AtEnd
+              (taken (went_more (went_at (λ (u : Unit {0}). []) took)
+              (went_more (went_at (λ (u : Unit {0}). NextLine session.window number ∷ []) room)
+              (went_more (went_none g mid w AtEnd (λ u. tt) (λ u. refl)) (went_at (λ (u : Unit {0}). []) end))))) (
+                cut.rest ++ drop n now,
+                split,
+                subst (λ (x : Reading). IsWhole cut.front ⊎ IsLast x cut.front (cut.rest
+                    ++ drop n now)) over cut.whole,
+                (refl, nothing, nothing),
+              ) (reading_on remaining _ _ _ AtEnd f.stands stands) closed
+              (well_so h result number _ [] counted all_good refl
+              (omega (
+                arith,
+                numbered,
+                f.counts,
+                length-append (lines_in f.feeds) (cut.front ∷ []),
+                ap (λ (ls : List (List ℕ)). length ls) (same_feeds (Took cut.front ∷ NoLine AtEnd ∷ [])),
+              )))
 
-          -- It stops behind the last line, in a wait.
+          -- It stops after the last line, in a wait.
           pub stops_last : {e g : Run} {r last : Page W} {v w : Account Origin} (fault : RunFault)
-              → lines now AtEnd ≡ take n now ∷ [] → EndsWithFeed (take n now) ⊎ HasNoFeed (take n now)
-              → drop n now ≡ [] → d.session ≡ session → WentFor contents d e q' r u v done (acts_of_line line)
+              → Went contents d e q' r u v
+              (λ later. started d (aims_for (acts_of_line line) session.window number line later))
+              (λ later. started e (taking session.window number later)) done []
               → Went contents e g r last v w (λ later. started e (room_for session.window ∷ later))
-              (λ later. started g later) (failed (Unit {0}) fault) [] → IsOfWait fault
-              → ReaderStands remaining AtEnd middle reader' []
+              (λ later. started g later) (failed (Unit {0}) fault) [] → IsOver (failed TraceEnd fault) g.client
+              → ReaderStands remaining reading middle reader' []
               → RunsOn remaining contents session reader reader' page last s w (failed TraceEnd fault)
-          stops_last fault split one none same taken then waits stands =
-              ends_behind (failed TraceEnd fault) split one none same taken
-              (went_failed TraceEnd fault waits (went_at (λ later. Turns (FewOpen 0) most_turns ∷ later) then))
-              tt waits (over_wait fault _ waits) stands
+          stops_last fault took room over stands =
+              stops f.settings roomy fed_next turned {to = λ (u : Unit {0}). started d []} (cut.rest ++ drop n now)
+              (failed TraceEnd fault) reading
+              (taken (went_more (went_at (λ (u : Unit {0}). []) took)
+              (went_failed TraceEnd fault (went_at (λ (u : Unit {0}). NextLine session.window number ∷ []) room))))
+              (cut.rest ++ drop n now, split, cut.whole, refl) (reading_on remaining _ _ _ reading f.stands stands) over
+              tt
 
     -- It stops at a wait before a line is read.
     pub stops_waiting : {reader middle : Checked R} {held : List ℕ} {page p q : Page W} {s t u : Account Origin}
         {c d : Run} {count : ℕ} → SoFar remaining contents session c reader middle held page p s t count
         → (fault : RunFault) → Went contents c d p q t u (λ later. started c (room_for session.window ∷ later))
-        (λ later. started d later) (stopped fault) [] → IsOfWait fault
+        (λ later. started d later) (stopped fault) [] → IsOver (failed TraceEnd fault) d.client
         → RunsOn remaining contents session reader middle page q s u (failed TraceEnd fault)
-    stops_waiting {held} {page} {p} {q} {t} {u} {c} {d} f fault last waits =
-        let end : Went contents c d p q t u (λ later. started c (room_for session.window ∷ later))
-        (λ later. started d later) (failed TraceEnd fault) [] = went_failed TraceEnd fault waits last in
-        let room = λ (later : List Aim). room_for session.window ∷ later in
-        let all = went_more (went_at room f.went) end in
-        let aims = ap (λ (ls : List (List ℕ)). aims_of_lines session.window Open ls) (f.split held Open)
-        ∙ aims_so_far session.window Open f.taken (lines held Open) f.good in
-        record {
-          acts = all.acts;
-          takes = record {
-            taken = f.taken;
-            kept = held;
-            cut = cut_all f.taken f.cut;
-            gave = gave_so f.gives;
-            all_done = ([], grind (arith, append-nil, all.of_input, f.asked));
-          };
-          course = record {
-            given = concat f.taken ++ held;
-            reading = Open;
-            gave = (gave_so f.gives).passed;
-            stands = f.stands;
-            goes = subst (λ (xs : List Aim). Goes session.config.timeout (first_stage session xs) all.acts)
-                (sym aims) (all.goes (aims_in_room session.window Open (lines held Open)));
-            ends = ends_as session all.acts (failed TraceEnd fault) Open (f.split held Open) aims (ends_wait fault Open
-                (f.taken ++ lines held Open) _ _ waits (all.comes (aims_in_room session.window Open
-                (lines held Open))));
-          };
-          prints = f.settings ⨾ all.prints;
-          out = out_behind (start session) page f.first q f.settings all.out;
-          asks = all.asks;
-          fit = all.fit;
-          over = subst (λ (client : Client). IsOver (failed TraceEnd fault) client) all.client_is
-              (over_wait fault _ waits);
-          within = within_both session.window (went_at room f.went) end (within_at session.window f.went room f.within)
-              (quiet_went session.window end tt);
-        }
+    stops_waiting {held = held} {p = p} {d = d} {count = count} f fault last over =
+        stops f.settings f.went f.fed (prints_nothing p) {to = λ (u : Unit {0}). started d []} held (failed TraceEnd
+        fault) Open
+        (went_failed TraceEnd fault (went_at (λ (u : Unit {0}). NextLine session.window count ∷ []) last)) refl f.stands
+        over tt
 
-    -- What is left on the page in the end goes out, or the writer fails.
+    -- In the end the rest of the page goes out, or the writer fails.
     pub goes_out : {reader reader' : Checked R} {first last : Page W} {writer after back : Checked W} {s t : Account
         Origin}
-        {result : Result TraceEnd RunFault} → after ≡ back → RunsOn remaining contents session reader reader' first
-        last s t result
+        {result : Result TraceEnd RunFault} → after ≡ back
+        → RunsOn remaining contents session reader reader' first last s t result
         → AreSettings session → writer_of first ≡ writer → held first ≡ [] → room_of first ≡ Some folded_line
         → Writes contents (writer_of last) after (held last) [] []
         → Runs remaining contents session reader reader' writer back s t result
-    goes_out {first = first} {last = last} {after = after} is runs settings same empty folds gone = record {
-      acts = runs.acts;
-      takes = runs.takes;
-      course = runs.course;
-      printed = rw is at (folded_out same empty folds runs.prints gone);
-      out = λ earlier later wait waits split. rw is at
-          (out_whole same empty folds (passed_on first last after (runs.out earlier later wait waits split) gone));
-      asks = runs.asks;
-      over = runs.over;
-      within = runs.within;
-      fit = runs.fit;
-      settings = settings;
-    }
+    goes_out {first = first} {last = last} {writer = writer} {after = after} {back = back} is runs settings same empty
+        folds gone = record {
+          acts = runs.acts;
+          takes = runs.takes;
+          goes = runs.goes;
+          ends = runs.ends;
+          read = due_on (λ earlier. HasPassed first (writer_of last) (journal_lines session earlier))
+              (λ earlier. IsTold session writer back earlier) runs.acts [] (sym (append-nil runs.acts))
+              (λ earlier passed. rw is at (out_whole same empty folds (passed_on first last after passed gone)))
+              runs.read;
+          printed = rw is at (folded_out same empty folds runs.prints gone);
+          out = λ earlier later wait waits split. rw is at
+              (out_whole same empty folds (passed_on first last after (runs.out earlier later wait waits split) gone));
+          asks = runs.asks;
+          over = runs.over;
+          within = runs.within;
+          fit = runs.fit;
+          settings = settings;
+        }
 
     -- It is told that the writer has failed.
-    pub cut_off : {reader reader' : Checked R} {writer after : Checked W} {s t : Account Origin} {result : Result
-        TraceEnd RunFault}
-        → Runs remaining contents session reader reader' writer after s t result
+    pub cut_off : {reader reader' : Checked R} {writer after : Checked W} {s t : Account Origin}
+        {result : Result TraceEnd RunFault} → Runs remaining contents session reader reader' writer after s t result
         → Runs remaining contents session reader reader' writer after s t (Err write_failed)
-    cut_off {result} runs = record {
-      acts = runs.acts;
-      takes = record {
-        taken = runs.takes.taken;
-        kept = runs.takes.kept;
-        cut = runs.takes.cut;
-        gave = runs.takes.gave;
-        all_done = done_front result _ _ _ runs.takes.all_done;
-      };
-      course = record {
-        given = runs.course.given;
-        reading = runs.course.reading;
-        gave = runs.course.gave;
-        stands = runs.course.stands;
-        goes = runs.course.goes;
-        ends = tt;
-      };
-      printed = runs.printed;
-      out = runs.out;
-      asks = record {
-        gained = runs.asks.gained;
-        gains = runs.asks.gains;
-        as_due = asked_cut result _ _ _ runs.asks.as_due;
-      };
-      over = tt;
-      within = runs.within;
-      fit = runs.fit;
-      settings = runs.settings;
-    }
+    cut_off {result} runs =
+        let (lost, asked, _) = runs.asks.as_due in
+        record {
+          acts = runs.acts;
+          takes = record {
+            given = runs.takes.given;
+            kept = runs.takes.kept;
+            reading = runs.takes.reading;
+            gave = runs.takes.gave;
+            stands = runs.takes.stands;
+            feeds = runs.takes.feeds;
+            all_done = done_so session runs.acts (Err write_failed) runs.takes.kept runs.goes tt tt;
+          };
+          goes = runs.goes;
+          ends = tt;
+          read = runs.read;
+          printed = runs.printed;
+          out = runs.out;
+          asks = record {
+            gained = runs.asks.gained;
+            gains = runs.asks.gains;
+            as_due = (lost, asked, tt);
+          };
+          over = tt;
+          within = runs.within;
+          fit = runs.fit;
+          settings = runs.settings;
+        }

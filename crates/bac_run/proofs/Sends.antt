@@ -1,10 +1,12 @@
--- What was sent is what the notes say.
-use Rattle.std.proofs.Common.{[], ap, arith, Err, inl, inr, List, Ok, Option, refl, Result, sym, ℕ, ◌++◌, ◌∙◌, ◌∷◌, ◌≡◌}
+-- A run sent the datagrams that its remarks name.
+use Rattle.bac_run.specs.{Rested, sends_at, sends_of, Sought, sought_in}
+use Rattle.std.proofs.Common.{[], ap, append_assoc, arith, Bool, Err, false, inl, inr, List, Ok, Option, refl, Result}
+use Rattle.std.proofs.Common.{sym, true, ℕ, ◌++◌, ◌∙◌, ◌∷◌, ◌≡◌}
 use Rattle.std.{proofs.lemmas.List.{append-nil, append_cancel_left, Concat.flat_map-append}, specs.List.flat_map}
 use Rattle.{bac_pdu.specs.Station, bac_tsm.specs.{Note, Sent, Client.Client}}
-use Rattle.bac_run.{proofs.Acts.unsent_cut, specs.{Act, AreSent, Asked, asked_by, Came, Checked, history_of, IsAsked}}
-use Rattle.bac_run.specs.{IsCut, IsLost, IsUnsent, Link, new_client, notes_of, Passed, Paused, posted_in, posts, Read}
-use Rattle.bac_run.specs.{RunFault, Runs, Script, SendFailed, sent_in, Session, Told, TraceEnd, turn_at}
+use Rattle.bac_run.specs.{Act, AreSent, Asked, asked_by, Asks, Came, Checked, Loses}
+use Rattle.bac_run.specs.{IsLost, Link, new_client, NoLine, Passed, Paused, posted_in, posts, Read}
+use Rattle.bac_run.specs.{RunFault, Runs, Script, SendFailed, sent_in, Session, Told, Took, TraceEnd, turn_at}
 use Rattle.{bac_script.specs.declared.tracing.TraceFault.TheVariants.WriteFailed, bac_links.specs.{Account, Entry}}
 
 posts_sent : (notes : List Note) → flat_map posted_in (posts notes) ≡ flat_map sent_in notes
@@ -15,39 +17,70 @@ posts_sent (_ ∷ notes) = posts_sent notes
 asked_none : (act : Act) → flat_map posted_in (asked_by act) ≡ []
 asked_none (Asked line event) = refl
 asked_none Paused = refl
+asked_none (Took line) = refl
+asked_none (NoLine reading) = refl
+asked_none (Sought to octets) = refl
+asked_none (Rested time) = refl
 asked_none (Came wait from octets) = refl
 asked_none (Passed wait heard) = refl
 asked_none (Told time) = refl
 asked_none (Read time) = refl
 
-history_sent : (client : Client) (acts : List Act)
-    → flat_map posted_in (history_of client acts) ≡ flat_map sent_in (notes_of client acts)
-history_sent client [] = refl
-history_sent client (act ∷ later) =
+-- What an act sends: a Who-Is, or what the notes say.
+sent_at : (client : Client) (act : Act)
+    → flat_map posted_in (sends_at client act) ≡ sought_in act ++ flat_map sent_in (turn_at client act).notes
+sent_at client (Sought to octets) = refl
+sent_at client (Asked line event) = posts_sent (turn_at client (Asked line event)).notes
+sent_at client (Came wait from octets) = posts_sent (turn_at client (Came wait from octets)).notes
+sent_at client (Told time) = posts_sent (turn_at client (Told time)).notes
+sent_at client Paused = refl
+sent_at client (Took line) = refl
+sent_at client (NoLine reading) = refl
+sent_at client (Rested time) = refl
+sent_at client (Passed wait heard) = refl
+sent_at client (Read time) = refl
+
+due_sent : (client : Client) (act : Act) → flat_map posted_in (asked_by act ++ sends_at client act)
+    ≡ sought_in act ++ flat_map sent_in (turn_at client act).notes
+due_sent client act =
     let none = asked_none act in
-    let here = posts_sent (turn_at client act).notes in
-    let rest = history_sent (turn_at client act).after later in
-    grind (arith, flat_map-append, append-nil, none, here, rest)
+    let here = sent_at client act in
+    grind (arith, flat_map-append, none, here)
 
--- A send of what is due failed: what was sent is what is due before it.
-cut_sent : (due gained : List Entry) → IsCut due gained → IsLost (flat_map posted_in due) (flat_map posted_in gained)
-cut_sent due gained (sent, later, to, octets, whole, was) =
-    ((to, octets), flat_map posted_in later, grind (arith, flat_map-append, append-nil, whole, was))
+-- The remarks name all that was sent; or all up to a send that failed.
+abbrev Tells : Client → List Act → (lost : Bool) → List Entry → Type 0
+Tells client acts false gained = flat_map posted_in gained ≡ sends_of client acts
+Tells client acts true gained = IsLost (sends_of client acts) (flat_map posted_in gained)
 
-unsent_lost : (client : Client) (acts : List Act) (gained : List Entry) → IsUnsent client acts gained
-    → IsLost (flat_map posted_in (history_of client acts)) (flat_map posted_in gained)
-unsent_lost client acts gained is = cut_sent (history_of client acts) gained (unsent_cut client acts gained is)
+tells : (client : Client) (acts : List Act) (gained : List Entry) (lost : Bool) → Asks client acts gained lost
+    → Tells client acts lost gained
+tells client [] gained false (none, sure) = rw none refl
+tells client [] gained true (none, bad) = absurd (cc)
+tells client (act ∷ acts) gained true (inr (none, lacks, (sent, later, to, octets, whole, was))) =
+    let here = due_sent client act in (
+      (to, octets),
+      flat_map posted_in later,
+      grind (arith, flat_map-append, append-nil, append_assoc, none, whole, was, here),
+    )
+tells client (act ∷ acts) gained false (inr (none, bad, _)) = absurd (cc)
+tells client (act ∷ acts) gained false (inl (rest, is, later)) =
+    let here = due_sent client act in
+    let more = tells (turn_at client act).after acts rest false later in
+    grind (arith, flat_map-append, is, here, more)
+tells client (act ∷ acts) gained true (inl (rest, is, later)) =
+    let here = due_sent client act in
+    let (gone, behind, more) = tells (turn_at client act).after acts rest true later in
+    (gone, behind, grind (arith, flat_map-append, append_assoc, is, here, more))
 
-sent_as_due : (result : Result TraceEnd RunFault) (client : Client) (acts : List Act) (gained : List Entry)
-    → IsAsked result client acts gained
-    → AreSent result (flat_map posted_in (history_of client acts)) (flat_map posted_in gained)
-sent_as_due (Ok end) client acts gained is = ap (λ (xs : List Entry). flat_map posted_in xs) is
-sent_as_due (Err (Script WriteFailed)) client acts gained (inl is) = inl (ap (λ
-    (xs : List Entry). flat_map posted_in xs) is)
-sent_as_due (Err (Script WriteFailed)) client acts gained (inr is) = inr (unsent_lost client acts gained is)
-sent_as_due (Err (Script fault)) client acts gained is = ap (λ (xs : List Entry). flat_map posted_in xs) is
-sent_as_due (Err (Link SendFailed)) client acts gained is = unsent_lost client acts gained is
-sent_as_due (Err (Link fault)) client acts gained is = ap (λ (xs : List Entry). flat_map posted_in xs) is
+sent_by : (client : Client) (acts : List Act) (gained : List Entry) (result : Result TraceEnd RunFault) (lost : Bool)
+    → Loses result lost → Tells client acts lost gained
+    → AreSent result (sends_of client acts) (flat_map posted_in gained)
+sent_by client acts gained (Ok end) lost loses is = rw loses at is
+sent_by client acts gained (Err (Script WriteFailed)) false loses is = inl is
+sent_by client acts gained (Err (Script WriteFailed)) true loses is = inr is
+sent_by client acts gained (Err (Script fault)) lost loses is = let sure : lost ≡ false = search in rw sure at is
+sent_by client acts gained (Err (Link SendFailed)) lost loses is = rw loses at is
+sent_by client acts gained (Err (Link fault)) lost loses is = let sure : lost ≡ false = search in rw sure at is
 
 module _ {Origin R W : Type 0} (remaining : R → Option (List ℕ)) (contents : W → Option (List ℕ)) where
   pub all_sent : (session : Session) (reader reader' : Checked R) (before after : Checked W)
@@ -55,11 +88,12 @@ module _ {Origin R W : Type 0} (remaining : R → Option (List ℕ)) (contents :
       (result : Result TraceEnd RunFault) (gained : List Entry)
       → (runs : Runs remaining contents session reader reader' before after seen left result)
       → left.history ≡ seen.history ++ gained
-      → AreSent result
-      (flat_map sent_in (notes_of (new_client session.config.timeout session.config.retries) runs.acts))
+      → AreSent result (sends_of (new_client session.config.timeout session.config.retries 0) runs.acts)
       (flat_map posted_in gained)
   all_sent session reader reader' before after seen left result gained runs is =
       let here : runs.asks.gained ≡ gained =
       append_cancel_left seen.history _ _ (sym (ap (λ (a : Account Origin). a.history) runs.asks.gains) ∙ is) in
-      rw (sym (history_sent (new_client session.config.timeout session.config.retries) runs.acts), sym here)
-      (sent_as_due result _ _ _ runs.asks.as_due)
+      let (lost, asked, loses) = runs.asks.as_due in
+      let client = new_client session.config.timeout session.config.retries 0 in
+      rw (sym here)
+      (sent_by client runs.acts runs.asks.gained result lost loses (tells client runs.acts runs.asks.gained lost asked))

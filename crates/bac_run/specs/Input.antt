@@ -1,37 +1,47 @@
 -- The lines of the input, and what a run does of each.
-use Rattle.std.specs.{List.{AllByRecursion, concat, flat_map}, Prelude.{[], Bool, Err, false, if◌then◌else◌, is_some}}
-use Rattle.std.specs.Prelude.{length, List, None, Ok, Option, option_and_then, Result, Some, suc, unwrap_or, ℕ, ◌&&◌}
-use Rattle.std.specs.{Prelude.{◌++◌, ◌==◌, ◌||◌, ◌∷◌, ◌≡◌, ◌≢◌, ◌⊎◌}, Result.result_ok}
+use Rattle.std.specs.{List.{AllByRecursion, flat_map}, Prelude.{[], Err, false, if◌then◌else◌, length}}
+use Rattle.std.specs.Prelude.{List, None, Ok, Option, option_map, Result, Some, unwrap_or, ℕ, ◌&&◌, ◌<◌, ◌≤◌}
+use Rattle.std.specs.{Prelude.{◌++◌, ◌==◌, ◌∷◌, ◌≡◌, ◌≢◌, ◌⊎◌}}
+use Rattle.bac_script.specs.{Limits.line_room, ReaderStands}
+use Rattle.bac_script.specs.{declared.input.Reading.{Reading, TheVariants.{AtEnd, Failed, Open}}}
 use Rattle.{bac_tsm.specs.Ask, bac_text.specs.longest_line, bac_print.specs.{Gave, declared.checked.Checked.Checked}}
-use Rattle.bac_script.specs.{Happens, Nothing, Said, said, declared.line.LineFault.{LineFault, TheVariants.TooLong}}
+use Rattle.bac_script.specs.{Blank, Happens, Remark, Said, said}
+use Rattle.bac_script.specs.{declared.line.LineFault.{LineFault, TheVariants.{Bad, TooLong}}}
 use Rattle.bac_script.specs.declared.tracing.{TraceEnd.TraceEnd, TraceFault.{TraceFault, TheVariants.BadLine}}
 use Rattle.bac_script.specs.Script.{fault_at}
-use Rattle.bac_run.specs.{declared.fault.RunFault.RunFault, Journal.{Act, Asked, ends_with_return, Paused}}
+use Rattle.bac_run.specs.{declared.fault.RunFault.RunFault}
+use Rattle.bac_run.specs.{Journal.{Act, Asked, ends_with_return, NoLine, Paused, Rested, Sought, Took}, Own.own_of}
 
--- The first octet of a line behind its blanks, spaces (32) and tabs (9), is # (35).
-abbrev pub is_remark : List ℕ → Bool
-is_remark [] = false
-is_remark (octet ∷ octets) = if octet == 32 || octet == 9 then is_remark octets else octet == 35
-
--- What is done of a line that says nothing: of a remark nothing, and at one without words the run waits.
-abbrev pub skipped : List ℕ → List Act
-skipped line = if is_remark line then [] else Paused ∷ []
-
--- What is done of a line that says this. A line that says anything but a request is bad.
+-- What is done of a line that says this: at one without words the run waits, of a remark nothing is done, and a request
+-- is asked for. A line that says anything else is bad.
 abbrev pub acts_of_said : List ℕ → Said → Option (List Act)
-acts_of_said line Nothing = Some (skipped line)
+acts_of_said line Blank = Some (Paused ∷ [])
+acts_of_said line Remark = Some []
 acts_of_said line (Happens (Ask peer service body)) = Some (Asked line (Ask peer service body) ∷ [])
 acts_of_said line _ = None
 
--- What a line says. No line says settings. Where it has 4,096 octets and lacks its line feed, and ends with a carriage
--- return, it is too long: the journal would have one more.
+-- A request to 0.0.0.0, which is the address of no device, is a bad line.
+abbrev pub addressed : Result Said LineFault → Result Said LineFault
+addressed (Ok (Happens (Ask peer service body))) =
+    if peer.ip == 0 then Err Bad else Ok (Happens (Ask peer service body))
+addressed result = result
+
+-- What a line says. No line says settings. If it has 4,096 octets, lacks its line feed and ends with a carriage return,
+-- it is too long: the journal would have one more.
 abbrev pub said_of : List ℕ → Result Said LineFault
 said_of line =
-    if length line == longest_line && ends_with_return line then Err TooLong else said false line
+    if length line == longest_line && ends_with_return line then Err TooLong else addressed (said false line)
 
--- What is done of a line, where it is not bad.
+-- The acts that a line asks for, if a script's reader says this of it. A line that a script does not have may be `who`
+-- or `wait`.
+abbrev pub acts_of_result : List ℕ → Result Said LineFault → Option (List Act)
+acts_of_result line (Ok what) = acts_of_said line what
+acts_of_result line (Err Bad) = option_map (λ act. act ∷ []) (own_of line)
+acts_of_result line (Err TooLong) = None
+
+-- The acts of a line, if it is not bad.
 abbrev pub acts_of_line : List ℕ → Option (List Act)
-acts_of_line line = option_and_then (acts_of_said line) (result_ok (said_of line))
+acts_of_line line = acts_of_result line (said_of line)
 
 -- The fault of a line that is bad or too long, by its number.
 abbrev pub fault_of_said : ℕ → Result Said LineFault → TraceFault
@@ -41,12 +51,6 @@ fault_of_said n (Err fault) = fault_at n fault
 abbrev pub fault_of_line : ℕ → List ℕ → TraceFault
 fault_of_line n line = fault_of_said n (said_of line)
 
--- The fault of the first of these lines that has one; the first line has this number.
-abbrev pub fault_in : ℕ → List (List ℕ) → Option TraceFault
-fault_in n [] = None
-fault_in n (line ∷ later) =
-    if is_some (acts_of_line line) then fault_in (suc n) later else Some (fault_of_line n line)
-
 abbrev pub acts_or_none : List ℕ → List Act
 acts_or_none line = unwrap_or (acts_of_line line) []
 
@@ -54,6 +58,8 @@ acts_or_none line = unwrap_or (acts_of_line line) []
 abbrev pub input_in : Act → List Act
 input_in (Asked line event) = Asked line event ∷ []
 input_in Paused = Paused ∷ []
+input_in (Sought to octets) = Sought to octets ∷ []
+input_in (Rested time) = Rested time ∷ []
 input_in _ = []
 
 abbrev pub inputs_in : List Act → List Act
@@ -67,15 +73,54 @@ HasNoFeed = AllByRecursion (λ octet. octet ≢ 10)
 abbrev pub EndsWithFeed : List ℕ → Type 0
 EndsWithFeed line = (text : List ℕ) × HasNoFeed text × (line ≡ text ++ 10 ∷ [])
 
--- Each line ends with its only line feed, which the last may lack.
-abbrev pub AreCut : List (List ℕ) → Type 0
-AreCut [] = Unit {0}
-AreCut (line ∷ []) = EndsWithFeed line ⊎ HasNoFeed line
-AreCut (line ∷ later) = EndsWithFeed line × AreCut later
-
 -- The line is not bad.
 abbrev pub IsGood : List ℕ → Type 0
 IsGood line = acts_of_line line ≢ None
+
+-- A line is whole: it ends with its only line feed, or has as many octets as a line that is too long.
+abbrev pub IsWhole : List ℕ → Type 0
+IsWhole line = (EndsWithFeed line × (length line ≤ line_room)) ⊎ (HasNoFeed line × (length line ≡ line_room))
+
+-- No whole line is among these octets.
+abbrev pub HasNoWhole : List ℕ → Type 0
+HasNoWhole octets = HasNoFeed octets × (length octets < line_room)
+
+-- The last line may lack its line feed: where reading has ended, it is all that is left.
+abbrev pub IsLast : Reading → (line rest : List ℕ) → Type 0
+IsLast reading line rest = (reading ≡ AtEnd) × (rest ≡ []) × HasNoWhole line × (line ≢ [])
+
+-- No line is left: reading has ended, and all octets are taken; or it failed, and no whole line is left.
+abbrev pub IsUsedUp : Reading → List ℕ → Type 0
+IsUsedUp Open octets = ⊥
+IsUsedUp AtEnd octets = octets ≡ []
+IsUsedUp Failed octets = HasNoWhole octets
+
+-- The acts by which a run takes its input.
+abbrev pub feed_in : Act → List Act
+feed_in (Took line) = Took line ∷ []
+feed_in (NoLine reading) = NoLine reading ∷ []
+feed_in _ = []
+
+abbrev pub feeds_in : List Act → List Act
+feeds_in = flat_map feed_in
+
+-- By these acts these octets are taken, one whole line after another, and some are kept, where reading stands so in the
+-- end.
+abbrev pub Feeds : Reading → (given kept : List ℕ) → List Act → Type 0
+Feeds reading given kept [] = given ≡ kept
+Feeds reading given kept (Took line ∷ later) = (rest : List ℕ) × (given ≡ line ++ rest)
+    × (IsWhole line ⊎ IsLast reading line rest) × Feeds reading rest kept later
+Feeds reading given kept (NoLine over ∷ later) = (over ≡ reading) × IsUsedUp over given
+    × Feeds reading given kept later
+Feeds reading given kept (act ∷ later) = ⊥
+
+-- The lines that acts take.
+abbrev pub line_in : Act → List (List ℕ)
+line_in (Took line) = line ∷ []
+line_in _ = []
+
+abbrev pub lines_in : List Act → List (List ℕ)
+lines_in = flat_map line_in
 
 -- With this result all that these lines ask for was done, in their order, and they are all that came; or a front of it.
 abbrev pub AllDone : Result TraceEnd RunFault → (taken : List (List ℕ)) → (kept : List ℕ) → (acts : List Act) → Type 0
@@ -83,11 +128,14 @@ AllDone (Ok end) taken kept acts = (inputs_in acts ≡ flat_map acts_or_none tak
     × (kept ≡ []) × (end.lines ≡ length taken)
 AllDone (Err fault) taken kept acts = (rest : List Act) × (flat_map acts_or_none taken ≡ inputs_in acts ++ rest)
 
--- What the reader gave are these lines, one after another, and what is kept behind them; what they ask for was done.
+-- What the reader gave are the lines that acts take, one after another, and what is kept after them; reading stands so
+-- in the end; and what the lines ask for was done.
 pub record Takes {R : Type 0} (remaining : R → Option (List ℕ)) (reader reader' : Checked R) (acts : List Act)
     (result : Result TraceEnd RunFault) : Type 0 where
-  pub taken : List (List ℕ)
+  pub given : List ℕ
   pub kept : List ℕ
-  pub cut : AreCut taken
-  pub gave : Gave remaining reader reader' (concat taken ++ kept)
-  pub all_done : AllDone result taken kept acts
+  pub reading : Reading
+  pub gave : Gave remaining reader reader' given
+  pub stands : ReaderStands remaining reading reader reader' []
+  pub feeds : Feeds reading given kept (feeds_in acts)
+  pub all_done : AllDone result (lines_in acts) kept acts

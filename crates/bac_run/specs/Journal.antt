@@ -2,26 +2,28 @@
 use Rattle.std.specs.{List.flat_map, Prelude.{[], Bool, codes, decimal, if◌then◌else◌, length, List, nat_le, nat_lt}}
 use Rattle.std.specs.Prelude.{None, slice_index, true, ℕ, ◌&&◌, ◌++◌, ◌-◌, ◌<◌, ◌==◌, ◌^◌, ◌∷◌, ◌≡◌}
 use Rattle.{hex.specs.Hex.{encode_lower, IsBytes}, bac_pdu.specs.Station}
-use Rattle.bac_tsm.specs.{Data, Event, initial, keeping, Note, rules_of, Sent, step, Stepped, Tick, Client.Client}
-use Rattle.{bac_print.specs.peer_text, bac_script.specs.{Line.ends_with_feed, Text.note_text}}
+use Rattle.bac_tsm.specs.{Data, Event, keeping, Note, Sent, Tick, Client.Client}
+use Rattle.{bac_print.specs.peer_text, bac_script.specs.{step_of, Line.ends_with_feed, Text.note_text}}
+use Rattle.{bac_script.specs.declared.input.Reading.Reading}
 use Rattle.bac_links.specs.{Arrived, Entry, Heard, Posted, Timed, Waited}
 
--- One thing that a run does: a line of its input asks for a request; a line without words was waited for; a datagram is
--- heard in a wait of so long, and handed to the client; a wait of so long hears nothing that is handed on; the time is
--- read; the client is told a time that was read.
+-- One thing that a run does: it takes a line of its input; it finds that no line is left, since reading has ended or
+-- failed; a line of its input asks for a request; a line without words was waited for; a Who-Is is sent, which opens no
+-- request; a line has waited so many milliseconds; a datagram is heard in a wait of so long, and handed to the client;
+-- a wait of so long hears nothing that is handed on; the time is read; the client gets a time that was read.
 pub data Act : Type 0 where
+  Took : (line : List ℕ) → Act
+  NoLine : (reading : Reading) → Act
   Asked : (line : List ℕ) (event : Event) → Act
   Paused : Act
+  Sought : (to : Station) (octets : List ℕ) → Act
+  Rested : (time : ℕ) → Act
   Came : (wait : ℕ) (from : Station) (octets : List ℕ) → Act
   Passed : (wait : ℕ) (heard : Heard) → Act
   Read : (time : ℕ) → Act
   Told : (time : ℕ) → Act
 
--- The step that a client makes at an event.
-abbrev pub step_of : Client → Event → Stepped
-step_of client event = step (rules_of client) client.state event
-
--- What the client is told of, and what it is then.
+-- The notes of the client, and what it is then.
 pub record Turn : Type 0 where
   pub notes : List Note
   pub after : Client
@@ -51,8 +53,8 @@ events_of = flat_map event_in
 abbrev pub ends_with_return : List ℕ → Bool
 ends_with_return line = slice_index line (length line - 1) == 13
 
--- A line with its line feed (10), which the last of the input may lack. Where that ends with a carriage return, it has
--- one more, since one that stands before a line feed is none of the line.
+-- A line with its line feed (10), which the last of the input may lack. If that ends with a carriage return, it has one
+-- more, since one that stands before a line feed does not belong to the line.
 abbrev pub whole_line : List ℕ → List ℕ
 whole_line line =
     if ends_with_feed line then line
@@ -75,10 +77,19 @@ time_line time = codes "tick " ++ (decimal time ++ 10 ∷ [])
 abbrev pub has_line : ℕ → Bool
 has_line count = nat_lt 0 count && nat_le count 2034
 
+-- The remark of a Who-Is that was sent, and of a wait that is over.
+abbrev pub seek_text : Station → List ℕ → List ℕ
+seek_text to octets = codes "who " ++ (peer_text to ++ 32 ∷ (encode_lower octets ++ 10 ∷ []))
+
+abbrev pub rest_text : ℕ → List ℕ
+rest_text time = codes "wait " ++ (decimal time ++ 10 ∷ [])
+
 -- The line of an act in the journal.
 abbrev pub line_of : Act → List ℕ
 line_of (Asked line event) = whole_line line
 line_of Paused = 10 ∷ []
+line_of (Sought to octets) = codes "# " ++ seek_text to octets
+line_of (Rested time) = codes "# " ++ rest_text time
 line_of (Came wait from octets) = arrival_line from octets
 line_of (Told time) = time_line time
 line_of _ = []
@@ -91,14 +102,14 @@ FitsLine (Came wait from octets) = (from.ip < 2 ^ 32) × (from.port < 2 ^ 16) ×
 FitsLine (Told time) = time < 2 ^ 64
 FitsLine act = Unit {0}
 
--- What `bactrace` prints of a note, as a remark: behind # (35) and a space (32).
+-- What `bactrace` prints of a note, as a remark: after # (35) and a space (32).
 abbrev pub remark : Note → List ℕ
 remark note = codes "# " ++ note_text note
 
 abbrev pub remarks : List Note → List ℕ
 remarks = flat_map remark
 
--- What an act asks of the link, but for what the client sends.
+-- What an act asks of the link, except what the client sends.
 abbrev pub asked_by : Act → List Entry
 asked_by (Came wait from octets) = Waited wait (Arrived from octets) ∷ []
 asked_by (Passed wait heard) = Waited wait heard ∷ []
@@ -114,7 +125,12 @@ post_in _ = []
 abbrev pub posts : List Note → List Entry
 posts = flat_map post_in
 
--- The client behind these acts.
+-- What an act of a client sends: a Who-Is, or what the client sends.
+abbrev pub sends_at : Client → Act → List Entry
+sends_at client (Sought to octets) = Posted to octets ∷ []
+sends_at client act = posts (turn_at client act).notes
+
+-- The client after these acts.
 abbrev pub client_after : Client → List Act → Client
 client_after client [] = client
 client_after client (act ∷ later) = client_after (turn_at client act).after later
@@ -124,18 +140,8 @@ abbrev pub notes_of : Client → List Act → List Note
 notes_of client [] = []
 notes_of client (act ∷ later) = (turn_at client act).notes ++ notes_of (turn_at client act).after later
 
--- The journal of these acts: of each its line, and behind it the client's notes as remarks.
+-- The journal of these acts: of each its line, and after it the client's notes as remarks.
 abbrev pub journal : Client → List Act → List ℕ
 journal client [] = []
 journal client (act ∷ later) =
     (line_of act ++ remarks (turn_at client act).notes) ++ journal (turn_at client act).after later
-
--- What these acts ask of the link: of each what it asks itself, and then what the client sends.
-abbrev pub history_of : Client → List Act → List Entry
-history_of client [] = []
-history_of client (act ∷ later) =
-    (asked_by act ++ posts (turn_at client act).notes) ++ history_of (turn_at client act).after later
-
--- A new client of these settings, whose first ticket is 0.
-abbrev pub new_client : ℕ → ℕ → Client
-new_client timeout retries = record { timeout = timeout; retries = retries; state = initial 0 }

@@ -1,16 +1,21 @@
 //! Examples of what a run does, worked out by computation. They show what the definitions mean.
 
-ghost use Rattle.std.specs.Prelude.{[], codes, Err, false, List, replicate, ℕ, ◌++◌, ◌<◌, ◌^◌, ◌∷◌, ◌≡◌};
-ghost use Rattle.{bac_tsm.specs.Tick, bac_script.specs.{Happens, Nothing, declared.line.LineFault.TheVariants.TooLong}};
-ghost use Rattle.bac_run.specs.{aims_of_lines, AreSent, AreSteady, Asked, AskNext, AtEnd, BadLine, Came, Does, EndsAt};
-ghost use Rattle.bac_run.specs.{EndsWithFeed, events_of, Failed, FewOpen, FitsLine, Fresh, Goes, HasNoFeed, history_of};
-ghost use Rattle.bac_run.specs.{IsAsked, IsDue, IsLineOf, IsOut, IsReadBack, IsWithin, journal, journal_of, Link};
-ghost use Rattle.bac_run.specs.{notes_of, Open, Passed, Paused, posted_in, Read, ReadFailed, ReceiveFailed, room_for};
-ghost use Rattle.bac_run.specs.{said_of, Script, sent_in, time_line, Told, Turns, TurnsSpent, write_failed};
-ghost use Rattle.bac_run.specs.Inner.{about, answer, asked, at_rest, busy, deaf, desk, ended, filled, idle, IsRunOf};
-ghost use Rattle.bac_run.specs.Inner.{long_answer, octets, one_by_one, read, read_line, sent, unsent, waiting};
+ghost use Rattle.std.specs.Prelude.{[], codes, Err, false, List, replicate, true, ℕ, ◌++◌, ◌+◌, ◌<◌, ◌^◌, ◌∷◌, ◌≡◌};
+ghost use Rattle.{bac_tsm.specs.Tick, bac_script.specs.{Blank, Happens, declared.line.LineFault.TheVariants.TooLong}};
+ghost use Rattle.std.specs.Prelude.{None, Some};
+ghost use Rattle.bac_run.specs.{acts_of_line, ClockAt, moved, Rested, Rests, sends_of, Sought, taking, Turns};
+ghost use Rattle.bac_run.specs.{AreSent, AreSteady, Asked, AskNext, AtEnd, BadLine, Came, Does, EndsAt, EndsWithFeed};
+ghost use Rattle.bac_run.specs.{events_of, Failed, Feeds, FitsLine, Fresh, Goes, HasNoFeed, IsAsked, IsDue, IsLineOf};
+ghost use Rattle.bac_run.specs.{IsOut, IsPassed, IsReadBack, IsWithin, journal, journal_of, Link, NextLine};
+ghost use Rattle.bac_run.specs.{NoLine, notes_of, Open, Passed, passed_at, Paused, posted_in, Read, ReadFailed};
+ghost use Rattle.bac_run.specs.{ReceiveFailed, room_for, Runs, said_of, Script};
+ghost use Rattle.bac_run.specs.{SendFailed, sent_in, stage_after, time_line, Told, Took, TurnsSpent};
+ghost use Rattle.bac_run.specs.{FewOpen, LastIsDue, Telling, WantsLine, write_failed, Inner.drained};
+ghost use Rattle.bac_run.specs.Inner.{about, answer, asked, busy, deaf, desk, ended, filled, history_of, idle};
+ghost use Rattle.bac_run.specs.Inner.{full_after, given_once, IsRunOf, link_with, long_answer, octets, one_by_one};
+ghost use Rattle.bac_run.specs.Inner.{read, read_line, sent, slow, unknown, unsent, waiting};
 ghost use Rattle.bac_links.specs.{Arrived, most_turns, Posted, Silence, Timed, Unposted, Waited};
-ghost use Rattle.bac_print.specs.{fresh};
+ghost use Rattle.{bac_print.specs.fresh, bac_run.specs.has_line};
 
 // Which act is due in a wait for what is open. The timeout is three seconds, so a turn waits for 50 milliseconds.
 #[tactic(auto, unfolding(bac_script::proofs::Computed::computed))]
@@ -32,15 +37,15 @@ fn examples_of_turns()
     ensures long_behind { Goes 3000 (waiting 0 9) (Read 40 ∷ Came 50 desk (7 ∷ []) ∷ Read 41 ∷ Passed 50 Silence ∷ [])
         → ⊥ }
 
-    // Behind 256 in a row it is told all the same.
+    // After 256 datagrams in a row the time is told all the same.
     ensures row { Goes 3000 (waiting 255 9) (Read 40 ∷ Came 1 desk (7 ∷ []) ∷ Told 40 ∷ []) }
     ensures no_row { Goes 3000 (waiting 254 9) (Read 40 ∷ Came 1 desk (7 ∷ []) ∷ Told 40 ∷ []) → ⊥ }
 
-    // Once all turns are taken there is none more.
+    // After the last turn no act is due.
     ensures spent { Goes 3000 (waiting 0 0) (Read 40 ∷ []) → ⊥ }
 
-    // Of a request that is asked for: where none is open the time is told first. Where one is, that is done where the
-    // time told last lies back by more than a tenth of the timeout.
+    // Before a request the time is told if no request is open, or if the time told last lies back by more than a tenth
+    // of the timeout.
     ensures first { Goes 3000 (about idle 0 (Fresh ∷ Does asked ∷ [])) (Read 40 ∷ Told 40 ∷ asked ∷ []) }
     ensures first_untold { Goes 3000 (about idle 0 (Fresh ∷ Does asked ∷ [])) (Read 40 ∷ asked ∷ []) → ⊥ }
     ensures soon { Goes 3000 (about busy 0 (Fresh ∷ Does asked ∷ [])) (Read 300 ∷ asked ∷ []) }
@@ -50,52 +55,128 @@ fn examples_of_turns()
     ensures told_at_once { Goes 3000 (about busy 0 (Fresh ∷ Does asked ∷ [])) (Read 301 ∷ Told 301 ∷ []) → ⊥ }
 {}
 
-// What a run is about, by the lines of its input.
+// What a run is about, by a line of its input.
 #[tactic(auto, unfolding(bac_script::proofs::Computed::computed))]
 fn examples_of_lines()
-    ensures request { aims_of_lines 2 Open (read_line ∷ []) ≡ room_for 2 ∷ Fresh ∷ Does asked ∷ room_for 2 ∷ [] }
+    // A line is taken if nothing else is to be done. The acts that it asks for come before the next line.
+    ensures request { Goes 3000 (about idle 0 (NextLine 2 0 ∷ [])) (Took read_line ∷ Read 40 ∷ Told 40 ∷ asked
+        ∷ Took read_line ∷ []) }
+    ensures two { Goes 3000 (about idle 0 (NextLine 2 0 ∷ [])) (Took read_line ∷ Took read_line ∷ []) → ⊥ }
+    ensures untaken { Goes 3000 (about idle 0 (NextLine 2 0 ∷ [])) (Read 40 ∷ []) → ⊥ }
 
-    // At a line without words it waits until nothing is open, and at the end of the input too.
-    ensures empty { aims_of_lines 2 AtEnd ((10 ∷ []) ∷ []) ≡ room_for 2 ∷ Turns (FewOpen 0) most_turns ∷ Does Paused
-        ∷ room_for 2 ∷ Turns (FewOpen 0) most_turns ∷ [] }
+    // There has to be room for one more request: with a window of one the first is waited for.
+    ensures full { Goes 3000 (about idle 0 (NextLine 1 0 ∷ []))
+        (Took read_line ∷ Read 40 ∷ Told 40 ∷ asked ∷ Took read_line ∷ []) → ⊥ }
+    ensures waits { Goes 3000 (about idle 0 (NextLine 1 0 ∷ [])) (Took read_line ∷ Read 40 ∷ Told 40 ∷ asked ∷ Read
+        41 ∷ []) }
 
-    // At a remark it does nothing.
-    ensures remark { aims_of_lines 2 Open (codes "# x\n" ∷ []) ≡ room_for 2 ∷ room_for 2 ∷ [] }
+    // At a line without words it waits until nothing is open, and at a remark it does nothing.
+    ensures empty { Goes 3000 (about busy 0 (NextLine 2 1 ∷ [])) (Took (10 ∷ []) ∷ Read 40 ∷ []) }
+    ensures empty_still { Goes 3000 (about busy 0 (NextLine 2 1 ∷ [])) (Took (10 ∷ []) ∷ Paused ∷ []) → ⊥ }
+    ensures remark { Goes 3000 (about busy 0 (NextLine 2 1 ∷ [])) (Took (codes "# x\n") ∷ Took read_line ∷ []) }
 
-    // Behind a bad line nothing is read.
-    ensures bad { aims_of_lines 2 Open (codes "tick 1\n" ∷ read_line ∷ [])
-        ≡ room_for 2 ∷ Turns (FewOpen 0) most_turns ∷ [] }
+    // After a bad line, and at the end of the input, no line is taken, and the run waits for open requests.
+    ensures bad { Goes 3000 (about busy 0 (NextLine 2 1 ∷ [])) (Took (codes "tick 1\n") ∷ Read 40 ∷ []) }
+    ensures bad_on { Goes 3000 (about idle 0 (NextLine 2 1 ∷ [])) (Took (codes "tick 1\n") ∷ Took read_line ∷ []) → ⊥ }
+    ensures end { Goes 3000 (about busy 0 (NextLine 2 1 ∷ [])) (NoLine AtEnd ∷ Read 40 ∷ []) }
+    ensures end_on { Goes 3000 (about idle 0 (NextLine 2 1 ∷ [])) (NoLine AtEnd ∷ Took read_line ∷ []) → ⊥ }
 
     // A line of 4,096 octets that ends in a carriage return.
     ensures too_long { said_of (replicate 4095 32 ++ 13 ∷ []) ≡ Err TooLong }
 
-    // Where a run ends.
-    ensures ended { EndsAt (ended 1) AtEnd (read_line ∷ []) at_rest }
-    ensures other_count { EndsAt (ended 2) AtEnd (read_line ∷ []) at_rest → ⊥ }
-    ensures still_open { EndsAt (ended 1) AtEnd (read_line ∷ []) (waiting 0 9) → ⊥ }
-    ensures bad_line { EndsAt (Err (Script (BadLine 2))) Open (read_line ∷ codes "tick 1\n" ∷ []) at_rest }
-    ensures good_line { EndsAt (Err (Script (BadLine 1))) Open (read_line ∷ codes "tick 1\n" ∷ []) at_rest → ⊥ }
-    ensures unread { EndsAt (Err (Script ReadFailed)) Failed [] at_rest }
-    ensures read_to_its_end { EndsAt (Err (Script ReadFailed)) AtEnd [] at_rest → ⊥ }
-    ensures spent { EndsAt (Err (Link TurnsSpent)) Open (read_line ∷ []) (waiting 0 0) }
-    ensures not_spent { EndsAt (Err (Link TurnsSpent)) Open (read_line ∷ []) (waiting 0 9) → ⊥ }
-    ensures unheard { EndsAt (Err (Link ReceiveFailed)) Open (read_line ∷ []) deaf }
-    ensures heard { EndsAt (Err (Link ReceiveFailed)) Open (read_line ∷ []) (waiting 0 9) → ⊥ }
-    ensures unwritten { EndsAt (Err write_failed) Open (read_line ∷ []) (waiting 0 9) }
+    // How a run ends.
+    ensures ended { EndsAt (ended 1) (stage_after 3000 (about idle 0 (NextLine 2 1 ∷ [])) (NoLine AtEnd ∷ [])) }
+    ensures other_count { EndsAt (ended 2) (stage_after 3000 (about idle 0 (NextLine 2 1 ∷ [])) (NoLine AtEnd ∷ []))
+        → ⊥ }
+    ensures still_open { EndsAt (ended 1) (stage_after 3000 (about busy 0 (NextLine 2 1 ∷ [])) (NoLine AtEnd ∷ [])) →
+        ⊥ }
+    ensures unended { EndsAt (ended 1) (about idle 0 (NextLine 2 1 ∷ [])) → ⊥ }
+    ensures bad_line { EndsAt (Err (Script (BadLine 2)))
+        (stage_after 3000 (about idle 0 (NextLine 2 1 ∷ [])) (Took (codes "tick 1\n") ∷ [])) }
+    ensures other_line { EndsAt (Err (Script (BadLine 1)))
+        (stage_after 3000 (about idle 0 (NextLine 2 1 ∷ [])) (Took (codes "tick 1\n") ∷ [])) → ⊥ }
+    ensures good_line { EndsAt (Err (Script (BadLine 2)))
+        (stage_after 3000 (about idle 0 (NextLine 2 1 ∷ [])) (Took (codes "# x\n") ∷ [])) → ⊥ }
+    ensures unread { EndsAt (Err (Script ReadFailed))
+        (stage_after 3000 (about idle 0 (NextLine 2 1 ∷ [])) (NoLine Failed ∷ [])) }
+    ensures read_to_its_end { EndsAt (Err (Script ReadFailed))
+        (stage_after 3000 (about idle 0 (NextLine 2 1 ∷ [])) (NoLine AtEnd ∷ [])) → ⊥ }
+    ensures spent { EndsAt (Err (Link TurnsSpent)) (waiting 0 0) }
+    ensures not_spent { EndsAt (Err (Link TurnsSpent)) (waiting 0 9) → ⊥ }
+    ensures unheard { EndsAt (Err (Link ReceiveFailed)) deaf }
+    ensures heard { EndsAt (Err (Link ReceiveFailed)) (waiting 0 9) → ⊥ }
+    ensures unwritten { EndsAt (Err write_failed) (waiting 0 9) }
+    ensures unsent { EndsAt (Err (Link SendFailed)) (waiting 0 9) }
 {}
 
-// What is open, printed and sent, by the acts of a run.
+// The lines that acts take from an input.
+#[tactic(auto, unfolding(bac_script::proofs::Computed::computed))]
+fn examples_of_input()
+    // The last line may lack its line feed if reading has ended.
+    ensures lines { Feeds AtEnd (codes "\n#") [] (Took (10 ∷ []) ∷ Took (35 ∷ []) ∷ NoLine AtEnd ∷ []) }
+    ensures unended { Feeds Open (codes "\n#") [] (Took (10 ∷ []) ∷ Took (35 ∷ []) ∷ []) → ⊥ }
+    ensures kept { Feeds Open (codes "\n#") (35 ∷ []) (Took (10 ∷ []) ∷ []) }
+    ensures lost { Feeds Open (codes "\n#") [] (Took (10 ∷ []) ∷ []) → ⊥ }
+    ensures short { Feeds Open (codes "#\n") [] (Took (35 ∷ []) ∷ Took (10 ∷ []) ∷ []) → ⊥ }
+    ensures left { Feeds AtEnd (35 ∷ []) (35 ∷ []) (NoLine AtEnd ∷ []) → ⊥ }
+    ensures failed { Feeds Failed (35 ∷ []) (35 ∷ []) (NoLine Failed ∷ []) }
+    ensures whole { Feeds Failed (10 ∷ []) (10 ∷ []) (NoLine Failed ∷ []) → ⊥ }
+
+    // A read is due if no line is held and nothing else is to be done. With a window of one no request may be open.
+    ensures wanted { (timed : 0 < 3000) (some : 0 < 1) → WantsLine (one_by_one timed some) (about idle 0 (NextLine 1
+        3 ∷ [])) }
+    ensures unwanted { (timed : 0 < 3000) (some : 0 < 1) → WantsLine (one_by_one timed some) (waiting 0 9) → ⊥ }
+    ensures full { (timed : 0 < 3000) (some : 0 < 1) → WantsLine (one_by_one timed some) (about busy 0 (NextLine 1 3
+        ∷ [])) → ⊥ }
+{}
+
+// The acts of the lines `who` and `wait`. A Who-Is names its network, and no octet of address.
+#[tactic(auto, unfolding(bac_script::proofs::Computed::computed))]
+fn examples_of_seeking()
+    ensures one { acts_of_line (codes "who 127.0.0.1/5\n") ≡ Some (Sought desk
+        (0x81 ∷ 0x0a ∷ 0x00 ∷ 0x0c ∷ 0x01 ∷ 0x20 ∷ 0x00 ∷ 0x05 ∷ 0x00 ∷ 0xff ∷ 0x10 ∷ 0x08 ∷ []) ∷ []) }
+    ensures every { acts_of_line (codes "who 127.0.0.1:47808/* 1 300") ≡ Some (Sought desk
+        (0x81 ∷ 0x0a ∷ 0x00 ∷ 0x11 ∷ 0x01 ∷ 0x20 ∷ 0xff ∷ 0xff ∷ 0x00 ∷ 0xff ∷ 0x10 ∷ 0x08 ∷ 0x09 ∷ 0x01 ∷ 0x1a ∷ 0x01
+        ∷ 0x2c ∷ []) ∷ []) }
+    ensures near { acts_of_line (codes "who 127.0.0.1\r\n") ≡ Some (Sought desk
+        (0x81 ∷ 0x0a ∷ 0x00 ∷ 0x08 ∷ 0x01 ∷ 0x00 ∷ 0x10 ∷ 0x08 ∷ []) ∷ []) }
+    ensures turned { acts_of_line (codes "who 127.0.0.1 2 1\n") ≡ None }
+    ensures half { acts_of_line (codes "who 127.0.0.1 2\n") ≡ None }
+    ensures far { acts_of_line (codes "who 127.0.0.1 0 4194304\n") ≡ None }
+    ensures own { acts_of_line (codes "who 127.0.0.1/0\n") ≡ None }
+    ensures number { acts_of_line (codes "who 127.0.0.1/65535\n") ≡ None }
+    ensures wait { moved 3000 (about idle 0 (NextLine 1 0 ∷ [])) (Took (codes "wait 60000\n"))
+        ≡ about idle 0 (Rests 60000 ∷ Does (Rested 60000) ∷ taking 1 1 []) }
+    ensures too_long { acts_of_line (codes "wait 60001\n") ≡ None }
+
+    // A Who-Is opens no request, and is sent once: at no time is it due again.
+    ensures sent { history_of idle (Sought desk (7 ∷ []) ∷ Told 9000 ∷ []) ≡ Posted desk (7 ∷ []) ∷ [] }
+    ensures sends { sends_of idle (Sought desk (7 ∷ []) ∷ asked ∷ []) ≡ (desk, 7 ∷ []) ∷ (desk, octets) ∷ [] }
+    ensures remarked { journal idle (Sought desk (7 ∷ []) ∷ Rested 50 ∷ [])
+        ≡ codes "# who 127.0.0.1:47808 07\n# wait 50\n" }
+
+    // From the time that is read on a wait takes turns until it is told that so much has gone by.
+    ensures begins { moved 3000 (about idle 0 (Rests 70 ∷ [])) (Read 40)
+        ≡ about idle 0 (Turns (ClockAt 110) most_turns ∷ []) }
+    ensures quiet { Goes 3000 (about idle 0 (Rests 70 ∷ Does (Rested 70) ∷ [])) (Read 40 ∷ Read 41 ∷ Passed 50 Silence
+        ∷ Told 41 ∷ Read 110 ∷ Passed 50 Silence ∷ Told 110 ∷ Rested 70 ∷ []) }
+    ensures early { Goes 3000 (about idle 0 (Rests 70 ∷ Does (Rested 70) ∷ [])) (Read 40 ∷ Read 109 ∷ Passed 50 Silence
+        ∷ Told 109 ∷ Rested 70 ∷ []) → ⊥ }
+{}
+
+// The open requests, the journal and the sends of the acts of a run.
 #[tactic(auto, unfolding(bac_script::proofs::Computed::computed))]
 fn examples_of_acts()
-    // With a window of one no second request is asked for while the first is open.
-    ensures within { IsWithin 1 idle (asked ∷ []) }
+    // With a window of one no second request is asked for while the first is open, and no line is taken.
+    ensures within { IsWithin 1 idle (Took read_line ∷ asked ∷ []) }
     ensures full { IsWithin 1 idle (asked ∷ asked ∷ []) → ⊥ }
+    ensures full_line { IsWithin 1 idle (asked ∷ Took read_line ∷ []) → ⊥ }
 
     ensures fits { FitsLine (Came 50 desk (7 ∷ [])) }
     ensures empty { FitsLine (Came 50 desk []) → ⊥ }
     ensures late { FitsLine (Told (2 ^ 64)) → ⊥ }
 
-    // What the client is handed, in this order.
+    // The events of the client, in this order.
     ensures events { events_of (asked ∷ Read 3000 ∷ Passed 50 Silence ∷ Told 3000 ∷ []) ≡ read ∷ Tick 3000 ∷ [] }
 
     // A request is sent, and again at its timeout.
@@ -108,12 +189,12 @@ fn examples_of_acts()
     ensures in_entry { posted_in (Posted desk octets) ≡ (desk, octets) ∷ [] }
     ensures not_in_entry { posted_in (Unposted desk octets) ≡ [] }
 
-    // Of two the first was sent, and the second could not be.
+    // Two sends of which the second failed.
     ensures lost { AreSent {D = ℕ} unsent (1 ∷ 2 ∷ []) (1 ∷ []) }
     ensures none_lost { AreSent {D = ℕ} unsent (1 ∷ 2 ∷ []) (1 ∷ 2 ∷ []) → ⊥ }
     ensures one_less { AreSent {D = ℕ} (ended 2) (1 ∷ 2 ∷ []) (1 ∷ []) → ⊥ }
 
-    // A send that fails is the last thing that a link is asked, and in the last act, also where the writer fails too.
+    // A send that fails is the last thing that a link is asked, and in the last act, even if the writer fails too.
     ensures unsent { IsAsked unsent idle (asked ∷ []) (Unposted desk octets ∷ []) }
     ensures unwritten { IsAsked {A = ℕ} (Err write_failed) idle (asked ∷ []) (Unposted desk octets ∷ []) }
     ensures all_sent { IsAsked unsent idle (asked ∷ []) (Posted desk octets ∷ []) → ⊥ }
@@ -132,11 +213,41 @@ fn examples_of_runs()
         ++ codes "data 127.0.0.1:47808 810a0017010030010c0c0000000519553e444290999a3f\n# done 0 value 4290999a\n")
         (Timed 0 ∷ Posted desk octets ∷ Timed 5 ∷ Waited 50 (Arrived desk answer) ∷ []) }
 
-    // Whatever is printed: over a remark the link is asked for nothing, and what is asked for is sent.
+    // Whatever is printed: for a remark the link is asked for nothing, and the request of a line is sent.
     ensures unasked { (printed : List ℕ) → IsRunOf (codes "# x\n") printed
         (Timed 0 ∷ Posted desk octets ∷ Timed 5 ∷ Waited 50 (Arrived desk answer) ∷ []) → ⊥ }
     ensures unsent { (printed : List ℕ) → IsRunOf read_line printed
         (Timed 0 ∷ Timed 5 ∷ Waited 50 (Arrived desk answer) ∷ []) → ⊥ }
+
+    // For a remark only the settings are printed, the time is not read, and the line is not bad.
+    ensures over_a_remark { IsRunOf (codes "# x\n") (codes "client 3000 3 0\n") [] }
+    ensures looked { (printed : List ℕ) → IsRunOf (codes "# x\n") printed (Timed 0 ∷ []) → ⊥ }
+    ensures printed_otherwise { IsRunOf (codes "# x\n") (codes "client 3000 3 1\n") [] → ⊥ }
+    ensures ended_otherwise { (timed : 0 < 3000) (some : 0 < 1) → Runs unknown unknown (one_by_one timed some) (fresh 0)
+        (drained (codes "# x\n")) (fresh 0) (filled (codes "client 3000 3 0\n")) (link_with []) (link_with [])
+        (Err (Script (BadLine 1))) → ⊥ }
+
+    // After a bad line nothing is read.
+    ensures read_on { (timed : 0 < 3000) (some : 0 < 1) → Runs unknown unknown (one_by_one timed some) (fresh 0)
+        (drained (codes "tick 1\n")) (fresh 0) (filled (codes "client 3000 3 0\n")) (link_with []) (link_with [])
+        (Err (Script (BadLine 1))) → ⊥ }
+
+    // No line of a journal has a time of 65 bits, nor a script a timeout of 33.
+    ensures past_the_clock { (printed : List ℕ) → IsRunOf read_line printed
+        (Timed (2 ^ 64) ∷ Posted desk octets ∷ Timed (2 ^ 64 + 5) ∷ Waited 50 (Arrived desk answer) ∷ []) → ⊥ }
+    ensures too_slow { (timed : 0 < 2 ^ 32) (some : 0 < 1) (printed : List ℕ) → Runs unknown unknown (slow timed some)
+        (fresh 0) (drained (codes "# x\n")) (fresh 0) (filled printed) (link_with []) (link_with []) (ended 1) → ⊥ }
+
+    // A run whose writer fails did not wait for an answer before its request was printed.
+    ensures waited_unprinted { (timed : 0 < 3000) (some : 0 < 1) → Runs unknown unknown (one_by_one timed some)
+        (fresh 0) (given_once read_line) (fresh 0) (full_after (codes "client 3000 3 0\n")) (link_with [])
+        (link_with (Timed 0 ∷ Posted desk octets ∷ Timed 5 ∷ Waited 50 Silence ∷ [])) (Err write_failed) → ⊥ }
+
+    // With a window of one no read is due while a request is open; nor is one while a whole line is held.
+    ensures early { (timed : 0 < 3000) (some : 0 < 1) → LastIsDue (one_by_one timed some) (drained read_line) read_line
+        (Took read_line ∷ Read 0 ∷ asked ∷ []) (λ acts. Unit {0}) → ⊥ }
+    ensures held { (timed : 0 < 3000) (some : 0 < 1) → LastIsDue (one_by_one timed some) (drained read_line) read_line
+        [] (λ acts. Unit {0}) → ⊥ }
 
     // Before a wait the settings are out.
     ensures out { (timed : 0 < 3000) (some : 0 < 1) → IsOut (one_by_one timed some) (fresh 0)
@@ -157,7 +268,7 @@ fn examples_of_folding()
         ++ codes "'\n")))))) }
 {}
 
-// What two runs ask, and how far a clock goes at once.
+// The next question of two runs, and how far a clock goes at once.
 fn examples_of_asking()
     ensures next { AskNext (Timed 1 ∷ []) (Timed 2 ∷ []) }
     ensures other { AskNext (Timed 1 ∷ []) (Waited 50 Silence ∷ []) → ⊥ }
@@ -165,13 +276,32 @@ fn examples_of_asking()
     ensures leap { AreSteady 40 (Tick 0 ∷ Tick 41 ∷ []) 0 → ⊥ }
 {}
 
-// What `bactrace` reads in a line of the journal.
+// The event that `bactrace` reads in a line of the journal.
 #[tactic(auto, using(crate::proofs::time_read_back))]
 fn examples_of_reading()
     ensures feed { EndsWithFeed (13 ∷ 10 ∷ []) }
     ensures feeds { EndsWithFeed (10 ∷ 10 ∷ []) → ⊥ }
     ensures line { IsLineOf false (time_line 40) (Happens (Tick 40)) }
-    ensures lines { IsLineOf false (10 ∷ 10 ∷ []) Nothing → ⊥ }
+    ensures lines { IsLineOf false (10 ∷ 10 ∷ []) Blank → ⊥ }
+    ensures no_line { IsLineOf false [] Blank → ⊥ }
+    ensures other_time { IsLineOf false (time_line 40) (Happens (Tick 41)) → ⊥ }
     ensures read_back { IsReadBack (Told 40) }
     ensures not_read_back { IsReadBack (Asked (10 ∷ 10 ∷ []) read) → ⊥ }
+{}
+
+// The longest datagram of a line, and the room for a request.
+#[tactic(none)]
+fn examples_of_limits()
+    ensures one { has_line 1 ≡ true }
+    ensures longest { has_line 2034 ≡ true }
+    ensures too_long { has_line 2035 ≡ false }
+    ensures empty { has_line 0 ≡ false }
+
+    // A datagram that no line has room for was heard all the same, so the time of its turn is not told yet.
+    ensures heard_unsaid { passed_at (waiting 0 9) 40 (Arrived desk (replicate 2035 0)) ≡ waiting 1 9 }
+    ensures silent { passed_at (waiting 0 9) 40 Silence ≡ record (waiting 0 9) { phase = Telling 40 } }
+    ensures unsaid { IsPassed (Arrived desk (replicate 2035 0)) }
+    ensures to_be_said { IsPassed (Arrived desk (7 ∷ [])) → ⊥ }
+
+    ensures room { room_for 8 ≡ Turns (FewOpen 7) most_turns }
 {}

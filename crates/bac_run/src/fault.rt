@@ -18,7 +18,7 @@ pub enum RunFault {
 }
 
 impl RunFault {
-    /// What is told of it.
+    /// Its message.
     pub fn message(&self) -> Message
         ensures { message_text result ≡ run_fault_text self.now }
     {

@@ -1,15 +1,15 @@
-//! What is printed of a run: the lines of a script, and what the client tells as remarks.
+//! The output of a run: the lines of a script, and the client's notes as remarks.
 
-ghost use Rattle.std.specs.{List.flat_map, Option.option_map, Prelude.{[], codes, decimal, ◌++◌, ◌∷◌, ◌≡◌}};
-ghost use Rattle.bac_pdu.specs.{station};
-ghost use Rattle.bac_tsm.specs.{due_notes, Refused, sent, Client.end_seen, Events.TimedOut, Machine.datagram_notes};
-ghost use Rattle.{hex.specs.Hex.encode_lower, bac_print.specs.{peer_text, Prints}};
-ghost use Rattle.bac_run.specs.{arrival_line, has_line, remark, remarks, settings_line, time_line, whole_line};
+ghost use Rattle.std.specs.{List.flat_map, Option.{option_map, option_to_list}, Prelude.{codes, decimal, ◌++◌, ◌≡◌}};
+ghost use Rattle.{bac_pdu.specs.station, bac_print.specs.Prints};
+ghost use Rattle.bac_tsm.specs.{due_notes, Client.end_seen, Machine.datagram_notes, Seen.note_seen};
+ghost use Rattle.bac_run.specs.{arrival_line, has_line, remark, remarks, rest_text, seek_text, settings_line};
+ghost use Rattle.bac_run.specs.{time_line, whole_line};
 
 use bac_pdu::Peer;
 use bac_print::Page;
-use bac_script::{print_end, print_refusal, print_sent};
-use bac_tsm::{Client, Config, DueEntry, Ended, SubmitFault};
+use bac_script::{print_datagram, print_note};
+use bac_tsm::{Client, Config, DueEntry, Ended, Note};
 use std::io::Write;
 
 // The most octets of a datagram that has a line: `data `, 21 octets of a peer, a space, and two digits for each.
@@ -33,8 +33,8 @@ pub(crate) fn print_settings<W: Write>(page: &mut Page<'_, W>, config: Config)
     print_retries(page, config.retries);
 }
 
-/// Prints a line of the input, with a line feed where it lacks one; and before that with one more carriage return,
-/// where it ends with one.
+/// Prints a line of the input. If it lacks a line feed, it gets one; and before that one more carriage return, if it
+/// ends with one.
 #[tactic(auto, using(bac_print::proofs::Printed::printing))]
 pub(crate) fn print_line<W: Write>(page: &mut Page<'_, W>, line: &[u8])
     ensures { Prints W.contents page.old page.new (whole_line line.now) }
@@ -56,6 +56,25 @@ pub(crate) fn print_arrival<W: Write>(page: &mut Page<'_, W>, from: Peer, octets
     print_datagram(page, from, octets);
 }
 
+/// Remarks a Who-Is that is sent.
+#[tactic(auto, using(bac_print::proofs::Printed::printing))]
+pub(crate) fn remark_seek<W: Write>(page: &mut Page<'_, W>, to: Peer, octets: &[u8])
+    ensures { Prints W.contents page.old page.new (codes "# " ++ seek_text (station to) octets.now) }
+{
+    page.print(b"# who ");
+    print_datagram(page, to, octets);
+}
+
+/// Remarks a wait that is over.
+#[tactic(auto, using(bac_print::proofs::Printed::printing))]
+pub(crate) fn remark_rest<W: Write>(page: &mut Page<'_, W>, time: u32)
+    ensures { Prints W.contents page.old page.new (codes "# " ++ rest_text time) }
+{
+    page.print(b"# wait ");
+    page.print_number(time.into());
+    page.print(b"\n");
+}
+
 /// Prints the line of a time.
 #[tactic(auto, using(bac_print::proofs::Printed::printing))]
 pub(crate) fn print_time<W: Write>(page: &mut Page<'_, W>, now: u64)
@@ -66,24 +85,23 @@ pub(crate) fn print_time<W: Write>(page: &mut Page<'_, W>, now: u64)
     page.print(b"\n");
 }
 
-/// Remarks what the client sends under the ticket, where the request is open.
-#[tactic(auto, using(bac_print::proofs::Printed::printing, std::proofs::lemmas::Grind::common_steps))]
-pub(crate) fn remark_sent<W: Write>(page: &mut Page<'_, W>, client: &Client, ticket: u64)
-    ensures { Prints W.contents page.old page.new (remarks (sent client.now.state ticket)) }
-{
-    if client.to_send(ticket).is_some() {
-        page.print(b"# ");
-        print_sent(page, client, ticket);
-    }
-}
-
-/// Remarks why a request was not accepted.
+/// Remarks a note.
 #[tactic(auto, using(bac_print::proofs::Printed::printing))]
-pub(crate) fn remark_refusal<W: Write>(page: &mut Page<'_, W>, fault: SubmitFault)
-    ensures { Prints W.contents page.old page.new (remark (Refused fault)) }
+pub(crate) fn remark<W: Write>(page: &mut Page<'_, W>, note: Note<'_>)
+    ensures { Prints W.contents page.old page.new (remark (note_seen note.entry)) }
 {
     page.print(b"# ");
-    print_refusal(page, fault);
+    print_note(page, note);
+}
+
+/// Remarks a note, where there is one.
+#[tactic(auto, using(bac_print::proofs::Printed::printing, std::proofs::lemmas::Grind::common_steps))]
+pub(crate) fn remark_any<W: Write>(page: &mut Page<'_, W>, note: Option<Note<'_>>)
+    ensures { Prints W.contents page.old page.new (remarks (option_to_list (option_map note_seen note.entry))) }
+{
+    if let Some(note) = note {
+        remark(page, note);
+    }
 }
 
 /// Remarks what became of a datagram.
@@ -91,11 +109,7 @@ pub(crate) fn remark_refusal<W: Write>(page: &mut Page<'_, W>, fault: SubmitFaul
 pub(crate) fn remark_end<W: Write>(page: &mut Page<'_, W>, ended: Option<Ended<'_>>)
     ensures { Prints W.contents page.old page.new (remarks (datagram_notes (option_map end_seen ended.entry))) }
 {
-    page.print(b"# ");
-    match ended {
-        Some(ended) => print_end(page, ended),
-        None => page.print(b"drop\n"),
-    }
+    remark(page, ended.map_or(Note::Dropped, Note::Done));
 }
 
 /// Remarks what became of the requests that were due, in their order.
@@ -104,26 +118,8 @@ pub(crate) fn remark_due<W: Write>(page: &mut Page<'_, W>, client: &Client, due:
     ensures { Prints W.contents page.old page.new (remarks (flat_map (due_notes client.now.state) due.now)) }
 {
     for entry in due {
-        remark_entry(page, client, *entry);
+        remark_any(page, client.due(*entry));
     }
-}
-
-fn remark_entry<W: Write>(page: &mut Page<'_, W>, client: &Client, entry: DueEntry)
-    ensures { Prints W.contents page.old page.new (remarks (due_notes client.now.state entry)) }
-{
-    match entry {
-        DueEntry::Resend(ticket) => remark_sent(page, client, ticket),
-        DueEntry::TimedOut(ticket) => remark_timeout(page, ticket),
-    }
-}
-
-#[tactic(auto, using(bac_print::proofs::Printed::printing, std::proofs::lemmas::Grind::common_steps))]
-fn remark_timeout<W: Write>(page: &mut Page<'_, W>, ticket: u64)
-    ensures { Prints W.contents page.old page.new (remarks (TimedOut ticket ∷ [])) }
-{
-    page.print(b"# timeout ");
-    page.print_number(ticket);
-    page.print(b"\n");
 }
 
 // Prints the retries of a client, and its first ticket.
@@ -133,16 +129,4 @@ fn print_retries<W: Write>(page: &mut Page<'_, W>, retries: u8)
 {
     page.print_number(retries.into());
     page.print(b" 0\n");
-}
-
-// Prints whom a datagram is from, and its octets.
-#[tactic(auto, using(bac_print::proofs::Printed::printing))]
-fn print_datagram<W: Write>(page: &mut Page<'_, W>, peer: Peer, octets: &[u8])
-    ensures { Prints W.contents page.old page.new
-        (peer_text (station peer) ++ 32 ∷ (encode_lower octets.now ++ 10 ∷ [])) }
-{
-    page.print_peer(peer);
-    page.print(b" ");
-    page.print_hex(octets);
-    page.print(b"\n");
 }

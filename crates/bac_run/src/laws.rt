@@ -4,7 +4,7 @@ ghost use Rattle.std.specs.Prelude.{◌*◌, ◌++◌, ◌+◌, ◌<◌, ◌^◌
 ghost use Rattle.{bac_wire.specs.{EqualsBy, MakesCopies}, bac_print.specs.fresh};
 ghost use Rattle.bac_run.specs.{Act, AreSent, AreSteady, arrival_line, Asked, AskNext, AtEnd, Checked, client_after};
 ghost use Rattle.bac_run.specs.{EndsWithFeed, events_of, HasNoFeed, IsLineOf, IsReadBack, journal_of, new_client};
-ghost use Rattle.bac_run.specs.{notes_of, Paused, posted_in, RunFault as Fault, Runs, said_of, sent_in};
+ghost use Rattle.bac_run.specs.{notes_of, Paused, posted_in, RunFault as Fault, Runs, said_of, sends_of};
 ghost use Rattle.bac_run.specs.{Session as Settings, settings_line, Told, TraceEnd, write_failed};
 ghost use Rattle.bac_script.specs.{GaveSame, Happens, lines, Settings as SettingsSaid, Script.{first_fault, text}};
 ghost use Rattle.{bac_script.specs.Text.notes_text, hex.specs.Hex.IsBytes};
@@ -17,25 +17,24 @@ use bac_links::Link;
 use bac_tsm::client_is_lookahead;
 use std::io::{Read, Write};
 
-/// What was sent over the link is what the remarks `send` say, in their order; where a send failed, that one and those
-/// behind it were not.
+/// The link was asked to send what the remarks `send` and `who` say, in their order. If a send failed, that one and
+/// those after it were not sent.
 pub fn a_run_sends_what_it_remarks<L: Link, R: Read, W: Write>()
     ensures { (session : Settings) (reader reader' : Checked R) (before after : Checked W)
         (seen left : Account L.Origin) (result : Result TraceEnd Fault) (gained : List Entry)
         → (runs : Runs R.remaining W.contents session reader reader' before after seen left result)
         → left.history ≡ seen.history ++ gained
-        → AreSent result
-        (flat_map sent_in (notes_of (new_client session.config.timeout session.config.retries) runs.acts))
+        → AreSent result (sends_of (new_client session.config.timeout session.config.retries 0) runs.acts)
         (flat_map posted_in gained) }
 {}
 
 /// What the client of a run tells, at each of the events that it is handed, is what the look-ahead gives there, and it
 /// keeps what that says is open: so where each request is sent, how often, and how it ends.
 pub fn a_run_tells_what_the_look_ahead_gives()
-    ensures notes { (timeout retries : ℕ) (acts : List Act) → notes_of (new_client timeout retries) acts
+    ensures notes { (timeout retries : ℕ) (acts : List Act) → notes_of (new_client timeout retries 0) acts
         ≡ map (λ (i, note). note)
         (outputs (client_rules timeout retries) 0 (events_of acts) 0 (length (events_of acts))) }
-    ensures kept { (timeout retries : ℕ) (acts : List Act) → (client_after (new_client timeout retries) acts).state
+    ensures kept { (timeout retries : ℕ) (acts : List Act) → (client_after (new_client timeout retries 0) acts).state
         ≡ state_at (client_rules timeout retries) 0 (events_of acts) (length (events_of acts)) }
 {
     client_is_lookahead();
@@ -56,8 +55,8 @@ pub fn a_run_asks_by_its_answers<K: Link, L: Link, R: Read, S: Read, V: Write, W
         → answers_of first ≡ answers_of other_first → (first ≡ other_first) × AskNext rest other_rest }
 {}
 
-/// How a run ends is such a function too. Where two runs of one session over the same input were answered alike to
-/// their ends, and neither failed to write, they did the same and ended alike: so they have one journal.
+/// How a run ends is such a function too. If two runs of one session over the same input were answered alike to their
+/// ends, and neither failed to write, they did the same and ended alike: so they have one journal.
 pub fn a_run_ends_by_its_answers<K: Link, L: Link, R: Read, S: Read, V: Write, W: Write>()
     ensures { (session : Settings) (reader : R) (other_reader : S) (reader' : Checked R) (other_reader' : Checked S)
         (before after : Checked V) (other_before other_after : Checked W) (seen left : Account K.Origin)
@@ -70,7 +69,7 @@ pub fn a_run_ends_by_its_answers<K: Link, L: Link, R: Read, S: Read, V: Write, W
         → result ≢ Err write_failed → other ≢ Err write_failed → (result ≡ other) × (runs.acts ≡ others.acts) }
 {}
 
-/// Every request is over within (retries + 1) x (timeout + longest): take any events of which none, behind the request,
+/// Every request is over within (retries + 1) x (timeout + longest): take any events of which none, after the request,
 /// moves the clock by more than `longest`. While it is open, no more has passed since it was sent, by the times told,
 /// than its retries take, each with the timeout and `longest`, and one timeout (clause 5.4.4).
 pub fn a_request_ends_in_time()
@@ -86,7 +85,7 @@ pub fn a_journal_is_a_script<L: Link, R: Read, W: Write>()
         (seen left : Account L.Origin) (result : Result TraceEnd Fault)
         (runs : Runs R.remaining W.contents session reader reader' before after seen left result)
         → text (journal_of session runs.acts) AtEnd
-        ≡ notes_text (notes_of (new_client session.config.timeout session.config.retries) runs.acts) }
+        ≡ notes_text (notes_of (new_client session.config.timeout session.config.retries 0) runs.acts) }
     ensures fault { (session : Settings) (reader reader' : Checked R) (before after : Checked W)
         (seen left : Account L.Origin) (result : Result TraceEnd Fault)
         (runs : Runs R.remaining W.contents session reader reader' before after seen left result)

@@ -1,23 +1,26 @@
 //! A run of many requests over one link.
 
-ghost use Rattle.std.specs.Prelude.{[], Err, false, IfErr, IfOk, Some, true, ◌-◌, ◌<◌, ◌↔◌, ◌∷◌, ◌≡◌, ◌≢◌, ◌⊎◌};
-ghost use Rattle.{bac_wire.specs.result_seen, bac_pdu.specs.station};
+ghost use Rattle.std.specs.Prelude.{[], Err, false, IfErr, IfOk, IfSome, Ok, true, ◌<◌, ◌↔◌, ◌∷◌, ◌≡◌, ◌≢◌};
+ghost use Rattle.{bac_wire.specs.result_seen, bac_pdu.specs.station, bac_links.specs.most_turns};
 ghost use Rattle.bac_script.specs.{declared.tracing.TraceFault.TheVariants.WriteFailed, LineSeen.line_seen};
-ghost use Rattle.{bac_tsm.specs.Ask, bac_print.specs.{has_failed, held, writer_of}, bac_run.specs.acts_of_line};
-ghost use Rattle.bac_run.specs.{Asked, FewOpen, is_of_link, is_remark, IsOver, IsOverAt, open_in, Runs, said_of};
-ghost use Rattle.bac_run.specs.{Script, skipped, Turns, write_failed, Inner.{IsNamed, IsOfWait, Opened, RunsOn}};
-ghost use Rattle.{bac_run.specs.Inner.{send_failed, started, stopped, WentFor, Went.Went}, bac_links.specs.most_turns};
+ghost use Rattle.{bac_tsm.specs.Ask, bac_print.specs.{has_failed, held, Prints, writer_of}, bac_run.specs.acts_of_line};
+ghost use Rattle.bac_run.specs.{aims_for, Asked, Does, ending, Ends, FewOpen, Fresh, is_of_link, IsGood, IsOver};
+ghost use Rattle.bac_run.specs.{IsOverAt, open_in, Paused, room_for, Runs, said_of, taking, Turns, whole_line};
+ghost use Rattle.bac_run.specs.{Rested, Rests, Inner.{IsOfWait, Opened, own_seen, RunsOn, send_failed, started}};
+ghost use Rattle.bac_run.specs.{write_failed, declared.own.Own.TheVariants.Seek, Inner.{stopped, Went.Went}};
+ghost use Rattle.bac_script.specs.declared.line.LineFault.TheVariants.{Bad};
 
 use crate::fault::RunFault;
-use crate::journal::{print_line, print_settings, remark_refusal, remark_sent};
+use crate::journal::{print_line, print_settings, remark, remark_any, remark_rest, remark_seek};
+use crate::own::{Own, read_own, who_is};
 use crate::session::Session;
-use crate::turns::{Run, Until, send_request};
+use crate::turns::{Run, Until, send_any, send_seek};
 use bac_links::{Datagram, Link};
-use bac_pdu::Peer;
+use bac_pdu::{Peer, WRITE_PROPERTY, WhoIs};
 use bac_print::{Checked, Page};
 use bac_script::{Chunk, Line, LineFault, LineRoom, Reading, TraceEnd, TraceFault, read_line};
-use bac_text::LONGEST_LINE;
-use bac_tsm::{Client, SubmitFault};
+use bac_text::{LONGEST_LINE, Reach};
+use bac_tsm::{Client, Event, Note, SubmitFault};
 use std::io::{Read, Write};
 
 /// Asks for what the lines of the reader say, and prints the journal of that.
@@ -98,51 +101,117 @@ impl Run {
         requires link { L.has_failed link.old ≡ false }
         requires room { open_in self.old.client < self.old.session.window }
         ensures fault { L.has_failed link.new ≡ is_of_link result }
-        ensures went { WentFor W.contents self.old self.new page.old page.new (L.seen link.old) (L.seen link.new) result
-            (acts_of_line line.now) }
+        ensures went { Went W.contents self.old self.new page.old page.new (L.seen link.old) (L.seen link.new)
+            (λ later. started self.old (aims_for (acts_of_line line.now) self.old.session.window number line.now later))
+            (λ later. started self.new (taking self.old.session.window number later)) result [] }
         ensures not_written { result ≡ Err write_failed → has_failed (writer_of page.new) ≡ true }
         ensures over { IfErr result (λ fault. IsOverAt fault self.new.client) }
-        ensures named { IfErr result (λ fault. IsNamed fault number line.now) }
+        ensures good { IfOk result (λ _. IsGood line.now) }
     {
         let bad = TraceFault::BadLine(number);
         match read_short_line(line, room) {
-            Ok(Line::Skipped) => self.pause(line, link, page),
-            Ok(Line::Request(peer, service, body)) => {
-                self.ask(line, *peer, service, body, link, page)
+            Ok(Line::Blank) => self.pause(link, page),
+            Ok(Line::Remark) => Ok(()),
+            Ok(Line::Happens(Event::Ask(peer, service, body))) => {
+                self.ask(line, peer, service, body, link, page)
             }
             Ok(Line::LongWrite(_)) => {
                 self.freshen(link, page)?;
                 print_line(page, line);
-                remark_refusal(page, SubmitFault::TooLong);
+                remark(page, Note::Refused(SubmitFault::TooLong));
                 Ok(())
             }
-            Ok(Line::Client(..)) => Err(self.stop(bad, link, page)),
-            Ok(Line::Data(_)) => Err(self.stop(bad, link, page)),
-            Ok(Line::Tick(_)) => Err(self.stop(bad, link, page)),
-            Ok(Line::Ask(_)) => Err(self.stop(bad, link, page)),
-            Err(LineFault::Bad) => Err(self.stop(bad, link, page)),
+            Ok(Line::Client(..) | Line::Ask(_) | Line::Happens(Event::Data(..) | Event::Tick(_))) =>
+                { Err(self.stop(bad, link, page)) }
+            Err(LineFault::Bad) => self.take_own(line, number, link, page),
             Err(LineFault::TooLong) => Err(self.stop(TraceFault::LineTooLong(number), link, page)),
         }
     }
 
-    // Waits until no request is open, where the line is no remark.
-    fn pause<L: Link, W: Write>(
+    // Does what a line `who` or `wait` says. Any other line is bad.
+    fn take_own<L: Link, W: Write>(
         &mut self,
         line: &[u8],
+        number: u64,
+        link: &mut L,
+        page: &mut Page<'_, W>,
+    ) -> Result<(), RunFault>
+        requires link { L.has_failed link.old ≡ false }
+        requires bad { said_of line.now ≡ Err Bad }
+        ensures fault { L.has_failed link.new ≡ is_of_link result }
+        ensures went { Went W.contents self.old self.new page.old page.new (L.seen link.old) (L.seen link.new)
+            (λ later. started self.old (aims_for (acts_of_line line.now) self.old.session.window number line.now later))
+            (λ later. started self.new (taking self.old.session.window number later)) result [] }
+        ensures not_written { result ≡ Err write_failed → has_failed (writer_of page.new) ≡ true }
+        ensures over { IfErr result (λ fault. IsOverAt fault self.new.client) }
+        ensures good { IfOk result (λ _. IsGood line.now) }
+    {
+        match read_own(line) {
+            Some(Own::Seek(reach, who)) => self.seek(reach, who, link, page),
+            Some(Own::Rest(time)) => self.sit_out(time, link, page),
+            None => Err(self.stop(TraceFault::BadLine(number), link, page)),
+        }
+    }
+
+    // Sends a Who-Is, once.
+    fn seek<L: Link, W: Write>(
+        &mut self,
+        reach: Reach,
+        who: WhoIs,
+        link: &mut L,
+        page: &mut Page<'_, W>,
+    ) -> Result<(), RunFault>
+        requires link { L.has_failed link.old ≡ false }
+        requires network { IfSome reach.network (λ network. 0 < network) }
+        ensures fault { L.has_failed link.new ≡ is_of_link result }
+        ensures went { Went W.contents self.old self.new page.old page.new (L.seen link.old) (L.seen link.new)
+            (λ later. started self.old (Fresh ∷ Does (own_seen (Seek reach who)) ∷ later))
+            (λ later. started self.new later) result [] }
+        ensures not_written { result ≡ Err write_failed → has_failed (writer_of page.new) ≡ true }
+        ensures cause { IfErr result IsOfWait }
+    {
+        self.freshen(link, page)?;
+        let datagram = who_is(reach, who);
+        remark_seek(page, reach.to, datagram.as_slice());
+        send_seek(reach.to, datagram.as_slice(), link)
+    }
+
+    // Waits so many milliseconds, whatever is open.
+    fn sit_out<L: Link, W: Write>(
+        &mut self,
+        time: u32,
         link: &mut L,
         page: &mut Page<'_, W>,
     ) -> Result<(), RunFault>
         requires { L.has_failed link.old ≡ false }
         ensures fault { L.has_failed link.new ≡ is_of_link result }
-        ensures went { WentFor W.contents self.old self.new page.old page.new (L.seen link.old) (L.seen link.new) result
-            (Some (skipped line.now)) }
+        ensures went { Went W.contents self.old self.new page.old page.new (L.seen link.old) (L.seen link.new)
+            (λ later. started self.old (Rests time ∷ Does (Rested time) ∷ later)) (λ later. started self.new later)
+            result [] }
         ensures not_written { result ≡ Err write_failed → has_failed (writer_of page.new) ≡ true }
         ensures cause { IfErr result IsOfWait }
     {
-        if !is_remark(line) {
-            self.wait(Until::FewOpen(0), link, page)?;
-            page.print(b"\n");
-        }
+        self.rest(time, link, page)?;
+        remark_rest(page, time);
+        Ok(())
+    }
+
+    // Waits until no request is open, as a line without words asks.
+    fn pause<L: Link, W: Write>(
+        &mut self,
+        link: &mut L,
+        page: &mut Page<'_, W>,
+    ) -> Result<(), RunFault>
+        requires { L.has_failed link.old ≡ false }
+        ensures fault { L.has_failed link.new ≡ is_of_link result }
+        ensures went { Went W.contents self.old self.new page.old page.new (L.seen link.old) (L.seen link.new)
+            (λ later. started self.old (Turns (FewOpen 0) most_turns ∷ Does Paused ∷ later))
+            (λ later. started self.new later) result [] }
+        ensures not_written { result ≡ Err write_failed → has_failed (writer_of page.new) ≡ true }
+        ensures cause { IfErr result IsOfWait }
+    {
+        self.wait(Until::FewOpen(0), link, page)?;
+        page.print(b"\n");
         Ok(())
     }
 
@@ -159,13 +228,17 @@ impl Run {
         requires link { L.has_failed link.old ≡ false }
         requires room { open_in self.old.client < self.old.session.window }
         ensures fault { L.has_failed link.new ≡ is_of_link result }
-        ensures went { WentFor W.contents self.old self.new page.old page.new (L.seen link.old) (L.seen link.new) result
-            (Some (Asked line.now (Ask (station peer) service body.now) ∷ [])) }
+        ensures went { Went W.contents self.old self.new page.old page.new (L.seen link.old) (L.seen link.new)
+            (λ later. started self.old (Fresh ∷ Does (Asked line.now (Ask (station peer) service body.now)) ∷ later))
+            (λ later. started self.new later) result [] }
         ensures not_written { result ≡ Err write_failed → has_failed (writer_of page.new) ≡ true }
         ensures cause { IfErr result IsOfWait }
     {
         self.freshen(link, page)?;
-        print_line(page, line);
+        if !may_ask(service, page) {
+            return Err(RunFault::Script(TraceFault::WriteFailed));
+        }
+        print_request(page, service, line);
         submit(&mut self.client, peer, service, body, link, page)
     }
 
@@ -178,7 +251,7 @@ impl Run {
         requires { L.has_failed link.old ≡ false }
         ensures fault { L.has_failed link.new ≡ is_of_link result }
         ensures went { Went W.contents self.old self.new page.old page.new (L.seen link.old) (L.seen link.new)
-            (λ later. started self.old (Turns (FewOpen (self.old.session.window - 1)) most_turns ∷ later))
+            (λ later. started self.old (room_for self.old.session.window ∷ later))
             (λ later. started self.new later) result [] }
         ensures not_written { result ≡ Err write_failed → has_failed (writer_of page.new) ≡ true }
         ensures room { IfOk result (λ _. open_in self.new.client < self.new.session.window) }
@@ -198,11 +271,10 @@ impl Run {
         requires other { fault ≢ WriteFailed }
         ensures fault { L.has_failed link.new ≡ is_of_link (stopped result) }
         ensures went { Went W.contents self.old self.new page.old page.new (L.seen link.old) (L.seen link.new)
-            (λ later. started self.old (Turns (FewOpen 0) most_turns ∷ later)) (λ later. started self.new later)
-            (stopped result) [] }
+            (λ later. started self.old (ending (Err fault) later)) (λ later. started self.new later) (stopped result)
+            [] }
         ensures not_written { result ≡ write_failed → has_failed (writer_of page.new) ≡ true }
         ensures over { IsOverAt result self.new.client }
-        ensures named { (result ≡ Script fault) ⊎ IsOfWait result }
     {
         match self.wait(Until::FewOpen(0), link, page) {
             Ok(()) => RunFault::Script(fault),
@@ -210,7 +282,7 @@ impl Run {
         }
     }
 
-    // Waits until no request is open. So many lines were taken.
+    // Waits until no request is open, and then ends after so many lines.
     fn end<L: Link, W: Write>(
         &mut self,
         lines: u64,
@@ -220,8 +292,8 @@ impl Run {
         requires { L.has_failed link.old ≡ false }
         ensures fault { L.has_failed link.new ≡ is_of_link result }
         ensures went { Went W.contents self.old self.new page.old page.new (L.seen link.old) (L.seen link.new)
-            (λ later. started self.old (Turns (FewOpen 0) most_turns ∷ later)) (λ later. started self.new later) result
-            [] }
+            (λ later. started self.old (ending (Ok (record { lines = lines })) later))
+            (λ later. started self.new (Ends (Ok (record { lines = lines })) ∷ later)) result [] }
         ensures lines { IfOk result (λ end. end.lines ≡ lines) }
         ensures not_written { result ≡ Err write_failed → has_failed (writer_of page.new) ≡ true }
         ensures over { IsOver result self.new.client }
@@ -252,34 +324,51 @@ fn submit<L: Link, W: Write>(
 {
     match client.submit(peer, service, body) {
         Ok(ticket) => {
-            remark_sent(page, client, ticket);
-            send_request(client, ticket, link)
+            remark_any(page, client.sent(ticket));
+            send_any(client.sent(ticket), link)
         }
         Err(fault) => {
-            remark_refusal(page, fault);
+            remark(page, Note::Refused(fault));
             Ok(())
         }
     }
 }
 
-// What a line says, where the journal has room for it.
+// Returns whether a request of this service may be asked for. Before a write all output goes out, and if that fails, it
+// may not.
+fn may_ask<W: Write>(service: u8, page: &mut Page<'_, W>) -> bool
+    ensures printed { Prints W.contents page.old page.new [] }
+    ensures sound { result ≡ true → service ≡ 15 → has_failed (writer_of page.new) ≡ false }
+    ensures out { service ≡ 15 → held page.new ≡ [] }
+    ensures not_written { result ≡ false → has_failed (writer_of page.new) ≡ true }
+{
+    if service != WRITE_PROPERTY {
+        return true;
+    }
+    page.turn_in();
+    !page.failed()
+}
+
+// Prints the line of a request. That of a write goes out, so that the write is recorded before it is sent.
+fn print_request<W: Write>(page: &mut Page<'_, W>, service: u8, line: &[u8])
+    ensures { Prints W.contents page.old page.new (whole_line line.now) }
+{
+    print_line(page, line);
+    if service == WRITE_PROPERTY {
+        page.turn_in();
+    }
+}
+
+// Reads a line. It is too long if the journal has no room for it. A request to 0.0.0.0 is a bad line.
 fn read_short_line<'a>(line: &'a [u8], room: &'a mut LineRoom) -> Result<Line<'a>, LineFault>
     ensures { result_seen line_seen result ≡ said_of line.now }
 {
     if line.len() == LONGEST_LINE && line.last() == Some(&b'\r') {
         return Err(LineFault::TooLong);
     }
-    read_line(line, false, room)
-}
-
-// Whether the first octet of a line behind its blanks is that of a remark.
-fn is_remark(line: &[u8]) -> bool
-    ensures { result ≡ is_remark line.now }
-{
-    for octet in line {
-        if *octet != b' ' && *octet != b'\t' {
-            return *octet == b'#';
-        }
+    match read_line(line, false, room) {
+        Ok(Line::Happens(Event::Ask(peer, ..))) if peer.ip == 0 => Err(LineFault::Bad),
+        Ok(Line::LongWrite(write)) if write.peer.ip == 0 => Err(LineFault::Bad),
+        it => it,
     }
-    false
 }

@@ -1,9 +1,11 @@
 //! Turns of a run: what the link hears and the time are handed to the client, and what it sends is sent.
 
-ghost use Rattle.std.specs.{List.flat_map, Prelude.{[], Err, false, IfErr, IfOk, List, true, ℕ, ◌∷◌, ◌≡◌, ◌≤◌}};
-ghost use Rattle.bac_print.specs.{has_failed, held, writer_of};
-ghost use Rattle.{bac_tsm.specs.{due_notes, sent}, bac_links.specs.most_turns};
-ghost use Rattle.bac_run.specs.{Aim, Fresh, heard_at, is_of_link, is_reached, open_in, posts, settled, Turns, wait_at};
+ghost use Rattle.std.specs.{List.flat_map, Option.{option_map, option_to_list}};
+ghost use Rattle.std.specs.Prelude.{[], Err, false, IfErr, IfOk, List, true, ℕ, ◌<◌, ◌∷◌, ◌≡◌, ◌≤◌};
+ghost use Rattle.{bac_pdu.specs.station, bac_print.specs.{has_failed, held, Prints, writer_of}};
+ghost use Rattle.{bac_tsm.specs.{due_notes, Seen.note_seen}, bac_links.specs.{most_turns, Posted}};
+ghost use Rattle.bac_run.specs.{Aim, Fresh, heard_at, is_of_link, is_reached, open_in, posts, Rests, settled, Turns};
+ghost use Rattle.bac_run.specs.{wait_at};
 ghost use Rattle.bac_run.specs.{write_failed, Inner.{begins_turn, ends_turn, GainsDue, heard_until, hearing, IsOfWait}};
 ghost use Rattle.bac_run.specs.Inner.{looking, outside, send_failed, started, to_tell, Went.Went};
 
@@ -11,11 +13,12 @@ use crate::fault::RunFault;
 use crate::journal::{has_line, print_arrival, print_time, remark_due, remark_end};
 use crate::session::Session;
 use bac_links::{Datagram, Link, ToolFault, most_turns, turn_wait};
+use bac_pdu::Peer;
 use bac_print::{Page, WriteFailed};
-use bac_tsm::{Client, DueEntry};
+use bac_tsm::{Client, DueEntry, Note};
 use std::io::Write;
 
-// Behind so many datagrams in a row the time is told all the same.
+// After so many waits in a row the time is told all the same.
 const LONGEST_ROW: u32 = 256;
 
 // What a run has beside its streams.
@@ -33,8 +36,10 @@ pub(crate) struct Run {
 pub(crate) enum Until {
     // At most so many requests are open.
     FewOpen(usize),
-    // The time of the last turn is told.
+    // The client has got the time of the last turn.
     TimeTold,
+    // The client knows this time or a later one.
+    ClockAt(u64),
 }
 
 impl Run {
@@ -92,13 +97,33 @@ impl Run {
         self.wait(Until::TimeTold, link, page)
     }
 
-    // Whether that is reached.
+    /// Reads the time, and takes turns until a time is told that is so many milliseconds later.
+    pub fn rest<L: Link, W: Write>(
+        &mut self,
+        time: u32,
+        link: &mut L,
+        page: &mut Page<'_, W>,
+    ) -> Result<(), RunFault>
+        requires { L.has_failed link.old ≡ false }
+        ensures fault { L.has_failed link.new ≡ is_of_link result }
+        ensures went { Went W.contents self.old self.new page.old page.new (L.seen link.old) (L.seen link.new)
+            (λ later. started self.old (Rests time ∷ later)) (λ later. started self.new later) result [] }
+        ensures not_written { result ≡ Err write_failed → has_failed (writer_of page.new) ≡ true }
+        ensures cause { IfErr result IsOfWait }
+    {
+        let now = link.now();
+        let until = now.saturating_add(u64::from(time));
+        self.wait(Until::ClockAt(until), link, page)
+    }
+
+    // Returns whether that is reached.
     fn has_reached(&self, until: Until) -> bool
         ensures { result ≡ is_reached self.now.client self.now.behind (Turns until 0) }
     {
         match until {
             Until::FewOpen(most) => self.client.open_count() <= most,
             Until::TimeTold => self.behind == 0,
+            Until::ClockAt(time) => self.client.clock() >= time,
         }
     }
 
@@ -113,8 +138,18 @@ impl Run {
         }
     }
 
-    // One turn: what was printed goes out, the time is read, and then comes a wait. What waited in the socket when the
-    // time was read is heard before that time is told.
+    // Lets all output out, if the wait of the turn is longer than a moment.
+    fn let_out<W: Write>(&self, page: &mut Page<'_, W>)
+        ensures printed { Prints W.contents page.old page.new [] }
+        ensures out { 1 < wait_at self.now.session.config.timeout self.now.behind → held page.new ≡ [] }
+    {
+        if self.longest_wait() > 1 {
+            page.turn_in();
+        }
+    }
+
+    // One turn: output goes out before a long wait, the time is read, and then comes a wait. What waited in the socket
+    // when the time was read is heard before that time is told.
     fn turn<L: Link, W: Write>(
         &mut self,
         link: &mut L,
@@ -128,7 +163,7 @@ impl Run {
         ensures kept { open_in self.new.client ≤ open_in self.old.client }
         ensures cause { IfErr result IsOfWait }
     {
-        page.turn_in();
+        self.let_out(page);
         if page.failed() {
             return Err(RunFault::from(WriteFailed));
         }
@@ -148,7 +183,7 @@ impl Run {
     ) -> Result<bool, RunFault>
         requires link { L.has_failed link.old ≡ false }
         requires sound { has_failed (writer_of page.old) ≡ false }
-        requires out { held page.old ≡ [] }
+        requires out { 1 < wait_at self.old.session.config.timeout self.old.behind → held page.old ≡ [] }
         ensures fault { L.has_failed link.new ≡ is_of_link result }
         ensures went { Went W.contents self.old self.new page.old page.new (L.seen link.old) (L.seen link.new)
             (looking self.old) (hearing self.new result) result [] }
@@ -181,7 +216,7 @@ impl Run {
         self.behind < LONGEST_ROW
     }
 
-    // Tells the client the time, where it is later than the last, and sends what is due then.
+    // Tells the client the time if it is later than the last, and sends what is due then.
     fn tell<L: Link, W: Write>(
         &mut self,
         now: u64,
@@ -207,21 +242,31 @@ impl Run {
     }
 }
 
-/// Sends the datagram of an open request.
-pub(crate) fn send_request<L: Link>(
-    client: &Client,
-    ticket: u64,
-    link: &mut L,
-) -> Result<(), RunFault>
+/// Sends what a note says is sent, where there is one that does.
+pub(crate) fn send_any<L: Link>(note: Option<Note<'_>>, link: &mut L) -> Result<(), RunFault>
     requires { L.has_failed link.old ≡ false }
     ensures fault { L.has_failed link.new ≡ is_of_link result }
     ensures cause { IfErr result (λ fault. fault ≡ send_failed) }
-    ensures sent { GainsDue result (posts (sent client.now.state ticket)) (L.seen link.old) (L.seen link.new) }
+    ensures sent { GainsDue result (posts (option_to_list (option_map note_seen note.entry))) (L.seen link.old)
+        (L.seen link.new) }
 {
-    if let Some((to, octets)) = client.to_send(ticket) {
+    if let Some(Note::Sent(_, to, octets)) = note {
         if link.send(to, octets).is_err() {
             return Err(RunFault::Link(ToolFault::SendFailed));
         }
+    }
+    Ok(())
+}
+
+/// Sends a Who-Is.
+pub(crate) fn send_seek<L: Link>(to: Peer, octets: &[u8], link: &mut L) -> Result<(), RunFault>
+    requires { L.has_failed link.old ≡ false }
+    ensures fault { L.has_failed link.new ≡ is_of_link result }
+    ensures cause { IfErr result (λ fault. fault ≡ send_failed) }
+    ensures sent { GainsDue result (Posted (station to) octets.now ∷ []) (L.seen link.old) (L.seen link.new) }
+{
+    if link.send(to, octets).is_err() {
+        return Err(RunFault::Link(ToolFault::SendFailed));
     }
     Ok(())
 }
@@ -235,19 +280,7 @@ fn send_due<L: Link>(client: &Client, due: &[DueEntry], link: &mut L) -> Result<
         (L.seen link.new) }
 {
     for entry in due {
-        send_entry(client, *entry, link)?;
+        send_any(client.due(*entry), link)?;
     }
     Ok(())
-}
-
-fn send_entry<L: Link>(client: &Client, entry: DueEntry, link: &mut L) -> Result<(), RunFault>
-    requires { L.has_failed link.old ≡ false }
-    ensures fault { L.has_failed link.new ≡ is_of_link result }
-    ensures cause { IfErr result (λ fault. fault ≡ send_failed) }
-    ensures sent { GainsDue result (posts (due_notes client.now.state entry)) (L.seen link.old) (L.seen link.new) }
-{
-    match entry {
-        DueEntry::Resend(ticket) => send_request(client, ticket, link),
-        DueEntry::TimedOut(_) => Ok(()),
-    }
 }

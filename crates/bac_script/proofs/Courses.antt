@@ -14,28 +14,29 @@ use Rattle.{bac_device.specs.{demo_points, DeviceState, replies_to, Write}, bac_
 use Rattle.bac_print.proofs.Printed.{all_written, finished, Gave-none, prints_nothing, ◌⨾◌}
 use Rattle.bac_print.specs.{ends_of, fresh, has_failed, held as on_page, last_of, octets_of, Prints, reads_of, room_of}
 use Rattle.bac_print.specs.{writer_of, Writes, Page.{laid_out, Wrote}}
-use Rattle.bac_script.specs.{all_said, AreAlike, arrivals_in, Asks, AtEnd, BadLine, Checked, empty_reads, EndsAs}
+use Rattle.bac_script.specs.{all_said, AreAlike, arrivals_in, Asks, AtEnd, BadLine, Blank, Checked, empty_reads, EndsAs}
 use Rattle.bac_script.specs.{events_in, Failed, fault_at, fault_from, fault_or, first_fault, GaveFront, GaveSame}
 use Rattle.bac_script.specs.{Happens, HasNoFeed, is_nothing, IsFrontOf, IsLineCut, IsToldFirst, IsWrittenOf}
-use Rattle.bac_script.specs.{LastIsNeeded, line_room, LineFault, lines, LineTooLong, most_reads, notes_text, Nothing}
-use Rattle.bac_script.specs.{Open, Page, printed, ReaderStands, ReadFailed, ReadForLine, Reading, ReadsNoMore}
-use Rattle.bac_script.specs.{requests_in, Runs, Said, said, said_by, said_from, said_in, Settings, small_device}
+use Rattle.bac_script.specs.{LastIsNeeded, line_room, LineFault, lines, LineTooLong, most_reads, new_client, notes_text}
+use Rattle.bac_script.specs.{Open, Page, printed, ReaderStands, ReadFailed, ReadForLine, Reading, ReadsNoMore, Remark}
+use Rattle.bac_script.specs.{requests_in, ScriptRuns, Said, said, said_by, said_from, said_in, Settings, small_device}
 use Rattle.bac_script.specs.{TakesAndKeeps, text, text_of, text_of_line, TraceEnd, TraceFault, Traces, WriteFailed}
-use Rattle.bac_script.specs.Inner.{device_with, HasNotEnded, new_client, ran, RunsOn, Stage, Stands, writes_with}
+use Rattle.bac_script.specs.Inner.{device_with, HasNotEnded, ran, RunsOn, ScriptStage, Stands, writes_with}
 use Chunks.*
 
 -- What a script runs on before its first line.
-abbrev pub first_stage : Stage
+abbrev pub first_stage : ScriptStage
 first_stage = record { client = new_client 3000 3 0; writes = [] }
 
--- What is printed from a stage on for all that is said.
-abbrev pub text_from : Stage → List Said → List ℕ
+-- The text from a stage on for all lines.
+abbrev pub text_from : ScriptStage → List Said → List ℕ
 text_from stage [] = []
 text_from stage (one ∷ later) = (ran stage one).text ++ text_from (ran stage one).after later
 
--- It is no settings.
+-- It is not a line of settings.
 abbrev pub IsOther : Said → Type 0
-IsOther Nothing = Unit {0}
+IsOther Blank = Unit {0}
+IsOther Remark = Unit {0}
 IsOther (Settings timeout retries first_ticket) = ⊥
 IsOther (Happens event) = Unit {0}
 IsOther (Asks arrival) = Unit {0}
@@ -47,7 +48,8 @@ NoSettings = AllByRecursion IsOther
 -- Settings are said by nothing but the first that says something.
 abbrev pub SettingsFirst : List Said → Type 0
 SettingsFirst [] = Unit {0}
-SettingsFirst (Nothing ∷ later) = SettingsFirst later
+SettingsFirst (Blank ∷ later) = SettingsFirst later
+SettingsFirst (Remark ∷ later) = SettingsFirst later
 SettingsFirst (_ ∷ later) = NoSettings later
 
 drop_next : (events : List Event) (n : ℕ) (event : Event) (later : List Event) → drop n events ≡ event ∷ later →
@@ -63,7 +65,7 @@ replies_after writes all = replies_to small_device demo_points writes (arrivals_
 
 module _ (timeout retries first_ticket : ℕ) (events : List Event) where
   -- The stage at a position of the events, after these writes.
-  abbrev stage_at : ℕ → List Write → Stage
+  abbrev stage_at : ℕ → List Write → ScriptStage
   stage_at n writes = record {
     client = record {
       timeout = timeout;
@@ -77,7 +79,7 @@ module _ (timeout retries first_ticket : ℕ) (events : List Event) where
   abbrev notes : ℕ → List Note
   notes = output (client_rules timeout retries) first_ticket events
 
-  -- What is printed after a step of the client.
+  -- The text after a step of the client.
   abbrev text_after : ℕ → List Write → List Said → Stepped → List ℕ
   text_after n writes later one =
       notes_text one.notes
@@ -86,7 +88,8 @@ module _ (timeout retries first_ticket : ℕ) (events : List Event) where
   pub prints_output : (n : ℕ) (writes : List Write) (all : List Said) → NoSettings all → drop n events ≡ events_in all →
       text_from (stage_at n writes) all ≡ printed notes n all (replies_after writes all)
   prints_output n _ [] h e = refl
-  prints_output n writes (Nothing ∷ later) (_, none) e = prints_output n writes later none e
+  prints_output n writes (Blank ∷ later) (_, none) e = prints_output n writes later none e
+  prints_output n writes (Remark ∷ later) (_, none) e = prints_output n writes later none e
   prints_output n _ (Settings t r f ∷ _) (other, _) e = absurd other
   prints_output n writes (Happens event ∷ later) (_, none) e =
       let (here, behind) = drop_next _ n _ _ e in
@@ -109,7 +112,8 @@ module _ (timeout retries first_ticket : ℕ) (events : List Event) where
 -- The text of a script is what the machine prints.
 pub text_is : (all : List Said) → SettingsFirst all → text_of all ≡ text_from first_stage all
 text_is [] h = refl
-text_is (Nothing ∷ later) h = text_is later h
+text_is (Blank ∷ later) h = text_is later h
+text_is (Remark ∷ later) h = text_is later h
 text_is (Settings t r f ∷ later) h = sym (prints_all t r f _ _ h refl)
 text_is (Happens event ∷ later) h =
     sym (prints_all 3000 3 0 (events_in (Happens event ∷ later)) (Happens event ∷ later) (tt, h) refl)
@@ -121,7 +125,7 @@ requests_late all = grind (arith, back_late, few_open)
 
 -- ---- settings are said by nothing but the first line that says something
 
--- What was found, mapped to what is no settings.
+-- A line that was found, mapped to one that is not a line of settings.
 mapped_other : {A : Type 0} (say : A → Said) (found : Option A) → ((a : A) → IsOther (say a))
     → IfSome (option_map say found) IsOther
 mapped_other _ None h = tt
@@ -162,34 +166,34 @@ settings_first (line ∷ lines) = first_then (said true line) lines (settings_fi
 
 -- ---- the course of a script, line after line
 
--- What is printed, the fault of the first line that is bad or too long, and without one the number of all lines.
+-- The text, the fault of the first line that is bad or too long, and without one the number of all lines.
 pub record Course : Type 0 where
   pub text : List ℕ
   pub fault : Option TraceFault
   pub count : ℕ
 
--- The same behind a text.
+-- The same after a text.
 abbrev pub behind : List ℕ → Course → Course
 behind front later = record { text = front ++ later.text; fault = later.fault; count = later.count }
 
 pub behind_both : (xs ys : List ℕ) (later : Course) → behind xs (behind ys later) ≡ behind (xs ++ ys) later
 behind_both = grind (arith, append_assoc)
 
--- What a line says, and then the course of those behind it.
-abbrev pub and_on : Stage → ℕ → Result Said LineFault → (Said → Course) → Course
+-- What a line says, and then the course of those after it.
+abbrev pub and_on : ScriptStage → ℕ → Result Said LineFault → (Said → Course) → Course
 and_on stage count (Ok one) later = behind (ran stage one).text (later one)
 and_on stage count (Err fault) later =
     record { text = []; fault = Some (fault_at (count + 1) fault); count = count }
 
--- The course of these lines from a stage on, behind so many others.
-abbrev pub course : Stage → Bool → ℕ → List (List ℕ) → Course
+-- The course of these lines from a stage on, after so many others.
+abbrev pub course : ScriptStage → Bool → ℕ → List (List ℕ) → Course
 course stage is_first count [] = record { text = []; fault = None; count = count }
 course stage is_first count (line ∷ later) =
     and_on stage count (said is_first line)
     (λ one. course (ran stage one).after (is_first && is_nothing one) (count + 1) later)
 
--- The same behind a line that says this.
-abbrev pub course_on : Stage → Bool → ℕ → List (List ℕ) → Said → Course
+-- The same after a line that says this.
+abbrev pub course_on : ScriptStage → Bool → ℕ → List (List ℕ) → Said → Course
 course_on stage is_first count later one = course (ran stage one).after (is_first && is_nothing one) (count + 1) later
 
 -- The course of a script.
@@ -197,13 +201,13 @@ abbrev pub whole : List (List ℕ) → Course
 whole all = course first_stage true 0 all
 
 -- What a course is, by what its lines say up to the first fault.
-record IsCourse (stage : Stage) (is_first : Bool) (count : ℕ) (all : List (List ℕ)) (says : List Said)
+record IsCourse (stage : ScriptStage) (is_first : Bool) (count : ℕ) (all : List (List ℕ)) (says : List Said)
     (c : Course) : Type 0 where
   text : c.text ≡ text_from stage says
   fault : c.fault ≡ fault_from is_first (count + 1) all
   counted : c.fault ≡ None → c.count ≡ count + length all
 
-is_course : (all : List (List ℕ)) (stage : Stage) (is_first : Bool) (count : ℕ)
+is_course : (all : List (List ℕ)) (stage : ScriptStage) (is_first : Bool) (count : ℕ)
     → IsCourse stage is_first count all (said_from is_first all) (course stage is_first count all)
 is_course [] _ _ _ = record { text = refl; fault = refl; counted = λ none. omega arith }
 is_course (line ∷ later) stage is_first count =
@@ -247,7 +251,7 @@ runs_as octets reading one answer is ends =
 
 -- ---- the text of the first octets of a script is the beginning of its text
 
--- The octets up to the first line feed, and those behind it.
+-- The octets up to the first line feed, and those after it.
 pub record FirstLine (octets : List ℕ) : Type 0 where
   pub line : List ℕ
   pub rest : List ℕ
@@ -271,7 +275,7 @@ first_line (x ∷ xs) = here (x == 10) refl (first_line xs)
 
 -- From each stage on, the text of the first lines is the beginning of that of the others.
 abbrev FrontFrom : List (List ℕ) → List (List ℕ) → Type 0
-FrontFrom some all = (stage : Stage) (is_first : Bool) (count : ℕ) →
+FrontFrom some all = (stage : ScriptStage) (is_first : Bool) (count : ℕ) →
     IsFrontOf (course stage is_first count some).text (course stage is_first count all).text
 
 one_line : (line : List ℕ) (some all : List (List ℕ)) → FrontFrom some all → FrontFrom (line ∷ some) (line ∷ all)
@@ -351,11 +355,11 @@ same_lines = grind arith
 -- ---- one run
 
 front_of : (octets : List ℕ) (reading : Reading) (written : List ℕ) (answer : Result TraceEnd TraceFault)
-    → Runs octets reading written answer → IsFrontOf written (text octets reading)
+    → ScriptRuns octets reading written answer → IsFrontOf written (text octets reading)
 front_of = grind (arith, append-nil)
 
 whole_of : (octets : List ℕ) (reading : Reading) (written : List ℕ) (answer : Result TraceEnd TraceFault)
-    → answer ≢ Err WriteFailed → Runs octets reading written answer → RunsWhole octets reading written answer
+    → answer ≢ Err WriteFailed → ScriptRuns octets reading written answer → RunsWhole octets reading written answer
 whole_of = grind arith
 
 -- ---- a run that could not read on
@@ -393,7 +397,7 @@ same_answer = grind arith
 
 module _ (octets : List ℕ) (reading other : Reading) (alike : ends reading ≡ ends other) (written written' : List ℕ)
     (answer answer' : Result TraceEnd TraceFault)
-    (runs : Runs octets reading written answer) (runs' : Runs octets other written' answer') where
+    (runs : ScriptRuns octets reading written answer) (runs' : ScriptRuns octets other written' answer') where
   pub runs_alike : AreAlike written answer written' answer'
   runs_alike = record {
     text = text octets other;
@@ -437,7 +441,7 @@ module _ {R S V W : Type 0} {remaining : R → Option (List ℕ)} {remaining' : 
 
 -- ---- what holds between two lines of a script, and where it stops
 
--- What was printed on an empty page is out, or still held.
+-- Text that was printed on an empty page is out, or still held.
 out_so_far : {W : Type 0} {contents : W → Option (List ℕ)} {page between : Page W} {printed : List ℕ}
     → Prints contents page between printed → on_page page ≡ [] → room_of page ≡ None
     → has_failed (writer_of between) ≡ false →
@@ -452,7 +456,7 @@ out_so_far {contents = contents} {page} {between} {printed} prints empty whole g
     grind (arith, append_assoc, writes)
 
 -- The course of each script that begins with these octets: this text, and then the course from this stage on.
-abbrev GoesOn : List ℕ → List ℕ → Stage → Bool → ℕ → Type 0
+abbrev GoesOn : List ℕ → List ℕ → ScriptStage → Bool → ℕ → Type 0
 GoesOn octets text stage is_first count =
     (more : List ℕ) (reading : Reading)
     → whole (lines (octets ++ more) reading) ≡ behind text (course stage is_first count (lines more reading))
@@ -467,7 +471,7 @@ pub record SoFar {R W : Type 0} (remaining : R → Option (List ℕ)) (contents 
     (page page' : Page W) (count : ℕ) (is_first : Bool) (client : Client) (device : DeviceState) : Type 0 where
   pub octets : List ℕ
   pub text : List ℕ
-  pub stage : Stage
+  pub stage : ScriptStage
   pub taken : TakesAndKeeps remaining reader reader' [] held octets
   pub asked : reads_of reader' ≤ reads_of reader + length taken.given
   pub needed : IsNeeded reader reader' taken.given
@@ -481,8 +485,8 @@ pub record SoFar {R W : Type 0} (remaining : R → Option (List ℕ)) (contents 
   pub kept : Stands stage client device
   pub printed : Prints contents page page' text
 
--- The course where the line behind those so far is this.
-goes_to : (octets line held text : List ℕ) (stage : Stage) (is_first : Bool) (count : ℕ) (reading : Reading)
+-- The course where the line after those so far is this.
+goes_to : (octets line held text : List ℕ) (stage : ScriptStage) (is_first : Bool) (count : ℕ) (reading : Reading)
     (all : List (List ℕ)) → GoesOn octets text stage is_first count → lines (line ++ held) reading ≡ all
     → whole (lines ((octets ++ line) ++ held) reading) ≡ behind text (course stage is_first count all)
 goes_to octets line held text stage is_first count reading _ goes_on are =
@@ -490,7 +494,7 @@ goes_to octets line held text stage is_first count reading _ goes_on are =
     ∙ ap (λ (ls : List (List ℕ)). behind text (course stage is_first count ls)) are
 
 -- One more line.
-goes_further : (octets line text : List ℕ) (stage : Stage) (is_first is_first' : Bool) (count : ℕ) (one : Said)
+goes_further : (octets line text : List ℕ) (stage : ScriptStage) (is_first is_first' : Bool) (count : ℕ) (one : Said)
     → GoesOn octets text stage is_first count → IsLineCut Open line →
     said is_first line ≡ Ok one → is_first' ≡ (is_first && is_nothing one)
     → GoesOn (octets ++ line) (text ++ (ran stage one).text) (ran stage one).after is_first' (count + 1)
@@ -504,7 +508,7 @@ goes_further octets line text stage is_first _ count one goes_on (inl c) ok stil
     ok ∙ behind_both text (ran stage one).text (later one (is_first && is_nothing one))
     ∙ ap (λ (first : Bool). behind (text ++ (ran stage one).text) (later one first)) (sym still)
 
--- The line that was taken, as the script has it.
+-- The line that was taken, as in the script.
 pub NextLine-from : {R : Type 0} (remaining : R → Option (List ℕ)) (reading : Reading) (before reader : Checked R)
     (line held : List ℕ) → IsLineCut reading line →
     ReaderStands remaining reading before reader held → reading ≢ Failed → 0 < length line → NextLine line held reading
@@ -517,7 +521,7 @@ stands_more : {R : Type 0} (remaining : R → Option (List ℕ)) (reading : Read
 stands_more = grind arith
 
 runs_so : (octets : List ℕ) (reading : Reading) (text : List ℕ) (answer : Result TraceEnd TraceFault)
-    → answer ≢ Err WriteFailed → RunsWhole octets reading text answer → Runs octets reading text answer
+    → answer ≢ Err WriteFailed → RunsWhole octets reading text answer → ScriptRuns octets reading text answer
 runs_so = grind arith
 
 -- An empty line is cut only at the end.
@@ -558,7 +562,7 @@ module _ {R W : Type 0} {remaining : R → Option (List ℕ)} {contents : W → 
   reads : reads_of reader' ≤ reads_of reader + length taken.given + empty_reads reading
   reads = grind (arith, given_is, length-append)
 
-  -- Where no line is held, the lines so far are all, and none has a fault.
+  -- If no line is held, the lines so far are all, and none has a fault.
   no_fault : (more : List ℕ) → HasNoFeed more → length more < line_room
       → first_fault (lines (s.octets ++ more) Open) ≡ None
   no_fault = grind (arith, fault_is, behind, course, lines-rest)
@@ -575,7 +579,7 @@ module _ {R W : Type 0} {remaining : R → Option (List ℕ)} {contents : W → 
     })
   ]
 
-  -- Where no line is held, the text of the lines so far is all.
+  -- If no line is held, the text of the lines so far is all.
   text_so_far : (more : List ℕ) → HasNoFeed more → length more < line_room → text (s.octets ++ more) Open ≡ s.text
   text_so_far = grind (arith, runs_text, behind, course, lines-rest, append-nil)
 
@@ -596,7 +600,7 @@ module _ {R W : Type 0} {remaining : R → Option (List ℕ)} {contents : W → 
 
   -- The run stops here.
   stops : {last : Page W} {printed more : List ℕ} (answer : Result TraceEnd TraceFault) → Prints contents kept last more
-      → Prints contents page last printed → Runs ((s.octets ++ line) ++ rest) reading printed answer
+      → Prints contents page last printed → ScriptRuns ((s.octets ++ line) ++ rest) reading printed answer
       → RunsOn remaining contents reader reader' page last answer
   stops {printed = printed} answer so prints runs = record {
     given = taken.given;
@@ -699,7 +703,7 @@ module _ {R W : Type 0} {remaining : R → Option (List ℕ)} {contents : W → 
         printed = s.printed ⨾ handed ⨾ printed;
       }
 
--- Where nothing was given nothing was to be told.
+-- If nothing was given, there was nothing to print.
 untold : {out : List ℕ} (before last : List ℕ) → [] ≡ before ++ last
     → (later : List ℕ) × (out ≡ (out ++ text before Open) ++ later)
 untold {out = out} [] _ _ = ([], sym (append-nil (out ++ []) ∙ append-nil out))
@@ -730,11 +734,11 @@ SoFar-none _ _ reader held page _ _ empty whole sound none fresh unwritten = rec
 
 -- Of whatever is the text, or a front of it, a front is a front of the text.
 pub front_runs : (octets : List ℕ) (reading : Reading) (printed taken rest : List ℕ)
-    (answer : Result TraceEnd TraceFault) → Runs octets reading printed answer →
-    printed ≡ taken ++ rest → Runs octets reading taken (Err WriteFailed)
+    (answer : Result TraceEnd TraceFault) → ScriptRuns octets reading printed answer →
+    printed ≡ taken ++ rest → ScriptRuns octets reading taken (Err WriteFailed)
 front_runs = grind (arith, append_assoc)
 
--- What was told before the last read is told once the page is finished.
+-- Text that was printed before the last read is out once the page is finished.
 told_still : {R W : Type 0} {contents : W → Option (List ℕ)} (reader' : Checked R) (first last : Page W)
     {writer after : Checked W} {given : List ℕ} → writer_of first ≡ writer
     → IsToldFirst reader' (writer_of first) (writer_of last) given →

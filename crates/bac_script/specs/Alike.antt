@@ -22,7 +22,7 @@ abbrev pub IsWrittenOf : (written text : List ℕ) → Result TraceEnd TraceFaul
 IsWrittenOf written text (Err WriteFailed) = IsFrontOf written text
 IsWrittenOf written text answer = written ≡ text
 
--- Both runs wrote one text, or a front of it where their writer failed. Where neither failed they ended alike.
+-- Both runs wrote one text, or a front of it if their writer failed. If neither failed, they ended alike.
 pub record AreAlike (written : List ℕ) (answer : Result TraceEnd TraceFault) (other : List ℕ)
     (other_answer : Result TraceEnd TraceFault) : Type 0 where
   pub text : List ℕ

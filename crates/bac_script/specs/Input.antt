@@ -1,4 +1,4 @@
--- What is taken from a reader through a chunk of octets that were read and not yet taken.
+-- The octets that are taken from a reader, through a chunk of octets that were read and not yet taken.
 use Rattle.std.specs.Io.KnownBytes.{IsAtEnd}
 use Rattle.std.specs.Prelude.{[], false, List, max, Option, true, ℕ, ◌+◌, ◌-◌, ◌^◌, ◌≡◌, ◌≤◌, ◌⊎◌}
 use Rattle.bac_print.specs.{ends_of, has_failed, reads_of, Checked.{has_ended, inner_of}}
@@ -18,8 +18,8 @@ pub record CanReadOn {R : Type 0} (before after : Checked R) : Type 0 where
   pub sound : has_failed after ≡ false
   pub unended : ends_of after ≡ ends_of before
 
--- The reader has ended, and nothing is held: one read since then gave nothing, and it was the last. Where the reader
--- knows the octets that it has left, there are none.
+-- The reader has ended, and nothing is held: one read since then gave nothing, and it was the last. If the reader knows
+-- the octets that it has left, there are none.
 pub record MetEnd {R : Type 0} (remaining : R → Option (List ℕ)) (before after : Checked R) (held : List ℕ)
     : Type 0 where
   pub empty : held ≡ []

@@ -8,10 +8,11 @@ use Rattle.bac_text.specs.{longest_line, plain_peer_of, whole_body_of, words_of,
 use Rattle.bac_text.specs.{Parameters.{priority_from, write_index_of}, Words.{at_end, next_as, number_up_to, octets_of}}
 use Rattle.bac_script.specs.declared.line.LineFault.{LineFault, TheVariants.{Bad, TooLong}}
 
--- What a line says: nothing, the client's settings, an event of the client, or a datagram that the device is asked
--- with.
+-- What a line says: nothing, since it has no words or is a remark; the client's settings; an event of the client; or a
+-- datagram that the device is asked with.
 pub data Said : Type 0 where
-  Nothing : Said
+  Blank : Said
+  Remark : Said
   Settings : (timeout retries first_ticket : ℕ) → Said
   Happens : (event : Event) → Said
   Asks : (arrival : Arrival) → Said
@@ -75,9 +76,9 @@ tick_of words = do
 -- What the words of a line say, if they are in the language. The settings stand only on the first line that says
 -- something; a first word that begins with # (35) makes a remark.
 abbrev pub said_by : Bool → List (List ℕ) → Option Said
-said_by is_first [] = Some Nothing
+said_by is_first [] = Some Blank
 said_by is_first (name ∷ others) =
-    if slice_index name 0 == 35 then Some Nothing
+    if slice_index name 0 == 35 then Some Remark
     else if is_first && bytes_eq name (codes "client") then settings_of others
     else if bytes_eq name (codes "read") then option_map Happens (reading_of others)
     else if bytes_eq name (codes "write") then option_map Happens (writing_of others)
@@ -94,8 +95,8 @@ ends_with_feed line = slice_index line (length line - 1) == 10
 abbrev pub without_feed : List ℕ → List ℕ
 without_feed line = if ends_with_feed line then take (length line - 1) line else line
 
--- The text of a line, where it has at most 4,096 octets without its line feed. A carriage return before the line feed
--- is dropped after that.
+-- The text of a line, if it has at most 4,096 octets without its line feed. A carriage return before the line feed is
+-- dropped after that.
 abbrev pub text_of_line : List ℕ → Result (List ℕ) LineFault
 text_of_line line =
     if nat_lt longest_line (length (without_feed line)) then Err TooLong

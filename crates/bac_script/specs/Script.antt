@@ -8,8 +8,8 @@ use Rattle.bac_script.specs.declared.input.Reading.{Reading, TheVariants.{AtEnd,
 use Rattle.bac_script.specs.declared.line.LineFault.{LineFault, TheVariants.{Bad, TooLong}}
 use Rattle.bac_script.specs.declared.tracing.{TraceEnd.TraceEnd, TraceFault.TraceFault}
 use Rattle.bac_script.specs.declared.tracing.TraceFault.TheVariants.{BadLine, LineTooLong, ReadFailed, WriteFailed}
-use Rattle.bac_script.specs.{Line.{Asks, ends_with_feed, Happens, Nothing, Said, said, Settings}, Running.small_device}
-use Rattle.bac_script.specs.Text.{notes_text, reply_text}
+use Rattle.bac_script.specs.{Line.{Asks, Blank, ends_with_feed, Happens, Remark, Said, said, Settings}}
+use Rattle.bac_script.specs.{Running.small_device, Text.{notes_text, reply_text}}
 
 -- The octets cut after each line feed; the last piece may lack one.
 abbrev pub pieces : List ℕ → List (List ℕ)
@@ -27,7 +27,8 @@ lines octets reading = filter (is_line reading) (pieces octets)
 
 -- It is said by a line that is blank or a remark.
 abbrev pub is_nothing : Said → Bool
-is_nothing Nothing = true
+is_nothing Blank = true
+is_nothing Remark = true
 is_nothing _ = false
 
 -- What the lines say, up to the first that is bad or too long. The flag says whether the first of them may still say
@@ -47,9 +48,10 @@ pub record ClientSettings : Type 0 where
   pub retries : ℕ
   pub first_ticket : ℕ
 
--- The settings that a script says, where its first line that says something says them; else the usual ones.
+-- The settings that a script says, if its first line that says something says them; else the usual ones.
 abbrev pub settings_in : List Said → ClientSettings
-settings_in (Nothing ∷ later) = settings_in later
+settings_in (Blank ∷ later) = settings_in later
+settings_in (Remark ∷ later) = settings_in later
 settings_in (Settings timeout retries first_ticket ∷ later) =
     record { timeout = timeout; retries = retries; first_ticket = first_ticket }
 settings_in _ = record { timeout = 3000; retries = 3; first_ticket = 0 }
@@ -78,8 +80,8 @@ rules_in all = client_rules (settings_in all).timeout (settings_in all).retries
 abbrev pub requests_in : List Said → List Accepted
 requests_in all = accepted (rules_in all) (settings_in all).first_ticket (events_in all) (length (events_in all))
 
--- What is printed: for each line with an event, the notes at the event's position among the events; for each datagram
--- that the device is asked with, the next of its replies.
+-- The text: for each line with an event, the notes at the event's position among the events; for each datagram that the
+-- device is asked with, the next of its replies.
 abbrev pub printed : (ℕ → List Note) → ℕ → List Said → List (Option (Station × List ℕ)) → List ℕ
 printed notes at [] replies = []
 printed notes at (Happens event ∷ later) replies = notes_text (notes at) ++ printed notes (suc at) later replies
@@ -102,7 +104,7 @@ abbrev pub fault_at : ℕ → LineFault → TraceFault
 fault_at n TooLong = LineTooLong n
 fault_at n Bad = BadLine n
 
--- The fault of a line, or, where it says something, that of those behind it.
+-- The fault of a line, or, if it says something, that of those after it.
 abbrev pub fault_or : ℕ → Result Said LineFault → (Said → Option TraceFault) → Option TraceFault
 fault_or n (Ok one) later = later one
 fault_or n (Err fault) later = Some (fault_at n fault)
@@ -127,8 +129,8 @@ EndsAs Open count answer = ⊥
 
 -- The whole text was written, and the answer is the first fault, or how the input ended; or, where the writer failed, a
 -- front of the text was written.
-abbrev pub Runs : List ℕ → Reading → List ℕ → Result TraceEnd TraceFault → Type 0
-Runs octets reading written (Err WriteFailed) = (rest : List ℕ) × (text octets reading ≡ written ++ rest)
-Runs octets reading written answer = (written ≡ text octets reading)
+abbrev pub ScriptRuns : List ℕ → Reading → List ℕ → Result TraceEnd TraceFault → Type 0
+ScriptRuns octets reading written (Err WriteFailed) = (rest : List ℕ) × (text octets reading ≡ written ++ rest)
+ScriptRuns octets reading written answer = (written ≡ text octets reading)
     × MatchOption (first_fault (lines octets reading)) (EndsAs reading (length (lines octets reading)) answer)
     (λ fault. answer ≡ Err fault)

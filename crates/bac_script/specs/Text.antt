@@ -1,4 +1,4 @@
--- What is printed of the client's notes, and of the device's replies.
+-- The texts of the client's notes, and of the device's replies.
 use Rattle.std.specs.{List.flat_map, Prelude.{[], codes, decimal, List, None, Option, Some, ℕ, ◌++◌, ◌∷◌}}
 use Rattle.{hex.specs.Hex.encode_lower, bac_pdu.specs.Station, bac_tsm.specs.{Done, Dropped, Note, Refused, Sent}}
 use Rattle.bac_tsm.specs.declared.client.SubmitFault.{SubmitFault, TheVariants.{TableFull, TicketsSpent, TooLong}}

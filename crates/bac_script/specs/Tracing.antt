@@ -4,7 +4,7 @@ use Rattle.bac_print.specs.{Gave, last_of, octets_of, reads_of, Took, declared.c
 use Rattle.bac_script.specs.declared.input.Reading.{Reading, TheVariants.Open}
 use Rattle.bac_script.specs.declared.tracing.{TraceEnd.TraceEnd, TraceFault.TraceFault}
 use Rattle.bac_script.specs.declared.tracing.TraceFault.TheVariants.{BadLine, LineTooLong, ReadFailed, WriteFailed}
-use Rattle.bac_script.specs.{Input.{ReaderStands, ReadsNoMore}, Script.{first_fault, lines, Runs, text}}
+use Rattle.bac_script.specs.{Input.{ReaderStands, ReadsNoMore}, Script.{first_fault, lines, ScriptRuns, text}}
 
 -- No line with a fault was among the octets that the reader gave before its last read: so that read was needed. It was
 -- asked at most once for each of those octets, and once more.
@@ -28,7 +28,8 @@ abbrev pub IsToldFirst : {R W : Type 0} → Checked R → Checked W → Checked 
 IsToldFirst reader' writer writer' given = (before : List ℕ) → given ≡ before ++ last_of reader' →
     (later : List ℕ) × (octets_of writer' ≡ (octets_of writer ++ text before Open) ++ later)
 
--- What was written and answered is that of the script of the octets that the reader gave, and of how reading stopped.
+-- The written text and the answer are those of the script of the octets that the reader gave, and of how reading
+-- stopped.
 pub record Traces {R W : Type 0} (remaining : R → Option (List ℕ)) (contents : W → Option (List ℕ))
     (reader reader' : Checked R) (writer writer' : Checked W) (answer : Result TraceEnd TraceFault) : Type 0 where
   pub given : List ℕ
@@ -37,9 +38,9 @@ pub record Traces {R W : Type 0} (remaining : R → Option (List ℕ)) (contents
   pub read : HasRead remaining reader reader' given reading
   pub told : IsToldFirst reader' writer writer' given
   pub took : Took contents writer writer' written
-  pub runs : Runs given reading written answer
+  pub runs : ScriptRuns given reading written answer
 
--- What is told of a fault.
+-- The message of a fault.
 abbrev pub trace_fault_text : TraceFault → List ℕ
 trace_fault_text (BadLine n) = codes "line " ++ (decimal n ++ codes ": bad line")
 trace_fault_text (LineTooLong n) = codes "line " ++ (decimal n ++ codes ": too long")

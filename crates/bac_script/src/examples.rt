@@ -1,15 +1,18 @@
 //! Examples of scripts, worked out by computation. They show what the definitions mean.
 
-ghost use Rattle.std.specs.Prelude.{[], codes, replicate, ◌∷◌, ◌≡◌};
-ghost use Rattle.bac_print.specs.Inner.Examples.{having, page, unasked, unknown};
+ghost use Rattle.std.specs.Prelude.{[], codes, false, Ok, replicate, ◌∷◌, ◌≡◌};
+ghost use Rattle.bac_print.specs.Inner.Examples.{having, page, refusing, unasked, unknown};
 ghost use Rattle.bac_tsm.specs.{Ask, client_rules, Tick, Events.request_of};
-ghost use Rattle.bac_script.specs.{AreAlike, AtEnd, Failed, GaveFront, GaveSame, Happens, IsFrontOf, IsNext};
-ghost use Rattle.bac_script.specs.{IsWrittenOf, most_reads, Open, ReaderStands, ReadFailed, ReadForLine, ReadsNoMore};
-ghost use Rattle.bac_script.specs.{requests_in, Runs, TakesAndKeeps, Traces, WriteFailed};
+ghost use Rattle.bac_script.specs.{AreAlike, AtEnd, Blank, Failed, GaveFront, GaveSame, Happens, IsFrontOf};
+ghost use Rattle.bac_script.specs.{IsNext, IsWrittenOf, most_reads, Open, ReaderStands, ReadFailed, ReadForLine};
+ghost use Rattle.bac_script.specs.{ReadsNoMore, Remark, requests_in, said, ScriptRuns, TakesAndKeeps, Traces};
+ghost use Rattle.bac_script.specs.{WriteFailed};
+ghost use Rattle.bac_script.specs.declared.line.LineFault.TheVariants.{Bad};
 ghost use Rattle.bac_script.specs.declared.tracing.TraceFault.TheVariants.{BadLine, LineTooLong};
-ghost use Rattle.bac_script.specs.Inner.{answer, broken, desk, ended, gave, has_read, IsTraced, read, sent};
+ghost use Rattle.bac_script.specs.Inner.{answer, broken, desk, ended, full_after, gave, gave_more, has_read, IsTraced};
+ghost use Rattle.bac_script.specs.Inner.{lined, read, sent};
 
-// What is printed of a client's events.
+// The text of a client's events.
 #[tactic(auto, unfolding(crate::proofs::Computed::computed))]
 fn examples_of_a_client()
     ensures answered { IsTraced (read ∷ answer ∷ []) (sent ∷ "done 0 value 4290999a" ∷ []) (ended 2) }
@@ -18,7 +21,7 @@ fn examples_of_a_client()
     ensures retried { IsTraced (read ∷ "tick 2999" ∷ "tick 3000" ∷ "tick 6000" ∷ "tick 9000" ∷ "tick 12000" ∷ [])
         (sent ∷ sent ∷ sent ∷ sent ∷ "timeout 0" ∷ []) (ended 6) }
 
-    // A timeout of one second, no retry, and a first ticket. What comes late answers nothing.
+    // A timeout of one second, no retry, and a first ticket. A late answer answers nothing.
     ensures late { IsTraced ("client 1000 0 0" ∷ read ∷ "tick 1000" ∷ answer ∷ []) (sent ∷ "timeout 0" ∷ "drop" ∷ [])
         (ended 4) }
 
@@ -27,7 +30,7 @@ fn examples_of_a_client()
         ("send 0 127.0.0.1:47808 810a001a01040005010f0c0040000119553e4441a000003f4910" ∷ "done 0 ok" ∷ []) (ended 2) }
 {}
 
-// What is printed of the device's replies.
+// The text of the device's replies.
 #[tactic(auto, unfolding(crate::proofs::Computed::computed))]
 fn examples_of_a_device()
     // Who-Is of 1000 to 1234, and of 1235 to 2000.
@@ -47,7 +50,7 @@ fn examples_of_a_device()
         ∷ "reply 127.0.0.1:50000 810a0017010030010c0c0040000119553e4441a000003f" ∷ []) (ended 2) }
 {}
 
-// Where a script stops.
+// The ends of a script.
 #[tactic(auto, unfolding(crate::proofs::Computed::computed))]
 fn examples_of_ends()
     ensures empty { IsTraced [] [] (ended 0) }
@@ -55,19 +58,30 @@ fn examples_of_ends()
     // Blank lines and remarks are counted, and a carriage return before the line feed is dropped.
     ensures silent { IsTraced ("# a remark" ∷ "" ∷ "tick 5\r" ∷ []) [] (ended 3) }
 
-    // The text of the lines before the first bad one is printed, whether or not more would have come.
+    // The text of the lines before the first bad one is printed, even if more lines would have come.
     ensures bad { IsTraced (read ∷ "tick x" ∷ read ∷ []) (sent ∷ []) (Err (BadLine 2)) }
-    ensures bad_at_once { Runs (codes "tick x\n") Open [] (Err (BadLine 1)) }
+    ensures bad_at_once { ScriptRuns (codes "tick x\n") Open [] (Err (BadLine 1)) }
 
     // A line of 4,097 octets is too long before it has ended.
-    ensures too_long { Runs (replicate 4097 35) Open [] (Err (LineTooLong 1)) }
+    ensures too_long { ScriptRuns (replicate 4097 35) Open [] (Err (LineTooLong 1)) }
 
-    // The last line may lack its line feed; where reading failed, it is no line.
-    ensures without_feed { Runs (codes "tick 5") AtEnd [] (ended 1) }
-    ensures cut { Runs (codes "tick x") Failed [] (Err ReadFailed) }
+    // The last line may lack its line feed. If reading failed, it is not a line.
+    ensures without_feed { ScriptRuns (codes "tick 5") AtEnd [] (ended 1) }
+    ensures cut { ScriptRuns (codes "tick x") Failed [] (Err ReadFailed) }
 {}
 
-// What two scripts have in common, and the limit of reads.
+// Lines that say nothing. A remark begins with # (35), after spaces and tabs (9). A line without words is blank.
+#[tactic(auto, unfolding(crate::proofs::Computed::computed))]
+fn examples_of_nothing()
+    ensures remark { said false (codes "# x") ≡ Ok Remark }
+    ensures after_a_space { said false (codes " # x") ≡ Ok Remark }
+    ensures after_a_tab { said false (9 ∷ 35 ∷ []) ≡ Ok Remark }
+    ensures empty { said false (10 ∷ []) ≡ Ok Blank }
+    ensures blank { said false (codes " \t\r\n") ≡ Ok Blank }
+    ensures after_a_word { said false (codes "x #") ≡ Err Bad }
+{}
+
+// Two scripts that are alike, and the limit of reads.
 #[tactic(none)]
 fn examples_of_limits()
     ensures reads { most_reads ≡ 4294967295 }
@@ -78,10 +92,11 @@ fn examples_of_limits()
     ensures not_written { IsWrittenOf (1 ∷ []) (1 ∷ 2 ∷ []) (ended 2) → ⊥ }
     ensures alike { AreAlike (1 ∷ []) (Err WriteFailed) (1 ∷ 2 ∷ []) (ended 2) }
     ensures unlike { AreAlike (1 ∷ []) (ended 2) (1 ∷ 2 ∷ []) (ended 2) → ⊥ }
+    ensures other_unlike { AreAlike (1 ∷ 2 ∷ []) (ended 2) (1 ∷ 3 ∷ []) (ended 2) → ⊥ }
     ensures ended_otherwise { AreAlike [] (ended 1) [] (ended 2) → ⊥ }
 {}
 
-// What two readers gave, how a reader stands, and what was taken from it.
+// The octets of two readers, the state of a reader, and the octets that were taken from it.
 #[tactic(none)]
 fn examples_of_readers()
     ensures same { GaveSame (gave (1 ∷ [])) (gave (1 ∷ [])) }
@@ -101,6 +116,7 @@ fn examples_of_readers()
     ensures not_failed { ReaderStands unknown Failed unasked (gave (1 ∷ [])) [] → ⊥ }
     ensures taken { TakesAndKeeps unknown unasked (gave (1 ∷ 2 ∷ [])) [] (2 ∷ []) (1 ∷ []) }
     ensures dropped { TakesAndKeeps unknown unasked (gave (1 ∷ 2 ∷ [])) [] [] (1 ∷ []) → ⊥ }
+    ensures not_given { TakesAndKeeps unknown unasked (gave (1 ∷ 2 ∷ [])) [] (3 ∷ []) (1 ∷ []) → ⊥ }
 {}
 
 // When a reader is read for the next line, and which line is next.
@@ -114,6 +130,7 @@ fn examples_of_lines()
     ensures next { IsNext unknown unasked unasked (7 ∷ 10 ∷ 8 ∷ []) Open 2 }
     ensures no_feed { IsNext unknown unasked unasked (7 ∷ 10 ∷ 8 ∷ []) Open 1 → ⊥ }
     ensures not_held { IsNext unknown unasked unasked (10 ∷ []) Open 2 → ⊥ }
+    ensures after_a_fault { IsNext unknown unasked broken (7 ∷ 10 ∷ 8 ∷ []) Open 2 → ⊥ }
     ensures rest { IsNext unknown unasked (gave []) (7 ∷ []) AtEnd 1 }
     ensures feed_left { IsNext unknown unasked (gave []) (10 ∷ []) AtEnd 1 → ⊥ }
 
@@ -131,4 +148,10 @@ fn examples_of_traces()
     ensures unread { Traces unknown unknown unasked unasked unasked unasked (ended 0) → ⊥ }
     ensures bad { Traces unknown unknown unasked (gave (120 ∷ 10 ∷ [])) unasked unasked (Err (BadLine 1)) }
     ensures untold { Traces unknown unknown unasked (gave (120 ∷ 10 ∷ [])) unasked unasked (ended 1) → ⊥ }
+
+    // A request is in the first of two reads, and the writer fails. Its text is out before the second read.
+    ensures out_first { Traces unknown unknown unasked (gave_more (lined (read ∷ []))) unasked
+        (full_after (lined (sent ∷ []))) (Err WriteFailed) }
+    ensures read_too_soon { Traces unknown unknown unasked (gave_more (lined (read ∷ []))) unasked (refusing 1)
+        (Err WriteFailed) → ⊥ }
 {}

@@ -11,7 +11,7 @@ use bac_text::{Delimiter, LONGEST_LINE, position_of_end};
 use std::io::{Read, Write};
 use std::marker::Model;
 
-// Room for what is held: a line that isn't whole yet, and what a read gives behind it.
+// Room for what is held: a line that isn't whole yet, and what a read gives after it.
 const CHUNK_ROOM: usize = 32_768;
 
 // The octets of the longest line with its line feed. So many without a line feed among them are a line that is too
@@ -26,7 +26,7 @@ pub struct Chunk {
     end: usize,
 }
 
-/// The next line is so many of the first octets that are held. Where reading is over, it is all that was left.
+/// The next line is so many of the first octets that are held. If reading is over, it is all that was left.
 #[derive(Clone, Copy)]
 pub struct Next {
     pub reading: Reading,
@@ -129,8 +129,8 @@ impl Chunk {
         self.start += count;
     }
 
-    // How many octets the next line has, where it is whole among those that are held. So many of the first were
-    // searched before, and aren't searched again. Where none is whole, all have been searched.
+    // Returns how many octets the next line has, if it is whole among those that are held. So many of the first were
+    // searched before, and aren't searched again. If none is whole, all have been searched.
     #[tactic(auto, using(crate::proofs::range_size, crate::proofs::none_held))]
     fn line_length(&self, searched: &mut usize) -> Option<usize>
         requires within { searched.old ≤ length self.now }
@@ -152,7 +152,7 @@ impl Chunk {
         }
     }
 
-    // Reads once more behind what is held.
+    // Reads once more after what is held.
     fn read_more<R: Read>(&mut self, reader: &mut Checked<R>) -> Reading
         requires reader { has_failed reader.old ≡ false }
         requires short { length self.old < LINE_ROOM }
@@ -185,7 +185,7 @@ impl Chunk {
         Reading::Open
     }
 
-    // How many octets are held.
+    // Returns how many octets are held.
     fn len(&self) -> usize
         ensures { result ≡ length self.now }
     {
@@ -193,7 +193,7 @@ impl Chunk {
     }
 }
 
-// Where the first line feed stands.
+// The position of the first line feed.
 fn feed_position(octets: &[u8]) -> Option<usize>
     ensures { result ≡ position (λ octet. octet == 10) octets.now }
 {

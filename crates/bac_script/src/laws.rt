@@ -12,9 +12,9 @@ use crate::tracing::{TraceEnd, TraceFault};
 use std::io::{Read, Write};
 
 /// A script is a function of its octets. Two runs whose readers gave the same octets, and met their end as often, write
-/// one text and answer the same; where a writer failed, its run wrote a front of that text. Where one reader gave a
-/// front of what the other gave and did not meet its end, as in a run whose writer failed, its run wrote a front of the
-/// other's text.
+/// one text and answer the same; if a writer failed, its run wrote a front of that text. If one reader gave a front of
+/// what the other gave and did not meet its end, as in a run whose writer failed, its run wrote a front of the other's
+/// text.
 pub fn a_script_is_a_function<R: Read, S: Read, V: Write, W: Write>()
     ensures alike { (reader : R) (other_reader : S) (reader' : Checked R) (other_reader' : Checked S)
         (writer : V) (other_writer : W) (writer' : Checked V) (other_writer' : Checked W)

@@ -25,7 +25,7 @@ mod running;
 mod tracing;
 
 pub use input::{Chunk, Next, Reading};
-pub use line::{Line, LineFault, LineRoom, Received, read_line};
+pub use line::{Line, LineFault, LineRoom, Received, line_text, read_line};
 pub use long_write::LongWrite;
-pub use notes::{print_end, print_refusal, print_sent};
+pub use notes::{print_datagram, print_note};
 pub use tracing::{TraceEnd, TraceFault, trace};

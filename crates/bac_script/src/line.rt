@@ -13,49 +13,46 @@ use bac_text::{
     BodyRoom, Delimiter, LONGEST_DATAGRAM, LONGEST_LINE, PairFault, WordSource, Words, peer_in,
     plain_peer_in, position_of_end, priority_from, read_datagram, read_number, read_write_index,
 };
-use bac_tsm::Config;
+use bac_tsm::{Config, Event};
 use bac_wire::ObjectId;
 use std::str;
 
-/// What a line says. Its peer and its octets lie in the room that was lent to read it.
+/// What a line says. Its octets lie in the room that was lent to read it.
 #[derive(Drop)]
 pub enum Line<'a> {
-    /// Nothing: it is blank or a remark.
-    Skipped,
+    /// Nothing: it has no words.
+    Blank,
+    /// Nothing: it is a remark.
+    Remark,
     /// The client's settings and its first ticket.
     Client(Config, u64),
-    /// A request that the client is asked to make of the peer: the service and its body.
-    Request(&'a Peer, u8, &'a [u8]),
+    /// An event of the client.
+    Happens(Event<'a>),
     /// A request to write whose service body is too long to be sent.
     LongWrite(LongWrite<'a>),
-    /// A datagram that the client is handed.
-    Data(Received<'a>),
-    /// The time, in milliseconds.
-    Tick(u64),
     /// A datagram that the device is asked with.
     Ask(Received<'a>),
 }
 
 impl Line<'_> {
-    /// Whether the line says nothing.
+    /// Returns whether the line says nothing.
     pub fn is_skipped(&self) -> bool
         ensures { result ≡ is_nothing (line_seen self.now) }
     {
-        matches!(self, Line::Skipped)
+        matches!(self, Line::Blank | Line::Remark)
     }
 }
 
 /// A datagram, and whom it comes from.
 #[derive(Clone, Copy)]
 pub struct Received<'a> {
-    pub from: &'a Peer,
+    pub from: Peer,
     pub datagram: &'a [u8],
 }
 
-/// Room for the peer and the octets that a line says, which is used again for the next line.
+/// Room for the octets that a line says, which is used again for the next line.
 #[derive(Drop)]
 pub struct LineRoom {
-    peer: Peer,
     datagram: [u8; LONGEST_DATAGRAM],
     body: BodyRoom,
 }
@@ -63,11 +60,6 @@ pub struct LineRoom {
 impl LineRoom {
     pub fn new() -> Self {
         LineRoom {
-            peer: Peer {
-                ip: 0,
-                port: 0,
-                route: None,
-            },
             datagram: [0; LONGEST_DATAGRAM],
             body: BodyRoom::new(),
         }
@@ -77,7 +69,7 @@ impl LineRoom {
 /// Why a line can't be run.
 #[derive(Clone, Copy, PartialEq, Eq)]
 pub enum LineFault {
-    /// It is no line of the language.
+    /// It is not a line of the language.
     Bad,
     /// It has more octets than a line may have.
     TooLong,
@@ -99,8 +91,8 @@ pub fn read_line<'a>(
     read_words(Words::new(text), is_first, room).ok_or(LineFault::Bad)
 }
 
-// The octets of a line without its line feed and a carriage return before that.
-fn line_text(line: &[u8]) -> Result<&[u8], LineFault>
+/// The octets of a line without its line feed and a carriage return before that.
+pub fn line_text(line: &[u8]) -> Result<&[u8], LineFault>
     ensures { MatchResult result (λ text. text_of_line line.now ≡ Ok text.now)
         (λ fault. text_of_line line.now ≡ Err fault) }
 {
@@ -117,7 +109,7 @@ fn line_text(line: &[u8]) -> Result<&[u8], LineFault>
     }
 }
 
-// Whether the octets are UTF-8. Of most lines all are ASCII, which is seen sooner.
+// Returns whether the octets are UTF-8. Of most lines all are ASCII, which is seen sooner.
 fn is_text(octets: &[u8]) -> bool
     ensures { result ≡ is_utf8 octets.now }
 {
@@ -132,10 +124,10 @@ fn read_words<'a>(mut words: Words<'a>, is_first: bool, room: &'a mut LineRoom) 
     ensures { option_map line_seen result ≡ said_by is_first words.entry }
 {
     let Some(name) = words.next_word() else {
-        return Some(Line::Skipped);
+        return Some(Line::Blank);
     };
     if name.first() == Some(&b'#') {
-        return Some(Line::Skipped);
+        return Some(Line::Remark);
     }
     if is_first && name == b"client".as_slice() {
         return read_settings(words);
@@ -147,7 +139,8 @@ fn read_words<'a>(mut words: Words<'a>, is_first: bool, room: &'a mut LineRoom) 
         return read_writing(words, room);
     }
     if name == b"data".as_slice() {
-        return read_arrival(words, room).map(Line::Data);
+        let arrival = read_arrival(words, room)?;
+        return Some(Line::Happens(Event::Data(arrival.from, arrival.datagram)));
     }
     if name == b"tick".as_slice() {
         return read_tick(words);
@@ -172,7 +165,7 @@ fn read_settings(mut words: Words<'_>) -> Option<Line<'_>>
 fn read_reading<'a>(mut words: Words<'_>, room: &'a mut LineRoom) -> Option<Line<'a>>
     ensures { option_map line_seen result ≡ option_map Happens (reading_of words.entry) }
 {
-    room.peer = next_peer(&mut words)?;
+    let peer = next_peer(&mut words)?;
     let (object, property) = next_property(&mut words)?;
     let index = next_index(&mut words)?;
     ended(words)?;
@@ -182,20 +175,22 @@ fn read_reading<'a>(mut words: Words<'_>, room: &'a mut LineRoom) -> Option<Line
         index,
     };
     let body = room.body.body_of_read(&request);
-    Some(Line::Request(&room.peer, READ_PROPERTY, body))
+    Some(Line::Happens(Event::Ask(peer, READ_PROPERTY, body)))
 }
 
 fn read_writing<'a>(mut words: Words<'a>, room: &'a mut LineRoom) -> Option<Line<'a>>
     ensures { option_map line_seen result ≡ option_map Happens (writing_of words.entry) }
 {
-    let LineRoom { peer, body, .. } = room;
-    *peer = next_peer(&mut words)?;
+    let peer = next_peer(&mut words)?;
     let (object, property) = next_property(&mut words)?;
     let priority = next_priority(&mut words)?;
     let index = next_write_index(&mut words)?;
     let pairs = words.again();
-    match body.body_of_write(object, property, index, priority, &mut words) {
-        Ok(body) => Some(Line::Request(peer, WRITE_PROPERTY, body)),
+    match room
+        .body
+        .body_of_write(object, property, index, priority, &mut words)
+    {
+        Ok(body) => Some(Line::Happens(Event::Ask(peer, WRITE_PROPERTY, body))),
         Err(PairFault::TooLong) => Some(Line::LongWrite(LongWrite {
             peer,
             object,
@@ -212,13 +207,10 @@ fn read_writing<'a>(mut words: Words<'a>, room: &'a mut LineRoom) -> Option<Line
 fn read_arrival<'a>(mut words: Words<'_>, room: &'a mut LineRoom) -> Option<Received<'a>>
     ensures { option_map arrival_seen result ≡ arrival_of words.entry }
 {
-    room.peer = next_plain_peer(&mut words)?;
+    let from = next_plain_peer(&mut words)?;
     let datagram = next_datagram(&mut words, &mut room.datagram)?;
     ended(words)?;
-    Some(Received {
-        from: &room.peer,
-        datagram,
-    })
+    Some(Received { from, datagram })
 }
 
 fn read_tick(mut words: Words<'_>) -> Option<Line<'_>>
@@ -226,7 +218,7 @@ fn read_tick(mut words: Words<'_>) -> Option<Line<'_>>
 {
     let now = words.next_number(u64::MAX)?;
     ended(words)?;
-    Some(Line::Tick(now))
+    Some(Line::Happens(Event::Tick(now)))
 }
 
 #[inline(always)]
@@ -250,7 +242,7 @@ fn next_property(words: &mut Words<'_>) -> Option<(ObjectId, u32)>
     Some((object, property as u32))
 }
 
-// The number of an element, where a word is left.
+// The number of an element, if a word is left.
 fn next_index(words: &mut Words<'_>) -> Option<Option<u32>>
     ensures { MatchOption result (index_in words.old ≡ None) (λ index. index_in words.old ≡ Some (index, words.new)) }
 {
@@ -301,7 +293,7 @@ fn next_datagram<'a>(
     read_datagram(word, room)
 }
 
-// Something, where no word is left.
+// Something, if no word is left.
 fn ended(mut words: Words<'_>) -> Option<()>
     ensures { MatchOption result (IsLeft words.entry) (λ _. words.entry ≡ []) }
 {

@@ -7,10 +7,10 @@ use bac_pdu::Peer;
 use bac_text::Words;
 use bac_wire::ObjectId;
 
-/// A request to write as a line says it, where its service body has more octets than a client sends.
+/// A request to write as a line says it, if its service body has more octets than a client sends.
 #[derive(Drop)]
 pub struct LongWrite<'a> {
-    pub peer: &'a Peer,
+    pub peer: Peer,
     pub object: ObjectId,
     pub property: u32,
     pub index: Option<u32>,

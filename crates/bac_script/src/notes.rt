@@ -1,52 +1,40 @@
-//! What is printed of a client's notes, and of a device's replies.
+//! The texts of a client's notes, and of a device's replies.
 
-ghost use Rattle.std.specs.{List.flat_map, Prelude.{[], option_map, ◌++◌, ◌∷◌}};
+ghost use Rattle.std.specs.{List.flat_map, Option.option_to_list, Prelude.{[], option_map, ◌++◌, ◌∷◌}};
 ghost use Rattle.{bac_pdu.specs.station, bac_print.specs.{peer_text, Prints}};
-ghost use Rattle.bac_tsm.specs.{Done, due_notes, outcome_seen, Refused, sent, Events.TimedOut};
-ghost use Rattle.{hex.specs.Hex.encode_lower, bac_script.specs.{note_text, notes_text, reply_text}};
+ghost use Rattle.bac_tsm.specs.{Done, due_notes, outcome_seen, Sent, Events.TimedOut, Seen.note_seen};
+ghost use Rattle.{hex.specs.Hex.encode_lower, bac_script.specs.{note_text, notes_text, refusal_text, reply_text}};
 
 use bac_pdu::Peer;
 use bac_print::{Page, print_outcome};
-use bac_tsm::{Client, DueEntry, Ended, SubmitFault};
+use bac_tsm::{Client, DueEntry, Ended, Note, SubmitFault};
 use std::io::Write;
 
-/// Prints what the client sends under the ticket, where the request is open.
-#[tactic(auto, using(bac_print::proofs::Printed::printing, std::proofs::lemmas::Grind::common_steps))]
+/// Prints the line of a note.
+#[tactic(auto, using(bac_print::proofs::Printed::printing))]
 #[inline(always)]
-pub fn print_sent<W: Write>(page: &mut Page<'_, W>, client: &Client, ticket: u64)
-    ensures { Prints W.contents page.old page.new (notes_text (sent client.now.state ticket)) }
+pub fn print_note<W: Write>(page: &mut Page<'_, W>, note: Note<'_>)
+    ensures { Prints W.contents page.old page.new (note_text (note_seen note.entry)) }
 {
-    if let Some((peer, octets)) = client.to_send(ticket) {
-        page.print(b"send ");
-        page.print_number(ticket);
-        page.print(b" ");
-        print_datagram(page, peer, octets);
+    match note {
+        Note::Sent(ticket, peer, octets) => print_sent(page, ticket, peer, octets),
+        Note::Refused(fault) => print_refusal(page, fault),
+        Note::Done(ended) => print_end(page, ended),
+        Note::Dropped => page.print(b"drop\n"),
+        Note::TimedOut(ticket) => print_timeout(page, ticket),
     }
 }
 
-/// Prints why a request was not accepted.
-pub fn print_refusal<W: Write>(page: &mut Page<'_, W>, fault: SubmitFault)
-    ensures { Prints W.contents page.old page.new (note_text (Refused fault)) }
-{
-    let text = match fault {
-        SubmitFault::TooLong => b"too-long\n".as_slice(),
-        SubmitFault::TableFull => b"full\n",
-        SubmitFault::TicketsSpent => b"spent\n",
-    };
-    page.print(text);
-}
-
-/// Prints the end of a request.
+/// Prints the line of a note, where there is one.
+#[tactic(auto, using(bac_print::proofs::Printed::printing, std::proofs::lemmas::Grind::common_steps))]
 #[inline(always)]
-pub fn print_end<W: Write>(page: &mut Page<'_, W>, ended: Ended<'_>)
+pub(crate) fn print_any<W: Write>(page: &mut Page<'_, W>, note: Option<Note<'_>>)
     ensures { Prints W.contents page.old page.new
-        (note_text (Done ended.entry.ticket (outcome_seen ended.entry.outcome))) }
+        (notes_text (option_to_list (option_map note_seen note.entry))) }
 {
-    page.print(b"done ");
-    page.print_number(ended.ticket);
-    page.print(b" ");
-    print_outcome(page, ended.outcome);
-    page.print(b"\n");
+    if let Some(note) = note {
+        print_note(page, note);
+    }
 }
 
 /// Prints what became of the requests that were due, in their order.
@@ -55,7 +43,7 @@ pub(crate) fn print_due<W: Write>(page: &mut Page<'_, W>, client: &Client, due: 
     ensures { Prints W.contents page.old page.new (notes_text (flat_map (due_notes client.now.state) due.now)) }
 {
     for entry in due {
-        print_entry(page, client, *entry);
+        print_any(page, client.due(*entry));
     }
 }
 
@@ -73,13 +61,51 @@ pub(crate) fn print_answer<W: Write>(page: &mut Page<'_, W>, to: Option<Peer>, o
     }
 }
 
-fn print_entry<W: Write>(page: &mut Page<'_, W>, client: &Client, entry: DueEntry)
-    ensures { Prints W.contents page.old page.new (notes_text (due_notes client.now.state entry)) }
+/// Prints whom a datagram is for or from, and its octets.
+#[inline(always)]
+#[tactic(auto, using(bac_print::proofs::Printed::printing))]
+pub fn print_datagram<W: Write>(page: &mut Page<'_, W>, peer: Peer, octets: &[u8])
+    ensures { Prints W.contents page.old page.new
+        (peer_text (station peer) ++ 32 ∷ (encode_lower octets.now ++ 10 ∷ [])) }
 {
-    match entry {
-        DueEntry::Resend(ticket) => print_sent(page, client, ticket),
-        DueEntry::TimedOut(ticket) => print_timeout(page, ticket),
-    }
+    page.print_peer(peer);
+    page.print(b" ");
+    page.print_hex(octets);
+    page.print(b"\n");
+}
+
+#[inline(always)]
+#[tactic(auto, using(bac_print::proofs::Printed::printing))]
+fn print_sent<W: Write>(page: &mut Page<'_, W>, ticket: u64, peer: Peer, octets: &[u8])
+    ensures { Prints W.contents page.old page.new (note_text (Sent ticket (station peer) octets.now)) }
+{
+    page.print(b"send ");
+    page.print_number(ticket);
+    page.print(b" ");
+    print_datagram(page, peer, octets);
+}
+
+fn print_refusal<W: Write>(page: &mut Page<'_, W>, fault: SubmitFault)
+    ensures { Prints W.contents page.old page.new (refusal_text fault ++ 10 ∷ []) }
+{
+    let text = match fault {
+        SubmitFault::TooLong => b"too-long\n".as_slice(),
+        SubmitFault::TableFull => b"full\n",
+        SubmitFault::TicketsSpent => b"spent\n",
+    };
+    page.print(text);
+}
+
+#[inline(always)]
+fn print_end<W: Write>(page: &mut Page<'_, W>, ended: Ended<'_>)
+    ensures { Prints W.contents page.old page.new
+        (note_text (Done ended.entry.ticket (outcome_seen ended.entry.outcome))) }
+{
+    page.print(b"done ");
+    page.print_number(ended.ticket);
+    page.print(b" ");
+    print_outcome(page, ended.outcome);
+    page.print(b"\n");
 }
 
 #[tactic(auto, using(bac_print::proofs::Printed::printing))]
@@ -88,18 +114,5 @@ fn print_timeout<W: Write>(page: &mut Page<'_, W>, ticket: u64)
 {
     page.print(b"timeout ");
     page.print_number(ticket);
-    page.print(b"\n");
-}
-
-// Prints whom a datagram is for, and its octets.
-#[inline(always)]
-#[tactic(auto, using(bac_print::proofs::Printed::printing))]
-fn print_datagram<W: Write>(page: &mut Page<'_, W>, peer: Peer, octets: &[u8])
-    ensures { Prints W.contents page.old page.new
-        (peer_text (station peer) ++ 32 ∷ (encode_lower octets.now ++ 10 ∷ [])) }
-{
-    page.print_peer(peer);
-    page.print(b" ");
-    page.print_hex(octets);
     page.print(b"\n");
 }

@@ -1,16 +1,15 @@
 //! The lines of a script, run on its client and its device one after another.
 
 ghost use Rattle.std.specs.Prelude.{[], List, ◌≡◌};
-ghost use Rattle.{bac_device.specs.Write, bac_pdu.specs.station, bac_print.specs.Prints};
-ghost use Rattle.{bac_tsm.specs.{Ask, Data, keeping, Tick}, bac_script.specs.{arrival_seen, line_seen, notes_text}};
-ghost use Rattle.bac_script.specs.Inner.{device_with, ran, reply_after, Stage, Stands, step_of, writes_with};
+ghost use Rattle.{bac_device.specs.Write, bac_print.specs.Prints, bac_tsm.specs.{keeping, Seen.event_seen}};
+ghost use Rattle.bac_script.specs.{arrival_seen, line_seen, notes_text, step_of};
+ghost use Rattle.bac_script.specs.Inner.{device_with, ran, reply_after, ScriptStage, Stands, writes_with};
 
 use crate::line::{Line, Received};
-use crate::notes::{print_answer, print_due, print_end, print_refusal, print_sent};
+use crate::notes::{print_answer, print_any, print_due, print_note};
 use bac_device::{Device, DeviceInfo, demo};
-use bac_pdu::Peer;
 use bac_print::Page;
-use bac_tsm::{Client, SubmitFault};
+use bac_tsm::{Client, Event, Note, SubmitFault};
 use bac_wire::Frame;
 use bac_work::begin;
 use std::io::Write;
@@ -24,18 +23,16 @@ pub(crate) fn run_line<W: Write>(
     reply: &mut Frame,
     page: &mut Page<'_, W>,
 )
-    ensures stage { (stage : Stage) → Stands stage client.old device.old
+    ensures stage { (stage : ScriptStage) → Stands stage client.old device.old
         → Stands (ran stage (line_seen line.entry)).after client.new device.new }
-    ensures text { (stage : Stage) → Stands stage client.old device.old
+    ensures text { (stage : ScriptStage) → Stands stage client.old device.old
         → Prints W.contents page.old page.new (ran stage (line_seen line.entry)).text }
 {
     match line {
-        Line::Skipped => {}
+        Line::Blank | Line::Remark => {}
         Line::Client(config, first_ticket) => *client = Client::new(config, first_ticket),
-        Line::Request(peer, service, body) => submit(client, *peer, service, body, page),
-        Line::LongWrite(_) => print_refusal(page, SubmitFault::TooLong),
-        Line::Data(received) => hand_in(client, received, page),
-        Line::Tick(now) => tick(client, now, page),
+        Line::Happens(event) => take(client, event, page),
+        Line::LongWrite(_) => print_note(page, Note::Refused(SubmitFault::TooLong)),
         Line::Ask(received) => ask(device, received, reply, page),
     }
 }
@@ -48,46 +45,26 @@ pub(crate) fn small_device() -> Device
     demo(info)
 }
 
-// Asks the client to make a request of the peer.
-fn submit<W: Write>(
-    client: &mut Client,
-    peer: Peer,
-    service: u8,
-    body: &[u8],
-    page: &mut Page<'_, W>,
-)
-    ensures client { client.new ≡ keeping client.old (step_of client.old (Ask (station peer) service body.now)).after }
+// Hands the client an event, and prints its notes.
+fn take<W: Write>(client: &mut Client, event: Event<'_>, page: &mut Page<'_, W>)
+    ensures client { client.new ≡ keeping client.old (step_of client.old (event_seen event.entry)).after }
     ensures text { Prints W.contents page.old page.new
-        (notes_text (step_of client.old (Ask (station peer) service body.now)).notes) }
+        (notes_text (step_of client.old (event_seen event.entry)).notes) }
 {
-    match client.submit(peer, service, body) {
-        Ok(ticket) => print_sent(page, client, ticket),
-        Err(fault) => print_refusal(page, fault),
+    match event {
+        Event::Ask(peer, service, body) => match client.submit(peer, service, body) {
+            Ok(ticket) => print_any(page, client.sent(ticket)),
+            Err(fault) => print_note(page, Note::Refused(fault)),
+        },
+        Event::Data(peer, octets) => match client.datagram(peer, octets) {
+            Some(ended) => print_note(page, Note::Done(ended)),
+            None => print_note(page, Note::Dropped),
+        },
+        Event::Tick(now) => {
+            let due = client.tick(now);
+            print_due(page, client, due.as_slice());
+        }
     }
-}
-
-// Hands the client a datagram.
-fn hand_in<W: Write>(client: &mut Client, received: Received<'_>, page: &mut Page<'_, W>)
-    ensures client { client.new
-        ≡ keeping client.old
-        (step_of client.old (Data (arrival_seen received.entry).from (arrival_seen received.entry).datagram)).after }
-    ensures text { Prints W.contents page.old page.new
-        (notes_text (step_of client.old
-        (Data (arrival_seen received.entry).from (arrival_seen received.entry).datagram)).notes) }
-{
-    match client.datagram(*received.from, received.datagram) {
-        Some(ended) => print_end(page, ended),
-        None => page.print(b"drop\n"),
-    }
-}
-
-// Tells the client the time.
-fn tick<W: Write>(client: &mut Client, now: u64, page: &mut Page<'_, W>)
-    ensures client { client.new ≡ keeping client.old (step_of client.old (Tick now)).after }
-    ensures text { Prints W.contents page.old page.new (notes_text (step_of client.old (Tick now)).notes) }
-{
-    let due = client.tick(now);
-    print_due(page, client, due.as_slice());
 }
 
 // Asks the device with a datagram. Its reply is put into the frame.
@@ -102,6 +79,6 @@ fn ask<W: Write>(
     ensures text { (writes : List Write) → device.old ≡ device_with writes
         → Prints W.contents page.old page.new (reply_after writes (arrival_seen received.entry)) }
 {
-    let to = device.answer(*received.from, received.datagram, reply, &mut begin());
+    let to = device.answer(received.from, received.datagram, reply, &mut begin());
     print_answer(page, to, reply.as_slice());
 }

@@ -2,7 +2,7 @@
 
 ghost use Rattle.std.specs.Prelude.{[], Err, false, true, ◌↔◌, ◌≡◌};
 ghost use Rattle.bac_print.specs.{has_failed, held, message_text, room_of, writer_of};
-ghost use Rattle.bac_script.specs.{fault_at, trace_fault_text, Traces, Inner.{new_client, RunsOn}};
+ghost use Rattle.bac_script.specs.{fault_at, new_client, trace_fault_text, Traces, Inner.RunsOn};
 
 use crate::input::{Chunk, Reading};
 use crate::line::{LineFault, LineRoom, read_line};
@@ -24,7 +24,7 @@ pub struct TraceEnd {
 #[derive(Clone, Copy, Debug, PartialEq, Eq, Error)]
 #[error("{}", self.message())]
 pub enum TraceFault {
-    /// The line with this number, from 1, is no line of the language: the fault of who wrote it.
+    /// The line with this number, from 1, is not a line of the language: its writer's fault.
     BadLine(u64),
     /// The line with this number, from 1, has more than 4,096 octets: the fault of who wrote it.
     LineTooLong(u64),
@@ -35,7 +35,7 @@ pub enum TraceFault {
 }
 
 impl TraceFault {
-    /// What is told of it.
+    /// Its message.
     pub fn message(&self) -> Message
         ensures { message_text result ≡ trace_fault_text self.now }
     {
@@ -58,7 +58,7 @@ impl From<WriteFailed> for TraceFault {
     }
 }
 
-/// Runs each line of a script on a client and a device. What is printed is written before the reader is asked for more.
+/// Runs each line of a script on a client and a device. The text is written before the reader is asked for more.
 pub fn trace<R: Read, W: Write>(
     reader: &mut Checked<R>,
     writer: &mut Checked<W>,
@@ -74,8 +74,8 @@ pub fn trace<R: Read, W: Write>(
     answer
 }
 
-// Runs each line of a script. What is printed goes to the writer before more is read; in the end some of it may still
-// be on the page.
+// Runs each line of a script. The text goes to the writer before more is read; in the end some of it may still be on
+// the page.
 fn run_script<R: Read, W: Write>(
     reader: &mut Checked<R>,
     page: &mut Page<'_, W>,

@@ -44,7 +44,7 @@ pub value_next : (word : List ℕ) (i number : ℕ) → i < length word → is_a
     → number * 10 + (get_or word i 0 - 48) ≡ digits_value 10 (take (i + 1) word)
 value_next = grind (arith, digits_value_more)
 
--- A word that is no number, since one of its octets is no digit.
+-- A word that is not a number, since one of its octets is not a digit.
 pub not_number : (most : ℕ) (word : List ℕ) → all_ascii_digits word ≡ false → number_up_to most word ≡ None
 not_number = grind arith
 
@@ -98,7 +98,7 @@ module _ (q : ℕ → Bool) (d : List ℕ) (i n r : ℕ) (z : List ℕ) (room : 
       subst (λ x. stops x ≡ false) at
       (not-true _ (prefix_len_passes (λ x. not (stops x)) _ (k - i) 0 (omega (arith, counted))))
 
-  -- A lane stops just where the test passes.
+  -- A lane stops exactly where the test passes.
   pub run_in : IsRunIn q d i n r
   run_in = grind (arith, counted, long, prefix_len-le-length, goes_on, get_or-chunk, prefix_len_stops)
 
@@ -122,7 +122,7 @@ all_before p xs _ at n _ over before found k below = grind arith
 
 -- ---- numbers at the front of a text
 
--- The greatest number of so many digits.
+-- The greatest number of this many digits.
 abbrev pub most_with : ℕ → ℕ
 most_with zero = 0
 most_with (suc n) = most_with n * 10 + 9
@@ -130,7 +130,7 @@ most_with (suc n) = most_with n * 10 + 9
 pub most_next : (n number digit : ℕ) → number ≤ most_with n → digit ≤ 9 → number * 10 + digit ≤ most_with (n + 1)
 most_next n _ digit h d = rw add-one (omega arith)
 
--- A short text that is no number as a whole.
+-- A short text that is not a number as a whole.
 module _ (text : List ℕ) (digits limit number count : ℕ) (l : IsLeading text digits number count) where
   pub short_long : count < length text → None ≡ short_number digits limit text
   short_long = grind (arith, others_are)
@@ -141,7 +141,7 @@ module _ (text : List ℕ) (digits limit number count : ℕ) (l : IsLeading text
   pub short_big : limit < number → None ≡ short_number digits limit text
   short_big = grind (arith, others_are, take_all)
 
--- So many digits at the front write the number.
+-- This many digits at the front write the number.
 record Digits (text : List ℕ) (count number : ℕ) : Type 0 where
   all : all_ascii_digits (take count text) ≡ true
   value : number ≡ digits_value 10 (take count text)
@@ -255,14 +255,14 @@ number_is : (digit : ℕ)
     → (bit_and digit 15 + cond (top 7 (cond (nat_lt 63 digit) 255 0)) 9 0) % 256 ≡ number_by_lane digit
 number_is _ = rw (and_mask _ 4, lane_is _) (grind arith)
 
--- The octet of two digits, as a lane has it.
+-- The octet of two digits, as in a lane.
 pub octet_is : (high low : ℕ) →
     ((bit_and high 15 + cond (top 7 (cond (nat_lt 63 high) 255 0)) 9 0) % 256 * 16 % 256
     + (bit_and low 15 + cond (top 7 (cond (nat_lt 63 low) 255 0)) 9 0) % 256) % 256
     ≡ (number_by_lane high * 16 + number_by_lane low) % 256
 octet_is _ _ = rw (number_is _, number_is _) (omega arith)
 
--- Whether an octet is no digit, as a lane has it.
+-- Whether an octet is not a digit, as in a lane.
 abbrev past : ℕ → ℕ → ℕ
 past a b = cond (nat_lt a b) 255 0
 

@@ -28,7 +28,7 @@ use Rattle.bac_text.specs.declared.value_words.ValueFault.TheVariants as faults
 use Rattle.bac_wire.specs.Datum as values
 use Rattle.bac_pdu.specs.Parameter as parameters
 
--- how many blanks stand first, and how many other octets
+-- how many blanks come first, and how many other octets
 abbrev blanks : List ℕ → ℕ
 blanks text = position_or_len (λ octet. not (is_blank octet)) text
 
@@ -78,7 +78,7 @@ keeps : (word : List ℕ) (rest all : List (List ℕ)) → is_not_empty word ≡
     → filter is_not_empty (word ∷ rest) ≡ word ∷ all
 keeps _ _ _ some same = rw (some, same) refl
 
--- where no blank stands first, the first word does
+-- if no blank comes first, the first word does
 words-first : (x : ℕ) (xs : List ℕ) → is_blank x ≡ false
     → words_of (x ∷ xs) ≡ take (others (x ∷ xs)) (x ∷ xs) ∷ words_of (drop (others (x ∷ xs)) (x ∷ xs))
 words-first x xs e =
@@ -142,7 +142,7 @@ module _ (rest : List ℕ) (number count : ℕ) (l : IsLeading rest 5 number cou
 
 -- ---- what is appended of a value, and the words of each kind
 
--- What has no more octets than it may is as it was.
+-- A list with no more octets than it may have is as it was.
 pub at_most_found : {E : Type 0} (fault : E) (most : ℕ) (octets found : List ℕ) → at_most fault most octets ≡ Ok found →
     (found ≡ octets) × (length octets ≤ most)
 at_most_found = grind arith
@@ -251,7 +251,7 @@ values_spelled (value ∷ others) (in_range, later) fits =
     let size = length-append (plain value) (flat_map plain others) in
     (written_datum _ 0 in_range (omega arith), values_spelled others later (omega arith))
 
--- ---- one more value behind others
+-- ---- one more value after others
 
 flat_map-more : (values : List Datum) (value : Datum)
     → flat_map plain (values ++ value ∷ []) ≡ flat_map plain values ++ plain value
@@ -265,7 +265,7 @@ abbrev pub then_values : List Datum → Result (List Datum) ℕ → Result (List
 then_values values (Ok others) = Ok (values ++ others)
 then_values values (Err bad) = Err bad
 
--- What was appended of these values, and whether they have passed the room.
+-- The appended octets of these values, and whether they are too long for the room.
 abbrev pub Stands : Bool → List ℕ → List Datum → Type 0
 Stands true region values = 1497 < length (flat_map plain values)
 Stands false region values = (region ≡ flat_map plain values) × (length region ≤ 1497)
@@ -301,7 +301,7 @@ stands-long = grind (arith, flat_map-more, length-append)
 pub progress-first : (all : List (List ℕ)) → Progress all all 1 [] false
 progress-first = grind arith
 
--- The words behind the pair that is next.
+-- The words after the pair that is next.
 pub pair_behind : (all words left : List (List ℕ)) (n : ℕ) (tag word region : List ℕ) (b : Bool)
     → Progress all words n region b → words ≡ tag ∷ word ∷ left →
     left ≡ drop (2 * n) all
@@ -309,7 +309,7 @@ pair_behind all _ _ n _ _ _ b p is =
     let two : 2 * (n - 1) + 2 ≡ 2 * n = omega arith in
     ap (λ (zs : List (List ℕ)). drop 2 zs) (sym is ∙ p.behind) ∙ drop-drop 2 _ all ∙ ap (λ (k : ℕ). drop k all) two
 
--- No word is behind a lone tag.
+-- No word follows a lone tag.
 pub none_behind : (all left : List (List ℕ)) (n : ℕ) (region : List ℕ) (b : Bool) → Progress all left n region b
     → length left ≡ 1 → [] ≡ drop (2 * n) all
 none_behind = grind (arith, drop_all)
@@ -353,7 +353,7 @@ plain_some = omega arith
 none_said : (words : List (List ℕ)) → pairs_from 1 words ≡ Ok [] → words ≡ []
 none_said = grind arith
 
--- No value is spelled by nothing, so where nothing was appended there was no pair.
+-- No value is spelled by no octets, so if nothing was appended there was no pair.
 pub progress-none : (all left : List (List ℕ)) (n : ℕ) (region : List ℕ) → Progress all left n region false → left ≡ []
     → region ≡ [] → all ≡ []
 progress-none = grind (arith, said-all, none_said, plain_some)

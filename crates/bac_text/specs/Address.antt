@@ -1,18 +1,18 @@
 -- A peer as it is written: four numbers joined by dots, a port after a colon, and a route after a slash.
-use Rattle.std.specs.{Option.option_map_or, Prelude.{codes, drop, if◌then◌else◌, length, List, nat_le, None, Option}}
-use Rattle.std.specs.Prelude.{option_map, position, Some, take, unwrap_or, ℕ, ◌*◌, ◌+◌, ◌==◌}
+use Rattle.std.specs.{Option.option_map_or, Prelude.{bytes_eq, codes, drop, if◌then◌else◌, length, List, nat_le}}
+use Rattle.std.specs.Prelude.{nat_lt, None, Option, option_map, position, Some, take, unwrap_or, ℕ, ◌*◌, ◌+◌, ◌==◌}
 use Rattle.{bac_pdu.specs.{NetworkAddress, Station, DatagramReading.is_routable}, bac_wire.specs.◌>>=◌}
 use Rattle.bac_text.specs.Words.{number_up_to, octets_of}
 
--- What stands before the first such octet and what stands behind it, if there is one.
+-- The octets before and after the first such octet, if there is one.
 abbrev pub cut_at : ℕ → List ℕ → Option (List ℕ × List ℕ)
 cut_at octet text = option_map (λ i. (take i text, drop (i + 1) text)) (position (λ o. o == octet) text)
 
--- The number of a word of at most so many digits, up to a limit.
+-- The number of a word of at most this many digits, up to a limit.
 abbrev pub short_number : ℕ → ℕ → List ℕ → Option ℕ
 short_number digits limit text = if nat_le (length text) digits then number_up_to limit text else None
 
--- A number up to 255 before a dot (46), and what stands behind that.
+-- A number up to 255 before a dot (46), and the octets after the dot.
 abbrev pub number_before_dot : List ℕ → Option (ℕ × List ℕ)
 number_before_dot text = do
   (digits, rest) ← cut_at 46 text
@@ -50,13 +50,31 @@ route_of text = do
   address ← octets_of digits
   routable (record { network = network; address = address })
 
--- A router, and a route behind it.
+-- A router, and a route after it.
 abbrev pub routed_peer_of : List ℕ × List ℕ → Option Station
 routed_peer_of (plain, behind) = do
   router ← plain_peer_of plain
   route ← route_of behind
   Some (record router { route = Some route })
 
--- A peer: before a slash (47) a router, and behind it a route; without a slash a peer without a route.
+-- A peer: a router before a slash (47), and a route after it; without a slash, a peer without a route.
 abbrev pub peer_of : List ℕ → Option Station
 peer_of text = option_map_or routed_peer_of (cut_at 47 text) (plain_peer_of text)
+
+-- The network whose stations a word names: a number 1 to 65534, or a star (42), all networks (65535).
+abbrev pub network_of : List ℕ → Option ℕ
+network_of word =
+    if bytes_eq word (codes "*") then Some 65535 else (do
+      number ← number_up_to 65534 word
+      if nat_lt 0 number then Some number else None)
+
+-- A router, a slash (47) and a network.
+abbrev pub network_at : List ℕ → Option (List ℕ × ℕ)
+network_at text = do
+  (router, behind) ← cut_at 47 text
+  option_map (λ network. (router, network)) (network_of behind)
+
+-- The receivers of a Who-Is: a peer, or all stations of a network behind a router.
+abbrev pub reach_of : List ℕ → Option (Station × Option ℕ)
+reach_of text = option_map_or (λ (router, network). option_map (λ peer. (peer, Some network)) (plain_peer_of router))
+    (network_at text) (option_map (λ peer. (peer, None)) (peer_of text))

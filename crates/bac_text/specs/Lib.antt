@@ -2,6 +2,7 @@ pub mod Limits
 pub mod Words
 pub mod Search
 pub mod Address
+pub mod Reach
 pub mod ValueWords
 pub mod Parameters
 pub mod Pairs
@@ -11,6 +12,7 @@ unfoldable pub use Limits.*
 unfoldable pub use Words.*
 unfoldable pub use Search.*
 unfoldable pub use Address.*
+unfoldable pub use Reach.*
 unfoldable pub use ValueWords.*
 unfoldable pub use Parameters.*
 unfoldable pub use Pairs.*

@@ -5,12 +5,12 @@ use Rattle.bac_pdu.specs.{longest_body, Order, Property.write_octets}
 use Rattle.bac_wire.specs.{plain, result_seen, Datum.Datum, Identifier.Identifier}
 use Rattle.bac_text.specs.{declared.pairs.PairFault.{PairFault, TheVariants.{Bad, TooLong}}, ValueWords.value_in}
 
--- The value of a pair and those of the pairs behind it, or the number of the first pair that has none.
+-- The value of a pair and those of the pairs after it, or the number of the first pair that has none.
 abbrev pub value_before : ℕ → Option Datum → Result (List Datum) ℕ → Result (List Datum) ℕ
 value_before n None more = Err n
 value_before n (Some value) more = result_seen (λ values. value ∷ values) more
 
--- The values that words write two by two, or the number of the first pair that can't be read or lacks its value. The
+-- The values that words write two by two, or the number of the first pair that cannot be read or lacks its value. The
 -- first pair has this number.
 abbrev pub pairs_from : ℕ → List (List ℕ) → Result (List Datum) ℕ
 pairs_from n [] = Ok []
@@ -22,12 +22,12 @@ abbrev pub values_in : List (List ℕ) → Result (List Datum) ℕ
 values_in [] = Err 1
 values_in (tag ∷ others) = pairs_from 1 (tag ∷ others)
 
--- The words that are left of these: none, or those behind the first pair that has no value.
+-- The words that are left of these: none, or those after the first pair that has no value.
 abbrev pub words_behind : {A : Type 0} → Result A PairFault → List (List ℕ) → List (List ℕ)
 words_behind (Err (Bad n)) words = drop (2 * n) words
 words_behind _ words = []
 
--- The body, where it is no longer than a client sends.
+-- The body, if it is no longer than a client sends.
 abbrev pub sendable : Result (List ℕ) ℕ → Result (List ℕ) PairFault
 sendable (Ok body) = if nat_le (length body) longest_body then Ok body else Err TooLong
 sendable (Err n) = Err (Bad n)

@@ -21,7 +21,7 @@ signed_in word =
     if starts_with_minus word then option_map (λ n. neg_ℤ (pos n)) (number_up_to (2 ^ 63) (drop 1 word))
     else option_map pos (number_up_to (2 ^ 63 - 1) word)
 
--- The octet of the first eight bits, the first of them the highest; where there are fewer, the others are 0.
+-- The octet of the first eight bits, the first of them the highest; if there are fewer, the others are 0.
 abbrev pub bits_octet : List ℕ → ℕ
 bits_octet digits = number_from_digits 2 (map (λ i. if slice_index digits i == 49 then 1 else 0) (range_with_len 0 8))
 

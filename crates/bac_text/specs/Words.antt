@@ -12,7 +12,7 @@ is_blank octet = octet == 32 || octet == 9
 abbrev pub words_of : List ℕ → List (List ℕ)
 words_of text = filter (λ word. nat_lt 0 (length word)) (slice_split is_blank text)
 
--- The number that one or more decimal digits write, where it is at most this.
+-- The number that one or more decimal digits write, if it is at most this.
 abbrev pub number_up_to : ℕ → List ℕ → Option ℕ
 number_up_to most word =
     if nat_lt 0 (length word) && (all_ascii_digits word && nat_le (digits_value 10 word) most)
@@ -28,7 +28,7 @@ abbrev pub next_as : {A : Type 0} → (List ℕ → Option A) → List (List ℕ
 next_as read [] = None
 next_as read (word ∷ others) = option_map (λ x. (x, others)) (read word)
 
--- This, where no word is left; else nothing.
+-- This, if no word is left; else nothing.
 abbrev pub at_end : {A : Type 0} → List (List ℕ) → A → Option A
 at_end [] x = Some x
 at_end (word ∷ others) x = None

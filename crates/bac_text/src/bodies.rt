@@ -24,7 +24,7 @@ impl BodyRoom {
         }
     }
 
-    /// The body of the ReadProperty request (clause 15.5). There is always room for it.
+    /// Returns the body of the ReadProperty request (clause 15.5). There is always room for it.
     pub fn body_of_read(&mut self, request: &ReadRequest) -> &[u8]
         ensures body { result.now ≡ read_octets (reference request.now) }
         ensures short { length result.now ≤ longest_body }
@@ -34,13 +34,13 @@ impl BodyRoom {
         self.body.as_slice()
     }
 
-    /// The body of the WriteProperty request that gives a property the values of the words (clause 15.9). They are all
-    /// taken, or those up to the first pair that is bad.
+    /// Returns the body of the WriteProperty request that gives a property the values of the words (clause 15.9). They
+    /// are all taken, or those up to the first pair that is bad.
     ///
     /// # Errors
     ///
     /// `Bad` with the number of the first pair whose words are no tag and a value of it, or which lacks its value, or
-    /// with 1 where there is no word; and then `TooLong` where the body would have more than `LONGEST_BODY` octets.
+    /// with 1 if there is no word; and then `TooLong` if the body would have more than `LONGEST_BODY` octets.
     pub fn body_of_write<'a, S: WordSource<'a>>(
         &mut self,
         object: ObjectId,

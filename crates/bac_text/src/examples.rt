@@ -1,7 +1,7 @@
 //! Examples of words, worked out by computation. They show what the definitions mean.
 
 ghost use Rattle.std.specs.Prelude.{◌≡◌, ℕ, [], ◌∷◌, codes, replicate};
-ghost use Rattle.bac_text.specs.{Bad, TooLong, peer_of, longest_line, words_behind, words_of};
+ghost use Rattle.bac_text.specs.{Bad, TooLong, peer_of, reach_of, longest_line, words_behind, words_of};
 ghost use Rattle.bac_text.specs.PairsInWords.{IsWritten};
 ghost use Rattle.bac_text.specs.Inner.{WritesPair, device, far_device, body_with_words};
 ghost use Rattle.bac_text.specs.Inner.Examples.{minus_five, value};
@@ -36,6 +36,14 @@ fn examples_of_words()
     ensures routed { peer_of (codes "127.0.0.1/5/07") ≡ Some far_device }
     ensures three_numbers { peer_of (codes "1.2.3") ≡ None }
 
+    // The stations of network 5 behind a router, or of all networks (65535, clause 6.2.2.1). No network has the number
+    // 65535.
+    ensures network { reach_of (codes "127.0.0.1/5") ≡ Some (device, Some 5) }
+    ensures networks { reach_of (codes "127.0.0.1/*") ≡ Some (device, Some 65535) }
+    ensures one_station { reach_of (codes "127.0.0.1/5/07") ≡ Some (far_device, None) }
+    ensures no_network { reach_of (codes "127.0.0.1/0") ≡ None }
+    ensures past_networks { reach_of (codes "127.0.0.1/65535") ≡ None }
+
     // A WriteProperty body: the object, the property, the value between its tags, the priority (clause 15.9).
     ensures body { body_with_words (codes "3" ∷ codes "-5" ∷ []) ≡ Ok minus_five }
     // The second pair has no value.
@@ -43,7 +51,7 @@ fn examples_of_words()
     ensures too_long { body_with_words (codes "7" ∷ replicate 600 120 ∷ []) ≡ Err TooLong }
 {}
 
-// The limit of a line, and the words that stand behind those that were read where a pair is bad.
+// The limit of a line, and the words that are left if a pair is bad.
 #[tactic(none)]
 fn examples_of_limits()
     ensures line { longest_line ≡ 4096 }

@@ -20,7 +20,8 @@ pub(crate) struct HexDigits<'a> {
     ghost read: { IsTrue (is_ok (decode_of digits.now)) },
 }
 
-/// The octets of a datagram that a word writes, as a positive even number of hexadecimal digits. They lie in the room.
+/// Returns the octets of a datagram that a word writes, as a positive even number of hexadecimal digits. They lie in
+/// the room.
 pub fn read_datagram<'r>(word: &[u8], room: &'r mut [u8; LONGEST_DATAGRAM]) -> Option<&'r [u8]>
     ensures { option_map (λ octets. octets.now) result ≡ octets_of word.now }
 {
@@ -35,7 +36,7 @@ pub fn read_datagram<'r>(word: &[u8], room: &'r mut [u8; LONGEST_DATAGRAM]) -> O
     Some(octets)
 }
 
-/// The digits of a word, if it is nothing else.
+/// Returns the digits of a word, if it is nothing else.
 #[tactic(auto, using(crate::proofs::digits_of_words))]
 pub(crate) fn read_hex(word: &[u8]) -> Option<HexDigits<'_>>
     ensures { option_map (λ hex. octets_in hex.digits.now) result ≡ octets_of word.now }

@@ -8,10 +8,10 @@ use std::simd::prelude::*;
 // The octets that are taken at a time.
 const OCTETS: usize = 8;
 
-// The digits of so many octets.
+// The digits of this many octets.
 const DIGITS: usize = 16;
 
-/// Puts the octets that the digits write into room for just these, where they are digits.
+/// Puts the octets that the digits write into room for just these, if they are digits.
 pub(crate) fn octets_from(digits: &[u8], octets: &mut [u8]) -> Option<()>
     requires { length digits.now ≡ 2 * length octets.old }
     ensures { MatchOption result (result_ok (decode_of digits.now) ≡ None)
@@ -33,7 +33,7 @@ pub(crate) fn octets_from(digits: &[u8], octets: &mut [u8]) -> Option<()>
     Some(())
 }
 
-// How many of the octets that one load takes come before the first that is no digit.
+// Returns how many of the octets that one load takes come before the first that is not a digit.
 #[inline(always)]
 fn run_of_digits(digits: &[u8], at: usize) -> usize
     requires { at + DIGITS ≤ length digits.now }
@@ -46,7 +46,7 @@ fn run_of_digits(digits: &[u8], at: usize) -> usize
     first_set(others.to_bitmask(), DIGITS)
 }
 
-// The octets that the digits of one load write.
+// Returns the octets that the digits of one load write.
 #[inline(always)]
 fn eight_octets(digits: &[u8], at: usize) -> u8x8
     requires { at + DIGITS ≤ length digits.now }

@@ -5,7 +5,7 @@ use bac_pdu::{LONGEST_BODY, Peer, WhoIs};
 /// One request to a device.
 #[derive(Drop)]
 pub struct Call {
-    /// Whom it is sent to.
+    /// The peer that it is sent to.
     pub to: Peer,
     /// The milliseconds after which the request is sent again, at least 1.
     pub timeout: u32,
@@ -20,7 +20,7 @@ pub struct Call {
 /// A search for devices.
 #[derive(Drop)]
 pub struct Search {
-    /// Whom it is sent to.
+    /// The peer that it is sent to.
     pub to: Peer,
     /// The milliseconds for which answers are waited for, at least 1.
     pub timeout: u32,

@@ -1,4 +1,4 @@
-//! What holds of the definitions that the contracts cite. Each function has an empty body, and its clauses are
+//! Laws of the definitions that the contracts cite. Each function has an empty body, and its clauses are
 //! the laws.
 ghost use Rattle.std.specs.Prelude.{IfSome, List, Option, ℕ, ◌*◌, ◌<◌, ◌^◌, ◌≡◌};
 ghost use Rattle.{bac_pdu.specs.IsPriority, bac_wire.specs.{EqualsBy, IsIdentifier, MakesCopies}};
@@ -6,6 +6,7 @@ ghost use Rattle.{bac_wire.specs.Identifier.Identifier, bac_text.specs.{body_of,
 
 use crate::hex_digits::{LONGEST_DATAGRAM, LONGEST_LINE};
 use crate::pairs::PairFault;
+use crate::peers::Reach;
 use crate::search::Delimiter;
 
 /// The body of a WriteProperty request gives the property the values that the words write, spelled one after another,
@@ -23,13 +24,14 @@ pub fn limits()
     ensures datagram { 2 * LONGEST_DATAGRAM ≡ longest_line }
 {}
 
-/// A clone is what it was cloned from, and takes no memory.
+/// A clone is what it was cloned from, and needs no memory.
 pub fn clones()
     ensures end { MakesCopies ⟦<Delimiter as Clone>⟧.is_clone ⟦<Delimiter as Clone>⟧.is_infallible }
     ensures pair { MakesCopies ⟦<PairFault as Clone>⟧.is_clone ⟦<PairFault as Clone>⟧.is_infallible }
+    ensures reach { MakesCopies ⟦<Reach as Clone>⟧.is_clone ⟦<Reach as Clone>⟧.is_infallible }
 {}
 
-/// What `==` compares: which fault of a pair it is.
+/// `==` compares which fault of a pair it is.
 pub fn equals()
     ensures pair { EqualsBy (λ pair. pair) ⟦<PairFault as PartialEq>⟧.eq }
 {}

@@ -1,11 +1,11 @@
 //! Words that are read, of a line of a script or of a command line: numbers, octets, peers, values, and the service
-//! bodies that are made of these. What is printed is in `bac_print`.
+//! bodies that are made of these. Printing is in `bac_print`.
 //!
 //! [`Words`] takes a line apart, and [`read_number`], [`read_datagram`] and [`peer_in`] read its words. [`BodyRoom`]
 //! makes service bodies of them. `specs/ValueWords.antt` says which value a word writes. [`Job`] is what the words of a
 //! command line ask for.
 //!
-//! Of `examples_of_values` in `src/examples.rt`, which is proved: a tag's number and a word, and the octets that they
+//! From `examples_of_values` in `src/examples.rt`, which is proved: a tag's number and a word, and the octets that they
 //! write.
 //!
 //! ```text
@@ -13,7 +13,7 @@
 //! ensures octet_string { WritesPair "6" "1234ff" (0x63 ∷ 0x12 ∷ 0x34 ∷ 0xff ∷ []) }
 //! ```
 //!
-//! The caller keeps to this: the priority of a write is 1 to 16. Words and texts may be any.
+//! The caller must keep to this: the priority of a write is 1 to 16. Words and texts may be any.
 #![tactic(auto)]
 
 mod bodies;
@@ -37,6 +37,6 @@ pub use jobs::{Call, Search};
 pub use numbers::read_number;
 pub use pairs::PairFault;
 pub use parameters::{priority_from, read_write_index};
-pub use peers::{peer_in, plain_peer_in, read_peer};
+pub use peers::{Reach, peer_in, plain_peer_in, reach_in, read_peer};
 pub use search::{Delimiter, position_of_end};
 pub use words::{WordSource, Words};

@@ -6,22 +6,22 @@ use crate::value_words::{ValueFault, append_pair};
 use crate::words::WordSource;
 use bac_wire::Frame;
 
-/// Why the values of words can't be written.
+/// Why the values of words cannot be written.
 #[derive(Clone, Copy, Debug, PartialEq, Eq)]
 pub enum PairFault {
-    /// The pair with this number, from 1, is no tag and a value of it, or it lacks its value.
+    /// The pair with this number, from 1, is not a tag and a value of it, or it lacks its value.
     Bad(u64),
     /// There is no room for their octets.
     TooLong,
 }
 
-/// Puts the values of the words into the region, spelled one after another. A word that can't be read is found however
+/// Puts the values of the words into the region, spelled one after another. A word that cannot be read is found however
 /// long the others are.
 ///
 /// # Errors
 ///
 /// `Bad` with the number of the first pair whose words are no tag and a value of it, or which lacks its value, or with
-/// 1 where there is no word; and then `TooLong` where a frame has no room for the values.
+/// 1 if there is no word; and then `TooLong` if a frame has no room for the values.
 #[tactic(auto, using(crate::proofs::progress))]
 pub(crate) fn read_pairs<'a, S: WordSource<'a>>(
     words: &mut S,
@@ -54,7 +54,7 @@ pub(crate) fn read_pairs<'a, S: WordSource<'a>>(
     Ok(())
 }
 
-// The next tag and the word behind it, where a word is left.
+// Returns the next tag and the word after it, if a word is left.
 fn next_pair<'a, S: WordSource<'a>>(
     words: &mut S,
     number: u64,

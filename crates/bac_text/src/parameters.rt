@@ -4,7 +4,7 @@ ghost use Rattle.bac_text.specs.{priority_from, write_index_of};
 
 use crate::numbers::read_number;
 
-/// The number of an element, or none where the word is `-1`.
+/// Returns the number of an element, or `None` if the word is `-1`.
 pub fn read_write_index(word: &[u8]) -> Option<Option<u32>>
     ensures { result ≡ write_index_of word.now }
 {
@@ -15,7 +15,7 @@ pub fn read_write_index(word: &[u8]) -> Option<Option<u32>>
     Some(Some(index as u32))
 }
 
-/// The priority, where the number is not 0.
+/// Returns the priority, if the number is not 0.
 pub fn priority_from(number: u8) -> Option<u8>
     ensures { result ≡ priority_from number }
 {

@@ -1,27 +1,29 @@
 //! A peer as it is written.
-ghost use Rattle.std.specs.Prelude.{IfSome, option_map, ◌≡◌, ◌≤◌};
+ghost use Rattle.std.specs.Prelude.{IfSome, option_map, ◌<◌, ◌≡◌, ◌≤◌};
 ghost use Rattle.{bac_pdu.specs.{network_address, station}, bac_text.specs.{address_of, cut_at, number_before_dot}};
-ghost use Rattle.bac_text.specs.{peer_of, plain_peer_of, routable, route_of, short_number, Inner.{digit, octets_in}};
+ghost use Rattle.bac_text.specs.{network_at, network_of, peer_of, plain_peer_of, reach_of, reach_seen, routable};
+ghost use Rattle.bac_text.specs.{route_of};
+ghost use Rattle.bac_text.specs.{short_number, Inner.{digit, octets_in}};
 
 use crate::hex_digits::{HexDigits, read_hex};
 use crate::numbers::{leading_number, read_number};
 use crate::search::{Delimiter, position_of_end};
 use bac_pdu::{ADDRESS_OCTETS, Peer, Route};
 
-// The port of BACnet/IP where none is written (Annex J.1.2).
+// The port of BACnet/IP, which is meant if none is written (Annex J.1.2).
 const USUAL_PORT: u16 = 47_808;
 
-/// The peer that a text names, as `127.0.0.1`, `127.0.0.1:47808` or `127.0.0.1:47808/5/07`: the last is the station
-/// with the address 07 in network 5, behind the router at this address and port. It is `None` where the text names
-/// none.
+/// Returns the peer that a text names, such as `127.0.0.1`, `127.0.0.1:47808` or `127.0.0.1:47808/5/07`: the last is
+/// the station with the address 07 in network 5, behind the router at this address and port. `None` if the text names
+/// no peer.
 pub fn read_peer(text: &str) -> Option<Peer>
     ensures { option_map station result ≡ peer_of text.now }
 {
     peer_in(text.as_bytes())
 }
 
-/// The peer that octets name: an IP address in dotted decimal, then, where it isn't the usual one, `:` and the port,
-/// and for a station of another network `/`, the number of the network, `/` and the address there in hexadecimal
+/// Returns the peer that octets name: an IP address in dotted decimal, then, if it is not the usual one, `:` and the
+/// port, and for a station of another network `/`, the number of the network, `/` and the address there in hexadecimal
 /// digits.
 pub fn peer_in(text: &[u8]) -> Option<Peer>
     ensures { option_map station result ≡ peer_of text.now }
@@ -40,7 +42,7 @@ pub fn peer_in(text: &[u8]) -> Option<Peer>
     }
 }
 
-/// The same, of a peer without a route.
+/// Returns the peer without a route that a text names.
 pub fn plain_peer_in(text: &[u8]) -> Option<Peer>
     ensures { option_map station result ≡ plain_peer_of text.now }
 {
@@ -58,7 +60,37 @@ pub fn plain_peer_in(text: &[u8]) -> Option<Peer>
     })
 }
 
-/// What stands before and after the first such octet.
+/// The receivers of a Who-Is.
+#[derive(Clone, Copy)]
+pub struct Reach {
+    /// The peer that it is sent to.
+    pub to: Peer,
+    /// The network in which it is broadcast by the router there; 65535 is all networks. `None` if it is for the peer.
+    pub network: Option<u16>,
+}
+
+/// Returns the receivers of a Who-Is that octets name: a peer as `peer_in` reads it; or a router, `/`, and the number
+/// of a network after it, or `*` for all networks.
+pub fn reach_in(text: &[u8]) -> Option<Reach>
+    ensures value { option_map reach_seen result ≡ reach_of text.now }
+    ensures some { IfSome result (λ reach. IfSome reach.network (λ network. 0 < network)) }
+{
+    match network_in(text) {
+        None => {
+            let to = peer_in(text)?;
+            Some(Reach { to, network: None })
+        }
+        Some((router, network)) => {
+            let to = plain_peer_in(router)?;
+            Some(Reach {
+                to,
+                network: Some(network),
+            })
+        }
+    }
+}
+
+/// Returns the octets before and after the first such octet.
 #[tactic(auto, using(std::proofs::lemmas::List::take_rest))]
 pub(crate) fn cut(text: &[u8], octet: u8) -> Option<(&[u8], &[u8])>
     ensures { option_map (λ parts. (parts.0.now, parts.1.now)) result ≡ cut_at octet text.now }
@@ -78,7 +110,7 @@ fn read_address(text: &[u8]) -> Option<u32>
     Some(high * 256 + short_number(fourth, 3, 255)?)
 }
 
-// A number up to 255 before a dot, and what stands behind that.
+// Returns a number up to 255 before a dot, and the octets after the dot.
 #[inline(always)]
 fn number_before_dot(text: &[u8]) -> Option<(u32, &[u8])>
     ensures value { option_map (λ found. (found.0, found.1.now)) result ≡ number_before_dot text.now }
@@ -98,7 +130,7 @@ fn number_before_dot(text: &[u8]) -> Option<(u32, &[u8])>
     }
 }
 
-// The number that a decimal digit writes.
+// Returns the number that a decimal digit writes.
 #[inline(always)]
 fn digit(octet: u8) -> Option<u32>
     ensures value { result ≡ digit octet }
@@ -133,7 +165,31 @@ fn route_to(network: u16, address: HexDigits<'_>) -> Option<Route>
     Route::new(network, octets)
 }
 
-// A number of at most so many digits, up to a limit.
+// Returns a router, and the network after it.
+fn network_in(text: &[u8]) -> Option<(&[u8], u16)>
+    ensures value { option_map (λ parts. (parts.0.now, parts.1)) result ≡ network_at text.now }
+    ensures some { IfSome result (λ parts. 0 < parts.1) }
+{
+    let (router, behind) = cut(text, b'/')?;
+    let network = read_network(behind)?;
+    Some((router, network))
+}
+
+fn read_network(word: &[u8]) -> Option<u16>
+    ensures value { result ≡ network_of word.now }
+    ensures some { IfSome result (λ network. 0 < network) }
+{
+    if word == b"*".as_slice() {
+        return Some(u16::MAX);
+    }
+    let number = read_number(word, 65_534)?;
+    if number == 0 {
+        return None;
+    }
+    Some(number as u16)
+}
+
+// Returns a number of at most this many digits, up to a limit.
 fn short_number(text: &[u8], digits: usize, limit: u32) -> Option<u32>
     requires { digits ≤ 5 }
     ensures value { result ≡ short_number digits limit text.now }

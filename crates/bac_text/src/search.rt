@@ -17,11 +17,11 @@ pub enum Delimiter {
     Blank,
     /// This octet.
     At(u8),
-    /// An octet past 127, which is no ASCII.
+    /// An octet past 127, which is not ASCII.
     PastAscii,
 }
 
-/// The position of the first octet that ends a piece of text, if one does.
+/// Returns the position of the first octet that ends a piece of text, if one does.
 pub fn position_of_end(octets: &[u8], end: Delimiter) -> Option<usize>
     ensures { result ≡ position (ends_at end) octets.now }
 {
@@ -34,7 +34,7 @@ pub fn position_of_end(octets: &[u8], end: Delimiter) -> Option<usize>
     }
 }
 
-/// The position of the lowest bit that is set, or the number of lanes where none is.
+/// Returns the position of the lowest bit that is set, or the number of lanes if no bit is set.
 #[inline(always)]
 pub(crate) fn first_set(mask: u64, lanes: usize) -> usize
     ensures { result ≡ first_set mask lanes }
@@ -46,7 +46,7 @@ pub(crate) fn first_set(mask: u64, lanes: usize) -> usize
     }
 }
 
-// The same, by loads of so many octets.
+// Returns the position of the first octet that ends the piece, loading `N` octets at a time.
 #[inline(always)]
 fn position_by<const N: usize>(octets: &[u8], end: Delimiter) -> Option<usize>
     requires some { 0 < N }
@@ -78,7 +78,7 @@ fn ends_at(octet: u8, end: Delimiter) -> bool
     }
 }
 
-// How many of the octets that one load takes come before the first that ends a piece.
+// Returns how many of the octets that one load takes come before the first that ends a piece.
 #[inline(always)]
 fn run_before<const N: usize>(octets: &[u8], at: usize, end: Delimiter) -> usize
     requires most { N ≤ 64 }

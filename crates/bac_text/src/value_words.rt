@@ -10,20 +10,20 @@ use crate::numbers::read_number;
 use crate::peers::cut;
 use bac_wire::{FRAME_OCTETS, Frame, ObjectId, Value, write_value};
 
-/// Why the value of a tag and a word can't be written.
+/// Why the value of a tag and a word cannot be written.
 #[derive(Clone, Copy)]
 pub(crate) enum ValueFault {
-    /// The first word is no tag, or the second no value of it.
+    /// The first word is not a tag, or the second is not a value of it.
     Bad,
     /// There is no room for its octets.
     TooLong,
 }
 
-/// Appends the shortest spelling of the value that a tag and a word write. Where it fails, the region is as it was.
+/// Appends the shortest spelling of the value that a tag and a word write. If it fails, the region is as it was.
 ///
 /// # Errors
 ///
-/// `Bad` where the tag is no number up to 12 or the word no value of it, and then `TooLong` where the frame has no
+/// `Bad` if the tag is not a number up to 12 or the word is not a value of it, and then `TooLong` if the frame has no
 /// room.
 #[tactic(auto, unfolding(crate::specs::value_under))]
 pub(crate) fn append_pair(region: &mut Frame, tag: &[u8], word: &[u8]) -> Result<(), ValueFault>
@@ -42,7 +42,7 @@ pub(crate) fn append_pair(region: &mut Frame, tag: &[u8], word: &[u8]) -> Result
     }
 }
 
-// The value of a word under any tag but those of octet strings and bit strings, whose octets need room.
+// Returns the value of a word under any tag but those of octet strings and bit strings, whose octets need room.
 #[tactic(auto, unfolding(crate::specs::value_under))]
 fn read_value_word(number: u64, word: &[u8]) -> Option<Value<'_>>
     requires not_octets { number ≢ 6 }
@@ -152,7 +152,7 @@ fn are_bits(digits: &[u8]) -> bool
     digits.iter().all(|digit| *digit == b'0' || *digit == b'1')
 }
 
-// The octet of the first eight bits, the first of them the highest.
+// Returns the octet of the first eight bits, the first of them the highest.
 fn bits_octet(digits: &[u8]) -> u8
     ensures { result ≡ bits_octet digits.now }
 {
@@ -161,7 +161,7 @@ fn bits_octet(digits: &[u8]) -> u8
     high + middle + 2 * bit_at(digits, 6) + bit_at(digits, 7)
 }
 
-// The bit that the digit at this position writes, and 0 where there is none.
+// Returns the bit that the digit at this position writes, and 0 if there is none.
 fn bit_at(digits: &[u8], position: usize) -> u8
     ensures value { result ≡ (if slice_index digits.now position == 49 then 1 else 0) }
     ensures bit { result ≤ 1 }

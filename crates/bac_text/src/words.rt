@@ -38,15 +38,15 @@ impl<'a> Model for Words<'a> {
 }
 
 impl<'a> Words<'a> {
-    /// The words of the text.
+    /// Returns the words of the text.
     pub fn new(text: &'a [u8]) -> Self
         ensures { result ≡ words_of text.now }
     {
         Words { rest: text }
     }
 
-    /// Takes the next word and reads it as a number, if it is one of decimal digits and at most `most`. What is no such
-    /// number is taken too.
+    /// Takes the next word and reads it as a number, if it is one of decimal digits and at most `most`. A word that is
+    /// not such a number is taken too.
     pub fn next_number(&mut self, most: u64) -> Option<u64>
         ensures value { next_as (number_up_to most) self.old ≡ option_map (λ number. (number, self.new)) result }
         ensures most { IfSome result (λ number. number ≤ most) }
@@ -64,7 +64,7 @@ impl<'a> Words<'a> {
         read_number(word, most)
     }
 
-    /// The same words, to be taken a second time.
+    /// Returns the same words, to be read a second time.
     pub fn again(&self) -> Self
         ensures { result ≡ self.now }
     {
@@ -100,7 +100,7 @@ pub(crate) fn is_blank(octet: u8) -> bool
     octet == b' ' || octet == b'\t'
 }
 
-// The first word and what follows it.
+// Returns the first word and what follows it.
 #[tactic(auto, using(crate::proofs::first_words))]
 fn first_word(text: &[u8]) -> Option<(&[u8], &[u8])>
     ensures { MatchOption result (words_of text.now ≡ [])
@@ -112,7 +112,7 @@ fn first_word(text: &[u8]) -> Option<(&[u8], &[u8])>
     Some(text.split_at(end))
 }
 
-// The number that the first word writes, where it has at most five digits, and what follows it.
+// Returns the number that the first word writes, if it has at most five digits, and what follows it.
 #[inline(always)]
 fn first_number(text: &[u8]) -> Option<(u32, &[u8])>
     ensures { IfSome result (λ found. IsFirstNumber text.now found.0 found.1.now) }

@@ -6,18 +6,18 @@ use Rattle.{clap.specs.Words.{fault_of, Text}, bac_tsm.specs.declared.config.Con
 use Rattle.{bac_text.specs.declared.jobs.Call.Call, bac_print.specs.{fresh, octets_of}}
 use Rattle.bac_tools.specs.{AreAlike, AreGivenAlike, asked_by, Batch, Checked, Device, EndAlike, Exit, Gained, Help}
 use Rattle.bac_tools.specs.{is_socket, IsCutOff, IsCutShort, IsGiven, IsPrinted, IsSessionOf, Job, Link, Memory}
-use Rattle.bac_tools.specs.{NoSocket, Over, PrintAlike, ProgramRun, Read, Reading, report_of, Run, run_report, RunFault}
+use Rattle.bac_tools.specs.{PrintAlike, ProgramRun, Read, Reading, report_of, Run, run_report, RunFault}
 use Rattle.bac_tools.specs.{RunsAsRead, RunsBatch, RunsOver, RunsScript, Script, Session, Tool, tool_report, ToolFault}
-use Rattle.bac_tools.specs.{ToolRuns, Trace, TraceEnd, UsageFault, WhoIs, Write, WriteFailed, Writing}
-use Rattle.bac_tools.specs.{declared.{program.Binding.Binding, report.Report.Report}, Outside.Outside, Runs.Runs}
+use Rattle.bac_tools.specs.{ToolRuns, Trace, TraceEnd, UsageFault, Use, WhoIs, Write, WriteFailed, Writing}
+use Rattle.bac_tools.specs.{declared.{program.Binding.Binding, report.Report.Report}, Outside.Outside, Runs.JobRuns}
 use Rattle.bac_script.{proofs.Courses.{traces_alike, traces_front}, specs.GaveSame}
 use Rattle.bac_links.proofs.{CallLaws.calls_so_far, Listening.{searches_so_far, servings_so_far}}
 use Rattle.bac_links.specs.{Account, answers_of, Entry, Tells, Answered.{GoOnAlike, OneText, Printed}}
 use Rattle.bac_links.specs.declared.ending.Purpose.{Purpose}
 use Rattle.bac_words.{proofs.Tools.one_answer, specs.{Answers, IsRefusal, Command.bactool}}
 use Rattle.bac_words.specs.{declared.faults.UsageFault.TheVariants.Words, Marks.marked_words}
-use Rattle.bac_run.proofs.GoOn.{IsCutShort as IsBatchCut, IsTaken, one_text as one_journal, runs_on, taken}
-use Rattle.bac_run.{proofs.Standing.Meets, specs.{Fault.write_failed, Run.{journal_of, Runs as Requested}}}
+use Rattle.bac_run.proofs.GoOn.{IsCutShort as IsBatchCut, IsTaken, Meets, one_text as one_journal, runs_on, taken}
+use Rattle.bac_run.specs.{Fault.write_failed, Run.{journal_of, Runs as Requested}}
 use denote.Struct.Props.{props}
 use Rattle.bac_script.specs.declared.tracing.TraceFault.TheVariants as stops
 use Rattle.bac_tools.specs.declared.report.Fault.TheVariants as faults
@@ -64,7 +64,7 @@ module _ {A B : Type 0} (IsCut : A → Type 0) (Ended Printed' : A → A → Typ
 
 -- ---- two tools over their links
 
--- A report that says so tells that the writer of many requests failed.
+-- A report with this fault says that the writer of many requests failed.
 cut_write : (answer : Result TraceEnd RunFault) → IsCutOff (run_report answer) → answer ≡ Err write_failed
 cut_write (Ok end) cut = absurd cut
 cut_write (Err (Script stops.WriteFailed)) cut = refl
@@ -139,13 +139,18 @@ module _ {Origin Other V W : Type 0} (contents : V → Option (List ℕ)) (conte
             (grind arith) one_text rest rest' on,
       )
   tools (Device serve) (a, unprinted) (b, unprinted') =
-      let (asked, on) = servings_so_far serve.count _ a.device b.device seen left seen' left' answer answer' first rest
-      first' rest' a.serves b.serves gains gains' same in
-      (asked, grind arith)
+      let (asked, on) = servings_so_far serve.count _ a.device b.device seen left seen' left' a.served b.served first
+      rest first' rest' a.serves b.serves gains gains' same in (
+        asked,
+        going (λ r. ⊥) (λ r s. (r ≡ s) × (a.device ≡ b.device)) (λ r s. Unit {0}) IsCutOff EndSame PrintSame a.served
+            b.served (tool_report answer) (tool_report answer') (λ none. absurd none) (λ none. absurd none)
+            (λ alike uncut uncut'. let are = alike.0 in grind (arith, a.answered, b.answered)) (λ _. grind arith) rest
+            rest' on,
+      )
 
 -- ---- one run
 
--- Words that `clap` takes are refused only where memory ran out.
+-- Words that `clap` accepts are refused only if memory ran out.
 not_refused : (words : List Text) (fault : UsageFault) → IsRefusal words fault
     → fault_of bactool (marked_words words) ≡ [] → fault ≡ Memory
 not_refused _ Memory _ _ = refl
@@ -161,21 +166,21 @@ none_answered : (xs : List Entry) → answers_of xs ≡ [] → xs ≡ []
 none_answered [] e = refl
 none_answered (x ∷ xs) e = cc
 
-module _ {N Origin L R W : Type 0} {gives : N → Binding → Result L NoSocket → Type 0} {out : Outside Origin L R W}
+module _ {N Origin L F R W : Type 0} {gives : N → Binding → Result L F → Type 0} {out : Outside Origin L R W}
     {words : List Text} (run : ProgramRun gives out words) where
-  abbrev Mine : Job → Option (Result L NoSocket) → Option (Result L NoSocket) → Type 0
-  Mine = Runs out (fresh run.reader) run.reader' (fresh run.writer) run.writer' run.ran.report
+  abbrev Mine : Job → Option (Result L F) → Option (Result L F) → Type 0
+  Mine = JobRuns out (fresh run.reader) run.reader' (fresh run.writer) run.writer' run.ran.report
 
   abbrev MyScript : Type 0
   MyScript = RunsScript out (fresh run.reader) run.reader' (fresh run.writer) run.writer' run.ran.report
 
-  abbrev MyEnd : Result Job UsageFault → Option (Result L NoSocket) → Type 0
+  abbrev MyEnd : Result Job UsageFault → Option (Result L F) → Type 0
   MyEnd r o = RunsAsRead gives out run.network (fresh run.reader) run.reader' (fresh run.writer) run.writer' run.ran r o
 
   unprinted : run.writer' ≡ fresh run.writer → octets_of run.writer' ≡ []
   unprinted e = cc
 
-  ungained : (o : Option (Result L NoSocket)) → IsGiven gives out run.network None o
+  ungained : (o : Option (Result L F)) → IsGiven gives out run.network None o
       → Gained out.seen o run.ran.socket run.gained → run.gained ≡ []
   ungained None given gains = gains
   ungained (Some socket) given gains = cc
@@ -188,8 +193,8 @@ module _ {N Origin L R W : Type 0} {gives : N → Binding → Result L NoSocket 
 
 -- ---- two runs
 
-module _ {N Origin L R W M Other K S V : Type 0} {gives : N → Binding → Result L NoSocket → Type 0}
-    {out : Outside Origin L R W} {gives' : M → Binding → Result K NoSocket → Type 0} {out' : Outside Other K S V}
+module _ {N Origin L F R W M Other K G S V : Type 0} {gives : N → Binding → Result L F → Type 0}
+    {out : Outside Origin L R W} {gives' : M → Binding → Result K G → Type 0} {out' : Outside Other K S V}
     {words : List Text}
     (one : ProgramRun gives out words) (other : ProgramRun gives' out' words) (first rest first' rest' : List Entry)
     (h : AreGivenAlike one other first rest first' rest') where
@@ -240,7 +245,7 @@ module _ {N Origin L R W M Other K S V : Type 0} {gives : N → Binding → Resu
   abbrev Refused : Type 0
   Refused = IsErrAnd one.program.answer (IsRefusal words) × IsErrAnd other.program.answer (IsRefusal words)
 
-  abbrev BothHad : Option (Result L NoSocket) → Option (Result K NoSocket) → Type 0
+  abbrev BothHad : Option (Result L F) → Option (Result K G) → Type 0
   BothHad o o' = IsTrue (is_some o) → IsTrue (is_some o') → is_socket o ≡ is_socket o'
 
   over : (tool : Tool) (link left : L) (link' left' : K)
@@ -257,8 +262,8 @@ module _ {N Origin L R W M Other K S V : Type 0} {gives : N → Binding → Resu
             (subst (λ (y : Report). GoesOn (tool_report r.answer) y rest rest') (sym s.reported) on),
       )
 
-  opened : (tool : Tool) (o p : Option (Result L NoSocket)) (o' p' : Option (Result K NoSocket)) →
-      Mine one (Over tool) o p → Mine other (Over tool) o' p' →
+  opened : (tool : Tool) (o p : Option (Result L F)) (o' p' : Option (Result K G)) →
+      Mine one (Use tool) o p → Mine other (Use tool) o' p' →
       Gained out.seen o p one.gained → Gained out'.seen o' p' other.gained → BothHad o o' → Alike
   opened tool (Some (Err f)) p (Some (Err g)) p' r s gains gains' e = grind (arith, none_asked, unprinted)
   opened tool (Some (Ok l)) (Some (Ok m)) (Some (Ok k)) (Some (Ok n)) r s gains gains' e =
@@ -362,7 +367,7 @@ module _ {N Origin L R W M Other K S V : Type 0} {gives : N → Binding → Resu
           (text, printed one.ran.report cut took, printed other.ran.report cut' took')
 
   batches : (batch : Batch) → one.program.answer ≡ Ok (Run batch) → other.program.answer ≡ Ok (Run batch)
-      → (o p : Option (Result L NoSocket)) (o' p' : Option (Result K NoSocket)) →
+      → (o p : Option (Result L F)) (o' p' : Option (Result K G)) →
       Mine one (Run batch) o p → Mine other (Run batch) o' p' →
       Gained out.seen o p one.gained → Gained out'.seen o' p' other.gained → BothHad o o' → Alike
   batches batch asks asks' (Some (Err f)) p (Some (Err g)) p' r s gains gains' e =
@@ -374,7 +379,7 @@ module _ {N Origin L R W M Other K S V : Type 0} {gives : N → Binding → Resu
   batches _ _ _ _ _ _ _ r s gains gains' e = grind arith
 
   jobs : (job : Job) → one.program.answer ≡ Ok job → other.program.answer ≡ Ok job
-      → (o p : Option (Result L NoSocket)) (o' p' : Option (Result K NoSocket))
+      → (o p : Option (Result L F)) (o' p' : Option (Result K G))
       → IsGiven gives out one.network (asked_by job) o → IsGiven gives' out' other.network (asked_by job) o' →
       Mine one job o p → Mine other job o' p' → Gained out.seen o p one.gained → Gained out'.seen o' p' other.gained
       → BothHad o o' → Alike
@@ -383,7 +388,7 @@ module _ {N Origin L R W M Other K S V : Type 0} {gives : N → Binding → Resu
   jobs Trace asks asks' o p o' p' given given' r s gains gains' e = cc
   jobs (Run batch) asks asks' o p o' p' _ _ r s gains gains' e =
       batches batch asks asks' o p o' p' r s gains gains' e
-  jobs (Over tool) asks asks' o p o' p' _ _ r s gains gains' e = opened tool o p o' p' r s gains gains' e
+  jobs (Use tool) asks asks' o p o' p' _ _ r s gains gains' e = opened tool o p o' p' r s gains gains' e
 
   abbrev Given : Result Job UsageFault → Type 0
   Given r = IsGiven gives out one.network (option_and_then asked_by (result_ok r)) one.program.opened

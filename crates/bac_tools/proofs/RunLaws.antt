@@ -5,12 +5,12 @@ use Rattle.std.specs.{declared.io.ErrorKind.ErrorKind, Result.result_ok}
 use Rattle.{clap.specs.Words.Text, bac_text.specs.declared.jobs.{Call.Call, Search.Search}}
 use Rattle.{bac_print.specs.{fresh, has_failed}, bac_tools.specs.{asked_by, AsksAtMostOnce, Batch, BatchRuns, Checked}}
 use Rattle.bac_tools.specs.{Device, Exit, Gained, GiveNoJob, GivesSockets, IsCalled, IsGiven, IsRun, IsStatusOf, IsTold}
-use Rattle.bac_tools.specs.{Job, JobCalled, Memory, NoSocket, on_output, once_given, Only, Over, ProgramRun, Ran, Read}
+use Rattle.bac_tools.specs.{Job, JobCalled, Memory, on_output, once_given, Only, ProgramRun, Ran, Read}
 use Rattle.bac_tools.specs.{Reading, ReceiveFailed, report_of, Run, run_report, RunFault, RunsAsCalls, RunsAsRead}
 use Rattle.bac_tools.specs.{RunsBatch, RunsOpened, RunsOver, RunsUnasked, RunsWithout, Tool, tool_report, ToolFault}
-use Rattle.bac_tools.specs.{ToolRuns, Trace, trace_report, TraceEnd, TraceFault, UsageFault, WhoIs, Write, WriteFailed}
-use Rattle.bac_tools.specs.{Writing, declared.{program.Binding.Binding, report.{Fault.Fault, Report.Report}}}
-use Rattle.bac_tools.specs.{Outside.Outside, Program.Program, Runs.Runs}
+use Rattle.bac_tools.specs.{ToolRuns, Trace, trace_report, TraceEnd, TraceFault, UsageFault, Use, WhoIs, Write}
+use Rattle.bac_tools.specs.{WriteFailed, Writing, Outside.Outside, Program.Program, Runs.JobRuns}
+use Rattle.bac_tools.specs.declared.{program.Binding.Binding, report.{Fault.Fault, Report.Report}}
 use Rattle.bac_links.specs.{Account, Entry, GainsAll, Tells, declared.ending.Purpose.Purpose}
 use Rattle.bac_links.specs.{declared.fault.ToolFault.TheVariants.{SendFailed, TurnsSpent}, Search.Searched}
 use Rattle.{bac_links.specs.SystemCall.SystemCall, bac_words.specs.{Answers, IsRefusal, words_called}}
@@ -33,24 +33,24 @@ given_status : (fault : Option Fault) (failed : Bool) (report : Report) → HasS
     → HasStatus (once_given fault failed report)
 given_status = grind arith
 
-module _ {N Origin L R W : Type 0} (gives : N → Binding → Result L NoSocket → Type 0) (out : Outside Origin L R W)
+module _ {N Origin L F R W : Type 0} (gives : N → Binding → Result L F → Type 0) (out : Outside Origin L R W)
     (network : N) (reader reader' : Checked R) (writer : Checked W) where
-  ended_status : (writer' : Checked W) (ran : Ran N L) (answer : Result Job UsageFault) (o : Option (Result L NoSocket))
+  ended_status : (writer' : Checked W) (ran : Ran N L F) (answer : Result Job UsageFault) (o : Option (Result L F))
       → RunsAsRead gives out network reader reader' writer writer' ran answer o → HasStatus ran.report
   ended_status = grind (arith, batch_status, tool_status, trace_status)
 
-  pub program_status : {writer' : Checked W} {ran : Ran N L} {words : List Text}
+  pub program_status : {writer' : Checked W} {ran : Ran N L F} {words : List Text}
       → Program gives out network reader reader' writer writer' ran words
       → IsStatusOf ran.report.fault ran.report.status
   program_status p = ended_status _ _ p.answer p.opened p.ends
 
-  called_status : (writer' : Checked W) (ran : Ran N L) (typed : Result (List Text) ErrorKind)
+  called_status : (writer' : Checked W) (ran : Ran N L F) (typed : Result (List Text) ErrorKind)
       → IsCalled gives out network reader reader' writer writer' ran typed → HasStatus ran.report
   called_status _ _ (Ok typed) (inl p) = program_status p
   called_status _ _ _ only = grind arith
 
   pub run_status : {E : Type 0} {contents : E → Option (List ℕ)} {writer' : Checked W} {errors errors' : Checked E}
-      {ran : Ran N L} {typed : Result (List Text) ErrorKind}
+      {ran : Ran N L F} {typed : Result (List Text) ErrorKind}
       → IsRun gives out contents network reader reader' writer writer' errors errors' ran typed
       → IsStatusOf ran.report.fault ran.report.status
   run_status {writer'} {ran} {typed} run =
@@ -99,39 +99,39 @@ script_same_report : (answer : Result TraceEnd TraceFault) (failed : Bool) (repo
     → once_given (trace_report answer).fault failed report ≡ report
 script_same_report = grind arith
 
-module _ {N Origin L R W E : Type 0} {gives : N → Binding → Result L NoSocket → Type 0} {out : Outside Origin L R W}
+module _ {N Origin L F R W E : Type 0} {gives : N → Binding → Result L F → Type 0} {out : Outside Origin L R W}
     {error_contents : E → Option (List ℕ)} {network : N} {reader reader' : Checked R} {writer writer' : Checked W}
-    {errors errors' : Checked E} {ran : Ran N L} {typed : List Text}
+    {errors errors' : Checked E} {ran : Ran N L F} {typed : List Text}
     (run : IsRun gives out error_contents network reader reader' writer writer' errors errors' ran (Ok typed)) where
   -- What a job did with a socket that it had, or with none.
-  abbrev Did : Job → Result L NoSocket → Result L NoSocket → Type 0
-  Did job given left = Runs out reader reader' writer run.unhelped run.report job (Some given) (Some left)
+  abbrev Did : Job → Result L F → Result L F → Type 0
+  Did job given left = JobRuns out reader reader' writer run.unhelped run.report job (Some given) (Some left)
 
   -- The words asked for a job that has a socket, for which the network gave this, and this was left.
-  record HadJob (left : Result L NoSocket) : Type 0 where
+  record HadJob (left : Result L F) : Type 0 where
     job : Job
     answered : Answers (words_called typed) (Ok job)
     binding : Binding
     wanted : asked_by job ≡ Some binding
-    given : Result L NoSocket
+    given : Result L F
     gave : gives network binding given
     did : Did job given left
 
-  module _ {left : Result L NoSocket} (had : ran.socket ≡ Some left) where
-    program_had : (answer : Result Job UsageFault) (opened : Option (Result L NoSocket))
+  module _ {left : Result L F} (had : ran.socket ≡ Some left) where
+    program_had : (answer : Result Job UsageFault) (opened : Option (Result L F))
         → (IsErrAnd answer (IsRefusal (words_called typed)) ⊎ Answers (words_called typed) answer)
         → IsGiven gives out network (option_and_then asked_by (result_ok answer)) opened
         → RunsAsRead gives out network reader reader' writer run.unhelped (record ran { report = run.report }) answer
         opened → HadJob left
-    program_had (Ok (Over tool)) (Some given) (inr answered) gave over =
+    program_had (Ok (Use tool)) (Some given) (inr answered) gave over =
         record {
-          job = Over tool;
+          job = Use tool;
           answered = answered;
           binding = _;
           wanted = refl;
           given = given;
           gave = gave;
-          did = subst (Runs out reader reader' writer run.unhelped run.report (Over tool) (Some given)) had over;
+          did = subst (JobRuns out reader reader' writer run.unhelped run.report (Use tool) (Some given)) had over;
         }
     program_had (Ok (Run batch)) (Some given) (inr answered) gave over =
         record {
@@ -141,7 +141,7 @@ module _ {N Origin L R W E : Type 0} {gives : N → Binding → Result L NoSocke
           wanted = refl;
           given = given;
           gave = gave;
-          did = subst (Runs out reader reader' writer run.unhelped run.report (Run batch) (Some given)) had over;
+          did = subst (JobRuns out reader reader' writer run.unhelped run.report (Run batch) (Some given)) had over;
         }
     program_had (Ok job) _ (inl refused) gave ends = absurd refused
     program_had (Ok job) _ (inr answered) gave ends = grind arith
@@ -153,7 +153,7 @@ module _ {N Origin L R W E : Type 0} {gives : N → Binding → Result L NoSocke
       | inr only ↦ grind arith
     ]
 
-  -- What comes of a job, but for its calls.
+  -- The results of a job, except its calls.
   record Came (job : Job) (link link' : L) : Type 0 where
     same : (out.seen link').made ≡ (out.seen link).made
     called : (out.seen link ≡ record { made = (out.seen link').made; history = [] })
@@ -163,7 +163,7 @@ module _ {N Origin L R W E : Type 0} {gives : N → Binding → Result L NoSocke
 
   came : (job : Job) (link link' : L) (binding : Binding) → asked_by job ≡ Some binding
       → Did job (Ok link) (Ok link') → Came job link link'
-  came (Over tool) link link' binding wanted over =
+  came (Use tool) link link' binding wanted over =
       let same = made_same out.contents writer run.unhelped (out.seen link) (out.seen link') over.answer tool
       over.runs in
       let kept : writer' ≡ run.unhelped = grind (arith, unhelped, over.reported, run.help) in
@@ -192,7 +192,7 @@ module _ {N Origin L R W E : Type 0} {gives : N → Binding → Result L NoSocke
 
   module _ {link' : L} (log : L → List SystemCall) (sockets : GivesSockets gives out.seen log) where
     over_so : (job : Job) → Answers (words_called typed) (Ok job) → (binding : Binding) → asked_by job ≡ Some binding
-        → (given : Result L NoSocket) → gives network binding given → Did job given (Ok link')
+        → (given : Result L F) → gives network binding given → Did job given (Ok link')
         → RunsAsCalls Origin out.remaining out.contents error_contents reader reader' writer writer' errors errors'
         ran.report (words_called typed) (log link')
     over_so job answered binding wanted (Ok link) gave did =
@@ -214,7 +214,7 @@ module _ {N Origin L R W E : Type 0} {gives : N → Binding → Result L NoSocke
           at = bound.of_peer;
           asked = rw bound.asked at (later link' same);
         }
-    over_so (Over tool) answered binding wanted (Err none) gave did = grind arith
+    over_so (Use tool) answered binding wanted (Err none) gave did = grind arith
     over_so (Run batch) answered binding wanted (Err none) gave did = grind arith
     over_so Trace answered binding wanted (Err none) gave did = cc
 
@@ -224,31 +224,31 @@ module _ {N Origin L R W E : Type 0} {gives : N → Binding → Result L NoSocke
     run_so had =
         let it = had_job had in over_so it.job it.answered it.binding it.wanted it.given it.gave it.did
 
-  module _ {none' : NoSocket} (asks : AsksAtMostOnce gives) where
+  module _ {none' : F} (kept : F → N) (log : F → List SystemCall) (asks : AsksAtMostOnce gives kept log) where
     without_so : (job : Job) → Answers (words_called typed) (Ok job) → (binding : Binding)
-        → asked_by job ≡ Some binding → (given : Result L NoSocket) → gives network binding given
+        → asked_by job ≡ Some binding → (given : Result L F) → gives network binding given
         → Did job given (Err none')
-        → RunsWithout error_contents reader reader' writer writer' errors errors' ran.report (words_called typed)
-        none'.log.items
-    without_so (Over tool) answered binding wanted (Err none) gave over =
-        let asked = asks network binding none gave in
-        grind (arith, over, answered, wanted, asked, run.help, run.reported, run.fault)
+        → RunsWithout error_contents network (kept none') reader reader' writer writer' errors errors' ran.report
+        (words_called typed) (log none')
+    without_so (Use tool) answered binding wanted (Err none) gave over =
+        let (kept_so, asked) = asks network binding none gave in
+        grind (arith, over, answered, wanted, kept_so, asked, run.help, run.reported, run.fault)
     without_so (Run batch) answered binding wanted (Err none) gave over =
-        let asked = asks network binding none gave in
-        grind (arith, over, answered, wanted, asked, run.help, run.reported, run.fault)
-    without_so (Over tool) answered binding wanted (Ok link) gave over = absurd over
+        let (kept_so, asked) = asks network binding none gave in
+        grind (arith, over, answered, wanted, kept_so, asked, run.help, run.reported, run.fault)
+    without_so (Use tool) answered binding wanted (Ok link) gave over = absurd over
     without_so (Run batch) answered binding wanted (Ok link) gave over = absurd over
     without_so Trace answered binding wanted given gave over = cc
 
     pub run_without : ran.socket ≡ Some (Err none')
-        → RunsWithout error_contents reader reader' writer writer' errors errors' ran.report (words_called typed)
-        none'.log.items
+        → RunsWithout error_contents network (kept none') reader reader' writer writer' errors errors' ran.report
+        (words_called typed) (log none')
     run_without had =
         let it = had_job had in without_so it.job it.answered it.binding it.wanted it.given it.gave it.did
 
-module _ {N Origin L R W E : Type 0} (gives : N → Binding → Result L NoSocket → Type 0) (out : Outside Origin L R W)
+module _ {N Origin L F R W E : Type 0} (gives : N → Binding → Result L F → Type 0) (out : Outside Origin L R W)
     (error_contents : E → Option (List ℕ)) (network : N) (reader reader' : Checked R) (writer writer' : Checked W)
-    (errors errors' : Checked E) (ran : Ran N L) where
+    (errors errors' : Checked E) (ran : Ran N L F) where
   -- What a run does that asks for no socket.
   abbrev Unasked : Result (List Text) ErrorKind → Type 0
   Unasked typed =
@@ -262,9 +262,9 @@ module _ {N Origin L R W E : Type 0} (gives : N → Binding → Result L NoSocke
       → Only gives out network reader reader' writer run.unhelped (record ran { report = run.report }) reports
       → Unasked typed
   only_so typed run reports gives (unread, unprinted, ended) =
-      let is : run.report ≡ reports = ap (λ (r : Ran N L). r.report) ended in
+      let is : run.report ≡ reports = ap (λ (r : Ran N L F). r.report) ended in
       record {
-        unasked = ap (λ (r : Ran N L). r.unasked) ended;
+        unasked = ap (λ (r : Ran N L F). r.unasked) ended;
         did = inr (
           reports,
           gives,
@@ -274,7 +274,7 @@ module _ {N Origin L R W E : Type 0} (gives : N → Binding → Result L NoSocke
       }
 
   program_unasked : {typed : List Text} (run : Ends (Ok typed)) → ran.socket ≡ None
-      → (answer : Result Job UsageFault) (opened : Option (Result L NoSocket))
+      → (answer : Result Job UsageFault) (opened : Option (Result L F))
       → (IsErrAnd answer (IsRefusal (words_called typed)) ⊎ Answers (words_called typed) answer)
       → IsGiven gives out network (option_and_then asked_by (result_ok answer)) opened
       → RunsAsRead gives out network reader reader' writer run.unhelped (record ran { report = run.report }) answer
@@ -295,9 +295,9 @@ module _ {N Origin L R W E : Type 0} (gives : N → Binding → Result L NoSocke
       }
   program_unasked run none (Ok Trace) (Some _) (inr answered) gave _ _ = grind arith
   program_unasked run none (Ok (Run batch)) (Some _) (inr answered) gave over _ = grind arith
-  program_unasked run none (Ok (Over tool)) (Some _) (inr answered) gave over _ = grind arith
+  program_unasked run none (Ok (Use tool)) (Some _) (inr answered) gave over _ = grind arith
   program_unasked run none (Ok (Run batch)) None (inr answered) gave _ _ = absurd gave
-  program_unasked run none (Ok (Over tool)) None (inr answered) gave _ _ = absurd gave
+  program_unasked run none (Ok (Use tool)) None (inr answered) gave _ _ = absurd gave
   program_unasked run none (Ok job) _ (inl refused) _ _ _ = absurd refused
   program_unasked run none (Err fault) _ (inl refused) _ only _ = only_so _ run _ (fault, inl refused, refl) only
   program_unasked run none (Err fault) _ (inr answered) _ only _ = only_so _ run _ (fault, inr answered, refl) only
@@ -343,15 +343,15 @@ module _ {Origin W : Type 0} (contents : W → Option (List ℕ)) (before after 
       let plays = runs.0.serves.plays in record { gained = plays.gained; gains = plays.gains }
 
 -- What the socket of a run was asked and answered since it was given.
-abbrev pub SocketGained : {Origin L : Type 0} → (L → Account Origin) → (opened opened' : Option (Result L NoSocket))
+abbrev pub SocketGained : {Origin L F : Type 0} → (L → Account Origin) → (opened opened' : Option (Result L F))
     → Type 0
 SocketGained seen opened opened' = (gained : List Entry) × Gained seen opened opened' gained
 
-module _ {N Origin L R W : Type 0} (gives : N → Binding → Result L NoSocket → Type 0) (out : Outside Origin L R W)
-    (network : N) (reader reader' : Checked R) (writer writer' : Checked W) (ran : Ran N L) where
+module _ {N Origin L F R W : Type 0} (gives : N → Binding → Result L F → Type 0) (out : Outside Origin L R W)
+    (network : N) (reader reader' : Checked R) (writer writer' : Checked W) (ran : Ran N L F) where
   over_gains : (over : L → L → Type 0)
       → ((link link' : L) → over link link' → HasGained (out.seen link) (out.seen link'))
-      → (opened opened' : Option (Result L NoSocket))
+      → (opened opened' : Option (Result L F))
       → RunsOpened out reader reader' writer writer' ran.report over opened opened'
       → SocketGained out.seen opened opened'
   over_gains over gains None opened' runs = absurd runs
@@ -361,7 +361,7 @@ module _ {N Origin L R W : Type 0} (gives : N → Binding → Result L NoSocket 
   over_gains over gains (Some (Ok link)) (Some (Ok link')) runs =
       let has = gains link link' runs in (has.gained, ap (λ account. account.history) has.gains)
 
-  run_gains : (answer : Result Job UsageFault) (opened : Option (Result L NoSocket))
+  run_gains : (answer : Result Job UsageFault) (opened : Option (Result L F))
       → IsGiven gives out network (option_and_then asked_by (result_ok answer)) opened
       → RunsAsRead gives out network reader reader' writer writer' ran answer opened
       → SocketGained out.seen opened ran.socket
@@ -372,7 +372,7 @@ module _ {N Origin L R W : Type 0} (gives : N → Binding → Result L NoSocket 
   run_gains (Ok (Run batch)) opened given ends =
       over_gains (RunsBatch out reader reader' writer writer' ran.report batch) (λ link link' runs.
       let asks = runs.runs.requested.asks in record { gained = asks.gained; gains = asks.gains }) opened _ ends
-  run_gains (Ok (Over tool)) opened given ends =
+  run_gains (Ok (Use tool)) opened given ends =
       over_gains (RunsOver out reader reader' writer writer' ran.report tool) (λ link link' runs.
       tool_gains out.contents writer writer' _ _ tool runs.answer runs.runs) opened _ ends
 
@@ -381,13 +381,13 @@ module _ {N Origin L R W : Type 0} (gives : N → Binding → Result L NoSocket 
       → SocketGained out.seen p.opened ran.socket
   program_gains p = run_gains p.answer p.opened p.given p.ends
 
-module _ {N Origin L R W E : Type 0} (gives : N → Binding → Result L NoSocket → Type 0) (out : Outside Origin L R W)
+module _ {N Origin L F R W E : Type 0} (gives : N → Binding → Result L F → Type 0) (out : Outside Origin L R W)
     (contents : E → Option (List ℕ)) (network : N) (reader : R) (reader' : Checked R) (writer : W) (writer' : Checked W)
-    (errors errors' : Checked E) (ran : Ran N L) (typed : List Text)
+    (errors errors' : Checked E) (ran : Ran N L F) (typed : List Text)
     (run : IsRun gives out contents network (fresh reader) reader' (fresh writer) writer' errors errors' ran (Ok typed))
   where
     -- How the words were run: the report is that of the words.
-    abbrev there : Ran N L
+    abbrev there : Ran N L F
     there = record ran { report = run.report }
 
     abbrev Done : Type 0

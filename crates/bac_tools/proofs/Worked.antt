@@ -1,11 +1,14 @@
 -- What examples of runs have in common.
-use Rattle.std.proofs.Common.{[], ap, arith, false, length, List, Ok, Option, refl, Some, subst, sym, ℕ, ◌++◌, ◌≡◌, ◌≢◌}
+use Rattle.std.proofs.Common.{[], ap, arith, false, inr, length, List, Ok, Option, refl, Some, subst, sym, ℕ}
+use Rattle.std.proofs.Common.{◌++◌, ◌∷◌, ◌≡◌, ◌≢◌}
 use Rattle.std.specs.declared.io.Error.{Error}
 use Rattle.bac_print.specs.{octets_of, Writes, Checked.{calls_of, passes_none}}
 use Rattle.{bac_links.specs.{Entry, Asking.{Move, next_move, Over, Plays}}, bac_words.specs.Telling.Line}
-use Rattle.bac_tools.specs.{IsTold, Inner.{asked_so, having, no_contents, unasked}}
+use Rattle.bac_script.{proofs.Computed.computed, specs.{Tracing.{IsToldFirst, Traces}}}
+use Rattle.bac_script.specs.declared.input.Reading.TheVariants.{AtEnd}
+use Rattle.bac_tools.specs.{IsTold, Inner.{asked_so, drained, having, no_contents, unasked}}
 
--- A writer that took a text was given it.
+-- A writer that took a text was given this text.
 pub given : (text : List ℕ) → text ≢ [] → octets_of (having text) ≡ text → text ≡ text ++ []
     → false ≡ passes_none {E = Error} (Ok (length text)) text → Writes no_contents unasked (having text) [] [] text
 given text some passed whole all = record {
@@ -17,12 +20,12 @@ given text some passed whole all = record {
   stopped = λ stopped. grind arith;
 }
 
--- A writer that was asked for nothing was told no line.
+-- A writer that was asked for nothing got no line.
 pub silent : (text : List ℕ) → IsTold no_contents unasked unasked (Some (Line text)) → ⊥
 silent text (octets, are, w) =
     let passed = w.took.passed in let whole = w.whole in let kept = (w.sound refl).1 in grind arith
 
--- A run over a link that had been asked nothing is over where its history says so.
+-- A run over a link that had been asked for nothing is over if its history says so.
 pub ends : {R : Type 0} {move : List Entry → Option Entry → Move R} {h : List Entry} {result : R}
     → Plays move (asked_so []) (asked_so h) result → next_move move h ≡ Over result
 ends {move = move} {result = result} p =
@@ -31,3 +34,26 @@ ends {move = move} {result = result} p =
 -- Nor did it take any.
 pub untaken : (text : List ℕ) → having text ≡ unasked → ⊥
 untaken text e = let calls = ap calls_of e in grind arith
+
+-- A script of no octets prints nothing.
+told_none : IsToldFirst drained unasked unasked []
+unfolding computed
+told_none [] e = ([], refl)
+told_none (x ∷ xs) e = absurd (grind arith)
+
+pub read_nothing : Traces no_contents no_contents unasked drained unasked unasked (Ok (record { lines = 0 }))
+unfolding computed
+read_nothing = record {
+  given = [];
+  reading = AtEnd;
+  written = [];
+  read = record {
+    gave = record { passed = refl; known = tt };
+    stopped = record { empty = refl; sound = refl; ended = refl; once = refl; left = tt };
+    needed = inr (record { before = []; order = refl; asked = grind arith; going = refl });
+    spared = grind arith;
+  };
+  told = told_none;
+  took = record { passed = refl; known = tt; made = []; calls = refl; asked = refl };
+  runs = (refl, refl);
+}

@@ -4,7 +4,7 @@ use Rattle.std.specs.{Prelude.{Option, option_and_then, Result, Some, ℕ, ⊤, 
 use Rattle.clap.specs.Words.{Text}
 use Rattle.bac_print.specs.{fresh, has_failed, octets_of, reads_of, declared.checked.Checked.Checked}
 use Rattle.bac_script.specs.{GaveSame, IsFrontOf, Alike.GaveFront, Input.most_reads}
-use Rattle.bac_links.specs.{Account, answers_of, Entry, Answered.GoOnAlike, declared.socket.NoSocket.NoSocket}
+use Rattle.bac_links.specs.{Account, answers_of, Entry, Answered.GoOnAlike}
 use Rattle.{bac_run.specs.declared.fault.RunFault.TheVariants.Script, bac_words.specs.IsRefusal}
 use Rattle.bac_words.specs.declared.{faults.UsageFault.{UsageFault, TheVariants.Memory}, job.Job.{Job, TheVariants.Run}}
 use Rattle.bac_tools.specs.declared.{program.{Binding.Binding, Ran.Ran}, report.{Fault.Fault, Report.Report}}
@@ -14,16 +14,16 @@ use Rattle.bac_links.specs.declared.fault.ToolFault.TheVariants as tools
 use Rattle.bac_tools.specs.declared.report.Fault.TheVariants as faults
 
 -- The network gave a socket.
-abbrev pub is_socket : {L : Type 0} → Option (Result L NoSocket) → Bool
+abbrev pub is_socket : {L F : Type 0} → Option (Result L F) → Bool
 is_socket opened = is_some (option_and_then result_ok opened)
 
 -- What the socket that the network gave was asked and answered since then.
-abbrev pub Gained : {Origin L : Type 0} → (L → Account Origin) → Option (Result L NoSocket)
-    → Option (Result L NoSocket) → List Entry → Type 0
+abbrev pub Gained : {Origin L F : Type 0} → (L → Account Origin) → Option (Result L F) → Option (Result L F)
+    → List Entry → Type 0
 Gained seen (Some (Ok link)) (Some (Ok link')) gained = (seen link').history ≡ (seen link).history ++ gained
 Gained seen opened opened' gained = gained ≡ []
 
--- A run was cut off where this is the fault that it tells: there was no memory for its words, or its writer failed.
+-- A run was cut off if it reports one of these faults: there was no memory for its words, or its writer failed.
 abbrev pub CutsOff : Option Fault → Type 0
 CutsOff (Some (faults.Usage Memory)) = ⊤
 CutsOff (Some (faults.Tool tools.WriteFailed)) = ⊤
@@ -35,19 +35,19 @@ CutsOff _ = ⊥
 abbrev pub IsCutOff : Report → Type 0
 IsCutOff report = CutsOff report.fault
 
--- With this report this was printed of a text: all of it; or, where the run was cut off, a front of it.
+-- With this report these octets of a text were printed: all of it, or, if the run was cut off, a front of it.
 abbrev pub IsPrinted : (printed text : List ℕ) → Report → Type 0
 IsPrinted printed text report = (printed ≡ text) ⊎ (IsCutOff report × IsFrontOf printed text)
 
 -- A whole run with these words, and what its socket was asked and answered.
-pub record ProgramRun {N Origin L R W : Type 0} (gives : N → Binding → Result L NoSocket → Type 0)
+pub record ProgramRun {N Origin L F R W : Type 0} (gives : N → Binding → Result L F → Type 0)
     (out : Outside Origin L R W) (words : List Text) : Type 0 where
   pub network : N
   pub reader : R
   pub reader' : Checked R
   pub writer : W
   pub writer' : Checked W
-  pub ran : Ran N L
+  pub ran : Ran N L F
   pub program : Program gives out network (fresh reader) reader' (fresh writer) writer' ran words
   pub gained : List Entry
   pub gains : Gained out.seen program.opened ran.socket gained
@@ -61,16 +61,16 @@ IsBatch _ = ⊥
 abbrev pub IsReadable : {R : Type 0} → Checked R → Type 0
 IsReadable reader = (has_failed reader ≡ false) × (reads_of reader < most_reads)
 
--- A run was cut off. Its reader gave a front of what the other's gave, and did not meet its end; and for many requests,
--- which wait where a reader fails, it could be read on.
+-- A run was cut off. Its reader gave a front of what the other's gave, and did not meet its end. For many requests,
+-- which wait if a reader fails, the reader could also be read on.
 pub record IsCutShort {R S : Type 0} (report : Report) (answer : Result Job UsageFault) (reader : Checked R)
     (other : Checked S) : Type 0 where
   pub cut : IsCutOff report
   pub gave : GaveFront reader other
   pub reads : IsBatch answer → IsReadable reader
 
--- A whole call of the program, with what it tells at its end.
-pub record CalledRun {N Origin L R W E : Type 0} (gives : N → Binding → Result L NoSocket → Type 0)
+-- A whole call of the program, with the message at its end.
+pub record CalledRun {N Origin L F R W E : Type 0} (gives : N → Binding → Result L F → Type 0)
     (out : Outside Origin L R W) (contents : E → Option (List ℕ)) (typed : Result (List Text) ErrorKind)
     : Type 0 where
   pub network : N
@@ -80,28 +80,28 @@ pub record CalledRun {N Origin L R W E : Type 0} (gives : N → Binding → Resu
   pub writer' : Checked W
   pub errors : Checked E
   pub errors' : Checked E
-  pub ran : Ran N L
+  pub ran : Ran N L F
   pub run : IsRun gives out contents network reader reader' writer writer' errors errors' ran typed
 
-module _ {N Origin L R W M Other K S V : Type 0} {gives : N → Binding → Result L NoSocket → Type 0}
-    {out : Outside Origin L R W} {gives' : M → Binding → Result K NoSocket → Type 0} {out' : Outside Other K S V}
+module _ {N Origin L F R W M Other K G S V : Type 0} {gives : N → Binding → Result L F → Type 0}
+    {out : Outside Origin L R W} {gives' : M → Binding → Result K G → Type 0} {out' : Outside Other K S V}
     {words : List Text}
     (one : ProgramRun gives out words) (other : ProgramRun gives' out' words) where
-  -- Where neither was cut off they have the same report; but where `clap` does not take the words, each tells of help,
-  -- or of words that are refused, by an error that `clap` may give at these.
+  -- If neither was cut off, they have the same report. But if `clap` does not accept the words, each reports help, or
+  -- refused words, with an error that `clap` may give for these words.
   abbrev pub EndAlike : Report → Report → Type 0
   EndAlike report other_report = (IsCutOff report → ⊥) → (IsCutOff other_report → ⊥) →
       (report ≡ other_report) ⊎ (IsErrAnd one.program.answer (IsRefusal words)
       × IsErrAnd other.program.answer (IsRefusal words))
 
-  -- Both printed one text, or a front of it where they were cut off.
+  -- Both printed one text, or a front of it if they were cut off.
   abbrev pub PrintAlike : Report → Report → Type 0
   PrintAlike report other_report = (text : List ℕ) × IsPrinted (octets_of one.writer') text report
       × IsPrinted (octets_of other.writer') text other_report
 
   module _ (first rest other_first other_rest : List Entry) where
-    -- Where both asked for a socket, both had one or neither; so far the sockets were answered alike; and the readers
-    -- gave the same octets and met their end as often, or that of a run that was cut off gave a front.
+    -- If both asked for a socket, both had one or neither; so far the sockets were answered alike; and the readers
+    -- gave the same octets and met their end as often, or the reader of a run that was cut off gave a front.
     pub record AreGivenAlike : Type 0 where
       pub socket : IsTrue (is_some one.program.opened) → IsTrue (is_some other.program.opened)
           → is_socket one.program.opened ≡ is_socket other.program.opened

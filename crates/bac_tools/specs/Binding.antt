@@ -1,7 +1,7 @@
 -- The socket that a job asks for.
 use Rattle.std.specs.Prelude.{None, Option, Some, ℕ}
 use Rattle.bac_links.specs.declared.udp.OnRefusal.TheVariants.{Fails, IsLost}
-use Rattle.bac_words.specs.declared.job.{Job.{Job, TheVariants.{Over, Run, Trace}}, Tool.{Tool, TheVariants.Device}}
+use Rattle.bac_words.specs.declared.job.{Job.{Job, TheVariants.{Run, Trace, Use}}, Tool.{Tool, TheVariants.Device}}
 use Rattle.bac_words.specs.declared.job.Tool.TheVariants.{Read, WhoIs, Write}
 use Rattle.bac_tools.specs.declared.program.Binding.{Binding}
 
@@ -9,7 +9,7 @@ use Rattle.bac_tools.specs.declared.program.Binding.{Binding}
 abbrev pub client_at : ℕ → Binding
 client_at port = record { at = record { ip = 0; port = port; route = None }; refused = Fails }
 
--- The socket of a tool. A server's is as a client's, but it goes on where the system refuses what it sends.
+-- The socket of a tool. A server's is like a client's, but it goes on if the system refuses a send.
 abbrev pub binding_of : Tool → Binding
 binding_of (Read call) = client_at call.port
 binding_of (Write call) = client_at call.port
@@ -20,4 +20,4 @@ binding_of (Device serve) = record (client_at serve.port) { refused = IsLost }
 abbrev pub asked_by : Job → Option Binding
 asked_by Trace = None
 asked_by (Run batch) = Some (client_at batch.port)
-asked_by (Over tool) = Some (binding_of tool)
+asked_by (Use tool) = Some (binding_of tool)

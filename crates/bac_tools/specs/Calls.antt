@@ -5,30 +5,32 @@ use Rattle.{clap.specs.Words.Text, bac_pdu.specs.station}
 use Rattle.bac_print.specs.{has_failed, declared.checked.Checked.Checked}
 use Rattle.bac_script.specs.{declared.tracing.{TraceEnd.TraceEnd, TraceFault.TraceFault}, Tracing.Traces}
 use Rattle.bac_links.specs.{Account, Bind, Binds, BindsAtMost, Entry}
-use Rattle.bac_links.specs.declared.{exit.Exit.Exit, fault.ToolFault.ToolFault, socket.NoSocket.NoSocket}
+use Rattle.bac_links.specs.declared.{exit.Exit.Exit, fault.ToolFault.ToolFault}
 use Rattle.bac_links.specs.{Socket.{AreCallsFor, IsAddressOf, Logs}, SystemCall.SystemCall}
 use Rattle.bac_run.specs.declared.fault.RunFault.{RunFault}
 use Rattle.bac_words.specs.{Answers, IsRefusal, words_called, declared.faults.UsageFault.UsageFault}
-use Rattle.bac_words.specs.declared.job.{Batch.Batch, Job.{Job, TheVariants.{Over, Run, Trace}}, Tool.Tool}
+use Rattle.bac_words.specs.declared.job.{Batch.Batch, Job.{Job, TheVariants.{Run, Trace, Use}}, Tool.Tool}
 use Rattle.bac_tools.specs.{Binding.asked_by, declared.{program.{Binding.Binding, Ran.Ran}, report.Report.Report}}
 use Rattle.bac_tools.specs.Report.{report_of, run_report, tool_report, trace_report, unread_report}
 use Rattle.bac_tools.specs.{Runs.{BatchRuns, ToolRuns}, Telling.{IsTold, on_error, on_output, once_given}}
 use Rattle.bac_tools.specs.declared.report.Fault.TheVariants as faults
 
--- A network gives sockets. Where it gives a link, the system was asked for a socket at the address, and for nothing
--- else, and the link for nothing yet; and whenever a link is made of the same, the system was asked since then for the
+-- A network gives sockets. If it gives a link, the system was asked for a socket at the address, and for nothing else,
+-- and the link for nothing yet. For each later link of the same origin, the system was asked since then for the
 -- entries of its history, one after another, and for nothing else. (`∥ ∥₁`: there is a way to part the calls so.)
-abbrev pub GivesSockets : {N Origin L : Type 0} → (N → Binding → Result L NoSocket → Type 0) → (L → Account Origin)
+abbrev pub GivesSockets : {N Origin L F : Type 0} → (N → Binding → Result L F → Type 0) → (L → Account Origin)
     → (L → List SystemCall) → Type 0
 GivesSockets {N} {Origin} {L} gives seen log = (network : N) (binding : Binding) (link : L)
     → gives network binding (Ok link) → Binds binding.at (log link) × ((seen link).history ≡ [])
     × ((later : L) → (seen later).made ≡ (seen link).made
     → ∥ Logs (AreCallsFor binding.refused 0 0 (seen later).history) (log link) (log later) ∥₁)
 
--- A network that has no socket to give asks the system for one at the address, or for nothing, and for nothing else.
-abbrev pub AsksAtMostOnce : {N L : Type 0} → (N → Binding → Result L NoSocket → Type 0) → Type 0
-AsksAtMostOnce {N} {L} gives = (network : N) (binding : Binding) (none : NoSocket)
-    → gives network binding (Err none) → BindsAtMost binding.at none.log.items
+-- A network that has no socket to give is kept as it was. It asks the system for one at the address, or for nothing,
+-- and for nothing else.
+abbrev pub AsksAtMostOnce : {N L F : Type 0} → (N → Binding → Result L F → Type 0) → (kept : F → N)
+    → (log : F → List SystemCall) → Type 0
+AsksAtMostOnce {N} {F} gives kept log = (network : N) (binding : Binding) (none : F)
+    → gives network binding (Err none) → (kept none ≡ network) × BindsAtMost binding.at (log none)
 
 module _ {Origin R W : Type 0} (remaining : R → Option (List ℕ)) (contents : W → Option (List ℕ))
     (reader reader' : Checked R) (writer writer' : Checked W) (seen left : Account Origin) (report : Report) where
@@ -50,11 +52,11 @@ module _ {Origin R W : Type 0} (remaining : R → Option (List ℕ)) (contents :
   abbrev pub JobCalled : Job → Type 0
   JobCalled Trace = ⊥
   JobCalled (Run batch) = BatchCalled batch
-  JobCalled (Over tool) = ToolCalled tool
+  JobCalled (Use tool) = ToolCalled tool
 
--- These words asked for a job that has a socket, which ran over a link. Its writer was given its lines, `errors` what
--- is told of its fault, and the report says how it ended. The system was asked for one socket, at the address that the
--- job wants; then for what the job asked of its link, one thing after another; and for nothing else.
+-- These words asked for a job that has a socket, which ran over a link. Its writer was given its lines, `errors` the
+-- message of its fault, and the report says how it ended. The system was asked for one socket, at the address that
+-- the job needs; then for the calls of the job to its link, one after another; and for nothing else.
 pub record RunsAsCalls (Origin : Type 0) {R W E : Type 0} (remaining : R → Option (List ℕ))
     (contents : W → Option (List ℕ)) (error_contents : E → Option (List ℕ)) (reader reader' : Checked R)
     (writer writer' : Checked W) (errors errors' : Checked E) (report : Report) (words : List Text)
@@ -72,12 +74,12 @@ pub record RunsAsCalls (Origin : Type 0) {R W E : Type 0} (remaining : R → Opt
   pub at : IsAddressOf (station binding.at) address
   pub asked : ∥ Logs (AreCallsFor binding.refused 0 0 history) (Bind address ∷ []) log ∥₁
 
--- These words asked for a job, for which there was no socket to be had. Nothing was read or printed, `errors` was
--- given what is told of that, and the system was asked for one socket at most, at the address that the job wants, and
--- for nothing else.
-pub record RunsWithout {R W E : Type 0} (error_contents : E → Option (List ℕ)) (reader reader' : Checked R)
-    (writer writer' : Checked W) (errors errors' : Checked E) (report : Report) (words : List Text)
-    (log : List SystemCall) : Type 0 where
+-- These words asked for a job, but no socket was available. Nothing was read or printed, `errors` was given the message
+-- of that fault, and the system was asked for one socket at most, at the address that the job needs, and for nothing
+-- else: the network that was kept is that of the run, so it gave nobody a socket.
+pub record RunsWithout {N R W E : Type 0} (error_contents : E → Option (List ℕ)) (network kept : N)
+    (reader reader' : Checked R) (writer writer' : Checked W) (errors errors' : Checked E) (report : Report)
+    (words : List Text) (log : List SystemCall) : Type 0 where
   pub job : Job
   pub answered : Answers words (Ok job)
   pub unread : reader' ≡ reader
@@ -87,14 +89,15 @@ pub record RunsWithout {R W E : Type 0} (error_contents : E → Option (List ℕ
   pub binding : Binding
   pub wanted : asked_by job ≡ Some binding
   pub asked : BindsAtMost binding.at log
+  pub unused : kept ≡ network
 
 -- The words ask for a script.
 abbrev pub AskForScript : Result (List Text) ErrorKind → Type 0
 AskForScript (Ok typed) = Answers (words_called typed) (Ok Trace)
 AskForScript (Err kind) = ⊥
 
--- This is reported of words that give no job: that they could not be had; that memory ran out, or `clap` asks for help
--- or refuses them; or their first fault.
+-- The report of words that give no job: they could not be read; memory ran out, or `clap` asks for help or refuses
+-- them; or their first fault.
 abbrev pub GiveNoJob : Result (List Text) ErrorKind → Report → Type 0
 GiveNoJob (Ok typed) report =
     (fault : UsageFault) × (IsRefusal (words_called typed) fault ⊎ Answers (words_called typed) (Err fault))
@@ -109,19 +112,19 @@ module _ {R W : Type 0} (remaining : R → Option (List ℕ)) (contents : W → 
     pub script : Traces remaining contents reader reader' writer writer' answer
     pub reported : report ≡ trace_report answer
 
-  -- Nothing was read, and nothing printed but help that was asked for. This was to report, and is, where such help
-  -- could be written.
+  -- Nothing was read, and nothing printed except help that was asked for. This is the report, if such help could be
+  -- written.
   pub record OnlyReported (reports : Report) : Type 0 where
     pub unread : reader' ≡ reader
     pub helped : IsTold contents writer writer' (on_output reports.fault)
     pub reported : report ≡ once_given reports.fault (has_failed writer') reports
 
--- These words asked for no socket: the network is there as it was, so the system was asked for nothing by it. Either
--- they asked for a script, which was run; or they gave no job, and nothing was done but to report it. `errors` was
--- given what is told of the fault.
-pub record RunsUnasked {N L R W E : Type 0} (remaining : R → Option (List ℕ)) (contents : W → Option (List ℕ))
+-- These words asked for no socket: the network is unchanged, so it asked the system for nothing. Either they asked for
+-- a script, which was run; or they gave no job, and nothing was done except to report it. `errors` was given the
+-- message of the fault.
+pub record RunsUnasked {N L F R W E : Type 0} (remaining : R → Option (List ℕ)) (contents : W → Option (List ℕ))
     (error_contents : E → Option (List ℕ)) (network : N) (reader reader' : Checked R) (writer writer' : Checked W)
-    (errors errors' : Checked E) (ran : Ran N L) (typed : Result (List Text) ErrorKind) : Type 0 where
+    (errors errors' : Checked E) (ran : Ran N L F) (typed : Result (List Text) ErrorKind) : Type 0 where
   pub unasked : ran.unasked ≡ Some network
   pub did : (AskForScript typed × ScriptCalled remaining contents reader reader' writer writer' ran.report)
       ⊎ (reports : Report) × GiveNoJob typed reports

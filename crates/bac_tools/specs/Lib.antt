@@ -18,11 +18,11 @@ unfoldable pub use Program.*
 unfoldable pub use Calls.*
 unfoldable pub use Alike.*
 pub use Rattle.bac_words.specs.declared.faults.UsageFault.{UsageFault, TheVariants.{Help, Memory}}
-pub use Rattle.bac_words.specs.declared.job.{Batch.Batch, Job.{Job, TheVariants.{Over, Run, Trace}}}
+pub use Rattle.bac_words.specs.declared.job.{Batch.Batch, Job.{Job, TheVariants.{Run, Trace, Use}}}
 pub use Rattle.bac_words.specs.declared.job.Tool.{Tool, TheVariants.{Device, Read, WhoIs, Write}}
 pub use Rattle.bac_links.specs.declared.{ending.Purpose.TheVariants.{Reading, Writing}, exit.Exit.Exit}
 pub use Rattle.bac_links.specs.declared.fault.ToolFault.{ToolFault, TheVariants.{ReceiveFailed, WriteFailed}}
-pub use Rattle.bac_links.specs.declared.{socket.NoSocket.NoSocket, udp.OnRefusal.TheVariants.IsLost}
+pub use Rattle.bac_links.specs.declared.udp.OnRefusal.TheVariants.{IsLost}
 pub use Rattle.bac_script.specs.declared.tracing.{TraceEnd.TraceEnd, TraceFault.TraceFault}
 pub use Rattle.bac_print.specs.declared.checked.Checked.{Checked}
 pub use Rattle.bac_tools.specs.declared.{program.Ran.Ran, report.Fault.TheVariants.Usage}

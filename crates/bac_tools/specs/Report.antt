@@ -1,4 +1,4 @@
--- The status with which the program ends, and the fault that it tells of.
+-- The status with which the program ends, and the fault that it reports.
 use Rattle.std.specs.Prelude.{◌≡◌, ◌≤◌, ℕ, Option, Some, None, option_map, Result}
 use Rattle.std.specs.{Result.result_err, declared.io.ErrorKind.{ErrorKind, TheVariants.OutOfMemory}}
 use Rattle.bac_script.specs.declared.tracing.{TraceEnd.TraceEnd, TraceFault.TraceFault}
@@ -9,17 +9,16 @@ use Rattle.bac_tools.specs.Statuses.{fault_status, run_status_of, status_of, tra
 use Rattle.bac_tools.specs.declared.report.{Fault.Fault, Report.Report}
 use Rattle.bac_tools.specs.declared.report.Fault.TheVariants as faults
 
--- The status is that of the fault that is told; without one it is 0, or 1 where the tool ended otherwise than it was
--- meant to.
+-- The status is that of the reported fault; without a fault it is 0, or 1 if the tool did not end well.
 abbrev pub IsStatusOf : Option Fault → ℕ → Type 0
 IsStatusOf None status = status ≤ 1
 IsStatusOf (Some fault) status = status ≡ fault_status fault
 
--- The report that tells of a fault.
+-- The report of a fault.
 abbrev pub report_of : Fault → Report
 report_of fault = record { status = fault_status fault; fault = Some fault }
 
--- The report where the words could not be had: for want of memory, or since they are no texts.
+-- The report if the words were not available: memory ran out, or they are not texts.
 abbrev pub unread_report : ErrorKind → Report
 unread_report OutOfMemory = report_of (faults.Usage Memory)
 unread_report kind = report_of faults.NoText

@@ -4,29 +4,36 @@ use Rattle.bac_device.specs.{demo_points, device_after, DeviceState}
 use Rattle.bac_print.specs.{has_failed, declared.checked.Checked.Checked}
 use Rattle.bac_script.specs.{declared.tracing.{TraceEnd.TraceEnd, TraceFault.TraceFault}, Tracing.Traces}
 use Rattle.bac_links.specs.{Account, Tells, declared.ending.Purpose.TheVariants.{Reading, Writing}}
-use Rattle.bac_links.specs.declared.{exit.Exit.Exit, fault.ToolFault.ToolFault, socket.NoSocket.NoSocket}
+use Rattle.bac_links.specs.declared.{exit.Exit.{Exit, TheVariants.Good}, fault.ToolFault.ToolFault}
 use Rattle.bac_links.specs.{Fault.{is_link_fault, is_write_fault}, Search.Searched, Serve.Serves}
 use Rattle.bac_run.specs.declared.{fault.RunFault.RunFault, session.Session.Session}
 use Rattle.bac_run.specs.{Fault.{is_of_link, write_failed}, Run.Runs as Requested}
-use Rattle.bac_words.specs.declared.job.{Batch.Batch, Job.{Job, TheVariants.{Over, Run, Trace}}, Serve.Serve}
+use Rattle.bac_words.specs.declared.job.{Batch.Batch, Job.{Job, TheVariants.{Run, Trace, Use}}, Serve.Serve}
 use Rattle.bac_words.specs.declared.job.Tool.{Tool, TheVariants.{Device, Read, WhoIs, Write}}
 use Rattle.bac_tools.specs.{declared.report.Report.Report, Outside.Outside}
 use Rattle.bac_tools.specs.Report.{report_of, run_report, tool_report, trace_report}
 use Rattle.bac_script.specs.declared.tracing.TraceFault.TheVariants as stops
 use Rattle.bac_tools.specs.declared.report.Fault.TheVariants as faults
 
+-- A server that ended with the number of its replies is good.
+abbrev pub exit_after : Result ℕ ToolFault → Result Exit ToolFault
+exit_after (Ok replies) = Ok Good
+exit_after (Err fault) = Err fault
+
 -- A demonstration device: its replies to the datagrams that come.
 pub record DevicePlays {Origin : Type 0} (serve : Serve) (seen left : Account Origin) (answer : Result Exit ToolFault)
     : Type 0 where
   pub device : DeviceState
-  pub serves : Serves serve.count (device_after serve.info demo_points []) device seen left answer
+  pub served : Result ℕ ToolFault
+  pub serves : Serves serve.count (device_after serve.info demo_points []) device seen left served
+  pub answered : answer ≡ exit_after served
 
 -- ---- the tools over a link: what each does to its writer and its link, and its answer
 
 module _ {Origin W : Type 0} (contents : W → Option (List ℕ)) (writer writer' : Checked W)
     (seen left : Account Origin) (answer : Result Exit ToolFault) where
-  -- A request tells its events, its sends, its end and the line of that, by the look-ahead; a search the devices that
-  -- it finds, and their lines; a device its replies, and it prints nothing.
+  -- A request has its events, its sends, its end and the line of its end, by the look-ahead; a search has the devices
+  -- that it finds, and their lines; a device has its replies, and prints nothing.
   abbrev pub ToolRuns : Tool → Type 0
   ToolRuns (Read call) = Tells Reading call contents writer writer' seen left answer
   ToolRuns (Write call) = Tells Writing call contents writer writer' seen left answer
@@ -35,13 +42,13 @@ module _ {Origin W : Type 0} (contents : W → Option (List ℕ)) (writer writer
 
 -- ---- many requests over a link
 
--- A session goes by the words of its batch.
+-- A session has the settings of its batch.
 pub record IsSessionOf (batch : Batch) (session : Session) : Type 0 where
   pub timeout : session.config.timeout ≡ batch.timeout
   pub retries : session.config.retries ≡ batch.retries
   pub window : session.window ≡ batch.window
 
--- The requests that the lines of the reader ask for were made, and the journal of that was printed.
+-- The requests that the lines of the reader ask for were made, and their journal was printed.
 pub record BatchRuns {Origin R W : Type 0} (remaining : R → Option (List ℕ)) (contents : W → Option (List ℕ))
     (batch : Batch) (reader reader' : Checked R) (writer writer' : Checked W) (seen left : Account Origin)
     (answer : Result TraceEnd RunFault) : Type 0 where
@@ -53,8 +60,8 @@ pub record BatchRuns {Origin R W : Type 0} (remaining : R → Option (List ℕ))
 
 module _ {Origin L R W : Type 0} (out : Outside Origin L R W) (reader reader' : Checked R) (writer writer' : Checked W)
     (report : Report) where
-  -- A tool was run over a link: the report is that of its answer. Link and writer have failed exactly where it is their
-  -- fault.
+  -- A tool was run over a link: the report is that of its answer. Link and writer have failed exactly if the fault is
+  -- theirs.
   pub record RunsOver (tool : Tool) (link link' : L) : Type 0 where
     pub answer : Result Exit ToolFault
     pub runs : ToolRuns out.contents writer writer' (out.seen link) (out.seen link') answer tool
@@ -63,8 +70,8 @@ module _ {Origin L R W : Type 0} (out : Outside Origin L R W) (reader reader' : 
     pub unread : reader' ≡ reader
     pub reported : report ≡ tool_report answer
 
-  -- Many requests were made over a link: the report is that of their answer. A writer that failed is told of; else the
-  -- link has failed exactly where it is its fault.
+  -- Many requests were made over a link: the report is that of their answer. A failed writer is reported; otherwise the
+  -- link has failed exactly if the fault is of the link.
   pub record RunsBatch (batch : Batch) (link link' : L) : Type 0 where
     pub answer : Result TraceEnd RunFault
     pub runs : BatchRuns out.remaining out.contents batch reader reader' writer writer' (out.seen link) (out.seen link')
@@ -80,16 +87,16 @@ module _ {Origin L R W : Type 0} (out : Outside Origin L R W) (reader reader' : 
     pub write_fault : (has_failed writer' ≡ true) ↔ (answer ≡ Err stops.WriteFailed)
     pub reported : report ≡ trace_report answer
 
-  -- Something was run over the socket that was to be had, which is there afterwards. Where none was to be had, nothing
-  -- was read and nothing printed, it is told that there was none, and why is handed back.
-  abbrev pub RunsOpened : (L → L → Type 0) → Option (Result L NoSocket) → Option (Result L NoSocket) → Type 0
+  -- Something was run over the socket that was available, which is there afterwards. If none was available, nothing was
+  -- read and nothing printed, the report says that there was none, and the reason is handed back.
+  abbrev pub RunsOpened : {F : Type 0} → (L → L → Type 0) → Option (Result L F) → Option (Result L F) → Type 0
   RunsOpened over (Some (Err none)) opened' = (opened' ≡ Some (Err none)) × (reader' ≡ reader) × (writer' ≡ writer)
       × (report ≡ report_of (faults.Link record {}))
   RunsOpened over (Some (Ok link)) (Some (Ok link')) = over link link'
   RunsOpened over opened opened' = ⊥
 
-  -- What a job does with what was opened for it, its reader and its writer, and the report.
-  abbrev pub Runs : Job → Option (Result L NoSocket) → Option (Result L NoSocket) → Type 0
-  Runs Trace = λ opened opened'. RunsScript × (opened' ≡ opened)
-  Runs (Run batch) = RunsOpened (RunsBatch batch)
-  Runs (Over tool) = RunsOpened (RunsOver tool)
+  -- The effect of a job on the socket that was opened for it, its reader and its writer, and the report.
+  abbrev pub JobRuns : {F : Type 0} → Job → Option (Result L F) → Option (Result L F) → Type 0
+  JobRuns Trace = λ opened opened'. RunsScript × (opened' ≡ opened)
+  JobRuns (Run batch) = RunsOpened (RunsBatch batch)
+  JobRuns (Use tool) = RunsOpened (RunsOver tool)

@@ -33,8 +33,8 @@ usage_status_of (Help e) = 0
 usage_status_of Memory = 4
 usage_status_of _ = 2
 
--- Of each fault: 0 where help was asked for; 2 where words, or a line of a script or of requests, are wrong; 3 where a
--- socket, a reader, a writer or the turns gave out; 4 without memory.
+-- Of each fault: 0 if help was asked for; 2 if words, or a line of a script or of requests, are wrong; 3 if a socket, a
+-- reader, a writer or the turns gave out; 4 without memory.
 abbrev pub fault_status : Fault → ℕ
 fault_status faults.NoText = 2
 fault_status (faults.Usage fault) = usage_status_of fault

@@ -7,7 +7,7 @@ use Rattle.bac_words.specs.{declared.faults.UsageFault.TheVariants.Help, Fault.u
 use Rattle.bac_tools.specs.{declared.report.{Fault.Fault, Report.Report}, Report.tool_report}
 use Rattle.bac_tools.specs.declared.report.Fault.TheVariants as faults
 
--- What is told of a fault.
+-- The message of a fault.
 abbrev pub fault_told : Fault → Told
 fault_told faults.NoText = Line (codes "words that are not UTF-8")
 fault_told (faults.Usage fault) = usage_told fault
@@ -21,24 +21,24 @@ abbrev pub on_output : Option Fault → Option Told
 on_output (Some (faults.Usage (Help message))) = Some (Text message)
 on_output _ = None
 
--- Standard error is given what there is to tell of each other fault.
+-- Standard error is given the message of each other fault.
 abbrev pub on_error : Option Fault → Option Told
 on_error None = None
 on_error (Some (faults.Usage (Help message))) = None
 on_error (Some fault) = Some (fault_told fault)
 
--- The report once standard output was given this, and has failed or not: where it has, and was to take help, that is
--- the fault.
+-- The report after standard output was given this, and has failed or not. If it has failed, and should have taken help,
+-- that is the fault.
 abbrev pub once_given : Option Fault → (failed : Bool) → Report → Report
 once_given (Some (faults.Usage (Help message))) true report = tool_report (Err WriteFailed)
 once_given _ _ report = report
 
--- The octets of what is told: a line behind the name of the program. Those of a text of `clap` are its own.
+-- The octets of the message: a line after the name of the program. Those of a text of `clap` are its own.
 abbrev pub AreOctetsOf : Told → List ℕ → Type 0
 AreOctetsOf (Text message) octets = ⊤
 AreOctetsOf (Line text) octets = octets ≡ codes "bactool: " ++ (text ++ codes "\n")
 
--- The writer is given what is told, as far as it takes it. Where that is nothing it is not asked.
+-- The writer is given the message, as far as it accepts it. If there is no message, the writer is not asked.
 abbrev pub IsTold : {W : Type 0} → (W → Option (List ℕ)) → (before after : Checked W) → Option Told → Type 0
 IsTold contents before after None = after ≡ before
 IsTold contents before after (Some told) = (octets : List ℕ) × AreOctetsOf told octets

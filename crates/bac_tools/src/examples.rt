@@ -2,35 +2,95 @@
 
 ghost use Rattle.std.specs.declared.io.{Error.Error, ErrorKind.TheVariants.{NotFound, OutOfMemory}};
 ghost use Rattle.std.specs.{declared.{string.String.String, vec.IntoIter.IntoIter}, IoError.error_kind};
-ghost use Rattle.std.specs.Prelude.{[], codes, Err, false, None, Ok, Some, true, ℕ, ◌∷◌, ◌≡◌};
+ghost use Rattle.std.specs.Prelude.{[], codes, Err, false, List, None, Ok, Some, suc, true, ℕ, ◌∷◌, ◌≡◌};
 ghost use Rattle.std.specs.{String.string_bytes, Vec.Iter.into_iter_items};
-ghost use Rattle.bac_links.specs.{Bind, declared.exit.Exit.TheVariants.{Bad, Good}};
+ghost use Rattle.{clap.specs.Words.Text, bac_links.specs.{Bind, Timed, declared.exit.Exit.TheVariants.{Bad, Good}}};
 ghost use Rattle.bac_links.specs.{declared.fault.ToolFault.TheVariants.SendFailed, SystemCall.Limit};
 ghost use Rattle.bac_script.specs.declared.tracing.TraceFault.TheVariants.{BadLine, ReadFailed};
-ghost use Rattle.bac_tools.specs.{AreAlike, AreGivenAlike, AsksAtMostOnce, BatchRuns, CalledRun, fault_status};
-ghost use Rattle.bac_tools.specs.{GivesSockets, IsRun, IsStatusOf, IsTold, Link, Memory, on_error, on_output};
-ghost use Rattle.bac_tools.specs.{once_given, Only, ProgramRun, ReceiveFailed, report_of, run_status_of, RunsAsCalls};
-ghost use Rattle.bac_tools.specs.{RunsUnasked, RunsWithout, Script, status_of, texts_of, ToolRuns, trace_status_of};
-ghost use Rattle.bac_tools.specs.{Usage, usage_status_of, declared.report.Fault.TheVariants.NoText};
-ghost use Rattle.bac_tools.specs.Inner.{any_at, asked_so, batch_of, deaf, deaf_calls, device, device_words, drained};
-ghost use Rattle.bac_tools.specs.Inner.{FailsAfter, forgotten, gives_none, GivesThat, having, no_bind, no_contents};
-ghost use Rattle.bac_tools.specs.Inner.{no_socket, no_text, not_received, nothing_asked, one_bind, one_time};
-ghost use Rattle.bac_tools.specs.Inner.{ran_without, read_to_end, settings_told, told_failed, told_no_socket};
-ghost use Rattle.bac_tools.specs.{Inner.{told_no_text, unasked, unknown}, Program.Program};
-ghost use Rattle.bac_words.specs.{declared.faults.UsageFault.TheVariants.BadMac, Telling.Line};
+ghost use Rattle.bac_tools.specs.{AreAlike, AreGivenAlike, AskForScript, AsksAtMostOnce, BatchRuns, CalledRun};
+ghost use Rattle.bac_tools.specs.{EndAlike, fault_status, GiveNoJob, GivesSockets, IsPrinted, IsRun, IsStatusOf};
+ghost use Rattle.bac_tools.specs.{IsTold, Link, Memory, on_error, on_output, once_given, Only, ProgramRun};
+ghost use Rattle.bac_tools.specs.{ReceiveFailed, report_of, run_status_of, RunsAsCalls, RunsUnasked, RunsWithout};
+ghost use Rattle.bac_tools.specs.{Script, ScriptCalled, status_of, texts_of, ToolRuns, trace_status_of, Usage};
+ghost use Rattle.bac_tools.specs.{usage_status_of, declared.report.Fault.TheVariants.NoText};
+ghost use Rattle.bac_tools.specs.Inner.{any_at, asked_so, bad_read_words, bad_words, batch_of, deaf, deaf_calls};
+ghost use Rattle.bac_tools.specs.Inner.{device, device_words, ran_in_vain, script_words};
+ghost use Rattle.bac_tools.specs.Inner.{drained, FailsAfter, forgotten, gives_any, gives_none, GivesThat, having};
+ghost use Rattle.bac_tools.specs.Inner.{loopback, no_bind, no_contents, no_socket, no_text, not_received};
+ghost use Rattle.bac_tools.specs.Inner.{nothing_asked, one_bind, one_time, one_wait, ran_without, read_to_end};
+ghost use Rattle.bac_tools.specs.Inner.{settings_told, told_failed, told_no_socket, told_no_text, unasked, unknown};
+ghost use Rattle.bac_tools.specs.Inner.{well};
+ghost use Rattle.{bac_print.specs.octets_of, bac_tools.specs.{Outside.Outside, Program.Program}};
+ghost use Rattle.bac_words.specs.{Called.tool_named, declared.faults.UsageFault.TheVariants.{BadIndex, BadMac}};
+ghost use Rattle.bac_words.specs.Telling.{Line};
 ghost use Rattle.bac_tools.specs.declared.report.Fault.TheVariants as faults;
 
-// Two runs that lacked memory for their words: they were given alike what they asked for, which is nothing, and are
-// alike; they were not asked the time.
+// Two runs that lacked memory for their words: they asked for nothing, so they were given alike and are alike. They
+// did not ask the time.
 #[tactic(none)]
 fn examples_of_runs()
     ensures given { AreGivenAlike forgotten forgotten [] [] [] [] }
     ensures not_given { AreGivenAlike forgotten forgotten one_time [] [] [] → ⊥ }
+    ensures given_more { AreGivenAlike forgotten forgotten [] [] [] one_time → ⊥ }
     ensures alike { AreAlike forgotten forgotten [] [] [] [] }
     ensures not_alike { AreAlike forgotten forgotten one_time [] [] [] → ⊥ }
+
+    // Two runs that asked as often and asked something else are not alike. Nor are two given alike whose first answers
+    // are the same and whose second differ.
+    ensures asked_otherwise { AreAlike forgotten forgotten one_time [] one_wait [] → ⊥ }
+    ensures goes_on_otherwise { AreAlike forgotten forgotten [] one_time [] one_wait → ⊥ }
+    ensures answered_otherwise { (out : Outside ℕ ℕ ℕ ℕ) (words : List Text)
+        (one other : ProgramRun gives_any out words)
+        → AreGivenAlike one other (Timed 0 ∷ Timed 1 ∷ []) [] (Timed 0 ∷ Timed 2 ∷ []) [] → ⊥ }
+    ensures gained_otherwise { (out : Outside ℕ ℕ ℕ ℕ) (words : List Text) (run : ProgramRun gives_any out words)
+        → run.program.opened ≡ Some (Ok 0) → run.ran.socket ≡ Some (Ok 1) → (out.seen 0).history ≡ []
+        → (out.seen 1).history ≡ one_time → run.gained ≡ one_wait → ⊥ }
+    ensures read_otherwise { (out : Outside ℕ ℕ ℕ ℕ) (words : List Text) (one other : ProgramRun gives_any out words)
+        → octets_of one.reader' ≡ 1 ∷ [] → octets_of other.reader' ≡ 2 ∷ [] → AreGivenAlike one other [] [] [] [] → ⊥ }
+    ensures one_socket { (out : Outside ℕ ℕ ℕ ℕ) (words : List Text) (one other : ProgramRun gives_any out words)
+        (none : ℕ) → one.program.opened ≡ Some (Ok 0) → other.program.opened ≡ Some (Err none)
+        → AreGivenAlike one other [] [] [] [] → ⊥ }
+
+    // Two runs that report two faults of one status did not end alike.
+    ensures same_end { EndAlike forgotten forgotten no_text no_text }
+    ensures other_end { (out : Outside ℕ ℕ ℕ ℕ) (words : List Text) (one other : ProgramRun gives_any out words)
+        → one.program.answer ≡ Err BadMac
+        → EndAlike one other (report_of (Usage BadMac)) (report_of (Usage BadIndex)) → ⊥ }
+
+    // A whole text was printed, or a front of it by a run that was cut off; no other text of its length.
+    ensures printed { IsPrinted (1 ∷ 2 ∷ []) (1 ∷ 2 ∷ []) no_text }
+    ensures printed_other { IsPrinted (1 ∷ 3 ∷ []) (1 ∷ 2 ∷ []) no_text → ⊥ }
+    ensures printed_less { IsPrinted (1 ∷ []) (1 ∷ 2 ∷ []) no_text → ⊥ }
+    ensures cut_off { IsPrinted (1 ∷ []) (1 ∷ 2 ∷ []) (report_of (Usage Memory)) }
+    ensures cut_off_otherwise { IsPrinted (2 ∷ []) (1 ∷ 2 ∷ []) (report_of (Usage Memory)) → ⊥ }
 {}
 
-// The status of each end, of a fault, and where there is none.
+// Words that ask for a script, or give no job; and what a script prints.
+#[tactic(none)]
+fn examples_of_scripts()
+    ensures script { (program : Text) → tool_named program ≡ Some (codes "bactrace")
+        → AskForScript (Ok (program ∷ [])) }
+    ensures no_script { (program : Text) → tool_named program ≡ Some (codes "bacdev")
+        → AskForScript (Ok (program ∷ codes "1234" ∷ [])) → ⊥ }
+    ensures no_words { AskForScript (Err NotFound) → ⊥ }
+
+    // Their first fault, and no other fault of its status; a job, which has no fault; and no words.
+    ensures no_job { (program : Text) → tool_named program ≡ Some (codes "bacrp")
+        → GiveNoJob (Ok (program ∷ bad_words)) (report_of (Usage BadMac)) }
+    ensures other_fault { (program : Text) → tool_named program ≡ Some (codes "bacrp")
+        → GiveNoJob (Ok (program ∷ bad_words)) (report_of (Usage BadIndex)) → ⊥ }
+    ensures job { (program : Text) → tool_named program ≡ Some (codes "bacdev")
+        → GiveNoJob (Ok (program ∷ codes "1234" ∷ [])) (report_of (Usage BadMac)) → ⊥ }
+    ensures unread { GiveNoJob (Err NotFound) no_text }
+    ensures unread_otherwise { GiveNoJob (Err NotFound) (report_of (Usage BadMac)) → ⊥ }
+
+    // A script of no line prints nothing, and ends well.
+    ensures called { ScriptCalled no_contents no_contents unasked drained unasked unasked well }
+    ensures prints { ScriptCalled no_contents no_contents unasked drained unasked (having (codes "x")) well → ⊥ }
+    ensures reports { ScriptCalled no_contents no_contents unasked drained unasked unasked no_text → ⊥ }
+{}
+
+// The status of each end, of a fault, and without a fault.
 #[tactic(none)]
 fn examples_of_statuses()
     ensures good_end { status_of (Ok Good) ≡ 0 }
@@ -51,16 +111,16 @@ fn examples_of_statuses()
     ensures no_text { IsStatusOf (Some NoText) 2 }
     ensures other_status { IsStatusOf (Some NoText) 3 → ⊥ }
 
-    // A fault is told on standard error, and not on standard output.
+    // A fault is reported on standard error, and not on standard output.
     ensures unprinted { on_output (Some NoText) ≡ None }
     ensures told { on_error (Some NoText) ≡ Some (Line (codes "words that are not UTF-8")) }
     ensures kept { once_given (Some NoText) true (report_of NoText) ≡ report_of NoText }
 {}
 
-// What the program does that was told no words.
+// The program without words from the system.
 #[tactic(none)]
 fn examples_of_no_words()
-    // The report says so, and what it is is told on standard error.
+    // The report has this fault, and its message is on standard error.
     ensures run { IsRun gives_none unknown no_contents 0 unasked unasked unasked unasked unasked told_no_text
         (ran_without no_text (Some 0)) (Err NotFound) }
     ensures untold { IsRun gives_none unknown no_contents 0 unasked unasked unasked unasked unasked unasked
@@ -69,6 +129,8 @@ fn examples_of_no_words()
         (ran_without no_text (Some 0)) (Err NotFound) → ⊥ }
     ensures no_memory { IsRun gives_none unknown no_contents 0 unasked unasked unasked unasked unasked told_no_text
         (ran_without no_text (Some 0)) (Err OutOfMemory) → ⊥ }
+    ensures reported { IsRun gives_none unknown no_contents 0 unasked unasked unasked unasked unasked told_no_socket
+        (ran_without no_socket (Some 0)) (Err NotFound) → ⊥ }
     ensures called { CalledRun gives_none unknown no_contents (Err NotFound) }
     ensures otherwise { (run : CalledRun gives_none unknown no_contents (Err NotFound)) → run.ran.report ≡ no_socket
         → ⊥ }
@@ -80,27 +142,50 @@ fn examples_of_no_words()
         told_no_text (ran_without no_text (Some 1)) (Err NotFound) → ⊥ }
     ensures other_report { RunsUnasked no_contents no_contents no_contents 0 unasked unasked unasked unasked unasked
         told_no_socket (ran_without no_socket (Some 0)) (Err NotFound) → ⊥ }
+    ensures untold_call { RunsUnasked no_contents no_contents no_contents 0 unasked unasked unasked unasked unasked
+        unasked (ran_without no_text (Some 0)) (Err NotFound) → ⊥ }
 
-    // Nothing was done but to report this.
+    // Nothing was done except this report.
     ensures only { Only gives_none unknown 0 unasked unasked unasked unasked (ran_without no_text (Some 0)) no_text }
     ensures not_only { Only gives_none unknown 0 unasked unasked unasked told_no_text (ran_without no_text (Some 0))
         no_text → ⊥ }
 
-    // Words that there is no memory for are told as such.
+    // If there is no memory for the words, the report says so.
     ensures lacked { Program gives_none unknown 0 unasked unasked unasked unasked
         (ran_without (report_of (Usage Memory)) (Some 0)) [] }
     ensures lacked_otherwise { Program gives_none unknown 0 unasked unasked unasked unasked
         (ran_without no_text (Some 0)) [] → ⊥ }
     ensures no_run { (run : ProgramRun gives_none unknown []) → run.ran.report ≡ no_text → ⊥ }
 
-    // A line is told whole, and where there is nothing to tell nothing is.
+    // The whole line is printed; without a line nothing is.
     ensures told { IsTold no_contents unasked (having (codes "bactool: x\n")) (Some (Line (codes "x"))) }
     ensures not_told { IsTold no_contents unasked unasked (Some (Line (codes "x"))) → ⊥ }
     ensures nothing { IsTold no_contents unasked unasked None }
     ensures too_much { IsTold no_contents unasked (having (codes "x")) None → ⊥ }
 {}
 
-// A device whose first wait fails, what the system is asked for it, and what it is asked where there is no socket.
+// The program with words of a script, of a read and of a device.
+#[tactic(none)]
+fn examples_of_programs()
+    // A script of no line asks for no socket, so the network is handed back: it, and no other.
+    ensures scripted { Program gives_none unknown 0 unasked drained unasked unasked (ran_without well (Some 0))
+        script_words }
+    ensures network_changed { Program gives_none unknown 0 unasked drained unasked unasked (ran_without well (Some 1))
+        script_words → ⊥ }
+
+    // The first fault of these words is reported, and no other of its status.
+    ensures misread { Program gives_none unknown 0 unasked unasked unasked unasked
+        (ran_without (report_of (Usage BadMac)) (Some 0)) bad_read_words }
+    ensures misread_otherwise { Program gives_none unknown 0 unasked unasked unasked unasked
+        (ran_without (report_of (Usage BadIndex)) (Some 0)) bad_read_words → ⊥ }
+
+    // A device asks its network for a socket. There is none, and what the network gave in its place is handed back.
+    ensures refused { Program (FailsAfter []) unknown 0 unasked unasked unasked unasked (ran_in_vain 0) device_words }
+    ensures refused_by_another { Program (FailsAfter []) unknown 0 unasked unasked unasked unasked (ran_in_vain 1)
+        device_words → ⊥ }
+{}
+
+// A device whose first wait fails, its calls of the system, and those if there is no socket.
 #[tactic(none)]
 fn examples_of_a_device()
     ensures runs { ToolRuns no_contents unasked unasked (asked_so []) (asked_so deaf) (Err ReceiveFailed) device }
@@ -115,30 +200,50 @@ fn examples_of_a_device()
         told_failed not_received device_words deaf_calls }
     ensures unbound { RunsAsCalls ℕ no_contents no_contents no_contents unasked unasked unasked unasked unasked
         told_failed not_received device_words (Limit 1000000000 false ∷ []) → ⊥ }
+    ensures no_words { RunsAsCalls ℕ no_contents no_contents no_contents unasked unasked unasked unasked unasked
+        told_failed not_received [] deaf_calls → ⊥ }
+    ensures at_other_address { RunsAsCalls ℕ no_contents no_contents no_contents unasked unasked unasked unasked unasked
+        told_failed not_received device_words (Bind loopback ∷ Limit 1000000000 false ∷ []) → ⊥ }
     ensures untold { RunsAsCalls ℕ no_contents no_contents no_contents unasked unasked unasked unasked unasked
         unasked not_received device_words deaf_calls → ⊥ }
+    ensures at_other_port { RunsAsCalls ℕ no_contents no_contents no_contents unasked unasked unasked unasked unasked
+        told_failed not_received device_words (Bind (any_at 47809) ∷ Limit 1000000000 false ∷ []) → ⊥ }
+    ensures prints_more { RunsAsCalls ℕ no_contents no_contents no_contents unasked unasked unasked (having (codes "x"))
+        unasked told_failed not_received device_words deaf_calls → ⊥ }
 
-    ensures without { RunsWithout no_contents unasked unasked unasked unasked unasked told_no_socket no_socket
-        device_words (Bind (any_at 47808) ∷ []) }
-    ensures bound_twice { RunsWithout no_contents unasked unasked unasked unasked unasked told_no_socket no_socket
-        device_words (Bind (any_at 47808) ∷ Bind (any_at 47808) ∷ []) → ⊥ }
-    ensures printed { RunsWithout no_contents unasked unasked unasked (having (codes "x")) unasked told_no_socket
+    ensures without { RunsWithout {N = ℕ} no_contents 0 0 unasked unasked unasked unasked unasked told_no_socket
+        no_socket device_words (Bind (any_at 47808) ∷ []) }
+    ensures bound_twice { RunsWithout {N = ℕ} no_contents 0 0 unasked unasked unasked unasked unasked told_no_socket
+        no_socket device_words (Bind (any_at 47808) ∷ Bind (any_at 47808) ∷ []) → ⊥ }
+    ensures printed { RunsWithout {N = ℕ} no_contents 0 0 unasked unasked unasked (having (codes "x")) unasked
+        told_no_socket no_socket device_words [] → ⊥ }
+    ensures used { RunsWithout {N = ℕ} no_contents 0 1 unasked unasked unasked unasked unasked told_no_socket
         no_socket device_words [] → ⊥ }
-    ensures received { RunsWithout no_contents unasked unasked unasked unasked unasked told_failed not_received
-        device_words [] → ⊥ }
+    ensures received { RunsWithout {N = ℕ} no_contents 0 0 unasked unasked unasked unasked unasked told_failed
+        not_received device_words [] → ⊥ }
+    ensures without_other_port { RunsWithout {N = ℕ} no_contents 0 0 unasked unasked unasked unasked unasked
+        told_no_socket no_socket device_words (Bind (any_at 47809) ∷ []) → ⊥ }
+    ensures reads_without { RunsWithout {N = ℕ} no_contents 0 0 unasked drained unasked unasked unasked told_no_socket
+        no_socket device_words [] → ⊥ }
+    ensures untold_without { RunsWithout {N = ℕ} no_contents 0 0 unasked unasked unasked unasked unasked unasked
+        no_socket device_words [] → ⊥ }
+    ensures without_words { RunsWithout {N = ℕ} no_contents 0 0 unasked unasked unasked unasked unasked told_no_socket
+        no_socket [] [] → ⊥ }
 {}
 
-// What networks ask of the system.
+// The calls of the system by networks.
 #[tactic(none)]
 fn examples_of_networks()
     ensures gives { GivesSockets GivesThat nothing_asked one_bind }
     ensures gives_unasked { GivesSockets GivesThat nothing_asked no_bind → ⊥ }
     ensures asks_first { GivesSockets GivesThat (λ (link : ℕ). asked_so deaf) one_bind → ⊥ }
-    ensures once { AsksAtMostOnce (FailsAfter []) }
-    ensures twice { AsksAtMostOnce (FailsAfter (Bind (any_at 47808) ∷ Bind (any_at 47808) ∷ [])) → ⊥ }
+    ensures once { AsksAtMostOnce (FailsAfter []) (λ none. none.kept) (λ none. none.log) }
+    ensures twice { AsksAtMostOnce (FailsAfter (Bind (any_at 47808) ∷ Bind (any_at 47808) ∷ [])) (λ none. none.kept)
+        (λ none. none.log) → ⊥ }
+    ensures not_kept { AsksAtMostOnce (FailsAfter []) (λ none. suc none.kept) (λ none. none.log) → ⊥ }
 {}
 
-// Many requests of which the input asks for none: the settings are printed, and the link is asked for nothing.
+// A run without requests: the settings are printed, and the link is asked for nothing.
 #[tactic(none)]
 fn examples_of_many_requests()
     ensures none { BatchRuns no_contents no_contents (batch_of 3000) unasked drained unasked settings_told (asked_so [])
@@ -148,7 +253,7 @@ fn examples_of_many_requests()
     ensures no_timeout { BatchRuns no_contents no_contents (batch_of 0) unasked drained unasked settings_told
         (asked_so []) (asked_so []) (read_to_end 0) → ⊥ }
 
-    // The words that the system tells, or why it tells none.
+    // The words that the system gives, or why it gives none.
     ensures unread { (error : Error) → error_kind error ≡ NotFound → texts_of {Z = ℕ} (Err error) ≡ Err NotFound }
     ensures read { (words : IntoIter (String ℕ) ℕ) (word : String ℕ) → into_iter_items words ≡ word ∷ []
         → texts_of (Ok words) ≡ Ok (string_bytes word ∷ []) }

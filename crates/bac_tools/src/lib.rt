@@ -14,6 +14,7 @@
 
 mod examples;
 pub mod laws;
+mod network;
 mod program;
 mod report;
 mod running;
@@ -21,7 +22,7 @@ mod telling;
 
 pub use bac_links::{
     DATAGRAM_OCTETS, Datagram, Exit, Link, LinkFault, MemoryLink, NoSocket, OnRefusal, Socket,
-    Step, SystemSocket, ToolFault, UdpLink, run_read, run_whois, run_write, serve,
+    Sockets, Step, SystemSocket, ToolFault, UdpLink, run_read, run_whois, run_write, serve,
 };
 pub use bac_print::{Checked, Message, WriteFailed, show_outcome, show_value};
 pub use bac_run::{RunFault, Session, run_requests};

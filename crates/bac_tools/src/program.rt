@@ -2,68 +2,71 @@
 ghost use Rattle.std.specs.{declared.io.ErrorKind.TheVariants.OutOfMemory, IoError.error_kind, Prelude.false};
 ghost use Rattle.std.specs.{Prelude.{IfErr, IfOk, map, MatchResult, None, Ok, Result, Some, ◌≡◌}, String.string_bytes};
 ghost use Rattle.{clap.specs.Walk.texts, bac_print.specs.{fresh, has_failed}};
-ghost use Rattle.bac_tools.specs.{binding_of, client_at, IsCalled, IsRun, NoSocket, Run, texts_of};
+ghost use Rattle.bac_tools.specs.{asked_by, binding_of, client_at, IsCalled, IsRun, outside, texts_of};
 ghost use Rattle.bac_tools.specs.{declared.program.Binding.Binding, Inner.RunsJob, Program.Program};
-ghost use Rattle.bac_words.specs.Job.{CanOpen};
+ghost use Rattle.bac_words.specs.Job.{CanRun};
 
 use crate::report::{Fault, Report};
-use crate::running::{run_batch, run_tool};
-use bac_links::{Link, LinkFault, NoSocket, OnRefusal};
+use crate::running::run_over;
+use bac_links::{Link, LinkFault, OnRefusal};
 use bac_pdu::Peer;
 use bac_print::Checked;
 use bac_script::trace;
-use bac_words::{Batch, Job, Tool, UsageFault, parse_words, words_of};
+use bac_words::{Job, Tool, UsageFault, parse_words, words_of};
 use std::alloc::Global;
 use std::env;
 use std::io::{self, Read, Write};
 
-/// Where a socket is to be, and what becomes of a datagram that the system refuses to send from it.
+/// The address of a socket, and what becomes of a datagram that the system refuses to send from it.
 #[derive(Clone, Copy, Debug)]
 pub struct Binding {
     /// The address and the port; the port 0 is any.
     pub at: Peer,
-    /// What becomes of such a datagram.
+    /// What becomes of a refused datagram.
     pub refused: OnRefusal,
 }
 
-/// What a job gets its one socket from.
+/// The source of a job's one socket.
 pub trait Network {
     type Socket: Link + Drop;
 
-    // What may come of asking for such a socket.
-    ghost gives: { Self → Binding → Result Self.Socket NoSocket → Type 0 };
+    /// The value that says that no socket is available, and keeps the network.
+    type NoSocket: Drop;
 
-    /// A socket at this address, which has not failed. The network is given up for it, so no second one is asked for.
+    // The possible results of asking for a socket.
+    ghost gives: { Self → Binding → Result Self.Socket Self.NoSocket → Type 0 };
+
+    /// Binds a socket at this address, which has not failed. This consumes the network, so no second one is asked for.
     ///
     /// # Errors
     ///
-    /// `NoSocket` where there is none to be had.
-    fn bind(self, binding: Binding) -> Result<Self::Socket, NoSocket>
+    /// `NoSocket` if no socket is available.
+    fn bind(self, binding: Binding) -> Result<Self::Socket, Self::NoSocket>
         ensures gives { gives self binding result }
         ensures sound { IfOk result (λ socket. Self.Socket.has_failed socket ≡ false) };
 }
 
-/// How words were run: the report, and the socket that they had, or why there was none to be had; None where they asked
-/// for none.
+/// The result of running words over a network `N` of sockets `L`: the report, and the socket that they had, or `F` if
+/// none was available; `None` if they asked for none.
 #[derive(Drop)]
-pub struct Ran<N: Drop, L: Drop> {
+pub struct Ran<N: Drop, L: Drop, F: Drop> {
     pub report: Report,
-    pub socket: Option<Result<L, NoSocket>>,
-    /// The network, where no socket was asked for.
+    pub socket: Option<Result<L, F>>,
+    /// The network, if no socket was asked for.
     pub unasked: Option<N>,
 }
 
-/// How the program ended, and what it read from and wrote to, afterwards.
+/// The end of the program, and its reader and writers afterwards.
 #[derive(Drop)]
-pub struct Finished<N: Drop, L: Drop, R: Drop, W: Drop, E: Drop> {
-    pub ran: Ran<N, L>,
+pub struct Finished<N: Drop, L: Drop, F: Drop, R: Drop, W: Drop, E: Drop> {
+    pub ran: Ran<N, L, F>,
     pub reader: Checked<R>,
     pub writer: Checked<W>,
     pub errors: Checked<E>,
 }
 
-/// Runs the program: the words that it was called with, or why they could not be had. At its end it gives the writer
-/// the help that was asked for, or `errors` what there is to tell of a fault.
+/// Runs the program with the words that it was called with, or with the error of reading them. At its end it gives the
+/// writer the help that was asked for, or `errors` the message of a fault.
 ///
 /// The network, the reader and the two writers are all that it has of the world.
 pub fn run_program<N: Network + Drop, R: Read + Drop, W: Write + Drop, E: Write + Drop>(
@@ -73,11 +76,9 @@ pub fn run_program<N: Network + Drop, R: Read + Drop, W: Write + Drop, E: Write 
     reader: R,
     writer: W,
     errors: E,
-) -> Finished<N, N::Socket, R, W, E>
-    ensures { IsRun N.gives
-        record { seen = N.Socket.seen; failed = N.Socket.has_failed; remaining = R.remaining; contents = W.contents }
-        E.contents network (fresh reader) result.reader (fresh writer) result.writer (fresh errors) result.errors
-        result.ran (texts_of typed) }
+) -> Finished<N, N::Socket, N::NoSocket, R, W, E>
+    ensures { IsRun N.gives (outside N.Socket.Link R.Read W.Write) E.contents network (fresh reader) result.reader
+        (fresh writer) result.writer (fresh errors) result.errors result.ran (texts_of typed) }
 {
     let mut reader = Checked::new(reader);
     let mut writer = Checked::new(writer);
@@ -98,43 +99,28 @@ pub fn run_program<N: Network + Drop, R: Read + Drop, W: Write + Drop, E: Write 
 
 /// Runs what the words ask for, the first of which is the program's name.
 ///
-/// Words that give no job are told in the report: help, what `clap` refuses, or their first fault; nothing is read,
+/// If the words give no job, the report says why: help, what `clap` refuses, or their first fault; nothing is read,
 /// printed or sent then. Any other words ask for a job, which is run over the reader and the writer, and over the one
-/// socket that it asks for, where it asks for one.
+/// socket that it asks for, if it asks for one.
 pub fn run_words<N: Network + Drop, R: Read, W: Write>(
     alloc: Global,
     words: &[&str],
     network: N,
     reader: &mut Checked<R>,
     writer: &mut Checked<W>,
-) -> Ran<N, N::Socket>
+) -> Ran<N, N::Socket, N::NoSocket>
     requires reader { has_failed reader.old ≡ false }
     requires writer { has_failed writer.old ≡ false }
-    ensures { Program N.gives
-        record { seen = N.Socket.seen; failed = N.Socket.has_failed; remaining = R.remaining; contents = W.contents }
-        network reader.old reader.new writer.old writer.new result (texts words.now) }
+    ensures { Program N.gives (outside N.Socket.Link R.Read W.Write) network reader.old reader.new writer.old writer.new
+        result (texts words.now) }
 {
-    let tool = match parse_words(alloc, words) {
-        Ok(Job::Over(tool)) => tool,
-        Ok(Job::Run(batch)) => return run_many(&batch, network, reader, writer),
-        Ok(Job::Trace) => return Ran::only(Report::from(trace(reader, writer)), network),
-        Err(fault) => return Ran::only(Report::from(Fault::Usage(fault)), network),
-    };
-    match network.bind(binding_for(&tool)) {
-        Ok(mut link) => Ran {
-            report: Report::from(run_tool(tool, &mut link, writer)),
-            socket: Some(Ok(link)),
-            unasked: None,
-        },
-        Err(none) => Ran {
-            report: Report::from(Fault::Link(LinkFault)),
-            socket: Some(Err(none)),
-            unasked: None,
-        },
+    match parse_words(alloc, words) {
+        Ok(job) => run_job(job, network, reader, writer),
+        Err(fault) => Ran::only(Report::from(Fault::Usage(fault)), network),
     }
 }
 
-/// The socket that a tool asks for.
+/// Returns the socket that a tool asks for.
 pub fn binding_for(tool: &Tool) -> Binding
     ensures { result ≡ binding_of tool.now }
 {
@@ -148,23 +134,25 @@ pub fn binding_for(tool: &Tool) -> Binding
     }
 }
 
-// Makes many requests over the socket that they ask for, or reports that there is none.
-fn run_many<N: Network + Drop, R: Read, W: Write>(
-    batch: &Batch,
+// Runs a job over the socket that it asks for, if it asks for one, or reports that there is none.
+fn run_job<N: Network + Drop, R: Read, W: Write>(
+    job: Job,
     network: N,
     reader: &mut Checked<R>,
     writer: &mut Checked<W>,
-) -> Ran<N, N::Socket>
-    requires ready { CanOpen batch.now }
+) -> Ran<N, N::Socket, N::NoSocket>
+    requires ready { CanRun job }
     requires reader { has_failed reader.old ≡ false }
     requires writer { has_failed writer.old ≡ false }
-    ensures { RunsJob N.gives
-        record { seen = N.Socket.seen; failed = N.Socket.has_failed; remaining = R.remaining; contents = W.contents }
-        network reader.old reader.new writer.old writer.new result (Run batch.now) }
+    ensures { RunsJob N.gives (outside N.Socket.Link R.Read W.Write) network reader.old reader.new
+        writer.old writer.new result job }
 {
-    match network.bind(client_at(batch.port)) {
+    let Some(binding) = asked_by(&job) else {
+        return Ran::only(Report::from(trace(reader, writer)), network);
+    };
+    match network.bind(binding) {
         Ok(mut link) => Ran {
-            report: Report::from(run_batch(batch, &mut link, reader, writer)),
+            report: run_over(job, &mut link, reader, writer),
             socket: Some(Ok(link)),
             unasked: None,
         },
@@ -176,7 +164,18 @@ fn run_many<N: Network + Drop, R: Read, W: Write>(
     }
 }
 
-// A client's socket: every address of this machine; the port 0 is any free one.
+// Returns the socket that a job asks for, if it asks for one.
+fn asked_by(job: &Job) -> Option<Binding>
+    ensures { result ≡ asked_by job.now }
+{
+    match job {
+        Job::Trace => None,
+        Job::Run(batch) => Some(client_at(batch.port)),
+        Job::Use(tool) => Some(binding_for(tool)),
+    }
+}
+
+// Returns a client's socket: every address of this machine; the port 0 is any free one.
 fn client_at(port: u16) -> Binding
     ensures { result ≡ client_at port }
 {
@@ -190,19 +189,18 @@ fn client_at(port: u16) -> Binding
     }
 }
 
-// Runs the words that the program was called with, or reports why they could not be had.
+// Runs the words that the program was called with, or reports why they could not be read.
 fn run_called<N: Network + Drop, R: Read, W: Write>(
     alloc: Global,
     typed: io::Result<env::Args>,
     network: N,
     reader: &mut Checked<R>,
     writer: &mut Checked<W>,
-) -> Ran<N, N::Socket>
+) -> Ran<N, N::Socket, N::NoSocket>
     requires reader { has_failed reader.old ≡ false }
     requires writer { has_failed writer.old ≡ false }
-    ensures { IsCalled N.gives
-        record { seen = N.Socket.seen; failed = N.Socket.has_failed; remaining = R.remaining; contents = W.contents }
-        network reader.old reader.new writer.old writer.new result (texts_of typed) }
+    ensures { IsCalled N.gives (outside N.Socket.Link R.Read W.Write) network reader.old reader.new writer.old
+        writer.new result (texts_of typed) }
 {
     let typed = match words_typed(alloc, typed) {
         Ok(typed) => typed,
@@ -214,7 +212,7 @@ fn run_called<N: Network + Drop, R: Read, W: Write>(
     }
 }
 
-// The words as they were typed, in their order.
+// Returns the words as they were typed, in their order.
 fn words_typed(alloc: Global, typed: io::Result<env::Args>) -> io::Result<Vec<String>>
     ensures ok { IfOk result (λ words. texts_of typed ≡ Ok (map string_bytes words.items)) }
     ensures err { IfErr result (λ error. MatchResult typed (λ words. error_kind error ≡ OutOfMemory) (λ e. error ≡ e)) }
@@ -226,8 +224,8 @@ fn words_typed(alloc: Global, typed: io::Result<env::Args>) -> io::Result<Vec<St
     Ok(words)
 }
 
-impl<N: Drop, L: Drop> Ran<N, L> {
-    // Nothing was done but this to report.
+impl<N: Drop, L: Drop, F: Drop> Ran<N, L, F> {
+    // Returns a run in which nothing was done, with this report.
     fn only(report: Report, network: N) -> Self
         ensures { result ≡ record { report = report; socket = None; unasked = Some network } }
     {

@@ -1,4 +1,4 @@
-//! How the program ends, and what it tells then.
+//! The end of the program, and its message.
 ghost use Rattle.std.specs.Prelude.{option_map, ◌≡◌};
 ghost use Rattle.{bac_print.specs.has_failed, bac_words.specs.Telling.told_by};
 ghost use Rattle.bac_tools.specs.{fault_status, fault_told, IsTold, on_error, on_output, once_given, report_of};
@@ -14,15 +14,15 @@ use bac_words::{Telling, UsageFault};
 use std::io::{self, ErrorKind, Write};
 use thiserror::Error;
 
-/// What the program tells of where it could not go on.
+/// The faults that the program reports when it could not go on.
 #[derive(Debug, Drop, Error)]
 #[error("{}", self.telling())]
 pub enum Fault {
-    /// The words are no texts.
+    /// The words are not texts.
     NoText,
     /// The words give no job. Help that was asked for is among these.
     Usage(UsageFault),
-    /// No socket was to be had.
+    /// No socket was available.
     Link(LinkFault),
     /// A tool could not go on.
     Tool(ToolFault),
@@ -32,17 +32,17 @@ pub enum Fault {
     Run(RunFault),
 }
 
-/// The status with which the program ends, and the fault that it tells of.
+/// The status with which the program ends, and the fault that it reports.
 #[derive(Debug, Drop)]
 pub struct Report {
     /// 0 to 4.
     pub status: u8,
-    /// None where there is nothing to tell.
+    /// `None` if there is nothing to report.
     pub fault: Option<Fault>,
 }
 
 impl Fault {
-    /// The status with which the program ends where it tells of this.
+    /// Returns the status with which the program ends if it reports this fault.
     pub fn status(&self) -> u8
         ensures { result ≡ fault_status self.now }
     {
@@ -56,7 +56,7 @@ impl Fault {
         }
     }
 
-    /// What is told of it.
+    /// Returns the message of the fault.
     pub fn telling(&self) -> Telling<'_>
         ensures { told_by result ≡ fault_told self.now }
     {
@@ -72,7 +72,7 @@ impl Fault {
 }
 
 impl Report {
-    /// What standard output is given: help that was asked for.
+    /// Returns the text for standard output: help that was asked for.
     pub fn on_output(&self) -> Option<Telling<'_>>
         ensures { option_map told_by result ≡ on_output self.now.fault }
     {
@@ -82,7 +82,7 @@ impl Report {
         }
     }
 
-    /// What standard error is given: any other fault.
+    /// Returns the text for standard error: any other fault.
     pub fn on_error(&self) -> Option<Telling<'_>>
         ensures { option_map told_by result ≡ on_error self.now.fault }
     {
@@ -92,8 +92,8 @@ impl Report {
         }
     }
 
-    /// Gives standard output the help that was asked for, and standard error what there is to tell of any other fault:
-    /// also that the help could not be written, which the report that comes back says.
+    /// Gives standard output the help that was asked for, and standard error the message of any other fault. If the
+    /// help could not be written, that is the fault, and the returned report says so.
     pub(crate) fn told<W: Write, E: Write>(
         self,
         writer: &mut Checked<W>,
@@ -109,8 +109,8 @@ impl Report {
         report
     }
 
-    /// The report once standard output was given this, and has failed or not: where it has, and was to take help, that
-    /// is the fault.
+    /// Returns the report after standard output was given its text, and has failed or not. If it has failed, and should
+    /// have taken help, that is the fault.
     pub fn after_output(self, failed: bool) -> Report
         ensures { result ≡ once_given self.fault failed self }
     {
@@ -123,7 +123,7 @@ impl Report {
     }
 }
 
-/// Gives the writer what there is to tell, as far as it takes it.
+/// Gives the writer the message, as far as it accepts it.
 pub fn tell<W: Write>(telling: Option<Telling<'_>>, writer: &mut Checked<W>)
     ensures { IsTold W.contents writer.old writer.new (option_map told_by telling.entry) }
 {
@@ -134,7 +134,7 @@ pub fn tell<W: Write>(telling: Option<Telling<'_>>, writer: &mut Checked<W>)
     }
 }
 
-/// The status after a tool: 0 where it is good, 1 where it is not, 3 after a fault.
+/// Returns the status after a tool: 0 if it ended well, 1 if it did not, 3 after a fault.
 pub fn status(answer: &Result<Exit, ToolFault>) -> u8
     ensures { result ≡ status_of answer.now }
 {
@@ -145,7 +145,8 @@ pub fn status(answer: &Result<Exit, ToolFault>) -> u8
     }
 }
 
-/// The status after a script: 0 at its end, 2 after a line that is bad or too long, 3 where reading or writing failed.
+/// Returns the status after a script: 0 at its end, 2 after a line that is bad or too long, 3 if reading or writing
+/// failed.
 pub fn trace_status(answer: &Result<TraceEnd, TraceFault>) -> u8
     ensures { result ≡ trace_status_of answer.now }
 {
@@ -156,8 +157,8 @@ pub fn trace_status(answer: &Result<TraceEnd, TraceFault>) -> u8
     }
 }
 
-/// The status after many requests: 0 at the end of the input, as after a script where it stopped at that, and 3 where
-/// the link failed.
+/// Returns the status after many requests: 0 at the end of the input, as after a script if it stopped at a line or at a
+/// stream, and 3 if the link failed.
 pub fn run_status(answer: &Result<TraceEnd, RunFault>) -> u8
     ensures { result ≡ run_status_of answer.now }
 {
@@ -168,7 +169,7 @@ pub fn run_status(answer: &Result<TraceEnd, RunFault>) -> u8
     }
 }
 
-/// The status after words that give no job: 0 where help was asked for, 4 where there is no memory, and else 2.
+/// Returns the status after words that give no job: 0 if help was asked for, 4 if there is no memory, otherwise 2.
 pub fn usage_status(fault: &UsageFault) -> u8
     ensures { result ≡ usage_status_of fault.now }
 {
@@ -228,7 +229,7 @@ impl From<io::Error> for Report {
 
     ghost from_gives = { λ error report. report ≡ unread_report (error_kind error) };
 
-    // The words of the program could not be read.
+    // Returns the report that the words of the program could not be read.
     fn from(error: io::Error) -> Report {
         Report::from(match error.kind() {
             ErrorKind::OutOfMemory => Fault::Usage(UsageFault::Memory),

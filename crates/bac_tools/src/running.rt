@@ -1,16 +1,18 @@
 //! The run of a tool, or of many requests, over the socket that it asked for.
-ghost use Rattle.std.specs.Prelude.{Err, false, true, ◌↔◌, ◌≡◌, ◌≢◌};
+ghost use Rattle.std.specs.Prelude.{Err, false, IsSomeAnd, true, ⊤, ◌↔◌, ◌≡◌, ◌≢◌};
 ghost use Rattle.{bac_print.specs.has_failed, bac_links.specs.Fault.{is_link_fault, is_write_fault}};
-ghost use Rattle.{bac_run.specs.Fault.{is_of_link, write_failed}, bac_words.specs.Job.{CanOpen, IsReady}};
-ghost use Rattle.bac_tools.specs.{BatchRuns, DevicePlays, IsSessionOf, ToolRuns};
+ghost use Rattle.{bac_run.specs.Fault.{is_of_link, write_failed}, bac_words.specs.Job.{CanOpen, CanRun, IsReady}};
+ghost use Rattle.bac_tools.specs.{asked_by, BatchRuns, DevicePlays, IsSessionOf, outside, ToolRuns};
+ghost use Rattle.bac_tools.specs.Inner.{RunsLinked};
 
+use crate::report::Report;
 use bac_device::demo;
 use bac_links::{Exit, Link, ToolFault, run_read, run_whois, run_write, serve};
 use bac_print::Checked;
 use bac_run::{RunFault, Session, run_requests};
 use bac_script::TraceEnd;
 use bac_tsm::Config;
-use bac_words::{Batch, Serve, Tool};
+use bac_words::{Batch, Job, Serve, Tool};
 use std::io::{Read, Write};
 
 /// Runs a tool over its link: what is printed, what is sent, and the answer are those that the definition of the tool
@@ -35,7 +37,7 @@ pub fn run_tool<L: Link, W: Write>(
     }
 }
 
-/// Makes the requests that the reader's lines ask for over the link, and prints the journal of that.
+/// Makes the requests that the reader's lines ask for over the link, and prints their journal.
 pub fn run_batch<L: Link, R: Read, W: Write>(
     batch: &Batch,
     link: &mut L,
@@ -54,7 +56,29 @@ pub fn run_batch<L: Link, R: Read, W: Write>(
     run_requests(session_of(batch), link, reader, writer)
 }
 
-// What a batch goes by.
+/// Runs a job that asks for a socket over the link that it got.
+pub(crate) fn run_over<L: Link, R: Read, W: Write>(
+    job: Job,
+    link: &mut L,
+    reader: &mut Checked<R>,
+    writer: &mut Checked<W>,
+) -> Report
+    requires ready { CanRun job }
+    requires asks { IsSomeAnd (asked_by job) (λ _. ⊤) }
+    requires link { L.has_failed link.old ≡ false }
+    requires reader { has_failed reader.old ≡ false }
+    requires writer { has_failed writer.old ≡ false }
+    ensures { RunsLinked (outside L.Link R.Read W.Write) reader.old reader.new writer.old writer.new result job link.old
+        link.new }
+{
+    match job {
+        Job::Trace => unreachable!(),
+        Job::Run(batch) => Report::from(run_batch(&batch, link, reader, writer)),
+        Job::Use(tool) => Report::from(run_tool(tool, link, writer)),
+    }
+}
+
+// Returns the settings of a batch.
 fn session_of(batch: &Batch) -> Session
     requires { CanOpen batch.now }
     ensures { IsSessionOf batch.now result }
@@ -76,5 +100,8 @@ fn play<L: Link>(device: Serve, link: &mut L) -> Result<Exit, ToolFault>
     ensures write_fault { is_write_fault result ≡ false }
 {
     let mut played = demo(device.info);
-    serve(link, &mut played, device.count)
+    match serve(link, &mut played, device.count) {
+        Ok(_) => Ok(Exit::Good),
+        Err(fault) => Err(fault),
+    }
 }

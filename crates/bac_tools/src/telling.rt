@@ -1,4 +1,4 @@
-//! What is told, printed on a page.
+//! Messages, printed on a page.
 ghost use Rattle.std.specs.Prelude.{codes, List, ℕ, ◌++◌};
 ghost use Rattle.{bac_print.specs.{message_text, Prints}, bac_words.specs.Telling.told_by, bac_tools.specs.AreOctetsOf};
 
@@ -8,10 +8,10 @@ use bac_words::Telling;
 use std::fmt::{self, Write as _};
 use std::io::Write;
 
-// The octets of a text of `clap` that are told at a time.
-const PART_ROOM: usize = 4_096;
+// The octets of a text of `clap` that are printed at a time.
+const PIECE_ROOM: usize = 4_096;
 
-/// Prints what is told.
+/// Prints the message.
 pub(crate) fn print_telling<W: Write>(telling: Telling<'_>, page: &mut Page<'_, W>)
     ensures { (octets : List ℕ) × AreOctetsOf (told_by telling.entry) octets
         × Prints W.contents page.old page.new octets }
@@ -31,35 +31,35 @@ fn print_line<W: Write>(message: Message, page: &mut Page<'_, W>)
     page.print(b"\n");
 }
 
-// Prints a text of `clap`, a part after another, since it may have any length.
+// Prints a text of `clap`, one piece after another, since it may have any length.
 fn print_text<W: Write>(text: &clap::Error, page: &mut Page<'_, W>)
     ensures { (octets : List ℕ) × Prints W.contents page.old page.new octets }
 {
     let mut told: usize = 0;
-    'parts: loop {
-        let mut part = Part {
+    'pieces: loop {
+        let mut piece = Piece {
             passed: told,
             octets: ArrayVec::new(),
         };
-        let _ = write!(part, "{text}");
-        let octets = part.octets.as_slice();
+        let _ = write!(piece, "{text}");
+        let octets = piece.octets.as_slice();
         page.print(octets);
-        // A part that isn't full is the last.
-        if octets.len() < PART_ROOM || told > usize::MAX - PART_ROOM {
+        // A piece that is not full is the last.
+        if octets.len() < PIECE_ROOM || told > usize::MAX - PIECE_ROOM {
             return;
         }
-        told += PART_ROOM;
+        told += PIECE_ROOM;
     }
 }
 
-// A part of a text: what comes behind so many octets of it, as far as there is room.
+// Returns a piece of a text: the octets after this many, as far as there is room.
 #[derive(Drop)]
-struct Part {
+struct Piece {
     passed: usize,
-    octets: ArrayVec<u8, PART_ROOM>,
+    octets: ArrayVec<u8, PIECE_ROOM>,
 }
 
-impl fmt::Write for Part {
+impl fmt::Write for Piece {
     fn write_str(&mut self, text: &str) -> fmt::Result {
         let octets = text.as_bytes();
         let passed = octets.len().min(self.passed);

@@ -1,4 +1,5 @@
-//! Trials of the crates below with worked and hostile octets. There is nothing here but tests.
+//! Tests of the lower crates: public calls of `bac_wire`, `bac_pdu`, `bac_tsm` and `bac_device`, on worked octets and
+//! on hostile ones. No other crate uses this one.
 #![tactic(auto)]
 
 #[cfg(test)]

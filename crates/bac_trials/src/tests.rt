@@ -1,5 +1,5 @@
 //! Worked rows of each crate that only a call can say, and hostile octets through the reader of datagrams, the client
-//! and the device. What scripts can say stands in tests/program/rows.
+//! and the device. Cases that scripts can express are in tests/program/rows.
 
 mod client;
 mod damage;
@@ -29,7 +29,7 @@ const ASKER: Peer = Peer {
     ..CONTROLLER
 };
 
-/// The same station behind a router.
+/// Returns the station with this address in this network, behind a router.
 fn routed(router: Peer, network: u16, address: &[u8]) -> Peer {
     Peer {
         route: Route::new(network, address),
@@ -42,7 +42,7 @@ const READ_PROPERTY: u8 = 12;
 /// The body that asks for the present value of analog-input 5.
 const BODY: [u8; 7] = [0x0c, 0x00, 0x00, 0x00, 0x05, 0x19, 0x55];
 
-/// What the client sends for it under this invoke id.
+/// Returns the datagram that the client sends for it under this invoke id.
 fn request(invoke_id: u8) -> [u8; 17] {
     [
         0x81, 0x0a, 0x00, 0x11, 0x01, 0x04, 0x00, 0x05, invoke_id, 0x0c, 0x0c, 0x00, 0x00, 0x00,
@@ -50,7 +50,7 @@ fn request(invoke_id: u8) -> [u8; 17] {
     ]
 }
 
-/// The octets that a text of hexadecimal digits spells. Any other text ends the test.
+/// Returns the octets that a text of hexadecimal digits spells. Any other text ends the test.
 fn octets<H: Abort + AllocGlobal>(rt: &H, text: &str) -> Vec<u8> {
     match hex::decode(rt.alloc(), text) {
         Ok(octets) => octets,
@@ -67,14 +67,14 @@ const USUAL: Config = Config {
     retries: 3,
 };
 
-/// A client that has asked the controller, under the ticket 0 and the invoke id 1.
+/// Returns a client that has asked the controller, under the ticket 0 and the invoke id 1.
 fn asking() -> Client {
     let mut client = Client::new(USUAL, 0);
     let _ = client.submit(CONTROLLER, READ_PROPERTY, &BODY);
     client
 }
 
-/// Whether the client stands as it did when it had asked.
+/// Returns whether the client is as it was when it had asked.
 fn is_asking(client: &Client) -> bool {
     let sent = match client.to_send(0) {
         Some((peer, octets)) => peer == CONTROLLER && octets == request(1).as_slice(),
@@ -83,12 +83,12 @@ fn is_asking(client: &Client) -> bool {
     sent && client.open_count() == 1 && client.number_of(0) == Some(1) && client.clock() == 0
 }
 
-/// The device 1234, named `Small device`, with the demonstration points.
+/// Returns the device 1234, named `Small device`, with the demonstration points.
 fn small_device() -> Option<Device> {
     Some(demo(DeviceInfo::new(1234, "Small device")?))
 }
 
-/// Whether every place of every point is NULL, as in a fresh device.
+/// Returns whether every place of every point is NULL, as in a fresh device.
 fn is_fresh(device: &Device) -> bool {
     for (kind, instance) in &COMMANDABLE {
         let Some(object) = ObjectId::new(*kind, *instance) else {
@@ -103,14 +103,14 @@ fn is_fresh(device: &Device) -> bool {
     true
 }
 
-/// Whether the device is silent, leaves the frame empty, and stands as a fresh one.
+/// Returns whether the device is silent, leaves the frame empty, and is like a fresh one.
 fn is_silent(device: &mut Device, datagram: &[u8]) -> bool {
     let mut frame = Frame::new();
     let to = device.answer(ASKER, datagram, &mut frame, &mut begin());
     to.is_none() && frame.is_empty() && is_fresh(device)
 }
 
-/// A frame with these octets, and behind them so many brackets inside one another, at most 33.
+/// Returns a frame with these octets, and after them this many nested brackets, at most 33.
 fn nested(front: &[u8], depth: usize) -> Frame {
     let mut frame = Frame::new();
     let _ = frame.append(front);

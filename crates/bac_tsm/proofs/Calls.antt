@@ -1,4 +1,4 @@
--- Calls of a client: what a datagram answers, what is told of a call, and calls one after another.
+-- Calls of a client: what a datagram answers, the notes on a call, and calls one after another.
 use Rattle.std.proofs.Common.{[], All, AllPairs, ap, append-nil, arith, Bool, eq-eqb, eqb-true, false, filter, find}
 use Rattle.std.proofs.Common.{flat_map, if◌then◌else◌, is_some, IsSome, length, List, map, max, nat_eq, None, not, Ok}
 use Rattle.std.proofs.Common.{Option, option_and_then, option_map, option_to_list, refl, Result, slice_get, Some, suc}
@@ -170,7 +170,7 @@ flat_each {A} h f k (x ∷ xs) each =
     grind (arith, flat_map-append, All-head P x xs, flat_each h f k xs (All-tail P x xs each))
 
 module _ (rules : Rules) where
-  -- What is true of what is kept of a request, and of each.
+  -- A fact that holds of the kept state of a request holds of each.
   pub kept_of_one : (P : Waiting → Type 0) (now : ℕ) (w : Waiting) → (is_due rules now w ≡ false → P w)
       → P (record { request = w.request; base = now; count = suc w.count }) → All P (kept rules now w)
   kept_of_one = grind arith
@@ -258,7 +258,7 @@ module _ (p : Request → Bool) (o : Outcome) (f : Request → Option Outcome)
   delivers_none [] h = (refl, refl)
   delivers_none (w ∷ ws) h = grind (arith, delivers_none ws)
 
-  -- Where at most one open request passes, it is done and the others stay.
+  -- If at most one open request passes, it is done and the others stay.
   delivers_one : (ws : List Waiting) → length (filter (λ w. p w.request) ws) ≤ 1 →
       deliver f ws ≡ record {
         answer = option_map (ended_with o) (slice_get (filter (λ w. p w.request) ws) 0);
@@ -322,8 +322,8 @@ opened_next : (rules : Rules) (state : State) (peer : Station) (service : ℕ) (
 unfolding next_invoke_id refusal_of
 opened_next = grind (arith, nat_tests)
 
--- A request is opened under the next ticket and the next invoke id, where there is room and no open request has that
--- id: so it is where no request is open.
+-- A request is opened under the next ticket and the next invoke id if there is room and no open request has that id; so
+-- also if no request is open.
 pub opens : {known client after : Client} {answer : Result ℕ SubmitFault}
     (peer : Station) (service : ℕ) (body : List ℕ) → client ≡ known
     → TakesStep client (submit (rules_of client) client.state peer service body) answer after
@@ -357,7 +357,7 @@ module _ (f : Request → Option Outcome)
   others [] _ = refl
   others (w ∷ ws) apart = grind (arith, none_answered, others ws)
 
--- Where a datagram was heard, a tick tells of the requests to which it is no answer, as it would have told before.
+-- If a datagram was heard, a tick has the same notes on the requests that it does not answer as before.
 pub told_unless_answered : {known client after : Client} {told : List DueEntry}
     (from : Station) (heard : List ℕ) (now : ℕ) → client ≡ known → AreApart known.state.waiting
     → after ≡ keeping client (datagram (rules_of client) client.state from heard).after

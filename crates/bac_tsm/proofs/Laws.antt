@@ -1,5 +1,5 @@
--- What a crate above may cite: single calls one after another, a run of the machine beside the look-ahead, where a
--- request is told and where it is not, how timeouts end one, and how late an invoke id comes back. Nothing else of
+-- What a crate above may cite: single calls one after another, a run of the machine beside the look-ahead, when there
+-- are notes on a request and when not, how timeouts end one, and how late an invoke id comes back. Nothing else of
 -- proofs/ is for others.
 pub use Rattle.bac_tsm.proofs.Calls.{by_invoke_id, few_open, opens, told_unless_answered}
 pub use Rattle.bac_tsm.proofs.WholeRun.RequestLife.{back_late, clock_rises, never_due, open_soon}

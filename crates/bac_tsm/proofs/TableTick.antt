@@ -84,7 +84,7 @@ module _ (rules : Rules) (clock : ℕ) where
   nothing_due [] _ = (refl, refl)
   nothing_due (w ∷ ws) young = grind (arith, nothing_due ws)
 
-  -- What was sent now is not due.
+  -- A request that was sent now is not due.
   again : 0 < rules.timeout → (w : Waiting) → is_due rules clock w ≡ true →
       (due_of (kept rules clock w) ≡ []) × (kept_of (kept rules clock w) ≡ kept rules clock w)
   again = grind (arith, nothing_due, kept_of_one)
@@ -147,7 +147,7 @@ module _ (rules : Rules) (clock : ℕ) where
         let one = length-append entries (entry ∷ []) in
         record { room = omega arith; fewer = omega arith }
 
-    -- All are told, and what is kept is what is kept of all.
+    -- All have their notes, and the kept list is that of all.
     pub record IsDone : Type 0 where
       pub told : IsPermutation all entries
       pub kept : ws ≡ kept_in_all
@@ -161,7 +161,7 @@ younger : (timeout clock early late : ℕ) → nat_le timeout (clock - early) �
     → nat_le timeout (clock - late) ≡ false
 younger = grind arith
 
--- Where some request is due, some was sent.
+-- If some request is due, some was sent.
 pub some_sent : {slots : List Waiting} {invoke_ids : List (Option ℕ)} {order tickets sends : List ℕ}
     → IsWhole slots invoke_ids order tickets sends → (ws : List Waiting) → waiting_in slots order tickets ≡ ws
     → (rules : Rules) (clock : ℕ) → list_any (is_due rules clock) ws ≡ true → 0 < length sends

@@ -5,7 +5,7 @@ use Rattle.bac_pdu.specs.{longest_body}
 use Rattle.bac_tsm.specs.declared.client.SubmitFault.{SubmitFault, TheVariants.{TableFull, TicketsSpent, TooLong}}
 use Rattle.bac_tsm.specs.Positions.{first_within}
 
--- The invoke id of a new request: the first one that is not taken, in the cycle of 256 from the one behind the last on.
+-- The invoke id of a new request: the first one that is not taken, in the cycle of 256 from the one after the last on.
 -- So no open request has it (clause 20.1.2.6).
 unfoldable pub next_invoke_id : ℕ → List ℕ → ℕ
 next_invoke_id last taken =

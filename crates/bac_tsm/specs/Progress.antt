@@ -7,7 +7,7 @@ abbrev pub last_of : ℕ → List ℕ → ℕ
 last_of first [] = first
 last_of first (next ∷ later) = last_of next later
 
--- After position i ticks stand at these positions, one behind the other, and from each to the next the timeout passes.
+-- After position i ticks stand at these positions, one after the other, and from each to the next the timeout passes.
 abbrev pub TimeoutsPass : Rules → List Event → ℕ → List ℕ → Type 0
 TimeoutsPass rules events i [] = ⊤
 TimeoutsPass rules events i (j ∷ later) = (i < j) × (has_waited rules events i j ≡ true)

@@ -9,7 +9,7 @@ pub record Accepted : Type 0 where
   pub position : ℕ
   pub request : Request
 
--- Where a request ends, and the outcome of the answer that ends it; no outcome is a timeout.
+-- If a request ends, and the outcome of the answer that ends it; no outcome is a timeout.
 pub record End : Type 0 where
   pub position : ℕ
   pub outcome : Option Outcome

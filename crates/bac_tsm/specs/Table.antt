@@ -19,7 +19,7 @@ times_of_slot = times (λ slot. slot)
 abbrev pub open_slots : List ℕ → List ℕ → List ℕ
 open_slots order tickets = take (length tickets) order
 
--- The entry of an invoke id: none where no open request has it, else the slot of the one that has it.
+-- The entry of an invoke id: the slot of the open request that has it, or none.
 abbrev pub Names : List Waiting → List ℕ → ℕ → Option ℕ → Type 0
 Names slots order invoke_id None = times (λ w. w.request.invoke_id) invoke_id (held_at slots order) ≡ 0
 Names slots order invoke_id (Some slot) = (0 < times_of_slot slot order)

@@ -1,12 +1,13 @@
 //! The client.
 
-ghost use Rattle.std.specs.Prelude.{length, option_map, ◌≡◌, ◌≤◌};
-ghost use Rattle.{bac_pdu.specs.station, bac_tsm.specs.{client_of, datagram, end_seen, initial, open_under}};
-ghost use Rattle.bac_tsm.specs.{refusal_of, rules_of, submit, table_size, TakesStep, tick, to_send};
+ghost use Rattle.std.specs.{Option.option_to_list, Prelude.{length, option_map, ◌≡◌, ◌≤◌}};
+ghost use Rattle.{bac_pdu.specs.station, bac_tsm.specs.{client_of, datagram, due_notes, end_seen, initial, note_seen}};
+ghost use Rattle.bac_tsm.specs.{open_under, refusal_of, rules_of, sent, submit, table_size, TakesStep, tick, to_send};
 
 use crate::answer::read_answer;
 use crate::config::Config;
-use crate::due::{Due, Entries};
+use crate::due::{Due, DueEntry, Entries};
+use crate::event::Note;
 use crate::limits::PLACES;
 use crate::outcome::Ended;
 use crate::request::Asked;
@@ -99,7 +100,7 @@ impl Client {
         Ok(ticket)
     }
 
-    /// Ends the open request that the datagram answers. None where it answers none, and then nothing changes.
+    /// Ends the open request that the datagram answers. None if it answers none, and then nothing changes.
     pub fn datagram<'d>(&mut self, peer: Peer, bytes: &'d [u8]) -> Option<Ended<'d>>
         ensures { TakesStep self.old (datagram (rules_of self.old) self.old.state (station peer) bytes.now)
             (option_map end_seen result) self.new }
@@ -130,7 +131,7 @@ impl Client {
         }
     }
 
-    /// Where the request with this ticket goes, and its datagram. None where no open request has the ticket.
+    /// The peer of the request with this ticket, and its datagram. None if no open request has the ticket.
     pub fn to_send(&self, ticket: u64) -> Option<(Peer, &[u8])>
         ensures { option_map (λ to. (station to.0, to.1.now)) result ≡ to_send self.now.state ticket }
     {
@@ -138,7 +139,25 @@ impl Client {
         Some((open.peer, open.datagram.as_slice()))
     }
 
-    /// How many requests are open.
+    /// The note that the request with this ticket is sent. None if no open request has the ticket.
+    pub fn sent(&self, ticket: u64) -> Option<Note<'_>>
+        ensures { option_to_list (option_map note_seen result) ≡ sent self.now.state ticket }
+    {
+        let (to, octets) = self.to_send(ticket)?;
+        Some(Note::Sent(ticket, to, octets))
+    }
+
+    /// The note on an entry of a tick: that the request is sent again, or has ended.
+    pub fn due(&self, entry: DueEntry) -> Option<Note<'_>>
+        ensures { option_to_list (option_map note_seen result) ≡ due_notes self.now.state entry }
+    {
+        match entry {
+            DueEntry::Resend(ticket) => self.sent(ticket),
+            DueEntry::TimedOut(ticket) => Some(Note::TimedOut(ticket)),
+        }
+    }
+
+    /// Returns how many requests are open.
     pub fn open_count(&self) -> usize
         ensures count { result ≡ length self.now.state.waiting }
         ensures few { result ≤ table_size }
@@ -146,7 +165,7 @@ impl Client {
         self.table.len()
     }
 
-    /// The invoke id of the request with this ticket. None where no open request has the ticket.
+    /// The invoke id of the request with this ticket. None if no open request has the ticket.
     pub fn number_of(&self, ticket: u64) -> Option<u8>
         ensures { result ≡ option_map (λ w. w.request.invoke_id) (open_under self.now.state ticket) }
     {

@@ -9,8 +9,8 @@
 //! Each call of [`Client`] is one step of a machine that `specs/Machine.antt` defines, and `specs/Lookahead.antt` says
 //! what comes of a whole list of calls without a machine. [`run_is_lookahead`] states that these two agree.
 //!
-//! Of `examples_of_a_request` in `src/examples.rt`, which is proved: what is told of a read under ticket 0 and invoke
-//! id 1, each time with the position of the event.
+//! Of `examples_of_a_request` in `src/examples.rt`, which is proved: the notes on a read under ticket 0 and invoke id
+//! 1, each time with the position of the event.
 //!
 //! ```text
 //! // No answer comes.

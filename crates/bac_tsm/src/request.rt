@@ -137,7 +137,7 @@ impl OpenRequest {
     }
 }
 
-// Makes the octets the datagram of a request (clause 20.1.2, behind the headers of Annex J and clause 6), which is
+// Makes the octets the datagram of a request (clause 20.1.2, after the headers of Annex J and clause 6), which is
 // written in the frame. There is room for any route.
 fn write_request(datagram: &mut Datagram, asked: Asked, body: &[u8], frame: &mut Frame)
     requires { length body.now ≤ longest_body }

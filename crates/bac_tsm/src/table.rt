@@ -19,11 +19,11 @@ use std::marker::Model;
 
 /// The open requests, in the order of their tickets.
 ///
-/// A request stays at its slot until it ends. All slots stand in one order, first those of the open requests, by
-/// ticket, and then the free ones. The tickets stand beside it, so that one is found without a look at the slots, and
-/// the slot of each invoke id in a table. The slots of the open requests stand once more in the order of their last
-/// sends, so that a tick looks at those that are due, and at the first that isn't. Each datagram is written in one
-/// frame, and then kept at its slot.
+/// A request stays at its slot until it ends. All slots are in one order, first those of the open requests, by ticket,
+/// and then the free ones. The tickets are in a list of their own, so that one is found without a look at the slots,
+/// and the slot of each invoke id is in a table. The slots of the open requests are listed once more in the order of
+/// their last sends, so that a tick looks at those that are due, and at the first that isn't. Each datagram is written
+/// in one frame, and then kept at its slot.
 #[derive(Drop)]
 pub(crate) struct Table {
     slots: [OpenRequest; PLACES],
@@ -60,7 +60,7 @@ impl Table {
         }
     }
 
-    /// How many requests are open.
+    /// Returns how many requests are open.
     pub(crate) fn len(&self) -> usize
         ensures count { result ≡ length self.now }
         ensures few { result ≤ table_size }
@@ -197,8 +197,8 @@ impl Table {
         entry
     }
 
-    // The rank of the request with this ticket: its index in the order. Where it stands if no request between it and
-    // the last has ended is looked at first.
+    // The rank of the request with this ticket: its index in the order. The place that it has if no request between it
+    // and the last has ended is looked at first.
     fn rank_of(&self, ticket: u64) -> Option<usize>
         ensures { IsRankOf ticket self.now result }
     {
@@ -267,7 +267,7 @@ fn begin_at(
     slots[usize::from(slot)].begin(asked, body, frame);
 }
 
-// Puts the item behind the others.
+// Puts the item after the others.
 fn put_last<T: Copy + Default>(items: &mut ArrayVec<T, PLACES>, item: T)
     requires { length items.old.items < table_size }
     ensures { items.new.items ≡ items.old.items ++ item ∷ [] }

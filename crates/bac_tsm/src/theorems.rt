@@ -51,7 +51,7 @@ pub fn table_is_bounded()
         length (sends rules events a) ≤ 1 + rules.retries }
 {}
 
-/// What is told at a position rests on nothing that comes after it.
+/// The notes at a position rest on nothing that comes after it.
 #[tactic(auto, using(crate::proofs::looks_back, crate::proofs::reaches))]
 pub fn output_looks_back()
     ensures { (rules : Rules) (first_ticket : ℕ) (events others : List Event) (n : ℕ) →

@@ -1,4 +1,4 @@
--- Where a client has its socket.
+-- The address of a client's socket.
 use Rattle.std.specs.Prelude.{None}
 use Rattle.bac_pdu.specs.declared.peer.Peer.{Peer}
 

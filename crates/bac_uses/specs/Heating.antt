@@ -7,6 +7,6 @@ use Rattle.bac_device.specs.declared.kind.{Family.TheVariants.Analog, Role.TheVa
 abbrev pub heating : Info
 heating = record { instance = 1234; name = codes "Heating" }
 
--- Its valve: analog output 1, at 0 where nobody commands it, in percent (98).
+-- Its valve: analog output 1, at 0 if nobody commands it, in percent (98).
 abbrev pub valve : Description
 valve = described (kind Analog Output) (row 1 1 (codes "Valve") 0 98)

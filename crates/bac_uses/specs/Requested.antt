@@ -3,7 +3,7 @@ use Rattle.std.specs.{List.{AllByRecursion, concat, flat_map}, Prelude.{length, 
 use Rattle.{bac_tsm.specs.{client_rules, Note, outputs}, bac_print.specs.{Gave, Took, declared.checked.Checked.Checked}}
 use Rattle.bac_script.specs.{declared.input.Reading.TheVariants.AtEnd, Script.text, Text.notes_text}
 use Rattle.{bac_links.specs.{Account, Entry, GainsAll}, bac_run.specs.Input.{acts_or_none, inputs_in, IsGood}}
-use Rattle.bac_run.specs.{Journal.{Act, events_of}, Replay.{posted_in, sent_in}}
+use Rattle.bac_run.specs.{new_client, Journal.{Act, events_of}, Replay.{posted_in, sends_of}}
 
 -- The reader gave lines of which none is bad, and nothing else; what they ask for was done, in their order. The client
 -- told what the look-ahead gives for what it was handed. What the writer took is a script by which `bactrace` prints
@@ -23,4 +23,4 @@ pub record AllRequested {Origin R W : Type 0} (remaining : R → Option (List �
   pub replayed : text journal AtEnd ≡ notes_text notes
   pub gained : List Entry
   pub gains : GainsAll gained seen left
-  pub sent : flat_map posted_in gained ≡ flat_map sent_in notes
+  pub sent : flat_map posted_in gained ≡ sends_of (new_client 3000 3 0) acts

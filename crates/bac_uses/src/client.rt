@@ -13,9 +13,9 @@ const VALUE: [u8; 7] = [0x0c, 0x00, 0x00, 0x00, 0x05, 0x19, 85];
 const NAME: [u8; 7] = [0x0c, 0x00, 0x00, 0x00, 0x05, 0x19, 77];
 
 /// Asks a device for both, hands the client one datagram, whatever it is and whoever sent it, and then the time, three
-/// seconds later. What is to be sent at once, and again, is what `Client::to_send` lends.
+/// seconds later. The datagrams to send at once, and again, are those that `Client::to_send` lends.
 pub fn two_reads(device: Peer, from: Peer, heard: &[u8]) -> Due
-    // Each read is to be sent again exactly where the datagram is no answer to it, and none has ended without one.
+    // Each read is to be sent again exactly if the datagram does not answer it, and none has ended without an answer.
     ensures { result ≡ flat_map (again_unless (station from) heard.now)
         (read_of (station device) 0 85 ∷ read_of (station device) 1 77 ∷ []) }
 {

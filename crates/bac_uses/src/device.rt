@@ -10,13 +10,13 @@ use bac_pdu::Peer;
 use bac_wire::{Frame, ObjectId};
 use bac_work::begin;
 
-/// Has the device answer a datagram, whatever it is and whoever sent it: whom the reply in the frame is for, if there
-/// is one, and where the valve stands then.
+/// Lets the device answer a datagram, whatever it is and whoever sent it. Returns the receiver of the reply in the
+/// frame, if there is one, and the valve's present value after it.
 pub fn answered(from: Peer, datagram: &[u8], frame: &mut Frame) -> (Option<Peer>, u32)
     // The reply is that of the definition.
     ensures reply { option_map (λ peer. (station peer, frame.new)) result.0
         ≡ reply_to heating (valve ∷ []) [] (station from) datagram.now }
-    // The valve stands where the write of this datagram puts it, if the device accepts one, and else at 0.
+    // The valve has the value that this datagram writes, if the device accepts the write, and otherwise 0.
     ensures valve { Some result.1 ≡ present_after (valve ∷ [])
         (writes_after heating (valve ∷ []) [] (station from) datagram.now) valve.object }
 {
@@ -26,7 +26,7 @@ pub fn answered(from: Peer, datagram: &[u8], frame: &mut Frame) -> (Option<Peer>
     (to, valve)
 }
 
-// A device with one valve. None of these calls can fail, so no caller has to ask.
+// Returns a device with one valve. None of these calls can fail, so no caller has to ask.
 #[tactic(auto, unfolding(bac_device::specs::Device::add_point, bac_device::specs::Point::description_of, bac_device::specs::Kind::kind_of))]
 fn one_valve() -> Device
     ensures { result ≡ device_after heating (valve ∷ []) [] }

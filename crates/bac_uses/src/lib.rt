@@ -1,4 +1,5 @@
-//! Calls of the libraries as a caller writes them, each proved with what its caller may rely on.
+//! Examples of callers: functions that call the libraries, each proved with what its own caller may rely on. No other
+//! crate uses this one.
 #![tactic(auto)]
 
 mod client;

@@ -19,15 +19,14 @@ use Rattle.bac_wire.specs.{Spells, SpellsAll, SpellsTag, StandsFor, tag_before, 
 use Rattle.bac_wire.specs.{values_within, with_shape, ◌>>=◌, Datum.Datum, Identifier.Identifier, Inner.tagged}
 use lib.Lanes.{chunk, put_chunk}
 
--- Functions with the same values up to here.
+-- Functions with the same values below this number.
 pub same_below : {X : Type 0} (d : X) (f g : ℕ → X) (k n : ℕ) → map f (range_with_len 0 k) ≡ map g (range_with_len 0 k)
     → n < k → f n ≡ g n
 same_below {X} d f g k n e h =
     sym (get_or-map-range_with_len f 0 k n n d h (omega arith)) ∙ ap (λ (xs : List X). get_or xs n d) e
     ∙ get_or-map-range_with_len g 0 k n n d h (omega arith)
 
--- Of what is read piece by piece and written piece by piece, one more piece: it may begin before the place that was
--- reached.
+-- One more piece of a part that is read and written piece by piece: it may begin before the place that was reached.
 module _ (f : List ℕ → List ℕ) (xs ys : List ℕ) (i j n k l m : ℕ) (before : i ≤ j) (below : k ≤ l)
     (apart : (more : List ℕ) → f (take i xs ++ more) ≡ f (take i xs) ++ f more)
     (size : length (f (take i xs)) ≡ k) (long : length (f (chunk i n xs)) ≡ m)
@@ -44,7 +43,7 @@ module _ (f : List ℕ → List ℕ) (xs ys : List ℕ) (i j n k l m : ℕ) (bef
 
 -- ---- the shortest spelling of a value is a spelling, and no spelling has fewer octets
 
--- the same count, case by case
+-- the fewest octets of a number, case by case
 abbrev pub count_by_cases : ℕ → ℕ
 count_by_cases n =
     cond (ltb n (256 ^ 1)) 1 (cond (ltb n (256 ^ 2)) 2 (cond (ltb n (256 ^ 3)) 3 (cond (ltb n (256 ^ 4)) 4
@@ -300,7 +299,7 @@ shape_number_is : (value : Datum) (n : ℕ) → (tag_number value ≡ 1 → ⊥)
 shape_number_is (boolean b) n other = absurd (other refl)
 shape_number_is _ n _ = refl
 
--- contents behind a tag, and the value that they hold with it
+-- contents after a tag, and the value that they hold with it
 abbrev Behind : ℕ → ℕ → List ℕ → Datum → List ℕ → Type 0
 Behind number n after value rest = (contents : List ℕ) × (tag_number value ≡ number)
     × (shape_number value (length contents) ≡ n) × StandsFor contents value × (after ≡ contents ++ rest)
@@ -366,11 +365,11 @@ pub value-shorter : (octets : List ℕ) (value : Datum) (rest : List ℕ) → va
     → length rest < length octets
 value-shorter _ value _ e = let taken = value_reader.takes _ value _ e in grind (arith, common_steps)
 
--- The values of the octets behind the first, after it.
+-- The values of the octets after the first, after it.
 abbrev then_others : ℕ → Option (Datum × List ℕ) → Option (List Datum)
 then_others count found = found >>= (λ (first, rest). values_within count rest >>= (λ others. Some (first ∷ others)))
 
--- Any count that is large enough gives the same.
+-- Any count that is large enough gives the same values.
 enough : (count other : ℕ) (octets : List ℕ) → length octets ≤ count → length octets ≤ other
     → values_within count octets ≡ values_within other octets
 unfolding values_within
@@ -387,13 +386,13 @@ enough (suc m) (suc n) (x ∷ xs) h k = go (λ rest. enough m n rest) (value_at 
         ap (λ (found : Option (List Datum)). found >>= (λ others. Some (first ∷ others)))
         (same rest (omega arith) (omega arith))
 
--- Where no value stands at the front of octets, they are no values.
+-- If octets do not begin with a value, they are not values.
 pub values-none : (octets : List ℕ) → value_at octets ≡ None → 0 < length octets → values_of octets ≡ None
 unfolding values_within
 values-none [] e h = absurd (omega arith)
 values-none (x ∷ xs) e h = ap (then_others (length xs)) e
 
--- The first value, and those behind it.
+-- The first value, and those after it.
 pub values-first : (octets : List ℕ) (value : Datum) (rest : List ℕ) → value_at octets ≡ Some (value, rest) →
     values_of octets ≡ option_map (λ others. value ∷ others) (values_of rest)
 unfolding values_within
@@ -403,13 +402,13 @@ values-first (x ∷ xs) value rest e =
     let same = enough (length xs) (length rest) rest (omega arith) (omega arith) in
     grind arith
 
--- Only nothing is no values.
+-- Only the empty list spells no values.
 pub values-empty : (octets : List ℕ) → values_of octets ≡ Some [] → octets ≡ []
 unfolding values_within
 values-empty [] e = refl
 values-empty (x ∷ xs) e = absurd (grind arith)
 
--- So many values were counted before the rest.
+-- This many values were counted before the rest.
 pub record Counted (region rest : List ℕ) (count : ℕ) : Type 0 where
   pub is : option_map length (values_of region) ≡ option_map (λ (n : ℕ). count + n) (option_map length (values_of rest))
 

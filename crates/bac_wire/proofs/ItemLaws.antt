@@ -33,7 +33,7 @@ pub tag_parts : (tag : Tag) (number : ℕ) (shape : Shape) → tag.shape ≡ sha
     → tag ≡ record { number = number; shape = shape }
 tag_parts _ _ _ e f = rw (← e, ← f) refl
 
--- a tag and what stands behind it, in front of a rest
+-- a tag and the octets after it, in front of a rest
 pub tag_again : (front others rest : List ℕ) (tag : Tag) → Begins SpellsTag front tag others
     → tag_at (front ++ rest) ≡ found_at tag (others ++ rest)
 tag_again _ _ rest _ b = ap (λ (w : List ℕ). tag_at (w ++ rest)) b.whole
@@ -76,7 +76,7 @@ closed_again _ _ _ c = rw (closing_read _ _ _ c, eq-eqb _ _ refl) refl
 
 -- ---- one step
 
--- the octets behind the item at the front, where items reads those inside of it
+-- the octets after the item at the front; `items` reads those inside of it
 abbrev pub item_at : (ℕ → List ℕ → Option (List ℕ)) → ℕ → List ℕ → Option (List ℕ)
 item_at items depth octets = tag_at octets >>= λ (tag, after). behind_item items depth tag tag.shape after
 
@@ -99,7 +99,7 @@ going_on : (items : ℕ → List ℕ → Option (List ℕ)) (depth : ℕ) (octet
     → behind_tag items depth octets tag shape after ≡ (behind_item items depth tag shape after >>= items depth)
 going_on = grind arith
 
--- at a tag that is no closing one, the first item, and then the others
+-- at a tag that is not a closing one, the first item, and then the others
 pub one_step : (count depth : ℕ) (octets : List ℕ) (tag : Tag) (after : List ℕ) → tag_at octets ≡ found_at tag after
     → (tag.shape ≡ Closing → ⊥)
     → behind_items (suc count) depth octets ≡ (item_at (behind_items count) depth octets >>= behind_items count depth)
@@ -122,7 +122,7 @@ ended_leaves _ _ _ ended e =
     let same = same_Some _ _ e in
     record { front = []; region = none; whole = same; ended = subst HasEnded same ended }
 
--- behind this tag
+-- after this tag
 module _ (octets : List ℕ) (tag : Tag) (after : List ℕ) (e : tag_at octets ≡ found_at tag after) where
   counted_behind : (depth : ℕ) (contents rest : List ℕ) → after ≡ contents ++ rest
       → Counts tag.number tag.shape (length contents) → LeavesBehind depth octets rest
@@ -137,7 +137,7 @@ module _ (octets : List ℕ) (tag : Tag) (after : List ℕ) (e : tag_at octets �
       } in
       record { front = taken.front ++ contents; item = primitive_item _ _ item; whole = grind (arith, append_assoc) }
 
-  -- so many octets behind the tag
+  -- this many octets after the tag
   count_behind : (depth count : ℕ) (rest : List ℕ) → ((n : ℕ) → n ≡ count → Counts tag.number tag.shape n)
       → behind_count count after ≡ Some rest → LeavesBehind depth octets rest
   count_behind _ count rest counts f =
@@ -175,7 +175,7 @@ module _ (octets : List ℕ) (tag : Tag) (after : List ℕ) (e : tag_at octets �
         }
     item_takes _ _ _ is f = absurd (none-some _ f)
 
-    -- the items behind the first one
+    -- the items after the first one
     more_takes : (depth : ℕ) (shape : Shape) (rest : List ℕ) → tag.shape ≡ shape
         → behind_tag items depth octets tag shape after ≡ Some rest → LeavesRest depth octets rest
     more_takes _ Closing _ is f = grind (arith, ended_leaves, ended_since)
@@ -219,7 +219,7 @@ boolean_again : (b : Bool) (n : ℕ) (contents rest : List ℕ) → length conte
 boolean_again true n _ _ e = rw (nil_from_length _ e) refl
 boolean_again false n _ _ e = count_again n _ _ e
 
--- behind an item, whatever reads the items inside of it
+-- after an item, whatever reads the items inside of it
 module _ (items : ℕ → List ℕ → Option (List ℕ)) (rest : List ℕ) where
   counted_again : (top : ℕ) (tag : Tag) (shape : Shape) (contents : List ℕ)
       → Counts tag.number shape (length contents) → behind_item items top tag shape (contents ++ rest) ≡ Some rest
@@ -251,7 +251,7 @@ module _ (items : ℕ → List ℕ → Option (List ℕ)) (rest : List ℕ) wher
 pub item_shorter : (depth : ℕ) (item rest : List ℕ) → IsItem depth item → length rest < length (item ++ rest)
 item_shorter = grind (arith, common_steps)
 
--- behind an item the others are read
+-- after an item the others are read
 pub more_again : (count top : ℕ) (octets next : List ℕ) → item_at (behind_items count) top octets ≡ Some next
     → behind_items (suc count) top octets ≡ behind_items count top next
 more_again count top _ _ e =
@@ -286,7 +286,7 @@ pub region_leaves : (depth number : ℕ) (octets front : List ℕ) (r : IsClosed
     → LeavesRest depth octets r.behind
 region_leaves = grind arith
 
--- an item in front of a rest is read, where as many octets are allowed
+-- an item in front of a rest is read, if as many octets are allowed
 pub item_read : (count depth top : ℕ) (octets item rest : List ℕ) → depth ≤ top → length octets < suc count
     → IsItem depth item
     → octets ≡ item ++ rest → item_at (behind_items count) top octets ≡ Some rest
@@ -302,7 +302,7 @@ one_item depth other a b u v i j e =
     (sym first ∙ item_read count other (depth + other) _ b v (omega arith) (omega arith) j e) in
     append_cancel_right a b v (ap (λ (w : List ℕ). a ++ w) (sym same) ∙ e)
 
--- no item stands where the items have ended, and none begins with a closing tag
+-- no item begins where the items have ended, and none begins with a closing tag
 pub item_ended : (depth : ℕ) (octets item rest : List ℕ) → HasEnded octets → IsItem depth item → octets ≡ item ++ rest
     → ⊥
 item_ended = grind arith
@@ -501,7 +501,7 @@ region_reader _ = record {
       region_again _ _ _ (closed_region _ _ _ rest (record { front = front; spelled = s; whole = refl }));
 }
 
--- where no region was found none is read
+-- if no region was found, none is read
 none_read : (number : ℕ) (octets : List ℕ) (read : Option (List ℕ × List ℕ)) → region_at number octets ≡ read
     → FindsRegion 32 number octets None → None ≡ read
 none_read _ _ None e _ = refl
@@ -510,7 +510,7 @@ none_read _ _ (Some x) e finds = absurd (none-some _ (finds.all _ (closed_region
 pub no_region : (number : ℕ) (octets : List ℕ) → FindsRegion 32 number octets None → None ≡ region_at number octets
 no_region _ _ = none_read _ _ _ refl
 
--- a region that was found is read, and the octets behind its closing tag
+-- a region that was found is read, and the octets after its closing tag
 pub region_found : (number k : ℕ) (octets front back : List ℕ) → front ≡ take k octets → back ≡ drop k octets
     → FindsRegion 32 number octets (Some k) → region_at number octets ≡ (behind_closing number back >>= found_at front)
 region_found _ k _ _ back f b finds =
@@ -518,7 +518,7 @@ region_found _ k _ _ back f b finds =
     let same : back ≡ r.behind = grind (arith, drop_at, length-take-le) in
     region_again _ _ _ r ∙ sym (rw (same, closed_again _ _ _ r.closed) refl)
 
--- a region is found where a closing tag stands behind whole items, and not where none stands there
+-- a region is found if a closing tag follows whole items, and not otherwise
 pub region_finds : (depth number : ℕ) (octets rest : List ℕ) (behind : Option (List ℕ)) → LeavesRest depth octets rest
     → Finds (IsClosedBy number rest) behind
     → FindsRegion depth number octets (option_map (λ _. length octets - length rest) behind)
@@ -598,7 +598,7 @@ object_reader = in_reader _ _ (grind (arith, cond_some, eqb-true)) (grind (arith
 pub context_reader : (number : ℕ) → IsReader (SpellsContext number) (context_at number)
 context_reader _ = reader_of _ _ (context_takes _) (context_again _)
 
--- where there are no octets nothing is read
+-- if there are no octets, nothing is read
 pub no_number : (number : ℕ) → number_at number [] ≡ None
 unfolding number_at context_at
 no_number _ = rw no_octets refl
@@ -707,7 +707,7 @@ enclosed_spells = grind (arith, plain_tag_spells)
 abbrev pub found_seen : Option (Value × ℕ) → Option (Datum × ℕ)
 found_seen found = option_map (λ (value, count). (datum value, count)) found
 
--- this value was found, in so many octets
+-- this value was found, in this many octets
 abbrev pub IsFound : Option (Value × ℕ) → Datum → ℕ → Type 0
 IsFound found x count = (value : Value) × (found ≡ Some (value, count)) × (datum value ≡ x)
 
@@ -716,7 +716,7 @@ pub value_back : (plain rest octets : List ℕ) (x : Datum) (found : Option (Val
     → octets ≡ plain ++ rest → FindsFront Spells octets (found_seen found) → IsFound found x (length plain)
 value_back _ rest _ x found back whole finds = grind arith
 
--- the octets are what was written, behind nothing
+-- the octets are what was written, after nothing
 pub value_alone : (first plain octets : List ℕ) (x : Datum) (found : Option (Value × ℕ)) → first ≡ []
     → octets ≡ first ++ plain → IsReadBack Spells plain x → FindsFront Spells octets (found_seen found)
     → IsFound found x (length octets)

@@ -10,7 +10,7 @@ use Rattle.bac_wire.specs.{IsReader, IsShortest, IsTag, length_at, long_length_a
 use Rattle.bac_wire.specs.{plain_tag, Shape, shape_at, SpellsLength, SpellsNumber, SpellsShape, SpellsTag, tag_at}
 use Rattle.bac_wire.specs.{tag_number_at, two_at, ◌>>=◌, declared.tag.Tag.Tag, Inner.AppendsFront}
 
--- what stands at the front, as the steps of a reader find it
+-- the thing at the front, as the steps of a reader find it
 abbrev pub Took : {A : Type 0} → (List ℕ → A → Type 0) → List ℕ → A → List ℕ → Type 0
 Took Spells octets x rest = (front : List ℕ) × Spells front x × (octets ≡ front ++ rest)
 
@@ -35,7 +35,7 @@ pub reader_of : {A : Type 0} (Spells : List ℕ → A → Type 0) (at : List ℕ
     → IsReader Spells at
 reader_of = grind arith
 
--- a front, by the length of what stands behind it
+-- a front, by the length of the octets after it
 pub record IsFrontBefore (octets front rest : List ℕ) : Type 0 where
   pub within : length rest ≤ length octets
   pub count : length octets - length rest ≡ length front
@@ -49,12 +49,12 @@ pub chosen : {A : Type 0} (b : Bool) (x y z : A) → cond b x y ≡ z → ((b �
 chosen true x y z e = inl (refl, e)
 chosen false x y z e = inr (refl, e)
 
--- what was found where a test had to hold
+-- what was found if a test had to hold
 pub only_if : {A : Type 0} (b : Bool) {x : Option A} {y : A} → cond b x None ≡ Some y → (b ≡ true) × (x ≡ Some y)
 only_if true e = (refl, e)
 only_if false e = absurd cc
 
--- what was found where a test had to fail
+-- what was found if a test had to fail
 pub unless : {A : Type 0} (b : Bool) {x : Option A} {y : A} → cond b None x ≡ Some y → (b ≡ false) × (x ≡ Some y)
 unless true e = absurd cc
 unless false e = (refl, e)
@@ -72,7 +72,7 @@ module _ {A : Type 0} (Spells : List ℕ → A → Type 0) (at : List ℕ → Op
         let line : a ++ v ≡ b ++ v = ap (λ (w : List ℕ). a ++ w) (sym rests) ∙ e in
         (append_cancel_right a b v line, same)
 
-    -- what was read is what stands at the front
+    -- the thing that was read is spelled at the front
     pub found_front : (octets : List ℕ) (x : A) (rest : List ℕ) → found_at x rest ≡ at octets
         → (length rest ≤ length octets) × FindsFront Spells octets (Some (x, length octets - length rest))
     found_front octets x rest e =
@@ -83,7 +83,7 @@ module _ {A : Type 0} (Spells : List ℕ → A → Type 0) (at : List ℕ → Op
         (Some (x, length octets - length rest)) (Some (y, length other)) = grind (arith, some_pair_parts, take_front) in
         (front.within, record { spelled = (omega arith, spelled); all = all })
 
-    -- where nothing was read nothing stands at the front
+    -- if nothing was read, nothing is spelled at the front
     pub none_front : (octets : List ℕ) → None ≡ at octets → FindsFront Spells octets None
     none_front = grind arith
 
@@ -108,18 +108,18 @@ is_read {at} reader octets x s = subst (λ w. at w ≡ Some (x, [])) (append-nil
 
 -- ---- one writer after another
 
--- who appends all or nothing appends a front
+-- a writer that appends all or nothing appends a front
 pub front : {A E : Type 0} {old octets new : List ℕ} {r : Result A E} → Appends old octets new r
     → AppendsFront old octets new r
 front = grind (arith, length-append, take_at, take_all)
 
--- then a second writer, behind what the first one wrote
+-- then a second writer, after what the first one wrote
 pub then_appends : {A B E F : Type 0} {old first mid second new : List ℕ} {x : A} {r : Result B F}
     → AppendsFront {E = E} old first mid (Ok x) → AppendsFront mid second new r
     → AppendsFront old (first ++ second) new r
 then_appends = grind (arith, length-append, append_assoc, take-take)
 
--- where the first writer has no room, there is none for both
+-- if the first writer has no room, there is none for both
 pub stops : {A B E F : Type 0} {old first new : List ℕ} {e : E} {r : Result B F} (second : List ℕ) → IsErr r
     → AppendsFront {A = A} old first new (Err e) → AppendsFront old (first ++ second) new r
 stops = grind (arith, length-append)
@@ -133,7 +133,7 @@ pub written_as : {A E : Type 0} {old octets other new : List ℕ} {r : Result A 
     → AppendsFront old octets new r → AppendsFront old other new r
 written_as {old} {new} {r} = subst (λ (l : List ℕ). AppendsFront _ l _ r)
 
--- what appends one part after another, where each has its room or stops there
+-- what appends one part after another, if each has its room or stops there
 pub ruleset in_parts = (front, then_appends, stops, stops_whole, append-nil)
 
 -- ---- what is spelled is read again
@@ -263,7 +263,7 @@ one_tag = one_front _ _ tag_reader
 
 -- ---- the plain spelling
 
--- what holds of each branch of a test, where it is taken
+-- what holds of each branch of a test, if it is taken
 by_test : {A : Type 0} (P : A → Type 0) (m n : ℕ) {x y : A} → (m < n → P x) → (n ≤ m → P y) → P (cond (ltb m n) x y)
 by_test = grind (arith, ltb-true)
 

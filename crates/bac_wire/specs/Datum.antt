@@ -1,4 +1,4 @@
--- The values behind application tags, and the octets that spell them (ANSI/ASHRAE 135, 20.2.2 to 20.2.14).
+-- The values after application tags, and the octets that spell them (ANSI/ASHRAE 135, 20.2.2 to 20.2.14).
 use Rattle.std.specs.Prelude.{FitsSigned, ◌≡◌, ℕ, ℤ, pos, negsuc, ◌*◌, ◌^◌, ◌<◌, ◌≤◌, Bool, nat_lt, if◌then◌else◌, List}
 use Rattle.std.specs.{Prelude.{[], ◌∷◌, ◌++◌, length, find, unwrap_or}, Int.w64}
 use Rattle.byteorder.specs.Endian.{big_number, big_bytes, twos_complement, low_bytes}
@@ -54,7 +54,7 @@ tag_number (date _) = 10
 tag_number (time _) = 11
 tag_number (object _) = 12
 
--- At most 7 bits of the last octet are unused, and none where there is no octet (20.2.10).
+-- At most 7 bits of the last octet are unused, and none if there is no octet (20.2.10).
 pub record AreBits (unused : ℕ) (x : List ℕ) : Type 0 where
   pub most : unused ≤ 7
   pub empty : x ≡ [] → unused ≡ 0
@@ -98,8 +98,8 @@ pub record Spells (spelling : List ℕ) (value : Datum) : Type 0 where
 abbrev pub octet_count : ℕ → ℕ
 octet_count n = unwrap_or (find (λ count. nat_lt n (256 ^ count)) (1 ∷ 2 ∷ 3 ∷ 4 ∷ 5 ∷ 6 ∷ 7 ∷ [])) 8
 
--- The same in two's complement, where the sign takes a bit more: of a number n from 0 on it is the count of 2 * n, and
--- so it is of the negative number -1 - n.
+-- The fewest octets of a number in two's complement, where the sign needs one bit more: for n from 0 on, and for the
+-- negative number -1 - n, the count of 2 * n.
 abbrev pub signed_count : ℤ → ℕ
 signed_count (pos n) = octet_count (2 * n)
 signed_count (negsuc n) = octet_count (2 * n)

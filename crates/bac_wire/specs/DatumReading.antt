@@ -6,11 +6,11 @@ use Rattle.bac_wire.specs.{declared.tag.{Shape.{Shape, TheVariants.App}, Tag.Tag
 use Rattle.bac_wire.specs.Datum.{Datum, null, boolean, unsigned, signed, real, double, octet_string, char_string}
 use Rattle.bac_wire.specs.{Datum.{bit_string, enumerated, date, time, object}, Steps.◌>>=◌, TagReading.tag_at}
 
--- The contents, where they have this length.
+-- The contents, if they have this length.
 abbrev pub exactly : ℕ → List ℕ → Option (List ℕ)
 exactly n contents = if length contents == n then Some contents else None
 
--- The number that contents are, where they have from one octet up to this many.
+-- The number that contents are, if they have from one octet up to this many.
 abbrev pub number_within : ℕ → List ℕ → Option ℕ
 number_within most contents =
     if nat_lt 0 (length contents)
@@ -28,7 +28,7 @@ bits_of [] = None
 bits_of (unused ∷ []) = if unused == 0 then Some (bit_string unused []) else None
 bits_of (unused ∷ x ∷ xs) = if nat_lt 7 unused then None else Some (bit_string unused (x ∷ xs))
 
--- The value that contents stand for behind an application tag of this number.
+-- The value that contents stand for after an application tag of this number.
 unfoldable pub contents_of : ℕ → List ℕ → Option Datum
 contents_of number contents =
     if number == 0 then option_map (λ _. null) (exactly 0 contents)
@@ -49,23 +49,23 @@ contents_of number contents =
 abbrev pub boolean_of : ℕ → Option Datum
 boolean_of n = if n == 0 then Some (boolean false) else if n == 1 then Some (boolean true) else None
 
--- The value behind an application tag of this number and length, and the octets behind it.
+-- The value after an application tag of this number and length, and the octets after it.
 abbrev pub behind_at : ℕ → ℕ → List ℕ → Option (Datum × List ℕ)
 behind_at number n rest =
     if number == 1 then boolean_of n >>= (λ value. Some (value, rest))
     else if nat_lt (length rest) n then None
     else contents_of number (take n rest) >>= (λ value. Some (value, drop n rest))
 
--- The value behind this tag, where the tag is of the application class.
+-- The value after this tag, if the tag is of the application class.
 abbrev pub with_shape : Tag → Shape → List ℕ → Option (Datum × List ℕ)
 with_shape tag (App n) rest = behind_at tag.number n rest
 with_shape tag _ rest = None
 
--- The value at the front, and the octets behind it.
+-- The value at the front, and the octets after it.
 unfoldable pub value_at : List ℕ → Option (Datum × List ℕ)
 value_at spelling = tag_at spelling >>= (λ (tag, rest). with_shape tag tag.shape rest)
 
--- The values that the octets are, one after another, where these are at most so many.
+-- The values that the octets are, one after another, if there are at most this many octets.
 unfoldable pub values_within : ℕ → List ℕ → Option (List Datum)
 values_within count [] = Some []
 values_within zero (octet ∷ octets) = None

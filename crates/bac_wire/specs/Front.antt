@@ -1,4 +1,4 @@
--- What stands at the front of a list of octets.
+-- The thing at the front of a list of octets.
 use Rattle.std.specs.Prelude.{◌≡◌, ℕ, ◌≤◌, ◌<◌, slice_index, List, [], ◌∷◌, ◌++◌, length, take, Option, Some, IfSome}
 
 -- What a reader found at the front is spelled there, and whatever is spelled at the front is found.
@@ -7,7 +7,7 @@ pub record FindsFront {A : Type 0} (Spells : List ℕ → A → Type 0) (octets 
   pub spelled : IfSome found (λ (x, count). (count ≤ length octets) × Spells (take count octets) x)
   pub all : (front rest : List ℕ) (x : A) → Spells front x → octets ≡ front ++ rest → found ≡ Some (x, length front)
 
--- The octets begin with a spelling of this thing, and this rest stands behind it.
+-- The octets begin with a spelling of this thing, and this rest follows.
 pub record Begins {A : Type 0} (Spells : List ℕ → A → Type 0) (octets : List ℕ) (x : A) (rest : List ℕ) : Type 0 where
   pub front : List ℕ
   pub spelled : Spells front x

@@ -6,7 +6,7 @@ use Rattle.bac_wire.specs.{Datum.{Datum, octet_count, StandsFor}, declared.tag.{
 use Rattle.bac_wire.specs.{Front.Begins, Identifier.{Identifier, number_of}, Limits.deepest, Tag.{plain_tag, SpellsTag}}
 use Rattle.bac_wire.specs.Region.{closing_tag, IsBracketed, IsItem, opening_tag}
 
--- The context tag of this number that counts so many octets.
+-- The context tag of this number that counts this many octets.
 abbrev pub context_tag : ℕ → ℕ → Tag
 context_tag number count = record { number = number; shape = Context count }
 

@@ -48,7 +48,7 @@ IsItem (suc depth) octets = IsPrimitive octets
 abbrev pub IsRegion : ℕ → List ℕ → Type 0
 IsRegion depth octets = IsSequence (IsItem depth) octets
 
--- ---- what stands behind the items at the front
+-- ---- the octets after the items at the front
 
 -- Nothing is left, or a closing tag begins what is left.
 abbrev pub HasEnded : List ℕ → Type 0
@@ -61,7 +61,7 @@ pub record LeavesRest (depth : ℕ) (octets rest : List ℕ) : Type 0 where
   pub whole : octets ≡ front ++ rest
   pub ended : HasEnded rest
 
--- The octets begin with this front, which is whole items, and a closing tag of this number stands behind it.
+-- The octets begin with this front, which is whole items, and a closing tag of this number follows.
 pub record IsClosedRegion (depth number : ℕ) (octets front : List ℕ) : Type 0 where
   pub behind : List ℕ
   pub rest : List ℕ
@@ -69,7 +69,7 @@ pub record IsClosedRegion (depth number : ℕ) (octets front : List ℕ) : Type 
   pub whole : octets ≡ front ++ behind
   pub closed : Begins SpellsTag behind (closing_tag number) rest
 
--- A size that was found is that of a region that a closing tag of this number ends; where there is such a region, its
+-- A size that was found is that of a region that a closing tag of this number ends; if there is such a region, its
 -- size is found.
 pub record FindsRegion (depth number : ℕ) (octets : List ℕ) (size : Option ℕ) : Type 0 where
   pub within : IfSome size (λ k. k ≤ length octets)

@@ -1,7 +1,7 @@
--- One step after another, where each can find nothing; and what a step answers.
+-- One step after another, each of which can find nothing; and what a step answers.
 use Rattle.std.specs.Prelude.{Option, Some, None, Result, Ok, Err}
 
--- The next step, where this one found something.
+-- The next step, if this one found something.
 infixl 10 ◌>>=◌
 abbrev pub ◌>>=◌ : {A B : Type 0} → Option A → (A → Option B) → Option B
 None >>= f = None

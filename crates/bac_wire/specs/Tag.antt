@@ -11,8 +11,8 @@ SpellsNumber high [] number = (high < 15) × (number ≡ high)
 SpellsNumber high (octet ∷ []) number = (high ≡ 15) × (octet < 255) × (number ≡ octet)
 SpellsNumber high (_ ∷ _ ∷ _) number = ⊥
 
--- The length (20.2.1.3.1): up to 4 it is the low bits of the initial octet; 5 there says that octets behind the number
--- are it: one up to 253, or two behind 254, or four behind 255, the high octet first. A longer form than needed is a
+-- The length (20.2.1.3.1): up to 4 it is the low bits of the initial octet; 5 there says that octets after the number
+-- are it: one up to 253, or two after 254, or four after 255, the high octet first. A longer form than needed is a
 -- spelling too.
 abbrev pub SpellsLength : ℕ → List ℕ → ℕ → Type 0
 SpellsLength low [] n = (low < 5) × (n ≡ low)

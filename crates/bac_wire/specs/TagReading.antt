@@ -1,15 +1,15 @@
--- Reading a tag from left to right: what was read, and the octets behind it. `SpellsTag` says what that means.
+-- Reading a tag from left to right: what was read, and the octets after it. `SpellsTag` says what that means.
 use Rattle.std.specs.Prelude.{[], if◌then◌else◌, List, nat_lt, None, Option, Some, ℕ, ◌%◌, ◌-◌, ◌/◌, ◌==◌, ◌∷◌}
 use Rattle.byteorder.specs.Endian.{big_number}
 use Rattle.bac_wire.specs.declared.tag.{Shape.{Shape, TheVariants.{App, Closing, Context, Opening}}, Tag.Tag}
 use Rattle.bac_wire.specs.Steps.{◌>>=◌}
 
--- The tag's number in the octet behind the initial one, where it is less than 255.
+-- The tag's number in the octet after the initial one, if it is less than 255.
 abbrev pub extended_number : List ℕ → Option (ℕ × List ℕ)
 extended_number [] = None
 extended_number (octet ∷ rest) = if nat_lt octet 255 then Some (octet, rest) else None
 
--- The tag's number, by the high half of the initial octet, and the octets behind it.
+-- The tag's number, by the high half of the initial octet, and the octets after it.
 unfoldable pub tag_number_at : ℕ → List ℕ → Option (ℕ × List ℕ)
 tag_number_at high octets =
     if nat_lt high 15 then Some (high, octets) else if high == 15 then extended_number octets else None
@@ -24,7 +24,7 @@ abbrev pub four_at : List ℕ → Option (ℕ × List ℕ)
 four_at (b ∷ c ∷ d ∷ e ∷ rest) = Some (big_number 4 (b ∷ c ∷ d ∷ e ∷ []), rest)
 four_at _ = None
 
--- A length in octets of its own: one, or two behind 254, or four behind 255.
+-- A length in octets of its own: one, or two after 254, or four after 255.
 unfoldable pub long_length_at : List ℕ → Option (ℕ × List ℕ)
 long_length_at [] = None
 long_length_at (a ∷ rest) =
@@ -42,7 +42,7 @@ shape_at low octets =
     else if low == 15 then Some (Closing, octets)
     else length_at (low - 8) octets >>= (λ (n, rest). Some (Context n, rest))
 
--- The tag at the front, and the octets behind it.
+-- The tag at the front, and the octets after it.
 unfoldable pub tag_at : List ℕ → Option (Tag × List ℕ)
 tag_at [] = None
 tag_at (initial ∷ octets) = do

@@ -1,23 +1,23 @@
 //! Examples of the octets of values and of parameters, worked out by computation. They show what the definitions mean.
 
-ghost use Rattle.std.specs.Prelude.{[], ◌-◌, ◌^◌, ◌∷◌, ◌≡◌, nat_eq, negsuc, true};
+ghost use Rattle.std.specs.Prelude.{[], ◌-◌, ◌^◌, ◌∷◌, ◌≡◌, length, List, nat_eq, negsuc, true, ℕ};
 ghost use Rattle.bac_wire.specs.{App, Appends, AreOctets, bit_string, boolean, char_string, datum, deepest};
 ghost use Rattle.bac_wire.specs.{enclosed_at, enclosed_octets, enumerated, EqualsBy, FindsFront, FindsRegion};
 ghost use Rattle.bac_wire.specs.{frame_room, IsClosedRegion, IsDatum, IsIdentifier, IsItem, IsPrefixFree, IsReadBack};
 ghost use Rattle.bac_wire.specs.{IsReader, IsRegion, IsShortest, IsSound, IsTag, LeavesRest, MakesCopies, null};
-ghost use Rattle.bac_wire.specs.{number_at, number_octets, object, object_at, object_octets, Opens, real, region_at};
-ghost use Rattle.bac_wire.specs.{signed, Spells, SpellsAll, SpellsClosed, SpellsContext, SpellsEnclosed, SpellsIn};
-ghost use Rattle.bac_wire.specs.{SpellsTag, unsigned, value_at, declared.value.Value.TheVariants.Unsigned};
+ghost use Rattle.bac_wire.specs.{number_at, number_octets, object, object_at, object_octets, octet_string, Opens, real};
+ghost use Rattle.bac_wire.specs.{region_at, signed, Spells, SpellsAll, SpellsClosed, SpellsContext, SpellsEnclosed};
+ghost use Rattle.bac_wire.specs.{SpellsIn, SpellsTag, unsigned, value_at, declared.value.Value.TheVariants.Unsigned};
 ghost use Rattle.bac_wire.specs.Inner.{always, Any, Costly, device, first_at, Free, input, never, nothing_at, refused};
 ghost use Rattle.bac_wire.specs.Inner.{Same, SpellsAny, SpellsOne, unsigned_tag, WritesValue, written, zero_at};
 
-// What is written of a value, and read back (ANSI/ASHRAE 135, 20.2.2 to 20.2.14).
+// The octets of a value, written and read back (ANSI/ASHRAE 135, 20.2.2 to 20.2.14).
 #[tactic(none)]
 fn examples_of_octets()
     ensures null { WritesValue null (0x00 ∷ []) }
     ensures boolean { WritesValue (boolean true) (0x11 ∷ []) }
 
-    // A number in as many octets as it needs. The tag says how many: 21 has one behind it, 22 two.
+    // A number in as many octets as it needs. The tag says how many: 21 has one after it, 22 two.
     ensures unsigned { WritesValue (unsigned 5) (0x21 ∷ 0x05 ∷ []) }
     ensures two_octets { WritesValue (unsigned 256) (0x22 ∷ 0x01 ∷ 0x00 ∷ []) }
     ensures signed { WritesValue (signed (negsuc 4)) (0x31 ∷ 0xfb ∷ []) }
@@ -38,10 +38,10 @@ fn examples_of_octets()
     ensures device { WritesValue (object device) (0xc4 ∷ 0x02 ∷ 0x00 ∷ 0x04 ∷ 0xd2 ∷ []) }
 {}
 
-// What is read at the front of octets, and what is left of them.
+// The value at the front of octets, and the octets after it.
 #[tactic(none)]
 fn examples_of_reading()
-    // The value that stands first.
+    // The first value.
     ensures first { value_at (0x21 ∷ 0x05 ∷ 0x21 ∷ 0x06 ∷ []) ≡ Some (unsigned 5, 0x21 ∷ 0x06 ∷ []) }
 
     // More octets than the number needs, and more than its length needs.
@@ -85,6 +85,8 @@ fn examples_of_spellings()
     ensures two_octets { SpellsTag (0x25 ∷ 0xfe ∷ 0x01 ∷ 0x00 ∷ []) (unsigned_tag 256) }
     ensures four_octets { SpellsTag (0x25 ∷ 0xff ∷ 0x00 ∷ 0x01 ∷ 0x00 ∷ 0x02 ∷ []) (unsigned_tag 65538) }
     ensures other_length { SpellsTag (0x21 ∷ []) (unsigned_tag 2) → ⊥ }
+    ensures other_number { SpellsTag (0x31 ∷ []) (unsigned_tag 1) → ⊥ }
+    ensures more_octets { SpellsTag (0x21 ∷ 0x00 ∷ []) (unsigned_tag 1) → ⊥ }
     ensures low_octet_first { SpellsTag (0x25 ∷ 0xff ∷ 0x02 ∷ 0x00 ∷ 0x01 ∷ 0x00 ∷ []) (unsigned_tag 65538) → ⊥ }
 
     // Numbers up to 254, and lengths that four octets hold.
@@ -102,6 +104,7 @@ fn examples_of_spellings()
     // The values that there are, and those that can be written.
     ensures most { IsDatum (unsigned (2 ^ 64 - 1)) }
     ensures past { IsDatum (unsigned (2 ^ 64)) → ⊥ }
+    ensures long { (octets : List ℕ) → length octets ≡ 2 ^ 32 → IsDatum (octet_string octets) → ⊥ }
     ensures sound { IsSound (bit_string 7 (0x80 ∷ [])) }
     ensures no_bit { IsSound (bit_string 8 (0x00 ∷ [])) → ⊥ }
     ensures no_octet { IsSound (bit_string 1 []) → ⊥ }
@@ -112,7 +115,7 @@ fn examples_of_spellings()
     ensures instance_past { IsIdentifier (record { kind = 0; instance = 4194304 }) → ⊥ }
 {}
 
-// What is said of readers and of writers, whatever they read or write.
+// Readers and writers, whatever they read or write.
 #[tactic(none)]
 fn examples_of_readers()
     // No octet begins another; the empty list begins any.
@@ -124,19 +127,20 @@ fn examples_of_readers()
     ensures takes_none { IsReader SpellsOne nothing_at → ⊥ }
     ensures takes_more { IsReader SpellsOne zero_at → ⊥ }
 
-    // What is found at the front, how many octets it has, and that it may not be passed over.
+    // The finding at the front, the number of its octets, and that a reader may not skip it.
     ensures found { FindsFront SpellsOne (7 ∷ 8 ∷ []) (Some (7, 1)) }
     ensures other_found { FindsFront SpellsOne (7 ∷ 8 ∷ []) (Some (8, 1)) → ⊥ }
     ensures more_found { FindsFront SpellsOne (7 ∷ 8 ∷ []) (Some (7, 2)) → ⊥ }
     ensures passed { FindsFront SpellsOne (7 ∷ 8 ∷ []) None → ⊥ }
 
-    // One spelling after another, and nothing behind them.
+    // One spelling after another, and nothing after the last.
     ensures all { SpellsAll SpellsOne (7 ∷ 8 ∷ []) (7 ∷ 8 ∷ []) }
     ensures left { SpellsAll SpellsOne (7 ∷ 8 ∷ []) (7 ∷ []) → ⊥ }
 
     // The shortest spelling, and what is read back.
     ensures shortest { IsShortest SpellsTag (0x21 ∷ []) (unsigned_tag 1) }
     ensures longer { IsShortest SpellsTag (0x25 ∷ 0x01 ∷ []) (unsigned_tag 1) → ⊥ }
+    ensures short_of_another { IsShortest SpellsTag (0x29 ∷ []) (unsigned_tag 1) → ⊥ }
     ensures read_back { IsReadBack SpellsOne (7 ∷ []) 7 }
     ensures other_back { IsReadBack SpellsOne (7 ∷ []) 8 → ⊥ }
 
@@ -144,10 +148,12 @@ fn examples_of_readers()
     ensures octets { AreOctets (0 ∷ 255 ∷ []) }
     ensures not_octets { AreOctets (256 ∷ []) → ⊥ }
 
-    // A writer appends; where there is room it does.
+    // A writer appends if there is room.
     ensures appended { Appends (1 ∷ []) (2 ∷ []) (1 ∷ 2 ∷ []) written }
     ensures not_appended { Appends (1 ∷ []) (2 ∷ []) (1 ∷ []) written → ⊥ }
     ensures has_room { Appends (1 ∷ []) (2 ∷ []) (1 ∷ []) refused → ⊥ }
+    ensures past_room { (octets : List ℕ) → length octets ≡ 1498 → Appends [] octets octets written → ⊥ }
+    ensures cleared { (octets : List ℕ) → length octets ≡ 1497 → Appends (1 ∷ []) octets [] refused → ⊥ }
 {}
 
 // Items and regions (20.2.1.3.2), and parameters under context tags.
@@ -164,15 +170,21 @@ fn examples_of_regions()
     ensures left_open { IsRegion 32 (0x1e ∷ []) → ⊥ }
     ensures region_too_deep { IsRegion 0 (0x1e ∷ 0x1f ∷ []) → ⊥ }
 
-    // What whole items leave: a closing tag, and no other item.
+    // Whole items leave a closing tag, and no other item.
     ensures leaves { LeavesRest 32 (0x21 ∷ 0x05 ∷ 0x3f ∷ []) (0x3f ∷ []) }
     ensures leaves_item { LeavesRest 32 (0x21 ∷ 0x05 ∷ 0x21 ∷ 0x06 ∷ []) (0x21 ∷ 0x06 ∷ []) → ⊥ }
+    ensures leaves_part { LeavesRest 32 (0x22 ∷ 0x05 ∷ []) [] → ⊥ }
+    ensures leaves_other { LeavesRest 32 (0x21 ∷ 0x05 ∷ []) (0x3f ∷ []) → ⊥ }
 
     // A region that the closing tag 3 ends, and one that another ends.
     ensures closed { SpellsClosed 3 (0x21 ∷ 0x05 ∷ 0x3f ∷ []) (0x21 ∷ 0x05 ∷ []) }
     ensures other_closed { SpellsClosed 3 (0x21 ∷ 0x05 ∷ 0x1f ∷ []) (0x21 ∷ 0x05 ∷ []) → ⊥ }
+    ensures part_closed { SpellsClosed 3 (0x22 ∷ 0x05 ∷ 0x3f ∷ []) (0x22 ∷ 0x05 ∷ []) → ⊥ }
+    ensures closed_otherwise { SpellsClosed 3 (0x21 ∷ 0x05 ∷ 0x3f ∷ []) (0x21 ∷ 0x06 ∷ []) → ⊥ }
     ensures ends { IsClosedRegion 32 3 (0x21 ∷ 0x05 ∷ 0x3f ∷ 0x00 ∷ []) (0x21 ∷ 0x05 ∷ []) }
     ensures other_end { IsClosedRegion 32 3 (0x21 ∷ 0x05 ∷ 0x1f ∷ 0x00 ∷ []) (0x21 ∷ 0x05 ∷ []) → ⊥ }
+    ensures part_ends { IsClosedRegion 32 3 (0x22 ∷ 0x05 ∷ 0x3f ∷ []) (0x22 ∷ 0x05 ∷ []) → ⊥ }
+    ensures ends_otherwise { IsClosedRegion 32 3 (0x21 ∷ 0x05 ∷ 0x3f ∷ []) (0x21 ∷ 0x06 ∷ []) → ⊥ }
     ensures size { FindsRegion 32 3 (0x21 ∷ 0x05 ∷ 0x3f ∷ []) (Some 2) }
     ensures no_size { FindsRegion 32 3 (0x21 ∷ 0x05 ∷ 0x3f ∷ []) None → ⊥ }
     ensures other_size { FindsRegion 32 3 (0x21 ∷ 0x05 ∷ 0x3f ∷ []) (Some 0) → ⊥ }
@@ -186,11 +198,12 @@ fn examples_of_regions()
     ensures other_context { SpellsContext 2 (0x19 ∷ 0x55 ∷ []) (0x55 ∷ []) → ⊥ }
     ensures number { SpellsIn enumerated 1 (0x1a ∷ 0x00 ∷ 0x55 ∷ []) 85 }
     ensures other_number { SpellsIn enumerated 1 (0x19 ∷ 0x55 ∷ []) 84 → ⊥ }
+    ensures number_in_other { SpellsIn enumerated 2 (0x19 ∷ 0x55 ∷ []) 85 → ⊥ }
     ensures enclosed { SpellsEnclosed 3 (0x3e ∷ 0x21 ∷ 0x05 ∷ 0x3f ∷ []) (0x21 ∷ 0x05 ∷ []) }
     ensures other_enclosed { SpellsEnclosed 3 (0x3e ∷ 0x21 ∷ 0x05 ∷ 0x1f ∷ []) (0x21 ∷ 0x05 ∷ []) → ⊥ }
 {}
 
-// What a copy is, and what it is to compare.
+// Copies and comparisons.
 #[tactic(none)]
 fn examples_of_copies()
     ensures copied { MakesCopies Same Free }

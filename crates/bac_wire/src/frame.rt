@@ -10,7 +10,7 @@ use std::marker::Model;
 /// 135, 20.1.2.5), with the headers before it, which have 17 at most, and four octets more.
 pub const FRAME_OCTETS: usize = 1497;
 
-/// The caller's octets don't all fit into the frame, which is as it was. The caller clears it first, or writes less.
+/// The caller's octets do not all fit into the frame, which is as it was. The caller clears it first, or writes less.
 #[derive(Clone, Copy, Debug, PartialEq, Eq)]
 pub struct Full;
 
@@ -29,7 +29,7 @@ impl Model for Frame {
 }
 
 impl Frame {
-    /// A frame with no octets.
+    /// Returns a frame with no octets.
     pub fn new() -> Self
         ensures { result ≡ [] }
     {
@@ -38,7 +38,7 @@ impl Frame {
         }
     }
 
-    /// The octets.
+    /// Returns the octets.
     pub fn as_slice(&self) -> &[u8]
         ensures value { result.now ≡ self.now }
         ensures fits { length self.now ≤ frame_room }
@@ -46,7 +46,7 @@ impl Frame {
         self.octets.as_slice()
     }
 
-    /// How many octets there are.
+    /// Returns how many octets there are.
     pub fn len(&self) -> usize
         ensures value { result ≡ length self.now }
         ensures fits { length self.now ≤ frame_room }
@@ -54,7 +54,7 @@ impl Frame {
         self.as_slice().len()
     }
 
-    /// Whether there are no octets.
+    /// Returns whether there are no octets.
     pub fn is_empty(&self) -> bool
         ensures { IsTrue result ↔ (self.now ≡ []) }
     {
@@ -68,14 +68,14 @@ impl Frame {
         self.octets.clear();
     }
 
-    /// Puts the octets behind those that are there. Where they don't all fit it is `Full`, and none is appended.
+    /// Puts the octets after those that are there. If they do not all fit it is `Full`, and none is appended.
     pub fn append(&mut self, octets: &[u8]) -> Result<(), Full>
         ensures { Appends self.old octets.now self.new result }
     {
         self.octets.try_extend_from_slice(octets).map_err(|_| Full)
     }
 
-    /// Puts the octets before those that are there. Where they don't all fit it is `Full`, and the frame is as it was.
+    /// Puts the octets before those that are there. If they do not all fit it is `Full`, and the frame is as it was.
     pub fn prepend(&mut self, octets: &[u8]) -> Result<(), Full>
         ensures ok { OnOk result (self.new ≡ octets.now ++ self.old) }
         ensures fits { OnOk result (length octets.now + length self.old ≤ frame_room) }

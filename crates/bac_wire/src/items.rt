@@ -1,4 +1,4 @@
-//! Where the items of a service body end, passed over by their lengths.
+//! If the items of a service body end, skipped by their lengths.
 
 ghost use Rattle.std.specs.Prelude.{◌*◌, ◌+◌, ◌<◌, ◌↔◌, ◌≡◌, ◌≤◌, IfSome, IsTrue, length, List, option_map, ℕ};
 ghost use Rattle.bac_wire.specs.{behind_closing, deepest, FindsRegion, IsRegion, LeavesRest, tag_at};
@@ -13,8 +13,8 @@ pub const NESTING: u8 = 32;
 // The number of the tags round a parameter's value, which are not counted among those.
 const REGION_END: u8 = 3;
 
-/// How many octets at the front are whole items, up to a closing tag 3; `None` where no such tag stands behind them, or
-/// where more than 32 opening tags are open at once in them. Contents are passed over by their length, so an octet in
+/// Returns how many octets at the front are whole items, up to a closing tag 3; `None` if no such tag stands after
+/// them, or if more than 32 opening tags are open at once in them. Contents are skipped by their length, so an octet in
 /// them ends nothing (ANSI/ASHRAE 135, 20.2.1.3). At most two tags are read for each octet, and two more.
 pub fn region(octets: &[u8], work: &mut Work) -> Option<usize>
     ensures found { FindsRegion deepest 3 octets.now result }
@@ -25,8 +25,8 @@ pub fn region(octets: &[u8], work: &mut Work) -> Option<usize>
     Some(octets.len() - rest.len())
 }
 
-/// Whether the octets are whole items and nothing else, with at most 32 opening tags open at once. No octets at all are
-/// that too. At most two tags are read for each octet, and one more.
+/// Returns whether the octets are whole items and nothing else, with at most 32 opening tags open at once. No octets at
+/// all are that too. At most two tags are read for each octet, and one more.
 pub fn is_region(octets: &[u8], work: &mut Work) -> bool
     ensures found { IsTrue result ↔ IsRegion deepest octets.now }
     ensures walked_once { work.new.tags ≤ work.old.tags + 2 * length octets.now + 1 }
@@ -37,7 +37,7 @@ pub fn is_region(octets: &[u8], work: &mut Work) -> bool
     }
 }
 
-// The octets behind the items at the front: none, or those from a closing tag on.
+// Returns the octets after the items at the front: none, or those from a closing tag on.
 #[cycle(nesting)]
 fn behind_items<'a>(octets: &'a [u8], depth: u8, work: &mut Work) -> Option<&'a [u8]>
     ensures found { Finds (LeavesRest depth octets.now) (option_map (λ r. r.now) result) }
@@ -53,7 +53,7 @@ fn behind_items<'a>(octets: &'a [u8], depth: u8, work: &mut Work) -> Option<&'a 
     if rest.is_empty() { Some(rest) } else { None }
 }
 
-// The octets behind the item that begins with this tag, where `behind` is what stands behind the tag.
+// Returns the octets after the item that begins with this tag; `behind` is the octets after the tag.
 #[cycle(nesting)]
 fn behind_item<'a>(tag: Tag, behind: &'a [u8], depth: u8, work: &mut Work) -> Option<&'a [u8]>
     ensures walked_once { ReadsTwice 2 work.old.tags work.new.tags behind.now (option_map (λ r. r.now) result) }
@@ -61,7 +61,7 @@ fn behind_item<'a>(tag: Tag, behind: &'a [u8], depth: u8, work: &mut Work) -> Op
         → Finds (LeavesBehind depth octets) (option_map (λ r. r.now) result) }
 {
     match tag.shape {
-        // An application Boolean has no octets behind it.
+        // An application Boolean has no octets after it.
         Shape::App(_) if tag.number == 1 => Some(behind),
         Shape::App(count) => behind_octets(behind, count),
         Shape::Context(count) => behind_octets(behind, count),
@@ -73,7 +73,7 @@ fn behind_item<'a>(tag: Tag, behind: &'a [u8], depth: u8, work: &mut Work) -> Op
     }
 }
 
-// What is left behind the first `count` octets.
+// Returns the octets after the first `count`.
 fn behind_octets(octets: &[u8], count: u32) -> Option<&[u8]>
     ensures { Finds (CountsBehind count octets.now) (option_map (λ r. r.now) result) }
 {
@@ -81,7 +81,7 @@ fn behind_octets(octets: &[u8], count: u32) -> Option<&[u8]>
     Some(rest)
 }
 
-// The octets behind the closing tag of this number.
+// Returns the octets after the closing tag of this number.
 #[tactic(auto, unfolding(crate::specs::behind_closing))]
 fn behind_closing<'a>(octets: &'a [u8], number: u8, work: &mut Work) -> Option<&'a [u8]>
     ensures found { option_map (λ r. r.now) result ≡ behind_closing number octets.now }
@@ -95,7 +95,7 @@ fn behind_closing<'a>(octets: &'a [u8], number: u8, work: &mut Work) -> Option<&
     }
 }
 
-// The tag that begins the octets, and those behind it, counted.
+// Returns the tag that begins the octets, and those after it, counted.
 #[tactic(auto, using(crate::proofs::after_shorter))]
 #[inline(always)]
 fn next_tag<'a>(octets: &'a [u8], work: &mut Work) -> Option<(Tag, &'a [u8])>

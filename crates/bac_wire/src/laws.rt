@@ -1,4 +1,4 @@
-//! What holds of the definitions that the contracts cite, and of the clones and the `==` of the public types. Each
+//! Laws of the definitions that the contracts cite, and of the clones and the `==` of the public types. Each
 //! function has an empty body, and its clauses are the laws.
 
 ghost use Rattle.std.specs.Prelude.{[], ◌++◌, ◌+◌, ◌<◌, ◌^◌, ◌↔◌, ◌≡◌, ◌≤◌, length, List, ℕ};
@@ -25,8 +25,8 @@ pub fn tags()
     ensures reading { IsReader SpellsTag tag_at }
 {}
 
-/// Values: the same of `write_value` and `value_at`, and what has a spelling is sound: a value that was read can be
-/// written.
+/// Values: as for tags, with `write_value` and `value_at`. A value that has a spelling is sound, so a value that was
+/// read can be written.
 pub fn values()
     ensures one { IsPrefixFree Spells }
     ensures shortest { (value : Datum) → IsDatum value → IsShortest Spells (plain value) value }
@@ -54,7 +54,7 @@ pub fn items()
 {}
 
 /// Regions: a body has one end of its region, whatever depth is allowed and whatever the closing tag's number.
-/// `behind_items` finds what whole items leave, and nothing where the whole list is a region; `region_at` reads the
+/// `behind_items` finds what whole items leave, and nothing if the whole list is a region; `region_at` reads the
 /// region that a closing tag of its number ends.
 pub fn regions()
     ensures one { (depth other number another : ℕ) (octets a b : List ℕ) → IsClosedRegion depth number octets a
@@ -66,8 +66,8 @@ pub fn regions()
     ensures reading { (number : ℕ) → IsReader (SpellsClosed number) (region_at number) }
 {}
 
-/// Parameters: each function reads what stands under a context tag of its number, or between an opening and a closing
-/// tag of that number, and the written forms spell them.
+/// Parameters: each function reads the contents of a context tag of its number, or those between an opening and a
+/// closing tag of that number, and the written forms spell them.
 pub fn parameters()
     ensures context { (number : ℕ) → IsReader (SpellsContext number) (context_at number) }
     ensures number { (number : ℕ) → IsReader (SpellsIn enumerated number) (number_at number) }
@@ -87,7 +87,7 @@ pub fn limits()
     ensures nesting { NESTING ≡ deepest }
 {}
 
-/// A clone is what it was cloned from, and takes no memory.
+/// A clone is what it was cloned from, and needs no memory.
 pub fn clones()
     ensures full { MakesCopies ⟦<Full as Clone>⟧.is_clone ⟦<Full as Clone>⟧.is_infallible }
     ensures shape { MakesCopies ⟦<Shape as Clone>⟧.is_clone ⟦<Shape as Clone>⟧.is_infallible }
@@ -96,8 +96,8 @@ pub fn clones()
     ensures value { MakesCopies ⟦<Value<'static> as Clone>⟧.is_clone ⟦<Value<'static> as Clone>⟧.is_infallible }
 {}
 
-/// What `==` compares: all that a `Full`, a shape or a tag says, the type and the instance of an identifier, and of
-/// values the kind and the contents, wherever the octets that they borrow lie.
+/// `==` compares all that a `Full`, a shape or a tag says, the type and the instance of an identifier, and the kind
+/// and the contents of values, wherever the octets that they borrow lie.
 pub fn equals()
     ensures full { EqualsBy (λ full. full) ⟦<Full as PartialEq>⟧.eq }
     ensures shape { EqualsBy (λ shape. shape) ⟦<Shape as PartialEq>⟧.eq }

@@ -3,21 +3,21 @@
 //!
 //! One meets first [`Value`], and [`Frame`], the room that is written to. [`write_value`] appends the shortest spelling
 //! of a value to a frame; [`read_value`] reads the value that begins the octets, in any of its spellings. [`region`]
-//! passes over whole items up to a closing tag. [`read_tag`] and [`write_tag`] are for what these leave.
-//! `specs/Datum.antt` says what spells a value, and [`laws`] what holds of all spellings.
+//! skips whole items up to a closing tag. [`read_tag`] and [`write_tag`] are for what these leave. `specs/Datum.antt`
+//! says what spells a value, and [`laws`] what holds of all spellings.
 //!
-//! Of `examples_of_octets` in `src/examples.rt`, which is proved: a Real is the octets of its number, and a tag before
-//! them.
+//! From `examples_of_octets` in `src/examples.rt`, which is proved: a Real is the octets of its number, and a tag
+//! before them.
 //!
 //! ```text
 //! // 72.3, by the four octets of its single precision.
 //! ensures real { WritesValue (real (0x42 ∷ 0x90 ∷ 0x99 ∷ 0x9a ∷ [])) (0x44 ∷ 0x42 ∷ 0x90 ∷ 0x99 ∷ 0x9a ∷ []) }
 //! ```
 //!
-//! The caller keeps to this: a value that it writes is sound ([`Value::sound`]), the number of a tag at most 254, and
-//! [`Frame::truncate`] keeps no more octets than there are. Octets that are read may be any.
+//! The caller must keep to this: a value that it writes is sound ([`Value::sound`]), the number of a tag at most 254,
+//! and [`Frame::truncate`] keeps no more octets than there are. Octets that are read may be any.
 //!
-//! A call, `written_alone` of `bac_uses` (`src/wire.rt`), where it is proved that what was written can be read back:
+//! A call, from `written_alone` of `bac_uses` (`src/wire.rt`), which proves that the written value can be read back:
 //!
 //! ```rust
 //! frame.clear();

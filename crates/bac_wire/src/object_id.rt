@@ -20,7 +20,7 @@ pub struct ObjectId {
 impl ObjectId {
     ghost use Rattle.bac_wire.specs.Identifier.{identifier, identifier_of, IsIdentifier, number_of};
 
-    /// The identifier of this type and instance; `None` past type 1023 or instance 4,194,303.
+    /// Returns the identifier of this type and instance; `None` past type 1023 or instance 4,194,303.
     pub fn new(kind: u16, instance: u32) -> Option<Self>
         ensures valid { IsSome result ↔ ((kind < 1024) × (instance < 2 ^ 22)) }
         ensures value { IfSome result (λ id. identifier id ≡ record { kind = kind; instance = instance }) }
@@ -32,7 +32,7 @@ impl ObjectId {
         }
     }
 
-    /// The object's type, below 1024.
+    /// Returns the object's type, below 1024.
     pub fn kind(self) -> u16
         ensures value { result ≡ (identifier self).kind }
         ensures fits { result < 1024 }
@@ -40,7 +40,7 @@ impl ObjectId {
         self.kind
     }
 
-    /// The object's instance among those of its type, below 4,194,304.
+    /// Returns the object's instance among those of its type, below 4,194,304.
     pub fn instance(self) -> u32
         ensures value { result ≡ (identifier self).instance }
         ensures fits { result < 2 ^ 22 }
@@ -48,7 +48,8 @@ impl ObjectId {
         self.instance
     }
 
-    /// The number that the identifier is on the wire: the type in its ten high bits, the instance in the 22 low ones.
+    /// Returns the number that the identifier is on the wire: the type in its ten high bits, the instance in the 22 low
+    /// ones.
     pub fn number(self) -> u32
         ensures value { result ≡ number_of (identifier self) }
         ensures fits { IsIdentifier (identifier self) }
@@ -57,7 +58,7 @@ impl ObjectId {
         u32::from(kind) * INSTANCES + instance
     }
 
-    /// The identifier that this number is on the wire.
+    /// Returns the identifier that this number is on the wire.
     pub fn of_number(number: u32) -> Self
         ensures { identifier result ≡ identifier_of number }
     {

@@ -8,7 +8,7 @@ use crate::frame::{Frame, Full};
 use arrayvec::ArrayVec;
 use byteorder::{BigEndian, ByteOrder};
 
-/// The class of a tag and what it says of the octets behind it (ANSI/ASHRAE 135, 20.2.1).
+/// The class of a tag and what it says of the octets after it (ANSI/ASHRAE 135, 20.2.1).
 #[derive(Clone, Copy, Debug, PartialEq, Eq)]
 pub enum Shape {
     /// Application class: the length of the contents, for a Boolean (number 1) its value.
@@ -21,17 +21,17 @@ pub enum Shape {
     Closing,
 }
 
-/// A tag: what stands before the contents of each part of an APDU's body (ANSI/ASHRAE 135, 20.2.1).
+/// A tag, which comes before the contents of each part of an APDU's body (ANSI/ASHRAE 135, 20.2.1).
 #[derive(Clone, Copy, Debug, PartialEq, Eq)]
 pub struct Tag {
-    /// 0 to 254. In the application class it is the kind of the value, else it says which parameter stands here.
+    /// 0 to 254. In the application class it is the kind of the value, otherwise it says which parameter this is.
     pub number: u8,
-    /// Its class, and what it says of the octets behind it.
+    /// Its class, and what it says of the octets after it.
     pub shape: Shape,
 }
 
-/// The tag that begins the input, and how many octets spell it; `None` only where no prefix is a spelling of a tag.
-/// Numbers and lengths in a longer form than needed are read too.
+/// Returns the tag that begins the input, and how many octets spell it; `None` only if no prefix is a spelling of a
+/// tag. Numbers and lengths in a longer form than needed are read too.
 pub fn read_tag(octets: &[u8]) -> Option<(Tag, usize)>
     ensures { FindsFront SpellsTag octets.now result }
 {
@@ -39,7 +39,7 @@ pub fn read_tag(octets: &[u8]) -> Option<(Tag, usize)>
     Some((tag, octets.len() - rest.len()))
 }
 
-/// The tag that begins the input, and the octets behind it; `None` where `read_tag` gives none.
+/// Returns the tag that begins the input, and the octets after it; `None` if `read_tag` gives `None`.
 #[tactic(auto, unfolding(crate::specs::tag_at))]
 #[inline(always)]
 pub fn tag_and_rest(octets: &[u8]) -> Option<(Tag, &[u8])>
@@ -53,8 +53,8 @@ pub fn tag_and_rest(octets: &[u8]) -> Option<(Tag, &[u8])>
     Some((Tag { number, shape }, rest))
 }
 
-/// Appends the shortest spelling of the tag, whose number is at most 254. Where it passes the frame's room it is
-/// `Full`, and the frame is as it was.
+/// Appends the shortest spelling of the tag, whose number is at most 254. If it passes the frame's room it is `Full`,
+/// and the frame is as it was.
 pub fn write_tag(frame: &mut Frame, tag: Tag) -> Result<(), Full>
     requires { tag.number < 255 }
     ensures appended { Appends frame.old (plain_tag tag) frame.new result }
@@ -64,10 +64,10 @@ pub fn write_tag(frame: &mut Frame, tag: Tag) -> Result<(), Full>
     frame.append(shortest(tag).as_slice())
 }
 
-/// Room for a tag, which has seven octets at most, and for eight octets behind it.
+/// Room for a tag, which has seven octets at most, and for eight octets after it.
 pub(crate) type Head = ArrayVec<u8, 15>;
 
-/// The shortest spelling of the tag.
+/// Returns the shortest spelling of the tag.
 #[tactic(auto, unfolding(crate::specs::plain_tag))]
 pub(crate) fn shortest(tag: Tag) -> Head
     requires { tag.number < 255 }
@@ -94,7 +94,7 @@ pub(crate) fn shortest(tag: Tag) -> Head
     octets
 }
 
-// The tag's number, by the high half of the initial octet: 15 there says that the next octet holds it.
+// Returns the tag's number, by the high half of the initial octet: 15 there says that the next octet holds it.
 #[tactic(auto, unfolding(crate::specs::tag_number_at))]
 fn number_and_rest(high: u8, octets: &[u8]) -> Option<(u8, &[u8])>
     requires { high < 16 }
@@ -109,7 +109,8 @@ fn number_and_rest(high: u8, octets: &[u8]) -> Option<(u8, &[u8])>
     }
 }
 
-// The tag's shape, by the low half of the initial octet: 8 is the class bit, and the rest the length or a bracket.
+// Returns the tag's shape, by the low half of the initial octet: 8 is the class bit, and the rest the length or a
+// bracket.
 #[tactic(auto, unfolding(crate::specs::shape_at))]
 fn shape_and_rest(low: u8, octets: &[u8]) -> Option<(Shape, &[u8])>
     requires { low < 16 }
@@ -129,7 +130,7 @@ fn shape_and_rest(low: u8, octets: &[u8]) -> Option<(Shape, &[u8])>
     }
 }
 
-// The length, by the three low bits: 5 there says that it follows.
+// Returns the length, by the three low bits: 5 there says that it follows.
 #[tactic(auto, unfolding(crate::specs::length_at))]
 fn length_and_rest(low: u8, octets: &[u8]) -> Option<(u32, &[u8])>
     ensures { option_map (λ x. (x.0, x.1.now)) result ≡ length_at low octets.now }
@@ -141,7 +142,7 @@ fn length_and_rest(low: u8, octets: &[u8]) -> Option<(u32, &[u8])>
     }
 }
 
-// A length that follows: one octet, or two behind 254, or four behind 255.
+// Returns a length that follows: one octet, or two after 254, or four after 255.
 #[tactic(auto, unfolding(crate::specs::long_length_at))]
 #[cold]
 #[inline(never)]
@@ -156,7 +157,7 @@ fn long_length_and_rest(octets: &[u8]) -> Option<(u32, &[u8])>
     }
 }
 
-// Puts the octets of a length behind those of the tag.
+// Puts the octets of a length after those of the tag.
 fn push_length(octets: &mut Head, count: u32)
     requires { length octets.old.items ≤ 2 }
     ensures items { octets.new.items ≡ octets.old.items ++ plain_length count }

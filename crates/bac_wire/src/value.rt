@@ -11,12 +11,12 @@ use crate::object_id::ObjectId;
 use crate::tag::{Shape, Tag, shortest, tag_and_rest};
 use byteorder::{BigEndian, ByteOrder};
 
-/// A value that stands behind an application tag (ANSI/ASHRAE 135, 20.2.2 to 20.2.14). Borrowed parts are slices of
-/// the octets that were read.
+/// A value that stands after an application tag (ANSI/ASHRAE 135, 20.2.2 to 20.2.14). Borrowed parts are slices of the
+/// octets that were read.
 #[derive(Clone, Copy, Debug, PartialEq, Eq)]
 pub enum Value<'a> {
     Null,
-    /// Boolean: its value stands in the tag.
+    /// Boolean: its value is in the tag.
     Bool(bool),
     Unsigned(u64),
     Signed(i64),
@@ -31,7 +31,7 @@ pub enum Value<'a> {
     /// BitString: how many bits of the last octet are unused, 0 to 7, and its octets.
     Bits(u8, &'a [u8]),
     Enumerated(u32),
-    /// Four octets: the year less 1900, the month, the day, and the day of the week.
+    /// Four octets: the year minus 1900, the month, the day, and the day of the week.
     Date([u8; 4]),
     /// Four octets: the hour, the minute, the second, and the hundredths.
     Time([u8; 4]),
@@ -40,8 +40,8 @@ pub enum Value<'a> {
 }
 
 impl Value<'_> {
-    /// Whether the value can be written: not a BitString with more than 7 unused bits, or with unused bits and no
-    /// octets.
+    /// Returns whether the value can be written: not a BitString with more than 7 unused bits, or with unused bits and
+    /// no octets.
     pub fn sound(&self) -> bool
         ensures { IsTrue result ↔ IsSound (datum self.now) }
     {
@@ -52,9 +52,9 @@ impl Value<'_> {
     }
 }
 
-/// The value that begins the input, and how many octets spell it; `None` only where no prefix is a spelling of a value:
-/// no tag, one of another number or class, too few octets behind it, or contents that stand for no value of their kind.
-/// Nothing is copied.
+/// Returns the value that begins the input, and how many octets spell it; `None` only if no prefix is a spelling of a
+/// value: no tag, one of another number or class, too few octets after it, or contents that stand for no value of their
+/// kind. Nothing is copied.
 pub fn read_value(octets: &[u8]) -> Option<(Value<'_>, usize)>
     ensures { FindsFront Spells octets.now (option_map (λ x. (datum x.0, x.1)) result) }
 {
@@ -62,7 +62,7 @@ pub fn read_value(octets: &[u8]) -> Option<(Value<'_>, usize)>
     Some((value, octets.len() - rest.len()))
 }
 
-/// The value that begins the input, and the octets behind it; `None` where `read_value` gives none.
+/// Returns the value that begins the input, and the octets after it; `None` if `read_value` gives `None`.
 #[tactic(auto, unfolding(crate::specs::value_at))]
 pub fn value_and_rest(octets: &[u8]) -> Option<(Value<'_>, &[u8])>
     ensures { option_map (λ x. (datum x.0, x.1.now)) result ≡ value_at octets.now }
@@ -82,7 +82,7 @@ pub fn value_and_rest(octets: &[u8]) -> Option<(Value<'_>, &[u8])>
     Some((value_of(tag.number, contents)?, rest))
 }
 
-/// Appends the shortest spelling of the value, which is sound. Where it passes the frame's room it is `Full`, and the
+/// Appends the shortest spelling of the value, which is sound. If it passes the frame's room it is `Full`, and the
 /// frame is as it was.
 #[inline(always)]
 pub fn write_value(frame: &mut Frame, value: &Value<'_>) -> Result<(), Full>
@@ -94,7 +94,7 @@ pub fn write_value(frame: &mut Frame, value: &Value<'_>) -> Result<(), Full>
     append_value(frame, value)
 }
 
-/// The fewest octets that hold the number, at least one (ANSI/ASHRAE 135, 20.2.4).
+/// Returns the smallest number of octets that hold the number, at least one (ANSI/ASHRAE 135, 20.2.4).
 pub fn octet_count(n: u64) -> usize
     ensures value { result ≡ octet_count n }
     ensures low { 1 ≤ result }
@@ -113,7 +113,7 @@ pub fn octet_count(n: u64) -> usize
     }
 }
 
-// The value that the contents stand for, by the number of the tag before them.
+// Returns the value that the contents stand for, by the number of the tag before them.
 #[tactic(auto, unfolding(crate::specs::contents_of))]
 fn value_of(number: u8, contents: &[u8]) -> Option<Value<'_>>
     ensures { option_map datum result ≡ contents_of number contents.now }
@@ -140,7 +140,7 @@ fn value_of(number: u8, contents: &[u8]) -> Option<Value<'_>>
     }
 }
 
-// The number that the contents are, where they have from one octet up to `most`.
+// Returns the number that the contents are, if they have from one octet up to `most`.
 fn unsigned_of(contents: &[u8], most: usize) -> Option<u64>
     requires { most ≤ 8 }
     ensures value { result ≡ number_within most contents.now }
@@ -152,7 +152,7 @@ fn unsigned_of(contents: &[u8], most: usize) -> Option<u64>
     Some(BigEndian::read_uint(contents, contents.len()))
 }
 
-// The number that the contents are in two's complement, where they have one octet to eight.
+// Returns the number that the contents are in two's complement, if they have one octet to eight.
 fn signed_of(contents: &[u8]) -> Option<i64>
     ensures { result ≡ option_map (twos_complement (length contents.now)) (number_within 8 contents.now) }
 {
@@ -162,21 +162,21 @@ fn signed_of(contents: &[u8]) -> Option<i64>
     Some(BigEndian::read_int(contents, contents.len()))
 }
 
-// The contents, where they are four octets.
+// Returns the contents, if they are four octets.
 fn four(contents: &[u8]) -> Option<[u8; 4]>
     ensures { result ≡ exactly 4 contents.now }
 {
     contents.try_into().ok()
 }
 
-// The contents, where they are eight octets.
+// Returns the contents, if they are eight octets.
 fn eight(contents: &[u8]) -> Option<[u8; 8]>
     ensures { result ≡ exactly 8 contents.now }
 {
     contents.try_into().ok()
 }
 
-// A BitString: how many bits are unused, and the octets. `None` where that is not sound.
+// Returns a BitString: how many bits are unused, and the octets. `None` if that is not sound.
 fn bits_of(contents: &[u8]) -> Option<Value<'_>>
     ensures { option_map datum result ≡ bits_of contents.now }
 {
@@ -259,7 +259,7 @@ fn append_signed(frame: &mut Frame, n: i64) -> Result<(), Full>
     append_tagged(frame, 3, &contents[..count], &[])
 }
 
-// The fewest octets that hold the number in two's complement.
+// Returns the smallest number of octets that hold the number in two's complement.
 fn signed_octet_count(n: i64) -> usize
     ensures value { result ≡ signed_count n }
     ensures low { 1 ≤ result }

@@ -3,7 +3,7 @@ ghost use Rattle.std.specs.{Borrow.ftrue, Prelude.{◌+◌, ◌≡◌, ℕ}};
 
 use std::marker::Model;
 
-/// How many tags were read so far in walks over items. It takes no memory, and its methods do nothing. Nothing takes
+/// How many tags were read so far in walks over items. It needs no memory, and its methods do nothing. Nothing takes
 /// away from it. `begin` of `bac_work` begins one. No crate up to `bac_device` rests on that crate, so who is handed a
 /// count there can count nowhere else.
 #[derive(Drop)]
@@ -23,7 +23,7 @@ impl Work {
         *self = self.and_one(self);
     }
 
-    // The same, as a new count: what walks by hand over ghost data have as their form takes two references.
+    // Returns a new count with the same value, since a walk over ghost data takes two references.
     fn and_one(&self, _again: &Work) -> Work
         ensures { result.tags ≡ self.now.tags + 1 }
     {

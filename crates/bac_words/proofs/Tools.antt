@@ -1,4 +1,4 @@
--- From words that `clap` takes to the tool that they name, with its numbers and its peer.
+-- From words that `clap` accepts to the tool that they name, with its numbers and its peer.
 use Rattle.std.proofs.Common.{[], add-one, ap, arith, Bool, codes, drop, drop-cons, Err, false, find, get_or, IfSome}
 use Rattle.std.proofs.Common.{inl, inr, IsErrAnd, IsSomeAnd, length, length-drop, List, map, None, Ok, Option}
 use Rattle.std.proofs.Common.{option_map, refl, Result, Some, subst, sym, true, unwrap_or, ℕ, ◌+◌, ◌<◌, ◌∙◌, ◌∷◌, ◌≡◌}
@@ -27,7 +27,7 @@ one_found P p xs t all is =
     when_found p (λ xs. AllOf P xs → P t × (p t ≡ true)) t
     (λ xs passes (here, _). (here, passes)) (λ x xs fails is rest (_, later). rest later) xs is all
 
--- A tool that the name answers to takes the words, where the name asks for no help.
+-- A tool that has the name accepts the words, if the name does not ask for help.
 abbrev Passed : Shape → Type 0
 Passed s = (name : Text) (words : List Text) → answers_to name (label_of s) ≡ true
     → asks_for_help (built bactool) name ≡ false →
@@ -130,7 +130,7 @@ module _ (id : Text) (rows : List Row) where
   of_client taken reads writes runs seeks fits =
       elim taken [ inl sender ↦ of_sender sender reads writes runs fits | inr search ↦ of_tool _ search seeks fits ]
 
-  -- An argument that has to be given.
+  -- An argument that is required.
   pub given_to_tool : (rules : List Rule) → IsTaken rules rows → is_needed rules id ≡ true → IsGiven id rows
   given_to_tool rules taken is = record { given = needed rules id rows taken is }
 

@@ -10,8 +10,8 @@ is_tool name = bytes_eq name (codes "bacrp") || bytes_eq name (codes "bacwp") ||
 abbrev pub tool_named : List ℕ → Option (List ℕ)
 tool_named program = option_and_then (λ name. if is_tool name then Some name else None) (path_file_name program)
 
--- The words that are run. First comes the program's own name; or, where that names a tool, a name without a letter and
--- the tool, so that help and usage begin with the tool.
+-- The words that are run. First comes the program's own name; or, if that names a tool, a name without a letter and the
+-- tool, so that help and usage begin with the tool.
 abbrev pub words_called : List (List ℕ) → List (List ℕ)
 words_called [] = []
 words_called (program ∷ rest) = option_map_or (λ tool. [] ∷ tool ∷ []) (tool_named program) (program ∷ []) ++ rest

@@ -1,4 +1,4 @@
--- The command line of `bactool`, as `clap` reads it: six tools, each with its words.
+-- The command line of `bactool`, such as `clap` reads it: six tools, each with its words.
 use Rattle.std.specs.{Prelude.{List, [], ◌∷◌, ◌++◌, codes}, List.fold}
 use Rattle.clap.specs.Words.{App, Rule, new_app, new_rule, with_rule, with_subcommand}
 use Rattle.clap_laws.specs.Commands.{number, needed, by_name, several, wanting}
@@ -34,7 +34,7 @@ abbrev pub bacwi : App
 bacwi = fold with_rule (new_app (codes "bacwi")) (number (codes "min") 0 4194303
     ∷ number (codes "max") 0 4194303 ∷ mac_rule ∷ timeout_rule ∷ port_rule ∷ [])
 
--- A device. The greatest instance stands for every device, so no device has it.
+-- A device. The greatest instance means every device, so it is not the instance of any device.
 abbrev pub bacdev : App
 bacdev = fold with_rule (new_app (codes "bacdev")) (needed (number (codes "device-instance") 0 4194302)
     ∷ port_rule ∷ by_name (number (codes "count") 1 65535) ∷ [])

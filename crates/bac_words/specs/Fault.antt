@@ -1,16 +1,16 @@
--- What an error of `clap` is to the user of the words.
+-- The fault that an error of `clap` is to the user.
 use Rattle.std.specs.Prelude.{◌++◌, codes, decimal}
 use Rattle.bac_text.specs.declared.pairs.PairFault.{PairFault}
 use Rattle.bac_text.specs.declared.pairs.PairFault.TheVariants as pair
 use Rattle.bac_words.specs.declared.faults.UsageFault.{UsageFault, TheVariants.{Help, Words, Memory, BadMac, BadIndex}}
 use Rattle.bac_words.specs.{declared.faults.UsageFault.TheVariants.{BadValue, BodyTooLong}, Telling.{Told, Text, Line}}
 
--- What a fault of the pairs is to the user of the words.
+-- The fault that a bad pair is to the user.
 abbrev pub usage_of : PairFault → UsageFault
 usage_of (pair.Bad n) = BadValue n
 usage_of pair.TooLong = BodyTooLong
 
--- What is told of it.
+-- Its message.
 abbrev pub usage_told : UsageFault → Told
 usage_told (Help message) = Text message
 usage_told (Words message) = Text message

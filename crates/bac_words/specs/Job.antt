@@ -66,7 +66,7 @@ reference_given rows =
 abbrev pub read_order : List Row → Result Job UsageFault
 read_order rows = do
   to ← ok_or (peer_given rows) BadMac
-  Ok (job.Over (tool.Read (call_given to rows (record { items = read_octets (reference_given rows) }))))
+  Ok (job.Use (tool.Read (call_given to rows (record { items = read_octets (reference_given rows) }))))
 
 -- The body of the request, by the same reading of pairs as that of a script.
 abbrev pub body_given : List Row → Option ℕ → Result (List ℕ) PairFault
@@ -77,10 +77,10 @@ abbrev pub write_order : List Row → Result Job UsageFault
 write_order rows = do
   to ← ok_or (peer_given rows) BadMac
   index ← ok_or (index_given rows) BadIndex
-  result_map_both (λ body. job.Over (tool.Write (call_given to rows (record { items = body })))) usage_of
+  result_map_both (λ body. job.Use (tool.Write (call_given to rows (record { items = body })))) usage_of
       (body_given rows index)
 
--- The limits of a search: one number is both of them, and no number is no limit.
+-- The limits of a search: one number is both of them; without a number there is no limit.
 abbrev pub limits : Option ℕ → Option ℕ → WhoIs
 limits None most = All
 limits (Some least) most = Range least (unwrap_or most least)
@@ -89,18 +89,18 @@ abbrev pub search_order : List Row → Result Job UsageFault
 search_order rows = do
   to ← ok_or (peer_given rows) BadMac
   let who = limits (number_of (codes "min") rows) (number_of (codes "max") rows) in
-      Ok (job.Over (tool.WhoIs
+      Ok (job.Use (tool.WhoIs
       (record { to = to; timeout = timeout_given rows; port = port_given rows; who = who })))
 
 abbrev pub serve_order : List Row → Result Job UsageFault
 serve_order rows =
-    Ok (job.Over (tool.Device (record {
+    Ok (job.Use (tool.Device (record {
       info = record { instance = needed_number (codes "device-instance") rows; name = codes "Small device" };
       port = unwrap_or (number_of (codes "port") rows) 47808;
       count = unwrap_or (number_of (codes "count") rows) 65535;
     })))
 
--- Many requests: as those of one tool, and one is open at most where nothing else is said.
+-- Many requests: like those of one tool; at most one is open unless the words say otherwise.
 abbrev pub batch_given : List Row → Batch
 batch_given rows =
     record {
@@ -125,7 +125,7 @@ order_of (tool, rows) =
     else if bytes_eq tool (codes "bacrun") then run_order rows
     else Ok job.Trace
 
--- A tool can be run: a request and a search wait for some time, and a device takes some datagram.
+-- A tool can be run: a request and a search wait for some time, and a device accepts at least one datagram.
 abbrev pub IsReady : Tool → Type 0
 IsReady (tool.Read call) = 0 < call.timeout
 IsReady (tool.Write call) = 0 < call.timeout
@@ -140,4 +140,4 @@ CanOpen batch = (0 < batch.timeout) × (0 < batch.window)
 abbrev pub CanRun : Job → Type 0
 CanRun job.Trace = ⊤
 CanRun (job.Run batch) = CanOpen batch
-CanRun (job.Over tool) = IsReady tool
+CanRun (job.Use tool) = IsReady tool

@@ -5,7 +5,7 @@ use Rattle.clap.specs.declared.error.kind.ErrorKind.TheVariants as kind
 use Rattle.bac_words.specs.declared.{faults.UsageFault.{UsageFault, TheVariants.{Help, Memory, Words}}, job.Job.Job}
 use Rattle.bac_words.specs.{Command.bactool, Job.order_of, Marks.marked_words}
 
--- `clap` takes the words, and the answer is what the matches of the tool that they name ask for.
+-- `clap` accepts the words, and the answer is what the matches of the tool that they name ask for.
 pub record Answers (words : List Text) (answer : Result Job UsageFault) : Type 0 where
   pub taken : fault_of bactool (marked_words words) ≡ []
   pub answer_is : option_map order_of (subcommand_of bactool (marked_words words)) ≡ Some answer

@@ -8,7 +8,7 @@ abbrev pub wants_mark : Text → Bool
 wants_mark word =
     slice_index word 0 == 126 || (slice_index word 0 == 45 && is_ascii_digit (slice_index word 1))
 
--- The word, with a `~` in front where it wants a mark.
+-- The word, with a `~` in front if it needs a mark.
 abbrev pub marked : Text → Text
 marked word = if wants_mark word then 126 ∷ word else word
 

@@ -1,4 +1,4 @@
--- What is told of a fault.
+-- The message of a fault.
 use Rattle.std.specs.Prelude.{List, None, Option, Some, ℕ}
 use Rattle.{clap.specs.declared.error.Error.Error, bac_print.specs.message_text}
 use Rattle.bac_words.specs.declared.telling.Telling.{Telling}
@@ -9,7 +9,7 @@ pub data Told : Type 0 where
   Text : (message : Error) → Told
   Line : (text : List ℕ) → Told
 
--- What contracts see of it.
+-- The view that contracts have of it.
 abbrev pub told_by : Telling → Told
 told_by (telling.Text message) = Text message.now
 told_by (telling.Line message) = Line (message_text message)

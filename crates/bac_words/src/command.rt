@@ -1,4 +1,4 @@
-//! The command that `clap` reads the words by.
+//! The command from which `clap` knows how to read the words.
 
 ghost use Rattle.std.specs.{List.{fold, list_any}, Prelude.{◌≡◌, codes, false, IfOk, map}};
 ghost use Rattle.clap.specs.Words.{App, new_app, new_rule, rule_of, with_rule, with_subcommand};
@@ -11,7 +11,7 @@ use clap::builder::ValueParser;
 use clap::{Arg, Command};
 use std::alloc::{AllocError, Global};
 
-/// The program, with a subcommand for each tool.
+/// Returns the program, with a subcommand for each tool.
 pub fn bactool<'a>(alloc: Global) -> Result<Command<'a>, AllocError>
     ensures { IfOk result (λ c. IsCommand c bactool) }
 {
@@ -24,7 +24,7 @@ pub fn bactool<'a>(alloc: Global) -> Result<Command<'a>, AllocError>
     with_tool(command, Ok(bactrace(alloc)))
 }
 
-// A command with one more tool, where there is memory for it.
+// Returns a command with one more tool, if there is memory for it.
 fn with_tool<'a>(
     command: Command<'a>,
     tool: Result<Command<'a>, AllocError>,
@@ -140,14 +140,14 @@ fn bactrace<'a>(alloc: Global) -> Command<'a>
     named(alloc, "bactrace", help::TRACES, help::TRACE_LINES)
 }
 
-// A command with its help.
+// Returns a command with its help.
 fn named<'a>(alloc: Global, name: &'a str, about: &'a str, lines: &'a str) -> Command<'a>
     ensures { IsCommand result (new_app name.entry.now) }
 {
     Command::new(alloc, name).about(about).after_help(lines)
 }
 
-// A tool with its arguments.
+// Returns a tool with its arguments.
 fn tool<'a>(command: Command<'a>, arguments: Vec<Arg<'a>>) -> Result<Command<'a>, AllocError>
     requires { list_any (λ a. a.global) arguments.items ≡ false }
     ensures { (app : App) → IsCommand command.entry app
@@ -206,7 +206,7 @@ fn port_arg<'a>(alloc: Global, help: &'a str) -> Arg<'a>
     option(alloc, "port", 0, 65_535, help)
 }
 
-// The instance that `bacdev` has; the last one stands for every device.
+// Returns the argument for the instance of `bacdev`; the greatest number stands for every device.
 fn own_instance_arg<'a>(alloc: Global) -> Arg<'a>
     ensures rule { rule_of result ≡ needed (number (codes "device-instance") 0 4194302) }
     ensures local { result.global ≡ false }
@@ -214,7 +214,7 @@ fn own_instance_arg<'a>(alloc: Global) -> Arg<'a>
     needed_argument(alloc, "device-instance", 0, 4_194_302, help::OWN_INSTANCE)
 }
 
-// A number that is given by its name.
+// Returns the argument for a number that is given by its name.
 fn option<'a>(alloc: Global, id: &'a str, least: u32, most: u32, help: &'a str) -> Arg<'a>
     ensures rule { rule_of result ≡ by_name (number id.entry.now least most) }
     ensures local { result.global ≡ false }
@@ -222,7 +222,7 @@ fn option<'a>(alloc: Global, id: &'a str, least: u32, most: u32, help: &'a str) 
     number_argument(alloc, id, least, most, help).long(id)
 }
 
-// A number that has to be there.
+// Returns the argument for a number that is required.
 fn needed_argument<'a>(alloc: Global, id: &'a str, least: u32, most: u32, help: &'a str) -> Arg<'a>
     ensures rule { rule_of result ≡ needed (number id.entry.now least most) }
     ensures local { result.global ≡ false }
@@ -230,7 +230,7 @@ fn needed_argument<'a>(alloc: Global, id: &'a str, least: u32, most: u32, help: 
     number_argument(alloc, id, least, most, help).required(true)
 }
 
-// A word that is a number from `least` to `most`.
+// Returns the argument for a number from `least` to `most`.
 fn number_argument<'a>(alloc: Global, id: &'a str, least: u32, most: u32, help: &'a str) -> Arg<'a>
     ensures rule { rule_of result ≡ number id.entry.now least most }
     ensures local { result.global ≡ false }

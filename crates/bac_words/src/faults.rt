@@ -11,28 +11,28 @@ use clap::error::ErrorKind;
 use std::alloc::AllocError;
 use thiserror::Error;
 
-/// Why the words give no job: the fault of who typed them, but for `Memory` and `Help`.
+/// Why the words give no job: the fault of who typed them, except `Memory` and `Help`.
 #[derive(Debug, Drop, Error)]
 #[error("{}", self.telling())]
 pub enum UsageFault {
-    /// There is no memory for them: nobody's fault.
+    /// There is no memory for the words, which is nobody's fault.
     Memory,
-    /// They ask for help, which this is: no fault.
+    /// The words ask for help, and this is the help; it is not a fault.
     Help(clap::Error),
-    /// They are no words of the program, as this says.
+    /// The words are not words of the program, as this error says.
     Words(clap::Error),
-    /// What `--mac` says is no peer, or one with a route.
+    /// The word of `--mac` is not a peer, or is one with a route.
     BadMac,
     /// The index is neither a number nor `-1`.
     BadIndex,
-    /// The pair with this number, from 1, is no tag and a value of it, or it lacks its value.
+    /// The pair with this number, from 1, is not a tag and a value of it, or it lacks its value.
     BadValue(u64),
     /// The body would be longer than a client sends.
     BodyTooLong,
 }
 
 impl UsageFault {
-    /// What is told of it.
+    /// Returns the message of the fault.
     pub fn telling(&self) -> Telling<'_>
         ensures { told_by result ≡ usage_told self.now }
     {

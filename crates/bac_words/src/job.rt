@@ -2,15 +2,15 @@
 use bac_device::DeviceInfo;
 use bac_text::{Call, Search};
 
-/// What the program is to do.
+/// The task of the program.
 #[derive(Drop)]
 pub enum Job {
     /// Runs a script: `bactrace`. It has no socket.
     Trace,
     /// Makes many requests over one socket: `bacrun`.
     Run(Batch),
-    /// Runs a tool over a socket.
-    Over(Tool),
+    /// Uses a tool over a socket.
+    Use(Tool),
 }
 
 /// A tool that has a socket.
@@ -22,7 +22,7 @@ pub enum Tool {
     Write(Call),
     /// Looks for devices: `bacwi`.
     WhoIs(Search),
-    /// Is a device: `bacdev`.
+    /// Plays a device: `bacdev`.
     Device(Serve),
 }
 

@@ -1,5 +1,5 @@
-//! The marks of words: put on before `clap` reads them, so that none is taken for an option, and taken off again. Each
-//! text of a word is had from here, but that of `--mac`, so that no mark is left on it.
+//! The marks of words: put on before `clap` reads them, so that it reads none as an option, and taken off again. Each
+//! text of a word comes from here, except that of `--mac`, so that no mark is left on it.
 
 ghost use Rattle.std.specs.{Cow.cow_str_bytes, Prelude.{◌≡◌, drop, IfOk, map, option_map}};
 ghost use Rattle.clap.specs.{Walk.texts, Words.{found_of, rows_of}};
@@ -10,7 +10,7 @@ use clap::ArgMatches;
 use std::alloc::{AllocError, Global};
 use std::borrow::CowStr;
 
-/// The words, each after the program's name with a mark where it wants one. Only those with a mark are copied.
+/// Returns the words, each after the program's name with a mark if it needs one. Only those with a mark are copied.
 pub(crate) fn marked_words<'a>(
     alloc: Global,
     words: &[&'a str],
@@ -27,7 +27,7 @@ pub(crate) fn marked_words<'a>(
     Ok(seen)
 }
 
-/// The word of an argument, as it was typed, where it is given.
+/// Returns the word of an argument, as it was typed, if it is given.
 #[tactic(auto, using(crate::proofs::first_words))]
 pub(crate) fn typed_word<'a>(matches: &ArgMatches<'a>, id: &str) -> Option<&'a str>
     ensures { option_map (λ word. word.now) result ≡ typed_word id.now (rows_of (found_of matches.now)) }
@@ -39,7 +39,7 @@ pub(crate) fn typed_word<'a>(matches: &ArgMatches<'a>, id: &str) -> Option<&'a s
 #[derive(Drop)]
 pub(crate) struct TypedWords<'w, 'a> {
     words: &'w [&'a str],
-    // How many are taken.
+    // The number of words that are taken.
     taken: usize,
 }
 
@@ -68,14 +68,14 @@ impl<'w, 'a> WordSource<'a> for TypedWords<'w, 'a> {
     fn are_countable(&self) {}
 }
 
-// A word without its mark.
+// Returns a word without its mark.
 fn unmarked(word: &str) -> &str
     ensures { result.now ≡ unmarked word.now }
 {
     word.strip_prefix("~").unwrap_or(word)
 }
 
-// The word, with a mark where it wants one.
+// Returns the word, with a mark if it needs one.
 fn marked<'a>(alloc: Global, word: &'a str) -> Result<CowStr<'a>, AllocError>
     ensures { IfOk result (λ s. cow_str_bytes s ≡ marked word.now) }
 {
@@ -86,7 +86,7 @@ fn marked<'a>(alloc: Global, word: &'a str) -> Result<CowStr<'a>, AllocError>
     }
 }
 
-// Whether the word is to be marked: `clap` would take it for an option, or it would be taken for a marked one.
+// Returns whether the word needs a mark: `clap` would read it as an option, or it looks like a marked word.
 fn wants_mark(word: &str) -> bool
     ensures { result ≡ wants_mark word.now }
 {

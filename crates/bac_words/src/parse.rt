@@ -25,11 +25,11 @@ use bac_wire::{Frame, ObjectId};
 use clap::ArgMatches;
 use std::alloc::Global;
 
-/// The job that the words ask for, the first of which is the program's name.
+/// Returns the job that the words ask for, the first of which is the program's name.
 ///
 /// # Errors
 ///
-/// `Memory` where there is none, `Help` and `Words` where `clap` doesn't take the words, and else the first of
+/// `Memory` if there is no memory, `Help` and `Words` if `clap` does not accept the words, and otherwise the first of
 /// `BadMac`, `BadIndex`, and `BadValue` or `BodyTooLong`.
 pub fn parse_words(alloc: Global, words: &[&str]) -> Result<Job, UsageFault>
     ensures answer { IsErrAnd result (IsRefusal (texts words.now)) ⊎ Answers (texts words.now) result }
@@ -41,7 +41,7 @@ pub fn parse_words(alloc: Global, words: &[&str]) -> Result<Job, UsageFault>
     job(&matches)
 }
 
-// The job of the tool that was met.
+// Returns the job of the tool that the words name.
 fn job(matches: &ArgMatches<'_>) -> Result<Job, UsageFault>
     requires { IsSomeAnd (subcommand_rows_of matches.now) IsTool }
     ensures job { option_map order_of (subcommand_rows_of matches.now) ≡ Some result }
@@ -74,7 +74,7 @@ fn read_job(matches: &ArgMatches<'_>) -> Result<Job, UsageFault>
     let Some(to) = peer(matches) else {
         return Err(UsageFault::BadMac);
     };
-    Ok(Job::Over(Tool::Read(call(matches, to, read_body(&request)))))
+    Ok(Job::Use(Tool::Read(call(matches, to, read_body(&request)))))
 }
 
 fn write_job(matches: &ArgMatches<'_>) -> Result<Job, UsageFault>
@@ -89,7 +89,7 @@ fn write_job(matches: &ArgMatches<'_>) -> Result<Job, UsageFault>
         return Err(UsageFault::BadIndex);
     };
     let body = write_body(matches, index)?;
-    Ok(Job::Over(Tool::Write(call(matches, to, body))))
+    Ok(Job::Use(Tool::Write(call(matches, to, body))))
 }
 
 #[tactic(auto, using(crate::proofs::of_tool, crate::proofs::given_to_tool))]
@@ -103,7 +103,7 @@ fn search_job(matches: &ArgMatches<'_>) -> Result<Job, UsageFault>
     let Some(to) = peer(matches) else {
         return Err(UsageFault::BadMac);
     };
-    Ok(Job::Over(Tool::WhoIs(Search {
+    Ok(Job::Use(Tool::WhoIs(Search {
         to,
         timeout: timeout(matches),
         port: port(matches),
@@ -121,7 +121,7 @@ fn serve_job(matches: &ArgMatches<'_>) -> Result<Job, UsageFault>
     let port = number(matches, "port").unwrap_or(47_808) as u16;
     let count = number(matches, "count").unwrap_or(65_535);
     let info = DeviceInfo::new(instance, "Small device").unwrap();
-    Ok(Job::Over(Tool::Device(Serve { info, port, count })))
+    Ok(Job::Use(Tool::Device(Serve { info, port, count })))
 }
 
 #[tactic(auto, using(crate::proofs::of_tool, crate::proofs::given_to_tool))]
@@ -138,7 +138,7 @@ fn run_job(matches: &ArgMatches<'_>) -> Result<Job, UsageFault>
     }))
 }
 
-// The request to this peer with this body.
+// Returns the request to this peer with this body.
 fn call(matches: &ArgMatches<'_>, to: Peer, body: ArrayVec<u8, LONGEST_BODY>) -> Call
     requires { IsRequest (rows_of (found_of matches.now)) }
     ensures request { result ≡ call_given to (rows_of (found_of matches.now)) body }
@@ -153,7 +153,7 @@ fn call(matches: &ArgMatches<'_>, to: Peer, body: ArrayVec<u8, LONGEST_BODY>) ->
     }
 }
 
-// The body of a read. There is always room for it.
+// Returns the body of a read. There is always room for it.
 fn read_body(request: &ReadRequest) -> ArrayVec<u8, LONGEST_BODY>
     ensures { result.items ≡ read_octets (reference request.now) }
 {
@@ -162,7 +162,7 @@ fn read_body(request: &ReadRequest) -> ArrayVec<u8, LONGEST_BODY>
     copy_of(body.as_slice())
 }
 
-// The body of a write, whose values are the pairs as they were typed.
+// Returns the body of a write, whose values are the pairs as they were typed.
 #[tactic(auto, using(crate::proofs::of_tool, crate::proofs::given_to_tool))]
 fn write_body(
     matches: &ArgMatches<'_>,
@@ -184,7 +184,7 @@ fn write_body(
     Ok(copy_of(body))
 }
 
-// A copy of the body, to be handed on.
+// Returns a copy of the body, to be handed on.
 fn copy_of(body: &[u8]) -> ArrayVec<u8, LONGEST_BODY>
     requires { length body.now ≤ LONGEST_BODY }
     ensures { result.items ≡ body.now }
@@ -194,7 +194,7 @@ fn copy_of(body: &[u8]) -> ArrayVec<u8, LONGEST_BODY>
     room
 }
 
-// The limits of a search: one number is both of them, and no number is no limit.
+// Returns the limits of a search: one number is both of them; without a number there is no limit.
 fn limits(least: Option<u32>, most: Option<u32>) -> WhoIs
     ensures { result ≡ limits least most }
 {
@@ -207,7 +207,7 @@ fn limits(least: Option<u32>, most: Option<u32>) -> WhoIs
     }
 }
 
-// The peer of `--mac`, which has no route. Nobody types a mark in front of one, so none is taken off.
+// Returns the peer of `--mac`, which has no route. Nobody types a mark in front of one, so none is taken off.
 #[tactic(auto, using(crate::proofs::first_words))]
 fn peer(matches: &ArgMatches<'_>) -> Option<Peer>
     ensures { result ≡ peer_given (rows_of (found_of matches.now)) }
@@ -215,7 +215,7 @@ fn peer(matches: &ArgMatches<'_>) -> Option<Peer>
     peer_of(matches.get_str("mac")?)
 }
 
-// The peer that a word names, as it stands.
+// Returns the peer that a word names, without taking a mark off.
 #[tactic(auto, using(crate::proofs::peer_named))]
 fn peer_of(word: &str) -> Option<Peer>
     ensures { result ≡ peer_in word.now }
@@ -223,14 +223,14 @@ fn peer_of(word: &str) -> Option<Peer>
     plain_peer_in(word.as_bytes())
 }
 
-// The index of a write, as it was typed.
+// Returns the index of a write, as it was typed.
 fn index(matches: &ArgMatches<'_>) -> Option<Option<u32>>
     ensures { result ≡ index_given (rows_of (found_of matches.now)) }
 {
     read_write_index(typed_word(matches, "index")?.as_bytes())
 }
 
-// The object of a request.
+// Returns the object of a request.
 #[tactic(auto, using(crate::proofs::of_request, crate::proofs::given_to_request))]
 fn object(matches: &ArgMatches<'_>) -> ObjectId
     requires { IsRequest (rows_of (found_of matches.now)) }
@@ -241,7 +241,7 @@ fn object(matches: &ArgMatches<'_>) -> ObjectId
     ObjectId::new(kind, instance).unwrap()
 }
 
-// The milliseconds of a timeout, 3 seconds where none is given.
+// Returns the milliseconds of a timeout, 3 seconds if none is given.
 #[tactic(auto, using(crate::proofs::of_client))]
 fn timeout(matches: &ArgMatches<'_>) -> u32
     requires { IsClient (rows_of (found_of matches.now)) }
@@ -251,7 +251,7 @@ fn timeout(matches: &ArgMatches<'_>) -> u32
     number(matches, "apdu-timeout").unwrap_or(3_000)
 }
 
-// How often a request is sent again, three times where it isn't said.
+// Returns how often a request is sent again, three times if the words do not say.
 #[tactic(auto, using(crate::proofs::of_sender))]
 fn retries(matches: &ArgMatches<'_>) -> u8
     requires { IsSender (rows_of (found_of matches.now)) }
@@ -260,7 +260,7 @@ fn retries(matches: &ArgMatches<'_>) -> u8
     number(matches, "apdu-retries").unwrap_or(3) as u8
 }
 
-// The port to send from, any where none is given.
+// Returns the port to send from, any port if none is given.
 #[tactic(auto, using(crate::proofs::of_client))]
 fn port(matches: &ArgMatches<'_>) -> u16
     requires { IsClient (rows_of (found_of matches.now)) }
@@ -269,7 +269,7 @@ fn port(matches: &ArgMatches<'_>) -> u16
     number(matches, "port").unwrap_or(0) as u16
 }
 
-// The priority of a write.
+// Returns the priority of a write.
 #[tactic(auto, using(crate::proofs::of_tool, crate::proofs::given_to_tool))]
 fn priority(matches: &ArgMatches<'_>) -> Option<u8>
     requires { IsTaken (rules_of bacwp) (rows_of (found_of matches.now)) }
@@ -279,7 +279,7 @@ fn priority(matches: &ArgMatches<'_>) -> Option<u8>
     priority_from(needed(matches, "priority") as u8)
 }
 
-// The number of an argument that has to be given.
+// Returns the number of an argument that is required.
 fn needed(matches: &ArgMatches<'_>, id: &str) -> u32
     requires number { IsNumberWord id.now (rows_of (found_of matches.now)) }
     requires given { IsGiven id.now (rows_of (found_of matches.now)) }
@@ -289,7 +289,7 @@ fn needed(matches: &ArgMatches<'_>, id: &str) -> u32
     number(matches, id).unwrap()
 }
 
-// The number of an argument, if it is given.
+// Returns the number of an argument, if it is given.
 fn number(matches: &ArgMatches<'_>, id: &str) -> Option<u32>
     requires { IsNumberWord id.now (rows_of (found_of matches.now)) }
     ensures value { result ≡ number_of id.now (rows_of (found_of matches.now)) }

@@ -1,13 +1,13 @@
-//! What is told of a fault.
+//! The message of a fault.
 ghost use Rattle.bac_words.specs.{telling_octets};
 
 use bac_print::Message;
 use std::fmt;
 
-/// What is told of a fault. It takes no memory.
+/// The message of a fault. It needs no memory.
 #[derive(Debug, Drop)]
 pub enum Telling<'f> {
-    /// A text of `clap`: help, or why it does not take the words.
+    /// A text of `clap`: help, or why it does not accept the words.
     Text(&'f clap::Error),
     /// A message of ours.
     Line(Message),

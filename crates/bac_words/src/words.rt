@@ -1,4 +1,4 @@
-//! The words with the tool's name in front, where the program was called by it.
+//! The words with the tool's name in front, if the program was called by it.
 
 ghost use Rattle.std.specs.{Option.option_map_or, Prelude.{[], ◌∷◌, ◌≡◌, IfOk, map, option_copied}};
 ghost use Rattle.std.specs.String.{string_bytes};
@@ -7,8 +7,8 @@ ghost use Rattle.bac_words.specs.{is_tool, tool_named, words_called};
 use std::alloc::{AllocError, Global};
 use std::path::Path;
 
-/// The words with the name of the tool in front, where the program is called by one. The program has no name then, so
-/// that help and usage begin with the tool's.
+/// Returns the words with the name of the tool in front, if the program is called by one. The program has no name then,
+/// so that help and usage begin with the tool's.
 pub fn words_of(alloc: Global, typed: &[String]) -> Result<Vec<&str>, AllocError>
     ensures { IfOk result (λ words. map (λ word. word.now) words.items ≡ words_called (map string_bytes typed.now)) }
 {
@@ -22,7 +22,7 @@ pub fn words_of(alloc: Global, typed: &[String]) -> Result<Vec<&str>, AllocError
     Ok(words)
 }
 
-// The program's name, or an empty one and the tool.
+// Returns the program's name, or an empty one and the tool.
 fn names_of(alloc: Global, program: &str) -> Result<Vec<&str>, AllocError>
     ensures { IfOk result (λ names. map (λ name. name.now) names.items
         ≡ option_map_or (λ tool. [] ∷ tool ∷ []) (tool_named program.now) (program.now ∷ [])) }
@@ -33,7 +33,7 @@ fn names_of(alloc: Global, program: &str) -> Result<Vec<&str>, AllocError>
     }
 }
 
-// The tool that the program's own name names, if it names one.
+// Returns the tool that the program's own name names, if it names one.
 fn tool_called(program: &str) -> Option<&str>
     ensures { option_copied result ≡ tool_named program.now }
 {

@@ -1,4 +1,4 @@
-//! Where a count of the tags that are read begins.
+//! Begins a count of the tags that are read.
 //!
 //! No crate up to `bac_device` rests on this one. So a call there that walks over items counts in the count that it is
 //! handed, and its clause `work` bounds all its walks.
@@ -8,7 +8,7 @@ ghost use Rattle.std.specs.Prelude.{◌≡◌};
 
 use bac_wire::Work;
 
-/// A count: no tag was read yet.
+/// Returns a new count: no tag was read yet.
 pub fn begin() -> Work
     ensures { result.tags ≡ 0 }
 {

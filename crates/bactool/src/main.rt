@@ -2,13 +2,11 @@
 #![tactic(auto)]
 
 ghost use Rattle.std.specs.{Prelude.◌≡◌, Process.exit_status};
-ghost use Rattle.{bac_print.specs.fresh, bac_tools.specs.Program.{IsRun, texts_of}};
+ghost use Rattle.{bac_print.specs.fresh, bac_tools.specs.{Outside.outside, Program.{IsRun, texts_of}}};
 
 mod laws;
-mod sockets;
 
-use crate::sockets::Sockets;
-use bac_tools::{Finished, Link, Network, SystemSocket, UdpLink, run_program};
+use bac_tools::{Finished, Link, Network, NoSocket, Sockets, SystemSocket, UdpLink, run_program};
 use std::alloc::Global;
 use std::env;
 use std::io::{self, Read, Write};
@@ -32,14 +30,9 @@ fn run<H: Net + Clock + Clone + Drop, R: Read + Drop, W: Write + Drop, E: Write 
     reader: R,
     writer: W,
     errors: E,
-) -> Finished<Sockets<H>, UdpLink<SystemSocket<H>>, R, W, E>
+) -> Finished<Sockets<H>, UdpLink<SystemSocket<H>>, NoSocket<H>, R, W, E>
     ensures { IsRun ⟦<Sockets<H> as Network>⟧.gives
-        record {
-          seen = ⟦<UdpLink<SystemSocket<H>> as Link>⟧.seen;
-          failed = ⟦<UdpLink<SystemSocket<H>> as Link>⟧.has_failed;
-          remaining = R.remaining;
-          contents = W.contents;
-        }
+        (outside ⟦<UdpLink<SystemSocket<H>> as Link>⟧ R.Read W.Write)
         E.contents sockets (fresh reader) result.reader (fresh writer) result.writer (fresh errors) result.errors
         result.ran (texts_of typed) }
 {
@@ -47,8 +40,8 @@ fn run<H: Net + Clock + Clone + Drop, R: Read + Drop, W: Write + Drop, E: Write 
 }
 
 // The status with which the system ends the program.
-fn exit_code<N: Drop, L: Drop, R: Drop, W: Drop, E: Drop>(
-    ended: Finished<N, L, R, W, E>,
+fn exit_code<N: Drop, L: Drop, F: Drop, R: Drop, W: Drop, E: Drop>(
+    ended: Finished<N, L, F, R, W, E>,
 ) -> ExitCode
     ensures { exit_status result ≡ ended.ran.report.status }
 {

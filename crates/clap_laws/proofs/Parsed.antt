@@ -1,4 +1,4 @@
--- What a simple command leaves of the words that `clap` takes, and what the getters read of it.
+-- What a simple command leaves of the words that `clap` accepts, and what the getters read of it.
 use Rattle.std.{
   proofs.Common.{[], ap, ap₂, arith, Bool, codes, cond, drop, encode_utf8, false, find, fold, IfSome, if◌then◌else◌},
   proofs.Common.{is_some, length, length-append, List, map, nat_lt, None, not, Option, option_and_then, option_map},
@@ -33,7 +33,7 @@ use Rattle.clap.specs.Walk as w
 use Rattle.clap.specs.declared.builder.action.ArgAction.TheVariants as action
 use Rattle.clap.specs.declared.builder.value_parser.ValueParser.TheVariants as vp
 
--- What holds of the element that a search finds, by induction over the list.
+-- A statement about the element that a search finds, by induction over the list.
 pub when_found : {X : Type 0} (p : X → Bool) (P : List X → Type 0) (a : X) → ((xs : List X) → p a ≡ true → P (a ∷ xs))
     → ((x : X) (xs : List X) → p x ≡ false → find p xs ≡ Some a → P xs → P (x ∷ xs)) → (xs : List X)
     → find p xs ≡ Some a → P xs
@@ -124,7 +124,7 @@ values_taken : (a : Rule) (vs : List Text) → values_fault a vs ≡ [] → valu
 values_taken a [] e = refl
 values_taken a (v ∷ vs) e = grind (arith, values_taken a vs)
 
--- values that a use leaves pass, where it keeps them and has some, or asks for help
+-- values that a use leaves pass, if it keeps them and has some, or asks for help
 used_as_pass : (c : List Rule) (a : Rule) (again : Bool) (x : ArgAction) (wants : Bool) (vs : List Text)
     (rows : List Row) → arg_by_id c a.id ≡ Some a
     → (is_request x || (keeps_values x && wants)) ≡ true → (wants ≡ true → 0 < length vs)
@@ -146,7 +146,7 @@ filled_by a _ _ _ none wants = grind (arith, none, wants)
 -- ---- a level: its rules, and whether a second use replaces the first
 
 module _ (c : List Rule) (level : IsPlainLevel c) (again : Bool) where
-  -- Where nothing is wrong, entries that passed stay so.
+  -- If nothing is wrong, entries that passed stay so.
   abbrev Keeps : Kinds → Held → Held → Type 0
   Keeps fault h after = fault ≡ [] → RowsPass c h.rows → RowsPass c after.rows
 
@@ -227,7 +227,7 @@ abbrev pub asks : Shape → Text → Bool
 asks s name = bytes_eq name (codes "help") && not s.disable_help_subcommand
 
 module _ (s : Shape) where
-  -- Where nothing is wrong, entries that passed stay so, and the word does not ask for help.
+  -- If nothing is wrong, entries that passed stay so, and the word does not ask for help.
   abbrev Goes : Kinds → Held → Held × Step → Type 0
   Goes fault h (met, step) =
       fault ≡ [] → (IsPlainLevel s.rules → RowsPass s.rules h.rows → RowsPass s.rules met.rows)
@@ -322,12 +322,12 @@ last_check : (wants_help wants_subcommand wants_argument : Bool)
     → check_kinds wants_help wants_subcommand wants_argument ≡ [] → wants_argument ≡ false
 last_check = grind arith
 
--- a level of a command that has no subcommand, where nothing is wrong
+-- a level of a command that has no subcommand, if nothing is wrong
 pub level_taken : (s : Shape) (words : List Text) → IsPlainLevel s.rules → s.subcommand_negates_reqs ≡ false
     → level_fault s [] nothing_held words false [] ≡ [] → IsTaken s.rules (rows_after s.rules [] words)
 level_taken = grind (arith, last_check, walk_goes, defaults_pass, settled_pass)
 
--- ---- where a program wants a tool, the words name one other than `help`, and it takes the words after it
+-- ---- if a program needs a tool, the words name one other than `help`, and it takes the words after it
 
 enters_by : (a : App) (words : List Text) (stop : Option (Text × List Text))
     → stop_after (built a).top.rules (names_of (built a)) (argument_words a words) ≡ stop
@@ -433,7 +433,7 @@ getter c id f r taken fits none value = at_rule _ refl fits
     at_rule None is fits = absurd fits
     at_rule (Some a) is fits = let (text, _) = text_of _ _ _ _ taken.entries is in at_text a _ refl text fits
 
--- of an argument that has to be given there is one
+-- of an argument that is required there is one
 pub needed : (c : List Rule) (id : Text) (rows : List Row) → IsTaken c rows → is_needed c id ≡ true
     → is_some (number_of id rows) ≡ true
 needed c id rows taken is = at_rule _ refl is

@@ -12,7 +12,7 @@ number id least most = record (new_rule id) { parser = Some (Signed (pos least) 
 abbrev pub needed : Rule → Rule
 needed a = record a { required = true }
 
--- The argument is given by its name, as `--port 47808`.
+-- The argument is given by its name, such as `--port 47808`.
 abbrev pub by_name : Rule → Rule
 by_name a = record a { long = Some a.id }
 

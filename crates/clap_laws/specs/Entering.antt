@@ -1,4 +1,4 @@
--- What holds of the words that `clap` takes.
+-- Statements about the words that `clap` accepts.
 use Rattle.std.specs.{List.{find, list_all, list_any}, Str.bytes_eq}
 use Rattle.std.specs.Prelude.{[], ◌&&◌, ◌||◌, ◌∷◌, ◌≡◌, Bool, codes, false, List, nat_lt, not, Some, true}
 use Rattle.clap.specs.{declared.builder.action.ArgAction.ArgAction, Facts.unwrap_or_range, Faults.level_fault}
@@ -12,7 +12,7 @@ keeps_values action.Set = true
 keeps_values action.Append = true
 keeps_values _ = false
 
--- The same, or a request for help; and it has no default.
+-- A word of the rule, or a request for help; and it has no default.
 abbrev pub is_plain_rule : Rule → Bool
 is_plain_rule a = is_empty a.defaults && (is_request (action_of a)
     || (keeps_values (action_of a) && nat_lt 0 (unwrap_or_range a.range).start_inclusive))

@@ -1,4 +1,4 @@
--- What only private clauses say. No promise of this crate rests on it.
+-- Definitions that only private clauses use. No promise of this crate rests on them.
 pub mod Numbers
 pub mod Commands
 pub mod Examples

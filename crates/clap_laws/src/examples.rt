@@ -7,7 +7,7 @@ ghost use Rattle.clap.specs.declared.builder.command.Command.{Command, TheViews.
 ghost use Rattle.clap_laws.specs.Commands.{IsCommand};
 ghost use Rattle.clap_laws.specs.Entering.{Enters, IsPlainLevel};
 ghost use Rattle.clap_laws.specs.Passes.{IsTaken};
-ghost use Rattle.clap_laws.specs.Inner.Examples.{flag, named, program, word};
+ghost use Rattle.clap_laws.specs.Inner.Examples.{flag, helpful, named, needy, program, word};
 
 // A command is what its views say of it.
 #[tactic(none)]
@@ -17,10 +17,15 @@ fn examples_of_commands()
     ensures other { (c : Command) → app_of c ≡ new_app (codes "x") → IsCommand c (new_app (codes "y")) → ⊥ }
     ensures global { (c : Command) → (out-Command c).has_globals ≡ true → IsCommand c (app_of c) → ⊥ }
 
-    // Words that name the tool enter it; others don't.
+    // Words that name the tool enter it; others do not.
     ensures enters { Enters program (codes "program" ∷ codes "tool" ∷ []) }
     ensures no_tool { Enters program (codes "program" ∷ codes "other" ∷ []) → ⊥ }
     ensures no_word { Enters program (codes "program" ∷ []) → ⊥ }
+
+    // A tool that needs a word is not entered without it, and one with the name `help` never is.
+    ensures enters_by_word { Enters needy (codes "program" ∷ codes "tool" ∷ codes "1" ∷ []) }
+    ensures lacks_its_word { Enters needy (codes "program" ∷ codes "tool" ∷ []) → ⊥ }
+    ensures named_as_help { Enters helpful (codes "program" ∷ codes "help" ∷ []) → ⊥ }
 {}
 
 // Rules of a tool, and entries that they let pass.

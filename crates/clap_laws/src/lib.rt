@@ -1,4 +1,4 @@
-//! What holds of the words that a simple command of `clap` takes. Each function has an empty body, and its clause is
+//! Laws of the words that a simple command of `clap` accepts. Each function has an empty body, and its clause is
 //! the law.
 #![tactic(auto)]
 
@@ -9,15 +9,16 @@ ghost use Rattle.clap.specs.{Faults.{fault_of, level_fault}, Simple.{App, built,
 ghost use Rattle.clap.specs.Walk.{nothing_held, rows_after, Text};
 ghost use Rattle.clap_laws.specs.{Enters, IsPlainLevel, IsTaken};
 
-/// Words that a program takes, where it wants a subcommand, name one other than `help`, which takes the words after it.
+/// The words that a program with a required subcommand accepts name one other than `help`, which accepts the words
+/// after it.
 #[tactic(auto, using(crate::proofs::enters))]
 pub fn words_enter()
     ensures { (a : App) (words : List Text) → (built a).top.subcommand_required ≡ true → fault_of a words ≡ []
         → Enters a words }
 {}
 
-/// Where a command without subcommands takes words, each value passed its argument's rules, and what is required was
-/// given.
+/// If a command without subcommands accepts words, each value passed its argument's rules, and each required argument
+/// was given.
 #[tactic(auto, using(crate::proofs::level_taken))]
 pub fn levels_pass()
     ensures { (s : Shape) (words : List Text) → IsPlainLevel s.rules → s.subcommand_negates_reqs ≡ false

@@ -1,5 +1,5 @@
-//! Trials of the texts, the script, the links and the words of the tools, with rows from outside. There is nothing here
-//! but tests.
+//! Tests of the upper crates, `bac_text` to `bac_tools`: texts, scripts, runs, links and words, over links in memory
+//! and over sockets. No other crate uses this one.
 #![tactic(auto)]
 
 #[cfg(test)]

@@ -31,13 +31,13 @@ const OTHER: Peer = Peer {
 const VALUE: &[u8] =
     b"\x81\x0a\x00\x17\x01\x00\x30\x01\x0c\x0c\x00\x00\x00\x05\x19\x55\x3e\x44\x42\x90\x99\x9a\x3f";
 
-/// Who is there, and the I-Am of the device 1234.
+/// A Who-Is for all devices, and the I-Am of the device 1234.
 const WHO_IS: &[u8] = b"\x81\x0a\x00\x08\x01\x00\x10\x08";
 
 const I_AM: &[u8] =
     b"\x81\x0a\x00\x15\x01\x00\x10\x00\xc4\x02\x00\x04\xd2\x22\x05\xc4\x91\x03\x22\x01\x04";
 
-/// Whether the octets are these digits.
+/// Returns whether the octets are these digits.
 fn are_digits(alloc: Global, octets: &[u8], digits: &str) -> bool {
     match hex::encode(alloc, octets) {
         Ok(written) => written.as_str() == digits,
@@ -45,7 +45,15 @@ fn are_digits(alloc: Global, octets: &[u8], digits: &str) -> bool {
     }
 }
 
-/// Whether the room has this text, and is as it was behind it.
+#[test]
+fn other_texts_are_refused(rt: HostRuntime) {
+    assert!(&rt; !are_digits(rt.alloc(), b"\x01", "02"));
+    for text in ["x", ""] {
+        assert!(&rt; !is_text(&[b'y'; 96], text));
+    }
+}
+
+/// Returns whether the room begins with this text, and is unchanged after it.
 fn is_text(room: &[u8; 96], text: &str) -> bool {
     let len = text.len();
     room.get(..len) == Some(text.as_bytes()) && room.get(len..) == [0xff; 96].get(len..)

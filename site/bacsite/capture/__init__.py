@@ -1,1 +1,1 @@
-"""What a capture file has of requests and their answers."""
+"""The requests of a capture file, and their answers."""

@@ -1,24 +1,130 @@
-"""What a capture file tells of requests and their answers."""
+"""The requests of a capture file and their answers, and a summary of them."""
 
 from __future__ import annotations
 
 import argparse
-import json
+from collections import Counter
 from dataclasses import dataclass, field
-from typing import BinaryIO, Dict, Iterator, Optional
+from typing import BinaryIO, Iterable, Iterator
 
-from ..failures import BROKEN, MISSING, Failure, wrong
+from ..output import BROKEN, MISSING, Failure, json_line, put, table, times, wrong
 from ..files import opened
-from ..messages import Message, message_of
-from ..output import put
-from ..parsing import Command, add_number, within
-from .frames import Passing
-from .lines import json_of, line_of
-from .pairing import Pairing
-from .pcap import Damage, packets_of
-from .talks import MILLI, Entry, Talk
-from .tally import Tally, is_slow
+from ..messages import COMPLEX, SIMPLE, UNCONFIRMED, Message, message_of
+from .lines import UNCONFIRMED_SERVICES, json_of, line_of, millis
+from .pcap import Damage, Passing, packets_of
+from .talks import MILLI, Entry, Pairing, Talk
 from .trace import Choice, is_at, traced
+
+COUNTS = ("requests", "answered", "refused", "unanswered")
+MARKS = ("sent again", "slow", "late", "answered twice", "asked again", "open at the end", "failed")
+ALL = COUNTS + MARKS
+
+
+def is_slow(talk: Talk, slow: int) -> bool:
+    """Returns whether the answer took so long."""
+    return talk.took is not None and talk.took >= slow
+
+
+def marks_of(talk: Talk, slow: int) -> Iterator[str]:
+    """Yields what a talk is counted as."""
+    is_ack = bool(talk.answers) and talk.answers[0].apdu.kind in (SIMPLE, COMPLEX)
+    yield "answered" if is_ack else "refused" if talk.answers else "unanswered"
+    holds = [talk.resends > 0, is_slow(talk, slow), talk.late is not None, len(talk.answers) > 1]
+    holds += [talk.again is not None, talk.cut_off is not None, talk.has_failed]
+    yield from (mark for mark, it in zip(MARKS, holds) if it)
+
+
+@dataclass
+class Group:
+    """The counts of the talks of a device, or of all."""
+
+    marks: Counter[str] = field(default_factory=Counter)
+    took: list[int] = field(default_factory=list)
+
+    def add(self, marks: Iterable[str], took: int | None) -> None:
+        """Counts a talk."""
+        self.marks.update(marks)
+        self.took += [] if took is None else [took]
+
+    def within(self, percent: int) -> int | None:
+        """Returns the time within which so many of a hundred answers came."""
+        took = sorted(self.took)
+        return took[max(0, -(-len(took) * percent // 100) - 1)] if took else None
+
+    def figures(self) -> dict[str, float | None]:
+        """Returns the counts, and times in milliseconds."""
+        found: dict[str, float | None] = {it.replace(" ", "_"): self.marks[it] for it in ALL}
+        for name, percent in (("median_ms", 50), ("ms_of_95", 95), ("longest_ms", 100)):
+            time = self.within(percent)
+            found[name] = None if time is None else time / MILLI
+        return found
+
+    def row(self, name: str) -> list[str]:
+        """Returns the row of a device."""
+        spans = [self.within(percent) for percent in (50, 100)]
+        shown = ["-" if it is None else millis(it) for it in spans]
+        return [name, *(str(self.marks[it]) for it in ALL[:6]), *shown]
+
+
+@dataclass
+class Tally:
+    """Counts the entries of a capture."""
+
+    slow: int
+    all: Group = field(default_factory=Group)
+    devices: dict[str, Group] = field(default_factory=dict)
+    clients: set[str] = field(default_factory=set)
+    others: Counter[str] = field(default_factory=Counter)
+
+    def add(self, entry: Entry) -> None:
+        """Counts an entry."""
+        if isinstance(entry, Message):
+            apdu, kind = entry.apdu, "other messages"
+            if apdu and apdu.kind == UNCONFIRMED:
+                told = f"unconfirmed service {apdu.service}"
+                kind = UNCONFIRMED_SERVICES.get(apdu.service, told)
+            elif apdu and apdu.is_answer:
+                kind = "answers to nothing seen"
+            self.others[kind] += 1
+            return
+        self.clients.add(entry.client)
+        marks = ["requests", *marks_of(entry, self.slow)]
+        for group in (self.all, self.devices.setdefault(entry.device, Group())):
+            group.add(marks, entry.took)
+
+    def lines(self, passing: Passing) -> Iterator[str]:
+        """Yields the summary."""
+        group = self.all
+        whose = f"{times(len(self.clients), 'client')} to {times(len(self.devices), 'device')}"
+        ends = ", ".join(f"{group.marks[it]} {it}" for it in COUNTS[1:])
+        yield f"{times(group.marks['requests'], 'request')} of {whose}: {ends}"
+        said = [f"{group.marks[it]} {it}" for it in MARKS if group.marks[it]]
+        if said:
+            yield "of these " + ", ".join(said)
+        if self.devices:
+            heads = ["device", *ALL[:6], "median ms", "longest ms"]
+            worst = sorted(self.devices, key=lambda it: (-self.devices[it].marks["failed"], it))
+            yield from table([heads, *(self.devices[it].row(it) for it in worst)])
+        if passing.cut:
+            cut = times(passing.cut, "datagram")
+            yield f"cut by the capture: {cut}, told by their first octets"
+        for words, counts in (("also seen", self.others), ("passed over", passing.counts)):
+            if counts:
+                yield f"{words}: " + ", ".join(f"{it} {counts[it]}" for it in sorted(counts))
+
+    def figures(self, passing: Passing, damage: str) -> dict[str, object]:
+        """Returns the summary as an object of JSON."""
+        return {
+            "kind": "summary",
+            "all": self.all.figures(),
+            "clients": len(self.clients),
+            "devices": {name: of.figures() for name, of in sorted(self.devices.items())},
+            "others": dict(self.others),
+            "packets": passing.packets,
+            "cut": passing.cut,
+            "passed_over": dict(passing.counts),
+            "damage": damage or None,
+        }
 
 
 @dataclass
@@ -54,13 +160,11 @@ def is_between(entry: Entry, choice: Choice) -> bool:
     return all(any(is_at(end, wanted) for end in ends) for wanted in choice)
 
 
-def is_wanted(entry: Entry, only: Optional[str], slow: int) -> bool:
+def is_wanted(entry: Entry, only: str | None, slow: int) -> bool:
     """Whether an entry is to be shown: all, or only what has failed or was slow."""
-    if not only:
-        return True
     if isinstance(entry, Talk):
-        return entry.has_failed if only == "failed" else is_slow(entry, slow)
-    return only == "failed" and bool(entry.apdu and entry.apdu.is_answer)
+        return not only or (entry.has_failed if only == "failed" else is_slow(entry, slow))
+    return not only or (only == "failed" and entry.is_fault)
 
 
 def _put_entries(capture: Capture, choice: Choice, words: argparse.Namespace) -> int:
@@ -72,50 +176,21 @@ def _put_entries(capture: Capture, choice: Choice, words: argparse.Namespace) ->
         is_any = True
         tally.add(entry)
         if not words.summary and is_wanted(entry, words.only, tally.slow):
-            put(_json(json_of(entry)) if words.json else line_of(entry) + "\n")
+            put(json_line(json_of(entry)) if words.json else line_of(entry) + "\n")
+    if capture.damage and not capture.passing.packets:
+        raise Failure(capture.damage, BROKEN)
     if not is_any and not capture.damage:
         raise wrong(f"nothing between {choice.client or 'any'} and {choice.device or 'any'}")
     if words.json:
-        put(_json(tally.figures(capture.passing, capture.damage)))
+        put(json_line(tally.figures(capture.passing, capture.damage)))
     else:
         lines = ([] if words.summary else [""]) + list(tally.lines(capture.passing))
         put("\n".join(lines) + "\n")
     return MISSING if tally.all.marks["failed"] else 0
 
 
-def _json(found: Dict[str, object]) -> str:
-    return json.dumps(found, ensure_ascii=False) + "\n"
-
-
-def _put_trace(capture: Capture, choice: Choice, words: argparse.Namespace) -> int:
-    """Prints a script for bactrace."""
-    messages = list(capture.messages())
-    for line in traced(messages, choice, words.timeout, words.retries):
-        put(line + "\n")
-    return 0
-
-
-def arguments(parser: argparse.ArgumentParser) -> None:
-    """The words of capture."""
-    parser.add_argument("file", help="a pcap or pcapng file; - is standard input")
-    forms = parser.add_mutually_exclusive_group()
-    forms.add_argument("--summary", action="store_true", help="the summary alone")
-    forms.add_argument("--trace", action="store_true", help="a script for bactrace, of one client")
-    parser.add_argument("--json", action="store_true", help="as JSON, a line of each request")
-    parser.add_argument(
-        "--only", choices=("failed", "slow"), help="requests that failed or are slow"
-    )
-    add_number(parser, "slow", 0, 999999, 1000, "from how many milliseconds on one is slow")
-    parser.add_argument("--client", metavar="ADDRESS[:PORT]", help="whose requests")
-    parser.add_argument("--device", metavar="ADDRESS[:PORT]", help="requests to whom")
-    told = "of --trace: how long the client waits, where its resends don't show it"
-    parser.add_argument("--timeout", metavar="N", type=within(1, 60000), help=told)
-    told = "of --trace: how often it sends again"
-    parser.add_argument("--retries", metavar="N", type=within(0, 255), help=told)
-
-
-def work(words: argparse.Namespace) -> int:
-    """Prints what a capture tells. A damaged one is told as far as it goes."""
+def print_capture(words: argparse.Namespace) -> int:
+    """Prints the requests of a capture; a damaged one as far as it can be read."""
     if words.trace and (words.json or words.only):
         raise wrong("a script has no --json and no --only")
     if not words.trace and (words.timeout, words.retries) != (None, None):
@@ -123,15 +198,15 @@ def work(words: argparse.Namespace) -> int:
     choice = Choice(words.client, words.device)
     try:
         with opened(words.file) as file:
-            capture = Capture(file)
-            status = (_put_trace if words.trace else _put_entries)(capture, choice, words)
+            found = Capture(file)
+            if words.trace:
+                status, messages = 0, list(found.messages())
+                for line in traced(messages, choice, words.timeout, words.retries):
+                    put(line + "\n")
+            else:
+                status = _put_entries(found, choice, words)
     except OSError as error:
         raise Failure(f"cannot read {words.file}: {error.strerror}", BROKEN) from error
-    if capture.damage:
-        raise Failure(capture.damage, BROKEN)
+    if found.damage:
+        raise Failure(found.damage, BROKEN)
     return status
-
-
-COMMAND = Command(
-    "tells what a capture file has of requests and their answers", arguments, work, asks=False
-)

@@ -3,14 +3,13 @@
 from __future__ import annotations
 
 from functools import lru_cache
-from typing import Dict, List, NamedTuple, Optional, Sequence
+from typing import NamedTuple, Sequence
 
-from .. import standard
-from ..answers import READ, WRITE, outcome_of
+from .. import output, standard
+from ..output import times
+from ..messages import ABORT, COMPLEX, READ, SEGMENT, UNCONFIRMED, WRITE, Apdu, Message, outcome_of
 from ..bodies import Body, elements_of, parameters, read_ack, read_body, write_body
-from ..display import stamp
-from ..messages import ABORT, COMPLEX, SEGMENT, UNCONFIRMED, Apdu, Message
-from ..standard import MEANINGS, Form, What, form_of, numbered
+from ..standard import MEANINGS, Form, PropertyRef, form_of, numbered
 from ..values import value_of
 from . import services
 from .services import Told
@@ -25,37 +24,32 @@ MOST_LISTED = 16  # values of one request in a line
 
 
 def moment(nanos: int) -> str:
-    """A time as 2026-11-27T08:13:42.123Z."""
-    return f"{stamp(nanos // 10**9)[:-1]}.{nanos // MILLI % 1000:03d}Z"
+    """Returns a time like 2026-11-27T08:13:42.123Z."""
+    return output.moment(nanos // MILLI)
 
 
 def millis(nanos: int) -> str:
-    """A time in milliseconds, to three digits or the whole ones."""
+    """Returns a time in milliseconds, to three digits or the whole ones."""
     size = nanos / MILLI
     digits = 2 if size < 9.995 else 1 if size < 99.95 else 0
     return f"{size:.{digits}f}"
 
 
-def times(count: int, what: str) -> str:
-    """So many of something."""
-    return f"{count} {what}{'' if count == 1 else 's'}"
-
-
-def named(number: int, table: Dict[int, str]) -> str:
-    """A number, and its name behind it where it has one."""
+def named(number: int, table: dict[int, str]) -> str:
+    """Returns a number, and its name after it if it has one."""
     return f"{number} ({table[number]})" if number in table else str(number)
 
 
 class Asked(NamedTuple):
-    """What a request asks for, in words; its body, and what it writes."""
+    """A request in words; its body, and what it writes."""
 
     words: str
-    body: Optional[Body] = None
-    value: Optional[str] = None
+    body: Body | None = None
+    value: str | None = None
 
 
 def asked(apdu: Apdu) -> Asked:
-    """What a request asks for."""
+    """Returns a request in words."""
     if apdu.is_cut:
         return Asked(f"service {named(apdu.service, SERVICES)}, cut by the capture")
     return _asked(apdu.service, apdu.body, apdu.part is None)
@@ -69,49 +63,37 @@ def _asked(service: int, octets: bytes, is_whole: bool) -> Asked:
     body = read_body(octets) if service == READ else write_body(octets)
     if not body:
         return Asked(told + ", which can't be read")
-    words = f"{'read' if service == READ else 'write'} {point(body.what)}"
+    words = f"{'read' if service == READ else 'write'} {point(body.ref)}"
     if body.value is None:
         return Asked(words, body)
-    value = shown(body.value, body.what)
+    value = shown(body.value, body.ref)
     priority = "" if body.priority is None else f" at {body.priority}"
     return Asked(f"{words} = {value}{priority}", body, value)
 
 
-def point(what: What) -> str:
-    """A property of an object, with its names and its numbers."""
-    kind = standard.OBJECT_TYPES.get(what.object_type, str(what.object_type))
-    number = standard.PROPERTIES.get(what.number, str(what.number))
-    index = "" if what.element is None else f"[{what.element}]"
-    return f"{kind} {what.instance} {number}{index} ({what.words()})"
+def point(ref: PropertyRef) -> str:
+    """Returns a property of an object, with its names and its numbers."""
+    kind = standard.OBJECT_TYPES.get(ref.object_type, str(ref.object_type))
+    number = standard.PROPERTIES.get(ref.number, str(ref.number))
+    index = "" if ref.element is None else f"[{ref.element}]"
+    return f"{kind} {ref.instance} {number}{index} ({ref.words()})"
 
 
 @lru_cache(4096)
-def shown(region: bytes, what: What) -> str:
-    """A property's value in plain form, of whatever type it is."""
-    return value_of(region, Form(names=form_of(what).names)).shown()
+def shown(region: bytes, ref: PropertyRef) -> str:
+    """Returns a property's value in readable form, of whatever type it is."""
+    return value_of(region, Form(names=form_of(ref).names)).shown()
 
 
 def _other_words(service: int, octets: bytes) -> str:
-    """What a request of another service asks for, where that is known here."""
-    if service == services.READ_MULTIPLE:
-        asked_for = services.asked_for(octets)
-        return "read several: " + _listed([point(it) for it in asked_for]) if asked_for else ""
-    if service == services.SUBSCRIBE:
-        return _subscription(octets)
-    return _notice(octets) if service == services.NOTIFY else ""
-
-
-def _listed(texts: Sequence[str]) -> str:
-    """The first of some texts, and how many more there are."""
-    left = len(texts) - MOST_LISTED
-    return ", ".join(texts[:MOST_LISTED]) + (f", and {left} more" if left > 0 else "")
-
-
-def _subscription(octets: bytes) -> str:
-    subscription = services.subscription_of(octets)
+    """Returns a request of another service in words; an empty text if it is not known here."""
+    subscription = services.subscription_of(octets) if service == services.SUBSCRIBE else None
+    asked_for = (services.asked_for(octets) if service == services.READ_MULTIPLE else None) or []
+    if asked_for:
+        return "read several: " + _listed([point(it) for it in asked_for])
     if not subscription:
-        return ""
-    kind, instance = subscription.which
+        return _notice(octets) if service == services.NOTIFY else ""
+    kind, instance = subscription.object_id
     where = f"{standard.OBJECT_TYPES.get(kind, str(kind))} {instance} ({kind} {instance})"
     if subscription.confirmed is None:
         return f"unsubscribe from {where}, process {subscription.process}"
@@ -120,18 +102,22 @@ def _subscription(octets: bytes) -> str:
     return f"subscribe to {where} {span}, {how}, process {subscription.process}"
 
 
+def _listed(texts: Sequence[str]) -> str:
+    """Returns the first of some texts, and how many more there are."""
+    left = len(texts) - MOST_LISTED
+    return ", ".join(texts[:MOST_LISTED]) + (f", and {left} more" if left > 0 else "")
+
+
 def _notice(octets: bytes) -> str:
     notice = services.notice_of(octets)
-    if not notice:
-        return ""
-    told = _listed([f"{point(it.what)} = {_told(it)}" for it in notice.told])
-    return f"change at device {notice.device}: {told}"
+    told = [f"{point(it.ref)} = {_told(it)}" for it in notice.told] if notice else []
+    return f"change at device {notice.device}: {_listed(told)}" if notice else ""
 
 
 def _told(told: Told) -> str:
-    """The value of a property, or why there is none."""
+    """Returns the value of a property, or why there is none."""
     if told.value is not None:
-        return shown(told.value, told.what)
+        return shown(told.value, told.ref)
     return _error(*told.error) if told.error else "bad-error"
 
 
@@ -140,13 +126,13 @@ def _error(group: int, code: int) -> str:
     return f"error {group} {code} ({', '.join(known)})"
 
 
-def ended(apdu: Apdu, body: Optional[Body]) -> str:
-    """How an answer ends a request: its value in plain form, or its numbers with their names."""
+def ended(apdu: Apdu, body: Body | None) -> str:
+    """Returns how an answer ends a request: a value in readable form, or numbers with names."""
     outcome = outcome_of(apdu)
     word, *numbers = outcome.split(" ")
     ack = read_ack(apdu.body) if word == "value" else None
     if ack and ack.value is not None:
-        return shown(ack.value, body.what if body else ack.what)
+        return shown(ack.value, body.ref if body else ack.ref)
     if (apdu.kind, apdu.service, apdu.is_cut) == (COMPLEX, services.READ_MULTIPLE, False):
         told = services.told_by(apdu.body) if apdu.part is None else None
         return _listed([_told(it) for it in told]) if told else outcome
@@ -157,8 +143,8 @@ def ended(apdu: Apdu, body: Optional[Body]) -> str:
     return "answered, cut by the capture" if word == "cut" else outcome
 
 
-def _end(talk: Talk, body: Optional[Body]) -> str:
-    """How a talk ended."""
+def _end(talk: Talk, body: Body | None) -> str:
+    """Returns how a talk ended."""
     if not talk.answers:
         return "no answer"
     first = talk.answers[0]
@@ -168,8 +154,8 @@ def _end(talk: Talk, body: Optional[Body]) -> str:
     return told if first.apdu.part is None else f"{told}, in {times(len(first.parts), 'part')}"
 
 
-def remarks(talk: Talk, body: Optional[Body]) -> List[str]:
-    """What else there is to say of a talk."""
+def remarks(talk: Talk, body: Body | None) -> list[str]:
+    """Returns remarks on a talk."""
     said = []
     if talk.resends:
         span = talk.sends[-1] - talk.sends[0]
@@ -187,35 +173,32 @@ def remarks(talk: Talk, body: Optional[Body]) -> List[str]:
         said.append(f"SECOND answer {after} ms after the first{end}")
     if talk.again is not None:
         said.append(f"AGAIN, {millis(talk.nanos - talk.again)} ms after its answer")
+    if talk.refused and not talk.answers:
+        said.append(talk.refused)
     if talk.cut_off is not None:
         said.append(f"the capture ends {millis(talk.cut_off)} ms later")
     return said
 
 
-def _mark(talk: Talk) -> str:
-    """! where the request failed, ~ where more was sent than one answer needs."""
-    if talk.has_failed:
-        return "!"
-    return "~" if talk.resends or len(talk.answers) > 1 or talk.again is not None else " "
-
-
 def line_of(entry: Entry) -> str:
-    """The line of an entry."""
+    """Returns the line of an entry."""
     if isinstance(entry, Message):
-        mark = "!" if entry.apdu and entry.apdu.is_answer else " "
+        mark = "!" if entry.is_fault else " "
         ends = f"{entry.sender} > {entry.receiver}"
         return f"{mark} {moment(entry.nanos)}  {ends}  {message_words(entry)}"
-    what = asked(entry.apdu)
-    end = _end(entry, what.body)
+    request = asked(entry.apdu)
+    end = _end(entry, request.body)
     if entry.answers:
         end += f"  {millis(entry.took or 0)} ms"
-    head = f"{_mark(entry)} {moment(entry.nanos)}  {entry.client} > {entry.device}"
-    said = "  ".join([end, *remarks(entry, what.body)])
-    return f"{head}  #{entry.apdu.invoke} {what.words}: {said}"
+    more = entry.resends or len(entry.answers) > 1 or entry.again is not None
+    mark = "!" if entry.has_failed else "~" if more else " "  # ~: more than one answer needs
+    head = f"{mark} {moment(entry.nanos)}  {entry.client} > {entry.device}"
+    said = "  ".join([end, *remarks(entry, request.body)])
+    return f"{head}  #{entry.apdu.invoke} {request.words}: {said}"
 
 
 def message_words(message: Message) -> str:
-    """What a message says that is no part of a talk."""
+    """Returns the words of a message that is not part of a talk."""
     apdu = message.apdu
     if not apdu:
         return message.words
@@ -231,19 +214,14 @@ def message_words(message: Message) -> str:
 
 def _i_am(octets: bytes) -> str:
     elements = elements_of(octets) or []
-    if [it.kind for it in elements] != [
-        standard.OBJECT,
-        standard.UNSIGNED,
-        standard.ENUMERATED,
-        standard.UNSIGNED,
-    ]:
+    kinds = [standard.OBJECT, standard.UNSIGNED, standard.ENUMERATED, standard.UNSIGNED]
+    is_whole = [it.kind for it in elements] == kinds
+    if not is_whole or elements[0].of_object.object_type != standard.DEVICE:
         return ""
-    device, most, number, vendor = (it.number for it in elements)
-    if device >> 22 != standard.DEVICE:
-        return ""
+    most, number, vendor = (it.number for it in elements[1:])
     parts = MEANINGS["segmentation-supported"].get(number, str(number))
     told = f"APDUs of {most} octets, segmentation {parts}, vendor {vendor}"
-    return f"I-Am device {device & 4194303}, {told}"
+    return f"I-Am device {elements[0].of_object.instance}, {told}"
 
 
 def _who_is(octets: bytes) -> str:
@@ -251,19 +229,17 @@ def _who_is(octets: bytes) -> str:
     tags, limits = [tag for tag, _ in parts], [int.from_bytes(it, "big") for _, it in parts]
     if tags not in ([], [0, 1]) or any(not 1 <= len(it) <= 4 for _, it in parts):
         return ""
-    if not limits:
-        return "Who-Is"
-    low, high = limits
-    return f"Who-Is device {low}" if low == high else f"Who-Is devices {low} to {high}"
+    low, high = limits or ("", "")
+    told = f"Who-Is device {low}" if low == high else f"Who-Is devices {low} to {high}"
+    return told if limits else "Who-Is"
 
 
-def json_of(entry: Entry) -> Dict[str, object]:
-    """The same as an object of JSON."""
+def json_of(entry: Entry) -> dict[str, object]:
+    """Returns an entry as an object of JSON."""
     if isinstance(entry, Message):
         ends = {"client": entry.sender, "device": entry.receiver}
         return {"kind": "other", "time": moment(entry.nanos), **ends, "what": message_words(entry)}
-    what = asked(entry.apdu)
-    body = what.body
+    request, body = asked(entry.apdu), asked(entry.apdu).body
     return {
         "kind": "talk",
         "time": moment(entry.nanos),
@@ -271,9 +247,9 @@ def json_of(entry: Entry) -> Dict[str, object]:
         "device": entry.device,
         "invoke_id": entry.apdu.invoke,
         "service": entry.apdu.service,
-        "what": what.words,
-        "object": body.what.numbers() if body else None,
-        "written": what.value,
+        "what": request.words,
+        "object": body.ref.numbers() if body else None,
+        "written": request.value,
         "priority": body.priority if body else None,
         "outcome": entry.outcome or "no answer",
         "shown": _end(entry, body),

@@ -1,10 +1,14 @@
-"""The packets of a capture file: pcap and pcapng, in both byte orders, of any unit of time."""
+"""The packets of a capture file, pcap or pcapng, in both byte orders and any unit of time; and the
+BACnet/IP datagrams of them, whatever their ports. The rest is skipped and counted."""
 
 from __future__ import annotations
 
 import struct
-from dataclasses import dataclass
-from typing import BinaryIO, Iterator, List, NamedTuple, Sequence, Tuple
+from collections import Counter
+from dataclasses import dataclass, field
+from typing import BinaryIO, Iterable, Iterator, NamedTuple, Sequence
+
+from ..messages import Datagram
 
 # By the first four octets of a pcap file: its byte order, and the nanoseconds of a unit of time.
 PCAP = {
@@ -18,6 +22,13 @@ ORDERS = {b"\x1a\x2b\x3c\x4d": ">", b"\x4d\x3c\x2b\x1a": "<"}
 TIME_UNIT, TIME_OFFSET = 9, 14  # options of an interface
 SECOND = 10**9  # in nanoseconds
 MOST = 1 << 24  # octets of a packet or a block: more is damage
+IPV4, UDP, BVLL = 0x0800, 17, 0x81
+VLAN = (0x8100, 0x88A8, 0x9100)
+FUNCTIONS = 13  # of the link layer: 0 to 12
+RAW, FAMILY = (12, 14, 101, 228), (0, 108)  # link types that begin with IP, or with its family
+COOKED_2 = 276
+PLACES = {1: (12, 14), 113: (14, 16), COOKED_2: (0, 20)}  # of the protocol and of what follows
+MOST_SEEN = 4096
 
 
 class Damage(Exception):
@@ -49,8 +60,15 @@ class Source:
             raise Damage(f"the file is cut at octet {self.at}, within {self.what}")
         return octets
 
+    def fields(self, form: str, octets: bytes) -> tuple[int, ...]:
+        """The numbers that begin there."""
+        size = struct.calcsize(form)
+        if len(octets) < size:
+            raise self.damage("is too short")
+        return struct.unpack(form, octets[:size])
+
     def damage(self, why: str) -> Damage:
-        """What is wrong with what is read."""
+        """The damage of the file that is read."""
         return Damage(f"{self.what} {why}")
 
 
@@ -98,7 +116,7 @@ def _pcapng(source: Source) -> Iterator[Packet]:
 
     A packet without a time has that of the packet before it.
     """
-    interfaces: List[_Interface] = []
+    interfaces: list[_Interface] = []
     nanos = 0
     for kind, order, body in _blocks(source):
         if kind == SECTION:
@@ -113,8 +131,8 @@ def _pcapng(source: Source) -> Iterator[Packet]:
             yield _simple(source, order, body, interfaces)._replace(nanos=nanos)
 
 
-def _blocks(source: Source) -> Iterator[Tuple[int, str, bytes]]:
-    """Number, byte order and contents of each block behind the first four octets."""
+def _blocks(source: Source) -> Iterator[tuple[int, str, bytes]]:
+    """Number, byte order and contents of each block after the first four octets."""
     kind, order, number, start = SECTION, ">", 1, 0
     while True:
         source.what = f"block {number} at octet {start}"
@@ -139,9 +157,7 @@ def _blocks(source: Source) -> Iterator[Tuple[int, str, bytes]]:
 
 
 def _interface(source: Source, order: str, body: bytes) -> _Interface:
-    if len(body) < 8:
-        raise source.damage("is too short")
-    (link, kept), options = struct.unpack(order + "HxxI", body[:8]), {}
+    (link, kept), options = source.fields(order + "HxxI", body), {}
     rest = body[8:]
     while len(rest) >= 4:
         number, length = struct.unpack(order + "HH", rest[:4])
@@ -154,9 +170,7 @@ def _interface(source: Source, order: str, body: bytes) -> _Interface:
 
 
 def _packet(source: Source, order: str, body: bytes, interfaces: Sequence[_Interface]) -> Packet:
-    if len(body) < 20:
-        raise source.damage("is too short")
-    which, high, low, length = struct.unpack(order + "IIII4x", body[:20])
+    which, high, low, length = source.fields(order + "IIII4x", body)
     if length > len(body) - 20:
         raise source.damage(f"holds fewer octets than it says: {length}")
     if which >= len(interfaces):
@@ -168,12 +182,97 @@ def _packet(source: Source, order: str, body: bytes, interfaces: Sequence[_Inter
 
 def _simple(source: Source, order: str, body: bytes, interfaces: Sequence[_Interface]) -> Packet:
     """A packet of the first interface, which has no time, and says only how long it was sent."""
-    if len(body) < 4:
-        raise source.damage("is too short")
+    (length,) = source.fields(order + "I", body)
     if not interfaces:
         raise source.damage("is of the interface 0, which is not there")
-    (length,) = struct.unpack(order + "I", body[:4])
     kept = min(length, interfaces[0].kept or length)
     if kept > len(body) - 4:
         raise source.damage(f"holds fewer octets than it says: {kept}")
     return Packet(0, interfaces[0].link, 0, body[4 : 4 + kept])
+
+
+class Passed(Exception):
+    """Why a packet is skipped."""
+
+
+def _ip_packet(link: int, octets: bytes) -> bytes:
+    """The IPv4 packet in a frame."""
+    if link in RAW:
+        return octets
+    if link in FAMILY and octets[:4] in (b"\0\0\0\2", b"\2\0\0\0"):
+        return octets[4:]
+    if link not in PLACES:
+        raise Passed("not IPv4" if link in FAMILY else f"link type {link}")
+    at, start = PLACES[link]
+    kind = int.from_bytes(octets[at : at + 2], "big")
+    while kind in VLAN:
+        kind, start = int.from_bytes(octets[start + 2 : start + 4], "big"), start + 4
+    if kind != IPV4:
+        raise Passed("not IPv4")
+    return octets[start:]
+
+
+def _udp(packet: bytes) -> tuple[str, str, bytes, int]:
+    """Sender, receiver and octets of a UDP datagram, and how many octets it was sent with."""
+    if len(packet) < 20 or packet[0] >> 4 != 4:
+        raise Passed("not IPv4")
+    total, fragment = struct.unpack(">HxxH", packet[2:8])
+    if packet[9] != UDP:
+        raise Passed("not UDP")
+    if fragment & 0x3FFF:
+        raise Passed("fragments")
+    start = (packet[0] & 15) * 4
+    head = packet[start : start + 8]
+    if start < 20 or len(head) < 8:
+        raise Passed("cut by the capture")
+    from_port, to_port, length = struct.unpack(">HHHxx", head)
+    octets = packet[start + 8 : min(start + length, total or len(packet))]
+    sender, receiver = (".".join(map(str, packet[at : at + 4])) for at in (12, 16))
+    return f"{sender}:{from_port}", f"{receiver}:{to_port}", octets, length - 8
+
+
+def datagram_of(packet: Packet) -> Datagram:
+    """The BACnet/IP datagram in a packet."""
+    sender, receiver, octets, length = _udp(_ip_packet(packet.link, packet.octets))
+    is_link = len(octets) >= 4 and octets[0] == BVLL and octets[1] < FUNCTIONS
+    if not is_link or int.from_bytes(octets[2:4], "big") != length:
+        raise Passed("UDP of something else")
+    return Datagram(packet.nanos, sender, receiver, octets, len(octets) < length)
+
+
+@dataclass
+class Passing:
+    """Counts what is skipped, and copies of a datagram that another interface has shown."""
+
+    counts: Counter[str] = field(default_factory=Counter)
+    packets: int = 0
+    cut: int = 0  # datagrams of which the capture has the first octets alone
+    last: int = 0
+    seen: dict[tuple[str, str, bytes], tuple[int, bytes]] = field(default_factory=dict)
+
+    def datagrams(self, packets: Iterable[Packet]) -> Iterator[Datagram]:
+        """The BACnet/IP datagrams of packets."""
+        for packet in packets:
+            self.packets += 1
+            self.last = max(self.last, packet.nanos)
+            try:
+                datagram = datagram_of(packet)
+                self._check_copy(datagram, packet)
+            except Passed as why:
+                self.counts[str(why)] += 1
+                continue
+            self.cut += datagram.is_cut
+            yield datagram
+
+    def _check_copy(self, datagram: Datagram, packet: Packet) -> None:
+        """Whether it is the same as one of another interface, less than a second before."""
+        of_frame = packet.octets[4:8] if packet.link == COOKED_2 else b""
+        interface = bytes([packet.interface & 255]) + of_frame
+        key = (datagram.sender, datagram.receiver, datagram.octets)
+        nanos, before = self.seen.get(key, (0, interface))
+        if before != interface and abs(datagram.nanos - nanos) < SECOND:
+            raise Passed("copies of another interface")
+        if len(self.seen) > MOST_SEEN:
+            now = datagram.nanos
+            self.seen = {it: at for it, at in self.seen.items() if now - at[0] < SECOND}
+        self.seen[key] = (datagram.nanos, interface)

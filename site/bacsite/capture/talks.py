@@ -1,32 +1,49 @@
-"""A confirmed request of a capture with its resends and answers, and how it ended."""
+"""The confirmed requests of a capture, each paired with its resends and its answers."""
 
 from __future__ import annotations
 
+from collections import deque
 from dataclasses import dataclass, field
-from typing import List, NamedTuple, Optional, Union
+from typing import Iterator, NamedTuple, Union
 
-from ..answers import READ, WRITE, is_about, outcome_of
+from ..messages import (
+    ABORT,
+    COMPLEX,
+    CONFIRMED,
+    READ,
+    REJECT,
+    SEGMENT,
+    SIMPLE,
+    WRITE,
+    Apdu,
+    Message,
+    NetworkMessage,
+    is_about,
+    outcome_of,
+)
 from ..bodies import read_ack, read_body
-from ..messages import COMPLEX, SIMPLE, Apdu, Message
-from ..standard import What
+from ..standard import PropertyRef
 
 MILLI = 10**6  # in nanoseconds
 MORE_FOLLOWS = 4  # a flag of an answer that comes in parts
+ROUND, NUMBERS = 192, 256  # between two requests with one invoke id lie at least so many others
+USUAL_WAIT = 3000 * MILLI
+OF_SERVER = 1  # a flag of who acknowledges a part
 GRACE = 50 * MILLI  # clients look at their clock so often; what comes again sooner is a copy
 WINDOW = 60_000 * MILLI  # after that long nothing more is awaited
 
 
 class Answer(NamedTuple):
     """An answer: when it came, what it is, and how it ends a request, as bactrace says it; and its
-    parts, as far as they follow one another, where it came in parts."""
+    parts, as far as they follow one another, if it came in parts."""
 
     nanos: int
     apdu: Apdu
     outcome: str
-    parts: List[Apdu]
+    parts: list[Apdu]
 
     @property
-    def whole(self) -> Optional[Apdu]:
+    def whole(self) -> Apdu | None:
         """It, put together of its parts; nothing where some of them are missing."""
         if self.apdu.part is None:
             return self.apdu
@@ -48,13 +65,14 @@ class Talk:
     client: str
     device: str
     apdu: Apdu
-    sends: List[int]
+    sends: list[int]
     order: int  # how many requests the client had made before
-    again: Optional[int] = None  # when the same request had been answered before
-    answers: List[Answer] = field(default_factory=list)
+    again: int | None = None  # when the same request had been answered before
+    answers: list[Answer] = field(default_factory=list)
     gap: int = 0  # how long the client had been seen to wait, when the first answer came
     is_over: bool = False
-    cut_off: Optional[int] = None  # how long it was awaited when the capture ended
+    refused: str = ""  # what the router said of the network of the device
+    cut_off: int | None = None  # how long it was awaited when the capture ended
 
     @property
     def nanos(self) -> int:
@@ -63,11 +81,11 @@ class Talk:
 
     @property
     def outcome(self) -> str:
-        """How it ended, as bactrace says it; nothing where no answer came."""
+        """How it ended, in the words of bactrace; empty if no answer came."""
         return self.answers[0].outcome if self.answers else ""
 
     @property
-    def took(self) -> Optional[int]:
+    def took(self) -> int | None:
         """Nanoseconds from the first send to the first answer."""
         return self.answers[0].nanos - self.nanos if self.answers else None
 
@@ -77,8 +95,8 @@ class Talk:
         return len(self.sends) - 1
 
     @property
-    def late(self) -> Optional[int]:
-        """How long after the last send the answer came, where the client had given up by then."""
+    def late(self) -> int | None:
+        """How long after the last send the answer came, if the client had given up by then."""
         if not self.answers or not self.gap:
             return None
         came = self.answers[0].nanos
@@ -94,15 +112,15 @@ class Talk:
         wanted = {READ: (COMPLEX,), WRITE: (SIMPLE,)}.get(self.apdu.service, (SIMPLE, COMPLEX))
         return self.answers[0].apdu.kind not in wanted or bool(self.other())
 
-    def other(self) -> Optional[What]:
-        """What the answer to a read is about, where that is not what was asked for."""
+    def other(self) -> PropertyRef | None:
+        """Returns the property that the answer to a read is about, if another one was asked for."""
         apdu = self.answers[0].whole if self.answers else None
         if not apdu or (apdu.kind, apdu.service) != (COMPLEX, READ) or apdu.is_cut:
             return None
         if apdu.body.startswith(self.apdu.body + b"\x3e"):
             return None
         asked, told = read_body(self.apdu.body), read_ack(apdu.body)
-        return None if not asked or not told or is_about(told.what, asked.what) else told.what
+        return None if not asked or not told or is_about(told.ref, asked.ref) else told.ref
 
     def has_settled(self, now: int) -> bool:
         """Whether nothing more is awaited."""
@@ -110,4 +128,139 @@ class Talk:
         return self.is_over or now - last > WINDOW
 
 
-Entry = Union[Talk, Message]  # a message that is no part of a talk stands for itself
+Entry = Union[Talk, Message]  # a message that belongs to no talk stands for itself
+
+
+class Event(NamedTuple):
+    """What a message is: `request`, `resend`, `answer`, `second`, `part`, or `other`."""
+
+    kind: str
+    talk: Talk | None = None
+
+
+@dataclass
+class Pairing:
+    """The talks so far, and the entries that are still awaited, in the order they began."""
+
+    latest: dict[tuple[str, int], dict[str, Talk]] = field(default_factory=dict)
+    gaps: dict[str, int] = field(default_factory=dict)  # the least wait of each client
+    made: dict[str, tuple[int, int]] = field(default_factory=dict)  # requests, the last number
+    entries: deque[Entry] = field(default_factory=deque)
+    now: int = 0
+
+    def take(self, message: Message) -> Event:
+        """Says what a message is, and notes it."""
+        self.now = message.nanos
+        apdu = message.apdu
+        event = None
+        if apdu and apdu.kind == CONFIRMED:
+            event = self._request(message, apdu)
+        elif apdu and apdu.is_answer:
+            event = self._answer(message, apdu)
+        elif apdu and apdu.kind == SEGMENT and not apdu.flags & OF_SERVER:
+            talk = self.latest.get((message.sender, apdu.invoke), {}).get(message.receiver)
+            event = Event("part", talk) if talk and talk.outcome == "segmented" else None
+        if message.network and message.network.is_refusal:
+            self._refuse(message, message.network)
+        if event is None:
+            self.entries.append(message)
+        return event or Event("other")
+
+    def _refuse(self, message: Message, said: NetworkMessage) -> None:
+        """Notes what a router says of networks at the open requests to stations there."""
+        routes = tuple(f"/{it}/" for it in said.networks) or ("/",)
+        router = message.sender.partition(":")[0] + ":"
+        for (client, _), talks in self.latest.items():
+            for device, talk in talks.items():
+                address, slash, route = device.partition("/")
+                is_there = address.startswith(router) and (slash + route).startswith(routes)
+                if client == message.receiver and is_there and not talk.answers:
+                    talk.refused = said.words
+
+    def _request(self, message: Message, apdu: Apdu) -> Event:
+        talks = self.latest.setdefault((message.sender, apdu.invoke), {})
+        talk = talks.get(message.receiver)
+        if talk and apdu.part and talk.apdu.part is not None:
+            return Event("part", talk)
+        again = None
+        if talk and not self._is_new(message, apdu, talk):
+            if not talk.answers:
+                self._note_gap(talk, message.nanos)
+                talk.sends.append(message.nanos)
+                return Event("resend", talk)
+            again = talk.answers[-1].nanos
+        if talk:
+            talk.is_over = True
+        made, _ = self.made.get(message.sender, (0, 0))
+        self.made[message.sender] = (made + 1, apdu.invoke)
+        talk = Talk(message.sender, message.receiver, apdu, [message.nanos], made, again)
+        talks[message.receiver] = talk
+        self.entries.append(talk)
+        return Event("request", talk)
+
+    def _is_new(self, message: Message, apdu: Apdu, talk: Talk) -> bool:
+        """Whether this is another request than the latest one with its number.
+
+        The same octets are, where the numbers of the client have gone round and this one is next:
+        those between the last one and this one have no answer yet.
+        """
+        if talk.apdu != apdu or talk.has_settled(message.nanos):
+            return True
+        made, last = self.made[message.sender]
+        if made - talk.order <= ROUND:
+            return False
+        between = range(last + 1, last + 1 + (apdu.invoke - last - 1) % NUMBERS)
+        return all(
+            any(not it.answers for it in self.latest.get((talk.client, at % NUMBERS), {}).values())
+            for at in between
+        )
+
+    def _note_gap(self, talk: Talk, nanos: int) -> None:
+        """Learns how long a client waits."""
+        gap = nanos - talk.sends[-1]
+        if gap >= GRACE:
+            self.gaps[talk.client] = min(gap, self.gaps.get(talk.client, gap))
+
+    def _answer(self, message: Message, apdu: Apdu) -> Event | None:
+        talk = self.latest.get((message.receiver, apdu.invoke), {}).get(message.sender)
+        if not talk or talk.has_settled(message.nanos):
+            return None
+        if apdu.kind not in (REJECT, ABORT) and apdu.service != talk.apdu.service:
+            return None
+        if apdu.part and talk.answers:
+            talk.answers[0].add(apdu)
+            return Event("part", talk)
+        parts = [apdu] if apdu.part == 0 else []
+        talk.answers.append(Answer(message.nanos, apdu, outcome_of(apdu), parts))
+        if len(talk.answers) > 1:
+            return Event("second", talk)
+        talk.gap = self.gaps.get(talk.client, 0)
+        return Event("answer", talk)
+
+    def settled(self) -> Iterator[Entry]:
+        """The entries of which nothing more is awaited, up to the first of which something is."""
+        while self.entries:
+            first = self.entries[0]
+            if isinstance(first, Talk):
+                if not first.has_settled(self.now):
+                    return
+                self._forget(first)
+            yield self.entries.popleft()
+
+    def _forget(self, talk: Talk) -> None:
+        talk.is_over = True
+        talks = self.latest.get((talk.client, talk.apdu.invoke), {})
+        if talks.get(talk.device) is talk:
+            del talks[talk.device]
+        if not talks:
+            self.latest.pop((talk.client, talk.apdu.invoke), None)
+
+    def rest(self, end: int) -> Iterator[Entry]:
+        """The entries that are left where the capture ends."""
+        for entry in self.entries:
+            if isinstance(entry, Talk) and not entry.answers and not entry.is_over:
+                waited = end - entry.sends[-1]
+                if waited < self.gaps.get(entry.client, USUAL_WAIT):
+                    entry.cut_off = waited
+            yield entry
+        self.entries.clear()

@@ -2,28 +2,73 @@
 
 from __future__ import annotations
 
+import re
 from collections import Counter
+from contextlib import suppress
 from dataclasses import dataclass, field
-from typing import Dict, Iterator, List, NamedTuple, Optional, Sequence, Set
+from typing import Iterator, NamedTuple, Sequence
 
-from ..display import clean
-from ..failures import wrong
-from ..messages import CONFIRMED, Message
+from .. import standard
+from ..bodies import Element, bits_of, element_text, elements_of, read_body, write_body
+from ..output import clean, times, wrong
+from ..points import WORD
+from ..messages import CONFIRMED, READ, WRITE, Message
 from .lines import asked, message_words, moment
-from .pairing import NUMBERS, Event, Pairing
-from .requests import is_askable, request_line
-from .talks import GRACE, MILLI, Talk
+from .talks import GRACE, MILLI, NUMBERS, Event, Pairing, Talk
 
 MOST_LINE, MOST_WORDS = 4000, 400
+MOST_BODY, MOST_PROPERTY = 476, 4194303
+ROUTE = re.compile(r"[^/]+(/(?!65535/)[0-9]+/([0-9a-f]{2}){1,7})?")
 PLACES = 64  # of bactrace, for open requests
 USUAL_TIMEOUT, USUAL_RETRIES, MOST_RETRIES = 3000, 3, 255
 
 
-class Choice(NamedTuple):
-    """Whose requests to whom, as ADDRESS or ADDRESS:PORT; all where nothing is said."""
+def is_askable(message: Message) -> bool:
+    """Returns whether it is a whole request to read or to write."""
+    apdu = message.apdu
+    is_whole = apdu and apdu.kind == CONFIRMED and apdu.part is None and not apdu.is_cut
+    return bool(is_whole and apdu and apdu.service in (READ, WRITE))
 
-    client: Optional[str] = None
-    device: Optional[str] = None
+
+def request_line(message: Message) -> tuple[str, str]:
+    """Returns the line of a request, if a script can have one; and a remark on it."""
+    apdu, peer = message.apdu, message.receiver
+    if not apdu:
+        return "", "no request"
+    body = read_body(apdu.body) if apdu.service == READ else write_body(apdu.body)
+    if not body:
+        return "", "its body can't be read"
+    if body.ref.number > MOST_PROPERTY:
+        return "", "bactrace takes no such property"
+    if not ROUTE.fullmatch(peer):
+        return "", "bactrace takes no such route"
+    if body.value is None:
+        return f"read {peer} {body.ref.words()}", ""
+    elements = (elements_of(body.value) or []) if len(apdu.body) <= MOST_BODY else []
+    words = [(str(it.kind), _value(it)) for it in elements]
+    is_there = bool(words) and all(word for _, word in words)
+    values = " ".join(word for pair in words for word in pair) if is_there else "0 null"
+    why = "" if is_there else "a script can't have this value: null stands for it"
+    return f"write {peer} {body.ref.words_at(body.priority)} {values}", why
+
+
+def _value(element: Element) -> str:
+    """Returns a value as a word of a script; an empty text if it can't be one."""
+    kind, octets = element
+    if kind == standard.STRING:
+        with suppress(UnicodeDecodeError):
+            return octets[1:].decode() if octets[0] == 0 and WORD.fullmatch(octets[1:]) else ""
+        return ""
+    if kind in (standard.OCTETS, standard.DATE, standard.TIME):
+        return octets.hex()
+    return bits_of(octets) if kind == standard.BITS else element_text(element)
+
+
+class Choice(NamedTuple):
+    """Whose requests to whom, as ADDRESS or ADDRESS:PORT; None stands for all."""
+
+    client: str | None = None
+    device: str | None = None
 
 
 class Settings(NamedTuple):
@@ -33,47 +78,45 @@ class Settings(NamedTuple):
     retries: int
 
 
-def is_at(peer: str, wanted: Optional[str]) -> bool:
-    """Whether a peer is at ADDRESS or at ADDRESS:PORT."""
+def is_at(peer: str, wanted: str | None) -> bool:
+    """Returns whether a peer is at ADDRESS, at ADDRESS:PORT, or a station named with its route."""
     address = peer.split("/")[0]
-    return not wanted or wanted in (address, address.split(":")[0])
+    return not wanted or wanted.lower() in (peer, address, address.split(":")[0])
 
 
-def clients_of(messages: Sequence[Message], choice: Choice) -> Set[str]:
-    """The addresses of the client that is meant: those of one host."""
+def clients_of(messages: Sequence[Message], choice: Choice) -> set[str]:
+    """Returns the addresses of the client that is meant: those of one host."""
     asking = [it for it in messages if is_askable(it) and is_at(it.receiver, choice.device)]
     found = {it.sender for it in asking if is_at(it.sender, choice.client)}
     if not found:
         raise wrong(f"no read or write of {choice.client or 'any'} to {choice.device or 'any'}")
     hosts = Counter(it.sender.split(":")[0] for it in asking if it.sender in found)
     if len(hosts) > 1:
-        raise wrong(f"{len(hosts)} clients: say --client, as {hosts.most_common(1)[0][0]}")
+        usual = hosts.most_common(1)[0][0]
+        raise wrong(f"{len(hosts)} clients: choose one with --client, like {usual}")
     return found
 
 
-def _waits(talk: Talk) -> List[int]:
-    """How long the client waited before it sent again."""
+def _waits(talk: Talk) -> list[int]:
+    """Returns how long the client waited before it sent again, each time."""
     gaps = [after - at for at, after in zip(talk.sends, talk.sends[1:])]
     return [gap for gap in gaps if gap >= GRACE]
 
 
-def settings_of(talks: Sequence[Talk], timeout: Optional[int], retries: Optional[int]) -> Settings:
-    """What is given, or what the client's resends show, or the usual."""
+def settings_of(talks: Sequence[Talk], timeout: int | None, retries: int | None) -> Settings:
+    """Returns what is given, or what the client's resends show, or the usual."""
     waits = [_waits(talk) for talk in talks]
     all_waits = [wait for of_talk in waits for wait in of_talk]
     shown = Settings(USUAL_TIMEOUT, USUAL_RETRIES)
     if all_waits:
         shown = Settings(min(all_waits) // MILLI, min(MOST_RETRIES, max(map(len, waits))))
-    return Settings(
-        shown.timeout if timeout is None else timeout, shown.retries if retries is None else retries
-    )
+    given = {"timeout": timeout, "retries": retries}
+    return shown._replace(**{name: it for name, it in given.items() if it is not None})
 
 
-def turns_of(talk: Talk, settings: Settings) -> List[int]:
-    """When bactrace is to look at its clock behind the last send; the last is when it gives up.
-
-    An answer just behind that is let come first: the client may not have looked at its clock yet.
-    """
+def turns_of(talk: Talk, settings: Settings) -> list[int]:
+    """Returns when bactrace looks at its clock after the last send; at the last time it gives up.
+    An answer just after that comes first: the client may not have looked at its clock yet."""
     left = 1 + max(0, settings.retries - len(_waits(talk)))
     step = settings.timeout * MILLI
     turns = [talk.sends[-1] + count * step for count in range(1, left + 1)]
@@ -86,17 +129,17 @@ def turns_of(talk: Talk, settings: Settings) -> List[int]:
 
 
 def ends_at(talk: Talk, settings: Settings) -> int:
-    """When bactrace ends a request: as the answer comes, or when its time is up."""
+    """Returns when bactrace ends a request: as the answer comes, or when its time is up."""
     turns = turns_of(talk, settings)
     came = talk.answers[0].nanos if talk.answers else None
     return turns[-1] if came is None or turns and turns[-1] + GRACE <= came else came
 
 
 class Step(NamedTuple):
-    """What happens next: a message, or without one a wait that ends."""
+    """The next event: a message, or the end of a wait."""
 
     nanos: int
-    message: Optional[Message] = None
+    message: Message | None = None
     event: Event = Event("wait")
 
 
@@ -104,12 +147,12 @@ class Step(NamedTuple):
 class Trace:
     """The lines so far, and the requests that are open in bactrace by their numbers there."""
 
-    clients: Set[str]
+    clients: set[str]
     settings: Settings
     start: int
-    lines: List[str] = field(default_factory=list)
-    asked: List[Talk] = field(default_factory=list)  # by ticket
-    opened: Dict[int, Talk] = field(default_factory=dict)
+    lines: list[str] = field(default_factory=list)
+    asked: list[Talk] = field(default_factory=list)  # by ticket
+    opened: dict[int, Talk] = field(default_factory=dict)
     clock: int = 0
     last: int = 0  # the number that was given last
 
@@ -137,7 +180,7 @@ class Trace:
             self.lines.append(f"tick {now}")
 
     def _ask(self, message: Message, talk: Talk) -> None:
-        """Adds the line of a request, which gets the first free number behind the last one."""
+        """Adds the line of a request, which gets the first free number after the last one."""
         line, why = request_line(message)
         self._close(talk.nanos)
         if line and len(self.opened) == PLACES:
@@ -153,8 +196,8 @@ class Trace:
 
     def _close(self, now: int) -> None:
         """Forgets the requests that have ended before."""
-        opened = self.opened.items()
-        self.opened = {at: talk for at, talk in opened if ends_at(talk, self.settings) >= now}
+        ends = {at: ends_at(talk, self.settings) for at, talk in self.opened.items()}
+        self.opened = {at: talk for at, talk in self.opened.items() if ends[at] >= now}
 
     def _free(self, number: int) -> int:
         while number % NUMBERS in self.opened:
@@ -162,10 +205,8 @@ class Trace:
         return number % NUMBERS
 
     def _data(self, message: Message, event: Event) -> None:
-        """Adds the line of a datagram that came. An answer gets the number of its request here.
-
-        One that answers no open request gets a number that no request has.
-        """
+        """Adds the line of a datagram that came. An answer gets the number of its request here, or
+        if it answers no open request, a number that no request has."""
         octets, apdu = bytearray(message.datagram.octets), message.apdu
         if apdu and apdu.is_answer:
             self._close(message.nanos)
@@ -182,7 +223,7 @@ class Trace:
             self.lines.append(line)
 
     def late(self) -> Iterator[str]:
-        """A line of each request that bactrace has given up when the answer comes."""
+        """Yields a line for each request that bactrace has given up when the answer comes."""
         for ticket, talk in enumerate(self.asked):
             if talk.answers and ends_at(talk, self.settings) < talk.answers[0].nanos:
                 when = moment(talk.nanos)[11:]
@@ -190,12 +231,17 @@ class Trace:
 
 
 def traced(
-    messages: Sequence[Message], choice: Choice, timeout: Optional[int], retries: Optional[int]
+    messages: Sequence[Message], choice: Choice, timeout: int | None, retries: int | None
 ) -> Iterator[str]:
-    """The lines of a script of the client that is chosen."""
+    """Yields the lines of a script of the client that is chosen."""
     clients, pairing = clients_of(messages, choice), Pairing()
     steps = [Step(it.nanos, it, pairing.take(it)) for it in messages]
-    steps = [it for it in steps if it.message and _concerns(it.message, clients, choice.device)]
+    steps = [
+        step
+        for it, step in zip(messages, steps)
+        if (it.sender in clients and is_at(it.receiver, choice.device))
+        or (it.receiver in clients and is_at(it.sender, choice.device))
+    ]
     asking = [it for it in steps if it.event.kind == "request" and it.event.talk]
     talks = [it.event.talk for it in asking if it.event.talk and it.event.talk.client in clients]
     settings = settings_of(talks, timeout, retries)
@@ -205,13 +251,8 @@ def traced(
     for step in sorted(steps, key=lambda it: it.nanos):
         if step.nanos >= start:
             trace.add(step)
-    yield f"# {len(trace.asked)} requests of {choice.client or ', '.join(sorted(clients)[:4])}"
+    whose = choice.client or ", ".join(sorted(clients)[:4])
+    yield f"# {times(len(trace.asked), 'request')} of {whose}"
     yield from trace.late()
     yield f"client {settings.timeout} {settings.retries} 0"
     yield from trace.lines
-
-
-def _concerns(message: Message, clients: Set[str], device: Optional[str]) -> bool:
-    """Whether a message was sent by the client to the device, or came from there."""
-    sent = message.sender in clients and is_at(message.receiver, device)
-    return sent or message.receiver in clients and is_at(message.sender, device)

@@ -12,7 +12,7 @@ small = record { instance = 1234; name = codes "Small device" }
 abbrev pub desk : Station
 desk = record { ip = 0x7f000001; port = 50000; route = None }
 
--- A datagram with this APDU, behind a control octet: 4 where a reply is expected, and else 0.
+-- A datagram with this APDU, after a control octet: 4 if a reply is expected, otherwise 0.
 abbrev pub datagram : ℕ → List ℕ → List ℕ
 datagram control apdu = 0x81 ∷ 0x0a ∷ 0x00 ∷ (6 + length apdu) ∷ 0x01 ∷ control ∷ apdu
 
@@ -70,11 +70,11 @@ element_of index number object = of number object ++ 0x29 ∷ index ∷ []
 abbrev pub holding : List ℕ → List ℕ
 holding value = 0x3e ∷ value ++ 0x3f ∷ []
 
--- A ReadProperty of a requester that takes APDUs of 1476 octets.
+-- A ReadProperty of a requester that accepts APDUs of 1476 octets.
 abbrev pub read : List ℕ → List ℕ
 read what = 0x00 ∷ 0x05 ∷ 0x01 ∷ 0x0c ∷ what
 
--- A ReadProperty of a requester that takes APDUs of 50 octets.
+-- A ReadProperty of a requester that accepts APDUs of 50 octets.
 abbrev pub read_for_50 : List ℕ → List ℕ
 read_for_50 what = 0x00 ∷ 0x00 ∷ 0x01 ∷ 0x0c ∷ what
 
@@ -155,7 +155,7 @@ valve_id = record { kind = 1; instance = 1 }
 abbrev pub other_id : Identifier
 other_id = record { kind = 1; instance = 2 }
 
--- A write of 20.0 to an object, at priority 8; and what lets go of it.
+-- A write of 20.0 to an object, at priority 8; and the write that releases it.
 abbrev pub twenty_at_8 : Identifier → Write
 twenty_at_8 object = record { object = object; priority = 8; value = Some 0x41a00000 }
 
@@ -169,11 +169,11 @@ empty = record { info = small; standings = [] }
 abbrev pub after : List Write → DeviceState
 after writes = device_after small demo_points writes
 
--- What is given of a point of this object, under this name: percent (98), and 0 to begin with.
+-- The description of a point of this object, under this name: percent (98), and 0 to begin with.
 abbrev pub given_as : Identifier → List ℕ → Given
 given_as object name = record { object = object; name = name; start = 0; extra = 98 }
 
--- What the desk asks: a name of 36 octets, for a requester that takes 50.
+-- What the desk asks: a name of 36 octets, for a requester that accepts 50.
 abbrev pub asked : Arrival
 asked = record { from = desk; datagram = datagram 0x04 (read_for_50 (of 77 long_named)) }
 

@@ -19,12 +19,12 @@ post_in _ = []
 abbrev pub posts : List Note → List Entry
 posts = flat_map post_in
 
--- What is sent of the request of a call at the last of these events.
+-- The sends of the request of a call at the last of these events.
 abbrev pub sent_last : Purpose → Call → List Event → List Entry
 sent_last purpose call events =
     posts (send_notes (rules_for call) events (length events - 1) (asked purpose call))
 
--- Where a send is due it is asked for.
+-- A send that is due is asked for.
 abbrev pub or_sent : List Entry → Move Comes → Move Comes
 or_sent (send ∷ more) other = Asks (question_of send)
 or_sent [] other = other
@@ -57,7 +57,7 @@ pub record GainsLost {Origin : Type 0} (notes : List Note) (gained : List Entry)
   pub one : posts notes ≡ Posted to octets ∷ []
   pub gains : GainsAll (gained ++ Unposted to octets ∷ []) before after
 
--- What is heard is handed to the client.
+-- A datagram that is heard is handed to the client.
 abbrev pub heard_step : Rules → State → Heard → Stepped
 heard_step rules state Silence = record { notes = []; after = state }
 heard_step rules state (Arrived from octets) = step rules state (Data from octets)
@@ -67,7 +67,7 @@ heard_step rules state Failure = record { notes = []; after = state }
 abbrev pub IsAlone : State → Type 0
 IsAlone state = (w : Waiting) × (state.waiting ≡ w ∷ [])
 
--- The end that a tick makes, where it makes one.
+-- The end that a tick makes, if it makes one.
 abbrev pub timeouts : Bool → List (Option Outcome)
 timeouts true = None ∷ []
 timeouts false = []

@@ -50,7 +50,7 @@ one_step = Quiet 5 ∷ []
 abbrev pub IsNothing : List SystemCall → Type 0
 IsNothing calls = calls ≡ []
 
--- What is seen of a link that was asked and answered this.
+-- The seen state of a link that was asked and answered this.
 abbrev pub asked_so : List Entry → Account ℕ
 asked_so history = record { made = 0; history = history }
 

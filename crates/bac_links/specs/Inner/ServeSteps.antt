@@ -21,11 +21,12 @@ sends_of replies = map (λ ((to, octets) : Station × List ℕ). Posted to octet
 
 module _ {Origin : Type 0} (before after : DeviceState) (seen left : Account Origin) where
   -- A wait heard this, and the reply to it was sent, where there is one.
-  pub record TakesTurn (brought : ℕ) : Type 0 where
+  pub record TakesTurn (brought replied : ℕ) : Type 0 where
     pub heard : Heard
     pub leaves : LeavesDevice before heard after
     pub received : heard ≢ Failure
     pub came : brought ≡ length (brought_by heard)
+    pub sent : replied ≡ length (sends_of (replies_of before (brought_by heard)))
     pub gains : GainsAll (Waited serve_wait heard ∷ sends_of (replies_of before (brought_by heard))) seen left
 
   -- A wait heard this, and the reply to it could not be sent.
@@ -44,8 +45,8 @@ module _ {Origin : Type 0} (before after : DeviceState) (seen left : Account Ori
     pub gains : Gains (Waited serve_wait Failure) seen left
 
   -- One wait, and the answer to what it brought.
-  abbrev pub ServesTurn : Result ℕ ToolFault → Type 0
-  ServesTurn (Ok brought) = TakesTurn brought
+  abbrev pub ServesTurn : Result (ℕ × ℕ) ToolFault → Type 0
+  ServesTurn (Ok (brought, replied)) = TakesTurn brought replied
   ServesTurn (Err SendFailed) = LosesReply
   ServesTurn (Err ReceiveFailed) = WaitFails
   ServesTurn (Err TurnsSpent) = ⊥

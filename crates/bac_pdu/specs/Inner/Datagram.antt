@@ -2,7 +2,7 @@
 use Rattle.std.specs.Prelude.{◌++◌, ◌+◌, ◌∷◌, Bool, length, List, Option, ℕ}
 use Rattle.{byteorder.specs.Endian.big_bytes, bac_pdu.specs.{Header.plain_header, Peer.NetworkAddress}}
 
--- What stands before an APDU of so many octets: the link header and the network header.
+-- The octets before an APDU of this many octets: the link header and the network header.
 unfoldable pub front_octets : Option NetworkAddress → Bool → ℕ → List ℕ
 front_octets to expect size =
     129 ∷ 10 ∷ (big_bytes 2 (4 + (length (plain_header to expect) + size)) ++ plain_header to expect)

@@ -1,5 +1,5 @@
 -- Stations, requests and datagrams, for examples of their octets.
-use Rattle.std.specs.Prelude.{◌≡◌, ℕ, true, false, List, [], ◌∷◌, Some, None}
+use Rattle.std.specs.Prelude.{◌≡◌, ℕ, Bool, true, false, List, [], ◌∷◌, Some, None}
 use Rattle.bac_pdu.specs.{declared.apdu.Part.Part, Peer.Station, Datagram.Delivery, Apdu.{Message, laid_out}}
 use Rattle.bac_pdu.specs.{ApduReading.apdu_of, Discovery.Introduction, Property.{Reference, Order}}
 
@@ -15,7 +15,7 @@ far = record { ip = 0xc0a80105; port = 47808; route = Some (record { network = 5
 abbrev pub present_value : Reference
 present_value = record { object = record { kind = 0; instance = 1 }; property = 85; index = None }
 
--- Device (type 8) 1234, which takes APDUs of 1476 octets, no segmentation (3), of vendor 260.
+-- Device (type 8) 1234, which accepts APDUs of 1476 octets, no segmentation (3), of vendor 260.
 abbrev pub small_device : Introduction
 small_device = record { device = record { kind = 8; instance = 1234 }; max_apdu = 1476; segmentation = 3; vendor = 260 }
 
@@ -27,9 +27,31 @@ from_desk apdu = record { peer = desk; broadcast = false; apdu = apdu }
 abbrev pub WritesApdu : Message → List ℕ → Type 0
 WritesApdu message octets = (laid_out message ≡ octets) × (apdu_of octets ≡ Some message)
 
--- The same datagram, sent to all.
+-- A datagram from the desk, sent to all, that carries this APDU.
 abbrev pub to_all : List ℕ → Delivery
 to_all apdu = record { peer = desk; broadcast = true; apdu = apdu }
+
+-- A datagram that carries this APDU, from station 7 of this network, behind the router at the desk's address and port.
+abbrev pub routed_from : ℕ → List ℕ → Delivery
+routed_from network apdu = record {
+  peer = record desk { route = Some (record { network = network; address = 7 ∷ [] }) };
+  broadcast = false;
+  apdu = apdu;
+}
+
+-- A Forwarded-NPDU of 15 octets from 192.168.1.9, port 47809, with an APDU of three; and what such a datagram carries,
+-- sent to all or not.
+abbrev pub forwarded_octets : List ℕ → List ℕ
+forwarded_octets apdu =
+    0x81 ∷ 0x04 ∷ 0x00 ∷ 0x0f ∷ 0xc0 ∷ 0xa8 ∷ 0x01 ∷ 0x09 ∷ 0xba ∷ 0xc1 ∷ 0x01 ∷ 0x00 ∷ apdu
+
+abbrev pub from_other : Bool → List ℕ → Delivery
+from_other broadcast apdu =
+    record { peer = record { ip = 0xc0a80109; port = 47809; route = None }; broadcast = broadcast; apdu = apdu }
+
+-- The I-Am of the small device.
+abbrev pub i_am_1234 : List ℕ
+i_am_1234 = 0xc4 ∷ 0x02 ∷ 0x00 ∷ 0x04 ∷ 0xd2 ∷ 0x22 ∷ 0x05 ∷ 0xc4 ∷ 0x91 ∷ 0x03 ∷ 0x22 ∷ 0x01 ∷ 0x04 ∷ []
 
 -- The octets of the present value of analog-input 1 in a body.
 abbrev pub present_octets : List ℕ

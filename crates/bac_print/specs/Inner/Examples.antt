@@ -1,5 +1,6 @@
 -- The octets, the peers, the streams and the pages of examples.
-use Rattle.std.specs.Prelude.{[], codes, Err, false, length, List, None, Ok, Option, Result, Some, ℕ, ◌∷◌, ◌≡◌}
+use Rattle.std.specs.Prelude.{[], codes, Err, false, length, List, None, Ok, Option, replicate, Result, Some, true, ℕ}
+use Rattle.std.specs.Prelude.{◌∷◌, ◌≡◌}
 use Rattle.{bac_pdu.specs.Station, bac_print.specs.{Checked.fresh, declared.{checked.Checked.Checked, page.Page.Page}}}
 use Rattle.bac_print.specs.{StreamCall.WriteCall, Values.region_text}
 use Prim.Native.String.{String}
@@ -12,7 +13,7 @@ PrintsAs octets text = region_text octets ≡ codes text
 abbrev pub device : Station
 device = record { ip = 0x7f000001; port = 47808; route = None }
 
--- The station with address 7 of network 5, behind the device's address and port.
+-- The station with address 7 of network 5, behind a router at the device's address and port.
 abbrev pub far_device : Station
 far_device = record { ip = 0x7f000001; port = 47808; route = Some (record { network = 5; address = 7 ∷ [] }) }
 
@@ -31,6 +32,17 @@ having octets = record {
     transcript = record { of = record {}; items = WriteCall octets (Ok (length octets)) ∷ [] };
   };
   failed = false;
+  reads = 0;
+}
+
+-- A writer that refused an octet so often, and has failed.
+abbrev pub refusing : ℕ → Checked ℕ
+refusing times = record {
+  inner = record {
+    stream = 0;
+    transcript = record { of = record {}; items = replicate times (WriteCall (1 ∷ []) (Ok 0)) };
+  };
+  failed = true;
   reads = 0;
 }
 

@@ -1,13 +1,13 @@
 -- Clients, stages, results and whole runs, for examples of what is said of runs.
 use Rattle.std.specs.Prelude.{[], codes, Err, false, length, List, None, Ok, Option, replicate, Result, ℕ, ◌++◌, ◌<◌}
-use Rattle.std.specs.Prelude.{◌∷◌}
+use Rattle.std.specs.Prelude.{true, ◌^◌, ◌∷◌}
 use Rattle.{bac_pdu.specs.Station, bac_tsm.specs.{Ask, Event, Note, Sent, Client.Client}}
 use Rattle.bac_print.specs.{fresh, declared.checked.Checked.Checked, StreamCall.{ReadCall, WriteCall}}
-use Rattle.bac_script.specs.declared.tracing.TraceEnd.{TraceEnd}
+use Rattle.bac_script.specs.{new_client, declared.tracing.TraceEnd.TraceEnd}
 use Rattle.bac_links.specs.{Account, Entry, declared.fault.ToolFault.TheVariants.SendFailed}
 use Rattle.bac_run.specs.Course.{Aim, Broken, Outside, Stage, Turns}
 use Rattle.bac_run.specs.declared.{fault.RunFault.{RunFault, TheVariants.Link}, session.Session.Session}
-use Rattle.bac_run.specs.{declared.turns.Until.TheVariants.FewOpen, Journal.{Act, Asked, new_client, turn_at}, Run.Runs}
+use Rattle.bac_run.specs.{declared.turns.Until.TheVariants.FewOpen, Journal.{Act, Asked, turn_at}, Run.Runs}
 
 -- 127.0.0.1, port 47808.
 abbrev pub desk : Station
@@ -42,7 +42,7 @@ long_answer = (0x81 ∷ 0x0a ∷ 0x02 ∷ 0x18 ∷ 0x01 ∷ 0x00 ∷ 0x30 ∷ 0x
 
 -- A client with a timeout of three seconds and three retries; and with that request open.
 abbrev pub idle : Client
-idle = new_client 3000 3
+idle = new_client 3000 3 0
 
 abbrev pub busy : Client
 busy = (turn_at idle asked).after
@@ -59,10 +59,6 @@ waiting behind left = about busy behind (Turns (FewOpen 0) left ∷ [])
 abbrev pub deaf : Stage
 deaf = record (waiting 0 9) { phase = Broken }
 
--- All is done.
-abbrev pub at_rest : Stage
-at_rest = about idle 0 []
-
 -- So many lines were taken to the end of the input; and a send failed.
 abbrev pub ended : ℕ → Result TraceEnd RunFault
 ended lines = Ok (record { lines = lines })
@@ -76,6 +72,11 @@ unsent = Err (Link SendFailed)
 abbrev pub one_by_one : 0 < 3000 → 0 < 1 → Session
 one_by_one timed some =
     record { config = record { timeout = 3000; retries = 3; positive = timed }; window = 1; some = some }
+
+-- The timeout has 33 bits.
+abbrev pub slow : 0 < 2 ^ 32 → 0 < 1 → Session
+slow timed some =
+    record { config = record { timeout = 2 ^ 32; retries = 3; positive = timed }; window = 1; some = some }
 
 -- The octets of a stream are not known.
 abbrev pub unknown : ℕ → Option (List ℕ)
@@ -92,6 +93,14 @@ drained given = record {
   reads = 2;
 }
 
+-- One that gave this in one read, and has not ended.
+abbrev pub given_once : List ℕ → Checked ℕ
+given_once given = record {
+  inner = record { stream = 0; transcript = record { of = record {}; items = ReadCall 4097 (Ok given) ∷ [] } };
+  failed = false;
+  reads = 1;
+}
+
 -- A writer that took this.
 abbrev pub filled : List ℕ → Checked ℕ
 filled text = record {
@@ -100,6 +109,20 @@ filled text = record {
     transcript = record { of = record {}; items = WriteCall text (Ok (length text)) ∷ [] };
   };
   failed = false;
+  reads = 0;
+}
+
+-- One that took this, and then refused an octet.
+abbrev pub full_after : List ℕ → Checked ℕ
+full_after text = record {
+  inner = record {
+    stream = 0;
+    transcript = record {
+      of = record {};
+      items = WriteCall text (Ok (length text)) ∷ WriteCall (1 ∷ []) (Ok 0) ∷ [];
+    };
+  };
+  failed = true;
   reads = 0;
 }
 

@@ -1,4 +1,4 @@
--- Where the octets of a script are cut, and the chunks in which they come.
+-- If the octets of a script are cut, and the chunks in which they come.
 use Rattle.std.proofs.Common.{[], ap, append-nil, append_assoc, arith, Bool, drop, drop-drop, eqb-true, Err, false}
 use Rattle.std.proofs.Common.{filter, get_or, inl, inr, length, length-append, length-drop, length-take-le, List, min}
 use Rattle.std.proofs.Common.{nat_lt, ne_eqb, None, Option, position, refl, slice_range, Some, suc, sym, take, take-add}
@@ -160,7 +160,7 @@ still_for_line (inr r) then =
     let (later, out) = further _ then (r.turned_in.later, r.turned_in.out) in
     inr (record { last = r.last; turned_in = record { sound = r.turned_in.sound; later = later; out = out } })
 
--- One more read, where no line is held, or none, since the reads are spent.
+-- One more read, if no line is held, or none, since the reads are spent.
 pub read_for_line : {R W : Type 0} {remaining : R → Option (List ℕ)} {contents : W → Option (List ℕ)}
     {a b c : Checked R} {page page' page'' : Page W} {held now later : List ℕ}
     → TakesAndKeeps remaining a b held now [] → Prints contents page page' [] → Prints contents page' page'' []
@@ -181,7 +181,7 @@ read_for_line p first then empty good before asked none short (inr more) once = 
   turned_in = turned (first ⨾ then) empty good;
 })
 
--- Where reading is over, the next line is all that is held.
+-- If reading is over, the next line is all that is held.
 pub next_at_end : {R : Type 0} {remaining : R → Option (List ℕ)} {a : Checked R} (b : Checked R) {c : Checked R}
     {held : List ℕ} (reading : Reading) {count : ℕ} → (reading ≡ Open → ⊥) → count ≡ length held → HasNoFeed held
     → length held < line_room → HasNotEnded a b → ReaderStands remaining reading b c []
@@ -201,7 +201,7 @@ pub no_feed_on : (xs ys : List ℕ) → HasNoFeed xs → HasNoFeed ys → HasNoF
 no_feed_on [] ys h k = k
 no_feed_on (x ∷ xs) ys (differs, later) k = (differs, no_feed_on xs ys later k)
 
--- Where none was found that passes, each fails.
+-- If none was found that passes, each fails.
 pub none_passes : (p : ℕ → Bool) (xs : List ℕ) → position p xs ≡ None → (k : ℕ) → k < length xs
     → p (get_or xs k 0) ≡ false
 none_passes p xs none k within = fails_before_first p xs k 0 (grind (arith, nat_tests))
@@ -228,12 +228,12 @@ pub range_size : (xs held : List ℕ) (start end : ℕ) → slice_range xs start
     → length held ≡ end - start
 range_size = grind (arith, length-take-le, length-drop)
 
--- What is left of a range.
+-- The rest of a range.
 pub range_skipped : (xs held : List ℕ) (start end n : ℕ) → slice_range xs start end ≡ held
     → slice_range xs (start + n) end ≡ drop n held
 range_skipped = grind (arith, between_is, drop-drop)
 
--- ---- a search that goes on behind what was searched
+-- ---- a search that goes on after what was searched
 
 -- So many of the first octets have no line feed, and are fewer than the longest line.
 pub record IsSearched (count : ℕ) (held : List ℕ) : Type 0 where
@@ -241,7 +241,7 @@ pub record IsSearched (count : ℕ) (held : List ℕ) : Type 0 where
   pub few : count < line_room
   pub before : HasNoFeed (take count held)
 
--- What was held when more was read has been searched.
+-- The octets that were held when more was read have been searched.
 pub searched_on : {R : Type 0} {b c : Checked R} {held later : List ℕ} (last : List ℕ) → HasNoFeed held
     → length held < line_room → IsUnread b c held later ⊎ (later ≡ held ++ last) → IsSearched (length held) later
 searched_on _ none short (inl same) = grind (arith, take_all)
@@ -250,7 +250,7 @@ searched_on _ none short (inr more) = grind (arith, length-append, take-append-l
 module _ (xs held : List ℕ) (start count limit end : ℕ) (is : slice_range xs start end ≡ held)
     (limit_is : limit ≡ min end (start + line_room)) (inside : start ≤ end) (room : end ≤ length xs)
     (within : count ≤ length held) (few : count < line_room) (before : HasNoFeed (take count held)) where
-  -- What has been searched then.
+  -- The octets that have been searched then.
   abbrev front : List ℕ
   front = take (limit - start) held
 
@@ -288,7 +288,7 @@ module _ (xs held : List ℕ) (start count limit end : ℕ) (is : slice_range xs
       let whole = no_feed_on (take count front) (drop count front) searched (grind (arith, no_feed, here)) in
       grind (arith, whole, take-append-drop)
 
-  -- Nor among all that is held, where no more is.
+  -- Nor among all that is held, if no more is.
   pub none_held : position (λ octet. octet == 10) (slice_range xs (start + count) limit) ≡ None →
       limit - start < line_room → HasNoLine held
   none_held = grind (arith, none_up_to, take_all, size)
@@ -297,14 +297,14 @@ module _ (xs held : List ℕ) (start count limit end : ℕ) (is : slice_range xs
       line_room ≤ limit - start → (limit - start ≤ length held) × IsLineCut Open front
   cut_as_long = grind (arith, none_up_to, size, long)
 
--- ---- octets that are read behind what is held
+-- ---- octets that are read after what is held
 
 -- Of octets that were moved to the front.
 moved_held : (xs moved held : List ℕ) (start end : ℕ) → slice_range xs start end ≡ held
     → moved ≡ copy_within xs start end 0 → start ≤ end → end ≤ length xs → slice_range moved 0 (end - start) ≡ held
 moved_held = grind (arith, common_steps, take-paste, length-drop)
 
--- A chunk with room behind what is held.
+-- A chunk with room after what is held.
 pub record Placed (xs : List ℕ) (start end : ℕ) (held : List ℕ) : Type 0 where
   pub is : slice_range xs start end ≡ held
   pub within : start ≤ end
@@ -361,7 +361,7 @@ module _ {xs : List ℕ} {start end : ℕ} {held : List ℕ} (p : Placed xs star
       → TakesAndKeeps remaining reader reader' held (slice_range room start end) []
   read_ended = grind (arith, append-nil, still_held)
 
-  -- What the last read gave stands behind what was held.
+  -- What the last read gave stands after what was held.
   pub last_on : {last : List ℕ} (count : ℕ) → count ≤ length ys → last ≡ take count ys
       → slice_range room start (end + count) ≡ held ++ last
   last_on = grind (arith, more)

@@ -1,9 +1,9 @@
 -- The scripts of examples, whose peers are all at 127.0.0.1; and readers.
-use Rattle.std.specs.Prelude.{[], Bool, codes, false, List, None, Ok, Result, true, ℕ, ◌++◌, ◌∷◌}
+use Rattle.std.specs.Prelude.{[], Bool, codes, false, length, List, None, Ok, Result, true, ℕ, ◌++◌, ◌∷◌}
 use Rattle.bac_pdu.specs.{Station}
-use Rattle.bac_print.specs.{declared.checked.Checked.Checked, StreamCall.{ReadCall, StreamCall}}
+use Rattle.bac_print.specs.{declared.checked.Checked.Checked, StreamCall.{ReadCall, StreamCall, WriteCall}}
 use Rattle.bac_script.specs.declared.input.Reading.TheVariants.{AtEnd}
-use Rattle.bac_script.specs.{declared.tracing.{TraceEnd.TraceEnd, TraceFault.TraceFault}, Script.Runs}
+use Rattle.bac_script.specs.{declared.tracing.{TraceEnd.TraceEnd, TraceFault.TraceFault}, Script.ScriptRuns}
 use Prim.Native.String.{String}
 
 -- Each line with its line feed.
@@ -13,7 +13,7 @@ lined (line ∷ later) = codes line ++ 10 ∷ lined later
 
 -- A script of these lines, read to its end, prints those and answers so.
 abbrev pub IsTraced : List String → List String → Result TraceEnd TraceFault → Type 0
-IsTraced script printed answer = Runs (lined script) AtEnd (lined printed) answer
+IsTraced script printed answer = ScriptRuns (lined script) AtEnd (lined printed) answer
 
 -- The script ends after so many lines.
 abbrev pub ended : ℕ → Result TraceEnd TraceFault
@@ -46,6 +46,15 @@ asked_for calls failed reads = record {
 -- A reader that gave these octets in one read; one that was read so often; and one that failed.
 abbrev pub gave : List ℕ → Checked ℕ
 gave octets = asked_for (ReadCall 32768 (Ok octets) ∷ []) false 1
+
+-- One that gave these octets, and the octet 35 in another read.
+abbrev pub gave_more : List ℕ → Checked ℕ
+gave_more octets = asked_for (ReadCall 32768 (Ok octets) ∷ ReadCall 32768 (Ok (35 ∷ [])) ∷ []) false 2
+
+-- A writer that took these octets, and refused one after them.
+abbrev pub full_after : List ℕ → Checked ℕ
+full_after octets =
+    asked_for (WriteCall octets (Ok (length octets)) ∷ WriteCall (1 ∷ []) (Ok 0) ∷ []) true 0
 
 abbrev pub has_read : ℕ → Checked ℕ
 has_read = asked_for [] false

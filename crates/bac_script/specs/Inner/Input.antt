@@ -1,4 +1,4 @@
--- What is kept of a reader while lines are cut from what it gives.
+-- The kept state of a reader while lines are cut from what it gives.
 use Rattle.std.specs.Prelude.{◌≡◌}
 use Rattle.bac_print.specs.{ends_of, declared.checked.Checked.Checked}
 

@@ -1,38 +1,31 @@
 -- One line's step of a script's client and device.
 use Rattle.std.specs.Prelude.{[], List, ℕ, ◌≡◌}
-use Rattle.bac_tsm.specs.{Event, initial, keeping, rules_of, step, Stepped, Client.Client}
+use Rattle.bac_tsm.specs.{Event, keeping, Client.Client}
 use Rattle.bac_device.specs.{Arrival, demo_points, device_after, DeviceState, Write, Reply.{reply_to, writes_after}}
-use Rattle.bac_script.specs.{Line.{Asks, Happens, Nothing, Said, Settings}, Running.small_device}
-use Rattle.bac_script.specs.Text.{notes_text, reply_text}
+use Rattle.bac_script.specs.{Line.{Asks, Blank, Happens, Remark, Said, Settings}, Text.{notes_text, reply_text}}
+use Rattle.bac_script.specs.Running.{new_client, small_device, step_of}
 
 -- What a script runs on: its client, and its device, as the writes that the device has accepted.
-pub record Stage : Type 0 where
+pub record ScriptStage : Type 0 where
   pub client : Client
   pub writes : List Write
 
--- What was printed, and the stage after it.
-pub record Turn : Type 0 where
+-- The printed text, and the stage after it.
+pub record ScriptTurn : Type 0 where
   pub text : List ℕ
-  pub after : Stage
-
-abbrev pub new_client : ℕ → ℕ → ℕ → Client
-new_client timeout retries first_ticket = record { timeout = timeout; retries = retries; state = initial first_ticket }
+  pub after : ScriptStage
 
 -- The demonstration device after these writes.
 abbrev pub device_with : List Write → DeviceState
 device_with writes = device_after small_device demo_points writes
 
 -- The client and the device are those of the stage.
-pub record Stands (stage : Stage) (client : Client) (device : DeviceState) : Type 0 where
+pub record Stands (stage : ScriptStage) (client : Client) (device : DeviceState) : Type 0 where
   pub as_client : client ≡ stage.client
   pub as_device : device ≡ device_with stage.writes
 
--- The step that the client makes at an event.
-abbrev pub step_of : Client → Event → Stepped
-step_of client event = step (rules_of client) client.state event
-
 -- The client makes its step at an event, and its notes are printed.
-abbrev pub stepped : Stage → Event → Turn
+abbrev pub stepped : ScriptStage → Event → ScriptTurn
 stepped stage event = record {
   text = notes_text (step_of stage.client event).notes;
   after = record { client = keeping stage.client (step_of stage.client event).after; writes = stage.writes };
@@ -46,8 +39,9 @@ reply_after writes arrival = reply_text (reply_to small_device demo_points write
 abbrev pub writes_with : List Write → Arrival → List Write
 writes_with writes arrival = writes_after small_device demo_points writes arrival.from arrival.datagram
 
-abbrev pub ran : Stage → Said → Turn
-ran stage Nothing = record { text = []; after = stage }
+abbrev pub ran : ScriptStage → Said → ScriptTurn
+ran stage Blank = record { text = []; after = stage }
+ran stage Remark = record { text = []; after = stage }
 ran stage (Settings timeout retries first_ticket) =
     record { text = []; after = record { client = new_client timeout retries first_ticket; writes = stage.writes } }
 ran stage (Happens event) = stepped stage event

@@ -2,7 +2,7 @@
 use Rattle.std.specs.Prelude.{List, Option, Result, ℕ}
 use Rattle.bac_print.specs.{Prints, writer_of, declared.{checked.Checked.Checked, page.Page.Page}}
 use Rattle.bac_script.specs.declared.{input.Reading.Reading, tracing.{TraceEnd.TraceEnd, TraceFault.TraceFault}}
-use Rattle.bac_script.specs.{Script.Runs, Tracing.{HasRead, IsToldFirst}}
+use Rattle.bac_script.specs.{Script.ScriptRuns, Tracing.{HasRead, IsToldFirst}}
 
 -- What `Traces` says, while some of the text may still be on the page: the text that was printed is that of the script,
 -- or, where the writer failed, a front of it.
@@ -14,4 +14,4 @@ pub record RunsOn {R W : Type 0} (remaining : R → Option (List ℕ)) (contents
   pub read : HasRead remaining reader reader' given reading
   pub told : IsToldFirst reader' (writer_of page) (writer_of page') given
   pub prints : Prints contents page page' printed
-  pub runs : Runs given reading printed answer
+  pub runs : ScriptRuns given reading printed answer

@@ -12,7 +12,7 @@ WritesPair tag word octets = region_of (codes tag ∷ codes word ∷ []) ≡ Ok 
 abbrev pub device : Station
 device = record { ip = 0x7f000001; port = 47808; route = None }
 
--- The station with address 7 of network 5, behind the device's address and port.
+-- The station with address 7 of network 5, behind a router at the device's address and port.
 abbrev pub far_device : Station
 far_device = record { ip = 0x7f000001; port = 47808; route = Some (record { network = 5; address = 7 ∷ [] }) }
 

@@ -1,7 +1,7 @@
 -- Octets from hexadecimal digits, as lanes make them.
 use Rattle.std.specs.Prelude.{ℕ, ◌+◌, ◌*◌, ◌%◌, nat_lt, List, [], ◌∷◌, if◌then◌else◌}
 
--- The number that a digit of either case writes: letters stand behind 64, and A and a have 1 in their low bits.
+-- The number that a digit of either case writes: letters come after 64, and A and a have 1 in their low bits.
 abbrev pub number_by_lane : ℕ → ℕ
 number_by_lane digit = digit % 16 + (if nat_lt 63 digit then 9 else 0)
 

@@ -4,7 +4,7 @@ use Rattle.bac_wire.specs.{frame_room, plain, Datum.Datum}
 use Rattle.bac_text.specs.declared.pairs.PairFault.{PairFault, TheVariants.{Bad, TooLong}}
 use Rattle.bac_text.specs.{Inner.ValueWords.at_most, Pairs.values_in}
 
--- The shortest spellings of these values, one after another, where a frame has room for them.
+-- The shortest spellings of these values, one after another, if a frame has room for them.
 abbrev pub region_with : Result (List Datum) ℕ → Result (List ℕ) PairFault
 region_with (Ok values) = at_most TooLong frame_room (flat_map plain values)
 region_with (Err n) = Err (Bad n)

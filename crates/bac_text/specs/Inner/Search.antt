@@ -2,11 +2,11 @@
 use Rattle.std.specs.Prelude.{◌≡◌, ℕ, ◌+◌, ◌<◌, ◌≤◌, ◌==◌, Bool, true, false, List, slice_index, if◌then◌else◌}
 use Rattle.std.specs.Int.{w64, trailing_zeros}
 
--- The position of the lowest bit that is set, or the number of lanes where none is.
+-- The position of the lowest bit that is set, or the number of lanes if no bit is set.
 abbrev pub first_set : ℕ → ℕ → ℕ
 first_set mask lanes = if mask == 0 then lanes else trailing_zeros w64 mask
 
--- From this position on, so many of the octets that are loaded fail the test. The next one of them, if there is one,
+-- From this position on, this many of the octets that are loaded fail the test. The next one of them, if there is one,
 -- passes it.
 pub record IsRunIn (test : ℕ → Bool) (octets : List ℕ) (at lanes run : ℕ) : Type 0 where
   pub within : run ≤ lanes

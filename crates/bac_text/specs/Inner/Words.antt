@@ -7,7 +7,7 @@ use Rattle.{hex.specs.Hex.decode_of, bac_text.specs.Words.{number_up_to, words_o
 abbrev pub is_not_empty : List ℕ → Bool
 is_not_empty word = nat_lt 0 (length word)
 
--- This number, where it is at most the limit.
+-- This number, if it is at most the limit.
 abbrev pub up_to : ℕ → ℕ → Option ℕ
 up_to most number = if nat_le number most then Some number else None
 

@@ -1,21 +1,25 @@
--- Runs of the program, for examples of what is said of it: words, networks, streams and reports.
+-- Runs of the program, for examples of its definitions: words, networks, streams and reports.
 use Rattle.std.specs.declared.net.socket_addr.SocketAddr.{SocketAddr, TheVariants.V4}
 use Rattle.std.specs.Prelude.{[], codes, Err, false, length, List, None, Ok, Option, refl, Result, Some, ℕ, ◌∷◌, ◌≡◌}
-use Rattle.{clap.specs.Words.Text, bac_text.specs.words_of}
+use Rattle.{clap.specs.Words.Text, bac_text.specs.words_of, bac_links.specs.Silence}
 use Rattle.bac_print.specs.{fresh, declared.checked.Checked.Checked, StreamCall.{ReadCall, WriteCall}}
 use Rattle.{bac_script.specs.declared.tracing.TraceEnd.TraceEnd, bac_links.specs.{Account, Bind, Entry, Failure, Timed}}
-use Rattle.bac_links.specs.{Waited, declared.{fault.ToolFault.TheVariants.ReceiveFailed, socket.NoSocket.NoSocket}}
+use Rattle.bac_links.specs.{Waited, declared.fault.ToolFault.TheVariants.ReceiveFailed}
 use Rattle.{bac_links.specs.SystemCall.{Limit, SystemCall}, bac_run.specs.declared.fault.RunFault.RunFault}
 use Rattle.bac_words.specs.declared.faults.UsageFault.TheVariants.{Memory}
 use Rattle.bac_words.specs.declared.job.{Batch.Batch, Tool.{Tool, TheVariants.Device}}
 use Rattle.bac_tools.specs.{Alike.ProgramRun, declared.{program.{Binding.Binding, Ran.Ran}, report.Report.Report}}
-use Rattle.bac_tools.specs.{Outside.Outside, Report.{report_of, tool_report}}
+use Rattle.bac_tools.specs.{Outside.Outside, Report.{report_of, tool_report, trace_report}}
 use mathlib.Core.Logic.{inl}
 use Rattle.bac_tools.specs.declared.report.Fault.TheVariants as faults
 
 -- A network that gives no socket.
-abbrev pub gives_none : ℕ → Binding → Result ℕ NoSocket → Type 0
+abbrev pub gives_none : ℕ → Binding → Result ℕ ℕ → Type 0
 gives_none network binding opened = ⊥
+
+-- A network that may give any socket, or none.
+abbrev pub gives_any : ℕ → Binding → Result ℕ ℕ → Type 0
+gives_any network binding opened = Unit {0}
 
 -- Links that were asked nothing, readers and writers whose octets are not known.
 abbrev pub unknown : Outside ℕ ℕ ℕ ℕ
@@ -51,9 +55,13 @@ forgotten = record {
 abbrev pub one_time : List Entry
 one_time = Timed 0 ∷ []
 
+-- One wait in silence.
+abbrev pub one_wait : List Entry
+one_wait = Waited 50 Silence ∷ []
+
 -- ---- words, reports and streams
 
--- The report that the system told no words, that there is no socket, and that a receive failed.
+-- The report that the words could not be read, that there is no socket, and that a receive failed.
 abbrev pub no_text : Report
 no_text = report_of faults.NoText
 
@@ -63,8 +71,8 @@ no_socket = report_of (faults.Link record {})
 abbrev pub not_received : Report
 not_received = tool_report (Err ReceiveFailed)
 
--- How words were run that asked for no socket, over a network of this number.
-abbrev pub ran_without : Report → Option ℕ → Ran ℕ ℕ
+-- The run of words that asked for no socket, over a network of this number.
+abbrev pub ran_without : Report → Option ℕ → Ran ℕ ℕ ℕ
 ran_without report unasked = record { report = report; socket = None; unasked = unasked }
 
 -- A reader or writer that was asked for nothing, and one that took these octets.
@@ -85,7 +93,7 @@ having octets = record {
 abbrev pub no_contents : ℕ → Option (List ℕ)
 no_contents stream = None
 
--- What is told of these.
+-- The messages of these reports.
 abbrev pub told_no_text : Checked ℕ
 told_no_text = having (codes "bactool: words that are not UTF-8\n")
 
@@ -94,6 +102,21 @@ told_no_socket = having (codes "bactool: bind failed\n")
 
 abbrev pub told_failed : Checked ℕ
 told_failed = having (codes "bactool: receiving failed\n")
+
+-- The report of a script that ended well.
+abbrev pub well : Report
+well = trace_report (Ok (record { lines = 0 }))
+
+-- Words of a read after the name of the tool. The address of their peer is invalid.
+abbrev pub bad_words : List Text
+bad_words = words_of (codes "1234 0 5 85 --mac 192.0.2")
+
+-- The words of its command line, and those of a script.
+abbrev pub bad_read_words : List Text
+bad_read_words = words_of (codes "bactool bacrp 1234 0 5 85 --mac 192.0.2")
+
+abbrev pub script_words : List Text
+script_words = words_of (codes "bactool bactrace")
 
 -- ---- a device whose first wait fails
 
@@ -108,16 +131,19 @@ device = Device (record {
   count = 65535;
 })
 
--- What its link was asked and answered, and what is seen of such a link.
+-- The calls and answers of its link, and the seen state of such a link.
 abbrev pub deaf : List Entry
 deaf = Waited 1000 Failure ∷ []
 
 abbrev pub asked_so : List Entry → Account ℕ
 asked_so history = record { made = 0; history = history }
 
--- 0.0.0.0 at this port; and the calls of the system for a link whose time could not be set.
+-- 0.0.0.0 at this port, and 127.0.0.1; and the calls of the system for a link whose time could not be set.
 abbrev pub any_at : ℕ → SocketAddr
 any_at port = V4 (record { ip = record { octets = 0 ∷ 0 ∷ 0 ∷ 0 ∷ [] }; port = port })
+
+abbrev pub loopback : SocketAddr
+loopback = V4 (record { ip = record { octets = 127 ∷ 0 ∷ 0 ∷ 1 ∷ [] }; port = 47808 })
 
 abbrev pub deaf_calls : List SystemCall
 deaf_calls = Bind (any_at 47808) ∷ Limit 1000000000 false ∷ []
@@ -125,7 +151,7 @@ deaf_calls = Bind (any_at 47808) ∷ Limit 1000000000 false ∷ []
 -- ---- networks
 
 -- A network whose sockets all have the number 0, at that port of each address; what is seen of them; and their calls.
-pub record GivesThat (network : ℕ) (binding : Binding) (opened : Result ℕ NoSocket) : Type 0 where
+pub record GivesThat (network : ℕ) (binding : Binding) (opened : Result ℕ ℕ) : Type 0 where
   pub at : binding.at ≡ record { ip = 0; port = 47808; route = None }
   pub link : opened ≡ Ok 0
 
@@ -138,10 +164,20 @@ one_bind link = Bind (any_at 47808) ∷ []
 abbrev pub no_bind : ℕ → List SystemCall
 no_bind link = []
 
--- A network that gives none, and asks the system for these calls.
-abbrev pub FailsAfter : List SystemCall → ℕ → Binding → Result ℕ NoSocket → Type 0
+-- What says that there is no socket: the network that is kept, and what the system was asked.
+pub record InVain : Type 0 where
+  pub kept : ℕ
+  pub log : List SystemCall
+
+-- A network that gives none, is kept, and asks the system for these calls.
+abbrev pub FailsAfter : List SystemCall → ℕ → Binding → Result ℕ InVain → Type 0
 FailsAfter calls network binding (Ok link) = ⊥
-FailsAfter calls network binding (Err none) = none.log.items ≡ calls
+FailsAfter calls network binding (Err none) = none ≡ record { kept = network; log = calls }
+
+-- A run that was given no socket by such a network, which asked for nothing; this network was handed back.
+abbrev pub ran_in_vain : ℕ → Ran ℕ ℕ InVain
+ran_in_vain kept =
+    record { report = no_socket; socket = Some (Err (record { kept = kept; log = [] })); unasked = None }
 
 -- ---- many requests
 
@@ -149,7 +185,7 @@ FailsAfter calls network binding (Err none) = none.log.items ≡ calls
 abbrev pub batch_of : (timeout : ℕ) → Batch
 batch_of timeout = record { timeout = timeout; retries = 3; port = 0; window = 1 }
 
--- A reader that was at its end at once, and the answer to so many lines.
+-- A reader that was at its end at once, and the answer to this many lines.
 abbrev pub drained : Checked ℕ
 drained = record {
   inner = record { stream = 0; transcript = record { of = record {}; items = ReadCall 4097 (Ok []) ∷ [] } };

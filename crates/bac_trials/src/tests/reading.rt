@@ -9,7 +9,7 @@ use bac_work::begin;
 /// The octets that each octet is changed to: the edges of a length, and octets that begin tags.
 static CHANGES: [u8; 8] = [0x00, 0x05, 0x0e, 0x3f, 0x65, 0xfd, 0xfe, 0xff];
 
-/// What stands at the front of parts: how many there are; their tags, with the sums of numbers, counts and octets;
+/// The front of parts: how many parts there are; their tags, with the sums of numbers, counts and octets;
 /// their values, with their octets; and their regions, with theirs.
 type Tally = [u64; 9];
 
@@ -24,7 +24,7 @@ fn tag_at(part: &[u8]) -> [u64; 4] {
     [1, u64::from(tag.number), u64::from(count), size as u64]
 }
 
-/// One and the size, if there is one.
+/// Returns 1 and the size, if there is a size; otherwise zeros.
 fn counted(size: Option<usize>) -> [u64; 2] {
     match size {
         Some(size) => [1, size as u64],
@@ -65,12 +65,12 @@ fn add_changes(tally: &mut Tally, datagram: &mut [u8]) {
     }
 }
 
-/// Of the parts of all datagrams, whole and cut.
+/// The tally over the parts of all datagrams, whole and cut.
 const OF_PREFIXES: Tally = [
     26578, 25759, 35581, 4295035125, 27442, 6338, 8261, 349, 3102,
 ];
 
-/// The same where octets are changed.
+/// The tally over all datagrams, one octet changed at a time; `COUNTS` is the sum of the counts in its tags.
 const COUNTS: u64 = 600255309028;
 
 const OF_CHANGED: Tally = [

@@ -1,4 +1,4 @@
-//! A frame at its limit, tags, and regions. Values, and what spells none, stand in tests/program/rows.
+//! A frame at its limit, tags, and regions. Values, and octets that spell no value, are in tests/program/rows.
 
 use crate::tests::{nested, octets};
 use bac_wire::{Frame, Shape, Tag, Value, is_region, read_tag, region, write_tag, write_value};
@@ -34,7 +34,7 @@ fn a_frame_is_filled_cut_and_cleared(rt: HostRuntime) {
     assert!(&rt; frame.is_empty());
 }
 
-/// Whether a frame has a string of so many octets behind this front; else it is empty.
+/// Returns whether a frame has a string of this many octets after this front; else it is empty.
 fn is_written(count: usize, front: &[u8]) -> bool {
     let mut frame = Frame::new();
     let octets = [0; 1494].get(..count).unwrap_or(&[]);
@@ -95,7 +95,7 @@ static REGIONS: [(&str, Option<usize>, bool); 8] = [
     ("0e3f", None, false),
 ];
 
-/// Whether so many brackets inside one another are whole items, and how many octets stand before a closing tag 3 behind
+/// Returns whether this many nested brackets are whole items, and how many octets come before a closing tag 3 after
 /// them.
 fn ends_nested(depth: usize) -> (bool, Option<usize>) {
     let mut frame = nested(b"", depth);

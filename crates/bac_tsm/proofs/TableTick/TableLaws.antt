@@ -69,7 +69,7 @@ held-set _ _ w (q ∷ qs) zero there lt is once = grind (arith, get_or-set_same,
 held-set _ slot w (q ∷ qs) (suc i) there lt is once =
     grind (arith, times_got itself qs i 0, get_or-set_other, held-set _ _ w qs i there (omega arith) is)
 
--- A slot that is not among these is filled, and put behind them.
+-- A slot that is not among these is filled, and put after them.
 pub held-push : (slots : List Waiting) (slot : ℕ) (w : Waiting) (order : List ℕ) → slot < length slots
     → times_of_slot slot order ≡ 0 → held_at (set slots slot w) (order ++ slot ∷ []) ≡ held_at slots order ++ w ∷ []
 held-push = grind (arith, map-append, held_elsewhere, get_or-set_same)
@@ -84,13 +84,13 @@ held_got _ _ i _ lt is = cc (get_or-map _ _ i 0 _ lt, is)
 pub same_turn : (order : List ℕ) (i slot : ℕ) → i < length order → slot ≡ get_or order i slot → slot ≡ get_or order i 0
 same_turn _ i _ lt is = is ∙ get_or_default _ i _ 0 lt
 
--- An invoke id is found among these where one of them has it.
+-- An invoke id is found among these if one of them has it.
 pub any_invoke_id : (id : ℕ) (ws : List Waiting)
     → list_any (λ w. nat_eq id w.request.invoke_id) ws ≡ nat_lt 0 (times invoke_id_in id ws)
 any_invoke_id _ [] = refl
 any_invoke_id id (w ∷ ws) = grind (arith, any_invoke_id id ws)
 
--- The first rank at which a slot stands: where it is among these, it stands there.
+-- The first rank of a slot: if the slot is among these, it is there.
 abbrev pub rank_of_slot : ℕ → List ℕ → ℕ
 rank_of_slot slot order = position_or_len (λ other. nat_eq other slot) order
 
@@ -99,7 +99,7 @@ pub found_at : (slot : ℕ) (order : List ℕ) → 0 < times_of_slot slot order
 found_at slot [] some = absurd (omega arith)
 found_at slot (q ∷ qs) some = grind (arith, found_at slot qs)
 
--- Where tickets rise, the one request with a ticket is the first with it.
+-- If tickets rise, the one request with a ticket is the first with it.
 find_rank : (t : ℕ) (ws : List Waiting) (i : ℕ) → TicketsRise ws → i < length ws
     → (get_or ws i nothing).request.ticket ≡ t → find (by_ticket t) ws ≡ Some (get_or ws i nothing)
 find_rank t [] i _ lt is = absurd (omega arith)
@@ -239,7 +239,7 @@ module _ {slots : List Waiting} {invoke_ids : List (Option ℕ)} {order tickets 
     abbrev ends : Waiting → Bool
     ends w = is_answer_to w.request answer
 
-    -- Of these requests those that it is to end, under these tickets.
+    -- Those of these requests that it should end, under these tickets.
     pub record Closes (gone : List ℕ) (after : List Waiting) : Type 0 where
       pub told : gone ≡ map ticket_in (filter ends ws)
       pub others : after ≡ filter (λ w. not (ends w)) ws
@@ -318,7 +318,7 @@ module _ (last : ℕ) (ws : List Waiting) where
   free_is d before low high free =
       rw (first_at (is_free last _) 1 256 d low high (rw (list_any-map _ _ ws, free) refl) (not_before d before))
 
-  -- Where all others are taken, the last one is given again.
+  -- If all others are taken, the last one is given again.
   pub last_is : last < 256 → TakenBefore 256 → last ≡ next_invoke_id last (map invoke_id_in ws)
   unfolding next_invoke_id
   last_is fits before = go _ refl
@@ -353,7 +353,7 @@ all_among P slots xs ys among all = λ k d lt. let read = λ (slot : ℕ). get_o
     subst P (get_or-map _ ys _ 0 d there ∙ ap read is_last ∙ sym (get_or-map read xs k 0 d within))
     (all _ d (rw length-map there))
 
--- A slot is put behind others, with a request that was sent last.
+-- A slot is put after others, with a request that was sent last.
 pub queue-push : (slots : List Waiting) (rest after : List ℕ) (slot : ℕ) (w : Waiting) → slot < length slots →
     length rest + 1 ≡ length after
     → ((p : ℕ) → times_of_slot p rest + times_of_slot p (slot ∷ []) ≡ times_of_slot p after)
@@ -433,7 +433,7 @@ same_times : (id : ℕ) (f g : ℕ → Waiting) (order : List ℕ)
 same_times _ f g [] _ = refl
 same_times id f g (q ∷ qs) same = grind (arith, same_times id f g qs same)
 
--- One is taken out among the first ones, and another put behind all.
+-- One is taken out among the first ones, and another put after all.
 take_removed : (xs ys : List ℕ) (i n : ℕ) → i ≤ n → suc n ≤ length xs
     → take n (remove xs i ++ ys) ≡ remove (take (suc n) xs) i
 take_removed xs ys i n le lt =
@@ -563,7 +563,7 @@ module _ {slots : List Waiting} {invoke_ids : List (Option ℕ)} {order tickets 
           whole = record { table = opening; queue = queued _ q past };
         })
 
-  -- The request at a rank ends: its slot goes behind all others.
+  -- The request at a rank ends: its slot goes after all others.
   module _ (i slot : ℕ) (lt : i < length ws) (got : slot ≡ get_or order i slot) where
     is : slot ≡ get_or order i 0
     is = same_turn _ i _ (rank_within t ws view i lt) got

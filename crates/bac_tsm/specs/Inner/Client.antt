@@ -1,4 +1,4 @@
--- What is true of the open requests of a client.
+-- The invariant of the open requests of a client.
 use Rattle.std.specs.{List.All, Prelude.{◌<◌, ◌≤◌, List, ℕ}}
 use Rattle.bac_tsm.specs.Machine.{Waiting}
 

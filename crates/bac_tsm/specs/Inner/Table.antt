@@ -12,13 +12,13 @@ invoke_id_at slots slot = (get_or slots slot nothing).request.invoke_id
 abbrev pub waiting_in : List Waiting → List ℕ → List ℕ → List Waiting
 waiting_in slots order tickets = held_at slots (open_slots order tickets)
 
--- A whole table, and what was told of it.
+-- A whole table, and the notes on it.
 pub record Leaves (Told : Type 0) (slots : List Waiting) (invoke_ids : List (Option ℕ)) (order tickets sends : List ℕ)
     : Type 0 where
   pub told : Told
   pub whole : IsWhole slots invoke_ids order tickets sends
 
--- The rank at which the request with this ticket stands, if one has it.
+-- The rank of the request with this ticket, if there is one.
 abbrev pub IsRankOf : ℕ → List Waiting → Option ℕ → Type 0
 IsRankOf ticket ws None = All (λ w. w.request.ticket ≢ ticket) ws
 IsRankOf ticket ws (Some rank) =

@@ -1,4 +1,4 @@
--- Notes as a watcher is told them.
+-- Notes as a watcher gets them.
 use Rattle.std.specs.Prelude.{List, map, ℕ}
 use Rattle.bac_tsm.specs.Events.{Note}
 

@@ -16,7 +16,7 @@ input = record { kind = 0; instance = 5 }
 abbrev pub device : Identifier
 device = record { kind = 8; instance = 1234 }
 
--- The tag of an unsigned number (type 2) that has so many octets.
+-- The tag of an unsigned number (type 2) that has this many octets.
 abbrev pub unsigned_tag : ℕ → Tag
 unsigned_tag count = record { number = 2; shape = App count }
 
@@ -28,7 +28,7 @@ SpellsOne octets x = octets ≡ x ∷ []
 abbrev pub SpellsAny : List ℕ → List ℕ → Type 0
 SpellsAny octets x = octets ≡ x
 
--- The first octet, and those behind it.
+-- The first octet, and those after it.
 abbrev pub first_at : List ℕ → Option (ℕ × List ℕ)
 first_at [] = None
 first_at (x ∷ rest) = Some (x, rest)
@@ -37,7 +37,7 @@ first_at (x ∷ rest) = Some (x, rest)
 abbrev pub nothing_at : List ℕ → Option (ℕ × List ℕ)
 nothing_at octets = None
 
--- A reader that takes 0 where nothing stands.
+-- A reader that takes 0 if nothing stands.
 abbrev pub zero_at : List ℕ → Option (ℕ × List ℕ)
 zero_at [] = Some (0, [])
 zero_at (x ∷ rest) = Some (x, rest)

@@ -1,8 +1,8 @@
--- One step over items: behind counted octets, or behind one item.
+-- One step over items: after counted octets, or after one item.
 use Rattle.std.specs.Prelude.{◌++◌, ◌≡◌, ◌≤◌, drop, length, List, ℕ}
 use Rattle.bac_wire.specs.Region.{IsItem}
 
--- The rest is what stands behind this many octets.
+-- The rest is the octets after this many octets.
 pub record CountsBehind (count : ℕ) (octets rest : List ℕ) : Type 0 where
   pub room : count ≤ length octets
   pub rest_is : rest ≡ drop count octets

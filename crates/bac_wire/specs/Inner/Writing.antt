@@ -2,7 +2,7 @@
 use Rattle.std.specs.Prelude.{◌≡◌, ℕ, ◌+◌, ◌<◌, ◌≤◌, List, ◌++◌, length, take, Result, OnOk, OnErr}
 use Rattle.bac_wire.specs.Limits.{frame_room}
 
--- As `Appends`, but where there is no room, some octets may have been put behind those that were there.
+-- As `Appends`, but if there is no room, some octets may have been appended.
 pub record AppendsFront {A E : Type 0} (old octets new : List ℕ) (result : Result A E) : Type 0 where
   pub ok : OnOk result (new ≡ old ++ octets)
   pub fits : OnOk result (length old + length octets ≤ frame_room)

@@ -3,7 +3,7 @@ use Rattle.std.specs.Prelude.{List, None, Result, ℕ}
 use Rattle.{bac_pdu.specs.declared.peer.Peer.Peer, bac_text.specs.{words_of, declared.jobs.Call.Call}}
 use Rattle.bac_words.specs.{declared.{faults.UsageFault.UsageFault, job.Job.Job}, Line.Answers}
 
--- `clap` takes the words of this line, and they order this job; or this is wrong with them.
+-- `clap` accepts the words of this line, and they order this job; or this is wrong with them.
 abbrev pub IsOrdered : List ℕ → Result Job UsageFault → Type 0
 IsOrdered line answer = Answers (words_of line) answer
 

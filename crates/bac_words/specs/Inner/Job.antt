@@ -1,4 +1,4 @@
--- What holds of matches that `clap` has taken, so that the words of a tool can be read from them.
+-- Statements about matches that `clap` has accepted, so that the words of a tool can be read from them.
 use Rattle.std.specs.Prelude.{◌≡◌, ◌⊎◌, ◌++◌, ℕ, true, List, is_some, Option, codes}
 use Rattle.clap.specs.Words.{Row, Rule, Text}
 use Rattle.clap_laws.specs.{Inner.{Commands.rules_of, Numbers.{FitsWord, bounds_in}}, Numbers.number_of, Passes.IsTaken}

@@ -1,10 +1,10 @@
 -- A program with one tool, rules and entries, for examples of what is said of them.
 use Rattle.std.specs.Prelude.{codes, List, None, Some}
 use Rattle.clap.specs.{declared.builder.action.ArgAction.TheVariants.SetTrue, Walk.{reading_by, Row}, Words.App}
-use Rattle.clap.specs.Words.{new_app, new_rule, Rule, Text, with_subcommand}
+use Rattle.clap.specs.Words.{new_app, new_rule, Rule, Text, with_rule, with_subcommand}
 use Rattle.clap_laws.specs.Commands.{needed, wanting}
 
--- A program that wants its one tool, which takes no words.
+-- A program that needs its one tool, which has no words.
 abbrev pub program : App
 program = with_subcommand (wanting (new_app (codes "program"))) (new_app (codes "tool")).top
 
@@ -14,6 +14,13 @@ word = needed (new_rule (codes "word"))
 
 abbrev pub flag : Rule
 flag = record (new_rule (codes "flag")) { action = Some SetTrue }
+
+-- One whose tool has the name of `clap`'s own subcommand for help, and one whose tool has to be given a word.
+abbrev pub helpful : App
+helpful = with_subcommand (wanting (new_app (codes "program"))) (new_app (codes "help")).top
+
+abbrev pub needy : App
+needy = with_subcommand (wanting (new_app (codes "program"))) (with_rule (new_app (codes "tool")) word).top
 
 -- The entry of an argument with such a rule that was given these values.
 abbrev pub named : Text → List Text → Row

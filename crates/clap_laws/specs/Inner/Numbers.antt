@@ -4,7 +4,7 @@ use Rattle.std.specs.{Option.{option_and_then, option_map_or}, Str.Parse.{digits
 use Rattle.clap.specs.{Facts.parser_of_value, Walk.arg_by_id, Words.{Rule, Text}}
 use Rattle.clap.specs.declared.builder.value_parser.ValueParser.{ValueParser, TheVariants.Signed}
 
--- The number that a text writes in decimal digits, where a plus may stand first.
+-- The number that a text writes in decimal digits, which may begin with a plus.
 abbrev pub decimal : Text → ℕ
 decimal text = digits_value 10 (without_leading_plus text)
 
@@ -25,6 +25,6 @@ abbrev pub FitsWord : Option (ℕ × ℕ) → Type 0
 FitsWord None = ⊥
 FitsWord (Some (_, most)) = most < 2 ^ 32
 
--- The argument has to be given.
+-- The argument is required.
 abbrev pub is_needed : List Rule → Text → Bool
 is_needed rules id = option_map_or (λ a. a.required && bytes_eq a.id id) (arg_by_id rules id) false

@@ -27,7 +27,7 @@ const BODY: &[u8] = b"\x0c\x00\x00\x00\x05\x19\x55";
 
 const ASK: &[u8] = b"\x81\x0a\x00\x11\x01\x04\x00\x05\x01\x0c\x0c\x00\x00\x00\x05\x19\x55";
 
-/// A call of CONTROLLER with this body.
+/// Returns a call of CONTROLLER with this body.
 fn call_of(timeout: u32, retries: u8, body: &[u8]) -> Call {
     let mut kept = ArrayVec::new();
     let _ = kept.try_extend_from_slice(body);
@@ -48,7 +48,7 @@ const SEARCH: Search = Search {
     who: WhoIs::All,
 };
 
-/// What a tool is to do.
+/// The task of a tool.
 #[derive(Clone, Copy)]
 enum Job<'a> {
     Read(&'a Call),
@@ -58,10 +58,13 @@ enum Job<'a> {
 
 type Got = Result<Exit, ToolFault>;
 
-/// Whether something is so, where the link can be made.
+/// How many replies a device sent.
+type Served = Result<u32, ToolFault>;
+
+/// Whether something is so, if the link can be made.
 type Is = Result<bool, LinkFault>;
 
-/// Does it over this link and writer. A timeout of 0 is none.
+/// Runs the job over this link and writer. A timeout of 0 is refused.
 fn run_job<L: Link, W: Write + Drop>(job: Job<'_>, link: &mut L, writer: W) -> Got
     requires { L.has_failed link.old ≡ false }
 {
@@ -74,7 +77,7 @@ fn run_job<L: Link, W: Write + Drop>(job: Job<'_>, link: &mut L, writer: W) -> G
     }
 }
 
-/// The demonstration device 1234.
+/// Returns the demonstration device 1234.
 fn small_device() -> Option<Device> {
     Some(demo(DeviceInfo::new(1_234, "Small device")?))
 }
@@ -82,7 +85,7 @@ fn small_device() -> Option<Device> {
 /// How a tool ends over a link in memory: its answer, what it prints, and what it sends at which times.
 type End<'a> = (Got, &'a str, &'a [(u64, &'a [u8])]);
 
-/// Whether it ends so over these steps, where the send with this number fails.
+/// Returns whether the job ends so over these steps, if the send with this number fails.
 fn ends(alloc: Global, job: Job<'_>, steps: &[Step<'_>], fail: Option<u32>, end: End<'_>) -> bool {
     let Ok(mut link) = MemoryLink::new(alloc, steps, fail) else {
         return false;
@@ -92,12 +95,12 @@ fn ends(alloc: Global, job: Job<'_>, steps: &[Step<'_>], fail: Option<u32>, end:
     got == end.0 && is_text(&room, end.1) && has_sent(&link, CONTROLLER, end.2)
 }
 
-/// The steps of a link on which nothing comes until all turns are spent.
+/// Returns the steps of a link on which nothing comes until all turns are spent.
 pub(crate) fn quiet<H: Abort + AllocGlobal>(rt: &H) -> Vec<Step<'static>> {
     vec![in rt.alloc(); Step::Quiet(0); 65_536].expect(rt, "memory")
 }
 
-/// Whether this was sent to the peer at these times, and nothing else.
+/// Returns whether this was sent to the peer at these times, and nothing else.
 fn has_sent(link: &MemoryLink, to: Peer, sent: &[(u64, &[u8])]) -> bool {
     for (n, (time, datagram)) in sent.iter().enumerate() {
         if link.sent(n) != Some((*time, to, *datagram)) {

@@ -2,6 +2,7 @@
 ghost use Rattle.std.specs.Prelude.{◌≡◌, false};
 
 use super::*;
+use crate::tests::I_AM;
 use crate::tests::links::quiet;
 use crate::tests::streams::{Asked, Progress, printed_after, telling, with_room};
 use bac_links::{Link, MemoryLink, Step, ToolFault};
@@ -16,7 +17,7 @@ const LINES: &[u8] = b"read 127.0.0.1:47808 0 5 85\nread 127.0.0.1:47808 0 5 85\
 /// A line that is bad, with a request open.
 const BAD: &[u8] = b"read 127.0.0.1:47808 0 5 85\nx\nread 127.0.0.1:47808 0 5 85\n";
 
-/// The journal of both lines, where both are answered before any time has passed.
+/// The journal of both lines, if both are answered before any time has passed.
 const JOURNAL: &[u8] = b"client 100 0 0\n\
     read 127.0.0.1:47808 0 5 85\n\
     # send 0 127.0.0.1:47808 810a001101040005010c0c000000051955\n\
@@ -39,12 +40,33 @@ const SECOND: Step<'static> = Step::Packet(
     b"\x81\x0a\x00\x17\x01\x00\x30\x02\x0c\x0c\x00\x00\x00\x05\x19\x55\x3e\x44\x42\x90\x99\x9a\x3f",
 );
 
+/// A Who-Is into a network behind a router, a request that stays open, and a wait.
+const SEEKING: &[u8] = b"who 127.0.0.1:47808/5\nread 127.0.0.1:47808 0 5 85\nwait 120\n";
+
+/// Its journal: an I-Am comes after 40 ms, the request times out at 100, and at 120 the wait ends.
+const SOUGHT: &[u8] = b"client 100 0 0\n\
+    # who 127.0.0.1:47808 810a000c0120000500ff1008\n\
+    read 127.0.0.1:47808 0 5 85\n\
+    # send 0 127.0.0.1:47808 810a001101040005010c0c000000051955\n\
+    data 127.0.0.1:47808 810a001501001000c4020004d22205c49103220104\n\
+    # drop\n\
+    tick 40\n\
+    tick 100\n\
+    # timeout 0\n\
+    tick 120\n\
+    # wait 120\n";
+
+/// The two datagrams that these lines send.
+const SOUGHT_BY: &[u8] = b"\x81\x0a\x00\x0c\x01\x20\x00\x05\x00\xff\x10\x08";
+
+const READ: &[u8] = b"\x81\x0a\x00\x11\x01\x04\x00\x05\x01\x0c\x0c\x00\x00\x00\x05\x19\x55";
+
 type Ran = Result<TraceEnd, RunFault>;
 
 const WHOLE: Ran = Ok(TraceEnd { lines: 2 });
 
-/// Makes the requests over the link, of which so many may be open, with a timeout of 100 ms and no retry.
-fn run<L: Link, R: Read + Drop, W: Write + Drop>(
+/// Makes the requests over the link, of which this many may be open, with a timeout of 100 ms and no retry.
+pub(crate) fn run<L: Link, R: Read + Drop, W: Write + Drop>(
     window: usize,
     link: &mut L,
     reader: R,
@@ -58,8 +80,8 @@ fn run<L: Link, R: Read + Drop, W: Write + Drop>(
     Some(run_requests(session, link, &mut reader, &mut writer))
 }
 
-/// Whether a run of these lines ends so over these steps, where the send with this number fails, with so much of the
-/// journal.
+/// Returns whether a run of these lines ends so over these steps, with so much of the journal, if the send with this
+/// number fails.
 fn ends(
     alloc: Global,
     (window, lines): (usize, &[u8]),
@@ -83,7 +105,7 @@ const fn at_link(fault: ToolFault) -> Ran {
     Err(RunFault::Link(fault))
 }
 
-// What stands in the journal is what was done before a link failed; at a bad line a fault of the wait is told instead.
+// The journal has all that was done before a link failed; if the wait at a bad line fails, that fault is reported.
 #[test]
 fn links_fail(rt: HostRuntime) {
     let silence = quiet(&rt);
@@ -118,7 +140,65 @@ fn links_fail(rt: HostRuntime) {
     assert!(rt; ends(rt.alloc(), two, (silence.as_slice(), None), (spent, sent)));
 }
 
-/// Whether a writer that takes so many octets has this front of the journal, and the run tells that writing failed.
+/// Returns whether each datagram of these lines is sent once, in their order, and the wait goes on with what is open.
+fn seeks(alloc: Global) -> bool {
+    let steps = [
+        Step::Packet(40, CONTROLLER, I_AM),
+        Step::Quiet(100),
+        Step::Quiet(100),
+        Step::Quiet(120),
+        Step::Quiet(120),
+    ];
+    let Ok(mut link) = MemoryLink::new(alloc, &steps, None) else {
+        return false;
+    };
+    let mut taken = Vec::new(alloc);
+    let got = run(
+        2,
+        &mut link,
+        SEEKING,
+        with_room(&mut taken, usize::MAX, true),
+    );
+    got == Some(Ok(TraceEnd { lines: 3 }))
+        && taken.as_slice() == SOUGHT
+        && link.sent(0) == Some((0, CONTROLLER, SOUGHT_BY))
+        && link.sent(1) == Some((0, CONTROLLER, READ))
+        && link.sent(2).is_none()
+}
+
+#[test]
+fn who_is_sent_and_waited_for(rt: HostRuntime) {
+    assert!(rt; seeks(rt.alloc()));
+}
+
+/// Returns whether a write is not sent if the writer fails after this many octets, which are fewer than come before its
+/// line.
+fn writes_nothing(alloc: Global, left: usize) -> bool {
+    let line = b"write 127.0.0.1:47808 1 1 85 8 -1 4 41a00000\n";
+    let Ok(mut link) = MemoryLink::new(alloc, &[], None) else {
+        return false;
+    };
+    let mut taken = Vec::new(alloc);
+    let got = run(
+        1,
+        &mut link,
+        line.as_slice(),
+        with_room(&mut taken, left, true),
+    );
+    got == Some(Err(RunFault::Script(TraceFault::WriteFailed)))
+        && JOURNAL.get(..left) == Some(taken.as_slice())
+        && link.sent(0).is_none()
+}
+
+#[test]
+fn unrecorded_writes_are_not_sent(rt: HostRuntime) {
+    for left in 0..15 {
+        assert!(rt; writes_nothing(rt.alloc(), left), "after {left}");
+    }
+}
+
+/// Returns whether a writer that accepts this many octets has this front of the journal, and the run reports that
+/// writing failed.
 fn leaves_front(alloc: Global, left: usize, fails: bool) -> bool {
     let Ok(mut link) = MemoryLink::new(alloc, &[FIRST, SECOND], None) else {
         return false;
@@ -139,8 +219,8 @@ fn writes_fail_in_turn(rt: HostRuntime) {
     }
 }
 
-/// Whether a reader that gives one octet at a time, and fails at the read with this number, is not asked again; at each
-/// read the journal of the lines before is written.
+/// Returns whether a reader that gives one octet at a time, and fails at the read with this number, is not asked again;
+/// at each read the journal of the lines before is written.
 fn fails_at(alloc: Global, read: usize, answer: Ran) -> bool {
     let printed = [(0, 15), (28, 195), (56, 375)];
     let progress = Progress::default();

@@ -3,7 +3,7 @@
 use std::cell::Cell;
 use std::io::{self, ErrorKind, Read, Write};
 
-/// Takes so many octets, one at a time, and then takes none, or fails. One that fails also fails to flush.
+/// Accepts this many octets, one at a time, and then accepts none, or fails. A writer that fails also fails to flush.
 #[derive(Drop)]
 pub(crate) struct Room<'a> {
     taken: &'a mut Vec<u8>,
@@ -11,7 +11,7 @@ pub(crate) struct Room<'a> {
     fails: bool,
 }
 
-/// One that notes here what it takes.
+/// Returns a writer that notes in `taken` what it accepts.
 pub(crate) fn with_room(taken: &mut Vec<u8>, left: usize, fails: bool) -> Room<'_> {
     Room { taken, left, fails }
 }
@@ -91,7 +91,7 @@ impl Write for Told<'_> {
     }
 }
 
-/// How many octets of a text are printed once so many of its script were read.
+/// Returns how many octets of a text are printed once this many of its script were read.
 pub(crate) fn printed_after(ends: &[(usize, usize)], octets: usize) -> usize {
     let mut printed = 0;
     for (read, written) in ends {

@@ -1,3 +1,3 @@
-//! Readers and writers that fail. Peers stand in tests/program/rows.
+//! Readers and writers that fail. Peers are in tests/program/rows.
 
 mod checked;

@@ -4,7 +4,7 @@ ghost use Rattle.bac_links.specs.Memory.{account_of, scene_of_step};
 
 use super::*;
 use crate::tests::links::quiet;
-use bac_links::{Link, LinkFault, Log, MemoryLink, NoSocket, OnRefusal, Step, ToolFault};
+use bac_links::{Link, LinkFault, MemoryLink, OnRefusal, Step, ToolFault};
 use bac_tools::{Binding, Network, Report, RunFault, TraceFault, run_program};
 use std::alloc::Global;
 use std::cell::Cell;
@@ -24,10 +24,12 @@ struct Rehearsal<'a, 'c> {
 impl Network for Rehearsal<'_, '_> {
     type Socket = MemoryLink;
 
+    type NoSocket = LinkFault;
+
     ghost gives = { λ network binding socket.
         IfOk socket (λ link. ⟦<MemoryLink as Link>⟧.seen link ≡ account_of (map scene_of_step network.steps.now) []) };
 
-    fn bind(self, binding: Binding) -> Result<MemoryLink, NoSocket> {
+    fn bind(self, binding: Binding) -> Result<MemoryLink, LinkFault> {
         self.asked.set(self.asked.get().saturating_add(1));
         let (port, refused) = self.at;
         let any = Peer {
@@ -35,14 +37,14 @@ impl Network for Rehearsal<'_, '_> {
             ..CONTROLLER
         };
         if binding.at != (Peer { port, ..any }) || binding.refused != refused {
-            return Err(NoSocket { log: Log::new() });
+            return Err(LinkFault);
         }
-        MemoryLink::new(self.alloc, self.steps, None).map_err(|_| NoSocket { log: Log::new() })
+        MemoryLink::new(self.alloc, self.steps, None)
     }
 }
 
-/// Whether the program, called with these words over this network and a script, prints this text and ends with this
-/// status and fault.
+/// Returns whether the program, called with these words over this network and a script, prints this text and ends with
+/// this status and fault.
 fn runs(
     typed: io::Result<env::Args>,
     network: Rehearsal<'_, '_>,
@@ -57,7 +59,7 @@ fn runs(
     is_text(&room, text) && report.status == status && is_told(alloc, &report, &errors, fault)
 }
 
-/// The words of the line.
+/// Returns the words of the line.
 fn words_typed(alloc: Global, line: &str) -> io::Result<env::Args> {
     let mut typed = Vec::new(alloc);
     for word in line.split(' ') {
@@ -66,7 +68,7 @@ fn words_typed(alloc: Global, line: &str) -> io::Result<env::Args> {
     Ok(typed.into_iter())
 }
 
-/// Whether the report has the fault of this text, of which the line was told, or none where there is no text.
+/// Returns whether the report has the fault with this text, and its line was printed; no fault if there is no text.
 fn is_told(alloc: Global, report: &Report, errors: &[u8; 96], text: &str) -> bool {
     let Some(fault) = &report.fault else {
         return text.is_empty() && is_text(errors, "");
@@ -75,8 +77,8 @@ fn is_told(alloc: Global, report: &Report, errors: &[u8; 96], text: &str) -> boo
         && matches!(format!(in alloc; "bactool: {text}\n"), Ok(line) if is_text(errors, line.as_str()))
 }
 
-/// Whether it is shown as this text.
-fn is_shown<T: fmt::Display>(alloc: Global, it: &T, text: &str) -> bool {
+/// Returns whether this value is displayed as this text.
+pub(crate) fn is_shown<T: fmt::Display>(alloc: Global, it: &T, text: &str) -> bool {
     matches!(format!(in alloc; "{it}"), Ok(said) if said.as_str() == text)
 }
 
@@ -126,13 +128,13 @@ static ANSWERED: [Row<'static>; 7] = [
     (TRACE, CLIENT, (SENT, 2, "line 2: bad line")),
 ];
 
-/// Lines over one where a device introduces itself.
+/// Command lines over a network in which a device introduces itself.
 static FOUND: [Row<'static>; 2] = [
     (SEARCH, CLIENT, ("1234 127.0.0.1:47808 1476 3 260\n", 0, "")),
     (SEARCH, (0, OnRefusal::IsLost), UNBOUND),
 ];
 
-/// Lines over one where a device is asked. A device alone goes on where a reply is refused.
+/// Command lines over a network in which a device is asked. Only a device goes on if a reply is refused.
 static ASKED: [Row<'static>; 3] = [
     (SERVE, DEVICE, ("", 0, "")),
     (SEARCH, DEVICE, UNBOUND),
@@ -176,7 +178,7 @@ fn words_are_run(rt: HostRuntime) {
     all_run(&rt, quiet(&rt).as_slice(), &spent);
 }
 
-/// Whether the program ends so where its words could not be had for an error of this kind, and asks for no socket.
+/// Returns whether the program ends so if reading its words fails with an error of this kind, and asks for no socket.
 fn is_told_unread(alloc: Global, kind: ErrorKind, end: (&str, u8, &str)) -> bool {
     let asked = &Cell::new(0);
     let network = Rehearsal {
@@ -197,7 +199,7 @@ fn words_that_could_not_be_had_are_told(rt: HostRuntime) {
     assert!(&rt; is_told_unread(alloc, ErrorKind::InvalidData, no_text));
 }
 
-/// What is shown of each fault of a tool.
+/// The text of each fault of a tool.
 static SHOWN: [(ToolFault, &str); 4] = [
     (ToolFault::SendFailed, "sending failed"),
     (ToolFault::ReceiveFailed, "receiving failed"),
@@ -214,6 +216,6 @@ fn faults_are_shown(rt: HostRuntime) {
     }
     let bad = RunFault::Script(TraceFault::BadLine(2));
     assert!(&rt; is_shown(alloc, &bad, "line 2: bad line"));
+    assert!(&rt; !is_shown(alloc, &bad, "line 3: bad line"));
     assert!(&rt; is_shown(alloc, &LinkFault, "bind failed"));
-    assert!(&rt; is_shown(alloc, &NoSocket { log: Log::new() }, "bind failed"));
 }

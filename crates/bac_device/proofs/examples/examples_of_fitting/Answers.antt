@@ -1,4 +1,4 @@
--- A reply that fits holds the one APDU that it takes to the desk; what is too long for it does not.
+-- A reply that fits holds the one APDU that it takes to the desk; an APDU that is too long for it does not.
 use Rattle.std.proofs.Common.{arith, false, inl, inr, List, None, refl, Some, subst, sym, ℕ, ◌≡◌}
 use Rattle.std.proofs.lemmas.Option.{same_Some}
 use Rattle.bac_pdu.proofs.DatagramLaws.{apdu_is, carried_is, one_taken, wrapped_takes}

@@ -5,4 +5,4 @@ use Rattle.bac_device.proofs.examples.examples_of_writes.Goals as goal
 
 pub returns : goal.returns
 unfolding computed
-returns c = record { places = refl; least_urgent = refl; failures = refl }
+returns c = record { places = refl; kinds = refl; least_urgent = refl; failures = refl }

@@ -1,4 +1,4 @@
--- Each computes once the definitions that read and write a datagram are opened. What is not so, a run's end tells.
+-- Each computes once the definitions that read and write a datagram are opened. The end of a run refutes the others.
 use Rattle.std.proofs.Common.{arith, Ok, refl, Some, sym, ◌∙◌, ◌≡◌}
 use Rattle.bac_pdu.specs.{address_at, apdu_of, carried, header_at, link_at, parts_at, wrapped}
 use Rattle.bac_tsm.specs.{next_invoke_id, refusal_of, Simple, Answers.{answer_in_datagram, is_answer_to, same_station}}
@@ -18,6 +18,9 @@ returns c = record {
   accepted = refl;
   unaccepted = λ e. grind arith;
   twice = λ e. grind arith;
+  other_service = λ e. grind arith;
+  other_body = λ e. grind arith;
+  other_peer = λ e. grind arith;
   sent = refl;
   unsent = refl;
   due = refl;

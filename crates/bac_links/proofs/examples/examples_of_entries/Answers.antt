@@ -1,4 +1,4 @@
--- Each computes; what is not so is told by a field.
+-- Each computes; a field refutes those that are not so.
 use Rattle.std.proofs.Common.{[], arith, None, refl}
 use Rattle.bac_links.proofs.examples.examples_of_entries.Goals as goal
 
@@ -7,7 +7,9 @@ returns c = record {
   sent = refl;
   all = refl;
   one_less = λ h. grind arith;
+  other_sent = λ h. grind arith;
   lost = (2, refl);
+  other_lost = λ h. let whole = h.1 in grind arith;
   none_lost = λ h. let whole = h.1 in grind arith;
   two_lost = λ h. let whole = h.1 in grind arith;
   came = refl;
@@ -25,6 +27,7 @@ returns c = record {
   step = refl;
   nothing = record { calls = []; logged = refl; are = refl };
   something = λ h. let logged = h.logged in let are = h.are in grind arith;
+  log_changed = λ h. let logged = h.logged in let are = h.are in grind arith;
   time = record { passed = None; time = refl; asked = refl };
   later = λ h. let time = h.time in let asked = h.asked in grind arith;
   unread = λ h. let asked = h.asked in grind arith;

@@ -1,4 +1,4 @@
--- Each computes once the octets of an address are opened; what is not so is told by a field.
+-- Each computes once the octets of an address are opened; a field shows what is not so.
 use Rattle.std.proofs.Common.{[], ap, arith, Err, inl, inr, List, None, Ok, refl, Some, subst, sym, ◌∷◌}
 use Rattle.std.specs.declared.{io.ErrorKind.TheVariants.TimedOut, net.socket_addr.SocketAddr.SocketAddr}
 use Rattle.std.specs.Net.Addr.{ipv4_bits, IsIpv4OfBits}

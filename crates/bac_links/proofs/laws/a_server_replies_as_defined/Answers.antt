@@ -1,4 +1,4 @@
--- What came is told by the history, and the definition goes by what came.
+-- The history has the datagrams that came, and the definition goes by them.
 use Rattle.std.proofs.Common.{ap, List, subst, sym, ◌∙◌}
 use Rattle.bac_device.specs.Turns.{AreDefined}
 use Rattle.bac_links.{proofs.{defined, played}, specs.{arrivals_in, device_behind, Entry, replies_of}}

@@ -10,6 +10,7 @@ pub loop-turn-init : goal.loop-turn-init
 loop-turn-init g c = record {
   sound = c.requires;
   fewer = omega (arith, c.if-count-eq0.false);
+  few = omega arith;
   goes = serves_none;
 }
 
@@ -24,7 +25,7 @@ returns-in_err-brought-clause-told g c =
 pub returns-then-came-count-clause-told : goal.returns-then-came-count-clause-told
 returns-then-came-count-clause-told g c =
     let all = c.loop-turn.invariant in
-    let goes = serve_on all.goes (rw c.most_turns-turn-end.ensures at c.loop-turn-test.true) all.fewer _
+    let goes = serve_on all.goes (rw c.most_turns-turn-end.ensures at c.loop-turn-test.true) all.fewer _ _
     c.in_ok-brought.ensures.told in
     serve_done goes c.if-came-count.true
 
@@ -33,10 +34,11 @@ loop-turn-preserved g c =
     let all = c.loop-turn.invariant in
     record {
       sound = c.in_ok-brought.ensures.fault;
-      fewer = omega (arith, all.fewer, c.in_ok-brought.ensures.few, c.if-came-count.false);
+      fewer = omega (arith, all.fewer, c.in_ok-brought.ensures.few.0, c.if-came-count.false);
+      few = omega (arith, all.few, c.in_ok-brought.ensures.few.1);
       goes =
           rw add-one
-          (serve_on all.goes (rw c.most_turns-turn-end.ensures at c.loop-turn-test.true) all.fewer _
+          (serve_on all.goes (rw c.most_turns-turn-end.ensures at c.loop-turn-test.true) all.fewer _ _
           c.in_ok-brought.ensures.told);
     }
 

@@ -1,4 +1,4 @@
--- What was appended is the shortest spelling.
+-- The appended octets are the shortest spelling.
 use Rattle.std.proofs.lemmas.Result.{on_ok_weaker}
 use Rattle.bac_pdu.proofs.{i_am_shortest}
 use Rattle.bac_pdu.proofs.discovery.append_introduction.Goals as goal

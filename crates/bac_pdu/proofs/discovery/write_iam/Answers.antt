@@ -1,4 +1,4 @@
--- What was appended is the shortest spelling, which reads back.
+-- The appended octets are the shortest spelling, which reads back.
 use Rattle.std.proofs.lemmas.Result.{on_ok_weaker}
 use Rattle.bac_pdu.proofs.{i_am_is_back}
 use Rattle.bac_pdu.proofs.discovery.write_iam.Goals as goal

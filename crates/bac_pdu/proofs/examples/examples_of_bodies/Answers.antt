@@ -5,7 +5,7 @@ use Rattle.bac_wire.specs.{context_at, enclosed_at, kind_at, length_at, long_len
 use Rattle.bac_wire.specs.{region_at, shape_at, tag_at, tag_number_at, value_at}
 use Rattle.bac_pdu.proofs.{BodyLaws.{ack_is, read_is, write_is}, DiscoveryLaws.{error_is, introduction_is, who_is_is}}
 use Rattle.bac_pdu.specs.{ack_of, error_of, introduction_of, OutOfRange, plain_parameter, Range, read_of, reference_at}
-use Rattle.bac_pdu.specs.{TooMany, who_is_of, write_of, Inner.{present_octets, present_value, release}}
+use Rattle.bac_pdu.specs.{TooMany, who_is_of, write_of, Inner.{i_am_1234, present_octets, present_value, release}}
 use Rattle.bac_pdu.proofs.examples.examples_of_bodies.Goals as goal
 
 -- the value NULL in a body, and a write of it
@@ -40,10 +40,16 @@ returns c = record {
   other_range = λ s. let e = (who_is_is _ (Range 2 1)).1 s in grind arith;
   i_am = (introduction_is _ _).0 refl;
   no_device = λ s. let kind = s.device in grind arith;
+  other_instance = λ s. let e = (introduction_is i_am_1234 _).1 s in grind arith;
+  other_size = λ s. let e = (introduction_is i_am_1234 _).1 s in grind arith;
+  segmented = λ s. let e = (introduction_is i_am_1234 _).1 s in grind arith;
+  other_vendor = λ s. let e = (introduction_is i_am_1234 _).1 s in grind arith;
   error = (error_is (0x91 ∷ 0x02 ∷ 0x91 ∷ 0x20 ∷ 0x00 ∷ []) (2, 32)).0 refl;
   other_error = λ s. let e = (error_is (0x91 ∷ 0x02 ∷ 0x91 ∷ 0x20 ∷ []) (32, 2)).1 s in grind arith;
   missing = (read_is _ _).0 refl;
   other_reason = λ o. let e = (read_is _ _).1 o in grind arith;
+  whole_rejected = λ o. let e = (read_is present_octets _).1 o in grind arith;
+  other_outcome = λ o. let e = (read_is present_octets _).1 o in grind arith;
   out_of_range = (write_is _ _).0 refl;
   not_missing = λ o. let e = (write_is _ _).1 o in grind arith;
   greatest = grind arith;

@@ -22,8 +22,17 @@ returns c = record {
   no_code = λ h. grind arith;
   not_written = λ h. h;
   least = refl;
+  second = refl;
+  lon_talk = refl;
+  ms_tp = refl;
+  fifth = refl;
   most = refl;
   unknown = refl;
+  invalid_tag = refl;
+  missing = refl;
+  out_of_range = refl;
+  too_many = refl;
+  unknown_service = refl;
   longest = refl;
   seen = refl;
 }

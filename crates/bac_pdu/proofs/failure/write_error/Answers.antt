@@ -1,4 +1,4 @@
--- What was written is the shortest spelling, and reads back.
+-- The written octets are the shortest spelling, and read back.
 use Rattle.std.proofs.{Common.arith, lemmas.Result.on_ok_weaker}
 use Rattle.bac_pdu.proofs.{error_is_back}
 use Rattle.bac_pdu.proofs.failure.write_error.Goals as goal

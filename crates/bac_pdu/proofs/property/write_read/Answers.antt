@@ -1,4 +1,4 @@
--- What was appended is known, and so shortest and read back.
+-- The appended octets are known, so they are the shortest spelling and read back.
 use Rattle.std.proofs.lemmas.Result.{on_ok_weaker}
 use Rattle.bac_pdu.proofs.{read_back, read_shortest}
 use Rattle.bac_pdu.proofs.property.write_read.Goals as goal

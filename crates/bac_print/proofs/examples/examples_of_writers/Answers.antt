@@ -23,4 +23,8 @@ returns c = record {
   };
   dropped = λ w.
       let passed = w.took.passed in let whole = w.whole in let sound = (w.sound refl).1 in grind arith;
+  took_other = λ w. let passed = w.took.passed in let whole = w.whole in grind arith;
+  kept_other = λ w.
+      let passed = w.took.passed in let whole = w.whole in let sound = (w.sound refl).1 in grind arith;
+  asked_again = λ w. let same = (w.stopped refl).0 in grind arith;
 }

@@ -1,4 +1,4 @@
--- The octets that one write took stand behind those of the writes before it; a write that fails takes none.
+-- The octets that one write took come after those of the writes before it; a write that fails takes none.
 use Rattle.std.proofs.{Common.arith, lemmas.List.take_rest}
 use Rattle.bac_print.proofs.{Sent_all, Sent_more, unread_more}
 use Rattle.bac_print.proofs.page.put.Goals as goal

@@ -1,4 +1,4 @@
--- The digits are written from the last to the first, so a part of the number is behind those that are still to come.
+-- The digits are written from the last to the first, so a part of the number follows those that are still to come.
 use Rattle.std.proofs.Common.{ap, append_assoc, arith, decimal, length, length-append, length-set, sym, ℕ, ◌+◌, ◌/◌}
 use Rattle.std.proofs.Common.{◌<◌, ◌^◌, ◌∙◌, ◌≡◌, ◌≤◌}
 use Rattle.std.proofs.lemmas.{Fmt.{decimal_digit, decimal_nonempty, decimal_step}, List.drop-set}

@@ -1,5 +1,6 @@
--- A text of two line feeds would be a line feed behind the first.
-use Rattle.std.proofs.{Common.{[], arith, List, refl, subst, sym, ℕ, ◌++◌, ◌∷◌, ◌≡◌}, lemmas.List.append_cancel_right}
+-- A text of two line feeds would be a line feed after the first.
+use Rattle.std.proofs.Common.{[], arith, List, refl, subst, sym, ℕ, ◌++◌, ◌∙◌, ◌∷◌, ◌≡◌}
+use Rattle.std.proofs.lemmas.List.{append_cancel_right}
 use Rattle.bac_run.{proofs.ReadBack.time_read_back, specs.HasNoFeed}
 use Rattle.bac_run.proofs.examples.examples_of_reading.Goals as goal
 
@@ -8,6 +9,10 @@ stops (other, none) = other refl
 
 no_line : (text : List ℕ) → HasNoFeed text → 10 ∷ 10 ∷ [] ≡ text ++ 10 ∷ [] → ⊥
 no_line text free ended = stops (subst HasNoFeed (sym (append_cancel_right (10 ∷ []) text (10 ∷ []) ended)) free)
+
+not_empty : (text : List ℕ) → [] ≡ text ++ 10 ∷ [] → ⊥
+not_empty [] e = grind arith
+not_empty (octet ∷ text) e = grind arith
 
 pub returns-clause-feed : goal.returns-clause-feed
 returns-clause-feed c = (13 ∷ [], (λ same. grind (arith, same), tt), refl)
@@ -20,6 +25,12 @@ returns-clause-line c = time_read_back 40 (grind arith)
 
 pub returns-clause-lines : goal.returns-clause-lines
 returns-clause-lines c = λ h. no_line h.text h.no_feed h.ended
+
+pub returns-clause-no_line : goal.returns-clause-no_line
+returns-clause-no_line c = λ h. not_empty h.text h.ended
+
+pub returns-clause-other_time : goal.returns-clause-other_time
+returns-clause-other_time c = λ h. let both = sym (time_read_back 40 (grind arith)).says ∙ h.says in grind arith
 
 pub returns-clause-read_back : goal.returns-clause-read_back
 returns-clause-read_back c = time_read_back 40 (grind arith)

@@ -1,4 +1,4 @@
--- Each line of the journal is read back, and its remarks are passed over.
+-- Each line of the journal is read back, and its remarks are skipped.
 use Rattle.bac_run.proofs.{no_fault, replays, run_back}
 use Rattle.bac_run.proofs.laws.a_journal_is_a_script.Goals as goal
 

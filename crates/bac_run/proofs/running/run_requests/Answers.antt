@@ -1,4 +1,4 @@
--- What is left on the page in the end goes out, or the run is cut off there.
+-- The rest on the page goes out in the end, or the run is cut off there.
 use Rattle.std.proofs.{Common.rules, lemmas.Result.err_from_is_err_and}
 use Rattle.bac_run.proofs.{cut_off, goes_out, settings_read_back}
 use Rattle.bac_run.proofs.running.run_requests.Goals as goal

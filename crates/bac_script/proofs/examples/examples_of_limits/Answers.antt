@@ -1,4 +1,4 @@
--- Each computes; what is not so is told by a field.
+-- Each computes; a field shows what is not so.
 use Rattle.std.proofs.Common.{[], arith, refl, ◌∷◌}
 use Rattle.bac_script.proofs.examples.examples_of_limits.Goals as goal
 
@@ -12,5 +12,6 @@ returns c = record {
   not_written = λ h. grind arith;
   alike = record { text = 1 ∷ 2 ∷ []; wrote = (2 ∷ [], refl); other_wrote = refl; same = λ one other. grind arith };
   unlike = λ h. let wrote = h.wrote in let other = h.other_wrote in grind arith;
+  other_unlike = λ h. let wrote = h.wrote in let other = h.other_wrote in grind arith;
   ended_otherwise = λ h. let same = h.same (λ e. grind arith) (λ e. grind arith) in grind arith;
 }

@@ -1,4 +1,4 @@
--- Each computes; what is not so is told by a field.
+-- Each computes; a field shows what is not so.
 use Rattle.std.proofs.Common.{[], arith, inl, inr, List, refl, ℕ, ◌++◌, ◌∷◌, ◌≡◌}
 use Rattle.{bac_tsm.specs.{next_invoke_id, refusal_of}, bac_print.specs.Inner.Examples.{page, unasked, unknown}}
 use Rattle.bac_script.specs.{IsNext, Open, ReadForLine, Inner.gave}
@@ -46,6 +46,7 @@ returns c = record {
   };
   no_feed = no_feed;
   not_held = λ h. let within = h.within in grind arith;
+  after_a_fault = λ h. let sound = h.stands.sound in grind arith;
   rest = record {
     within = grind arith;
     cut = record { no_feed = (λ e. grind arith, tt); short = grind arith };

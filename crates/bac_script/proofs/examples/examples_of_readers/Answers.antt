@@ -1,4 +1,4 @@
--- Each computes, or is arithmetic; what is not so is told by a field.
+-- Each computes, or is arithmetic; a field shows what is not so.
 use Rattle.std.proofs.Common.{[], ◌∷◌, arith, inl, inr, refl}
 use Rattle.{bac_print.specs.Inner.Examples.{unasked, unknown}, bac_script.specs.{Failed, ReaderStands, Inner.gave}}
 use Rattle.bac_script.proofs.examples.examples_of_readers.Goals as goal
@@ -25,4 +25,5 @@ returns c = record {
   not_failed = sound;
   taken = record { given = 1 ∷ 2 ∷ []; gave = record { passed = refl; known = tt }; order = refl };
   dropped = λ h. let passed = h.gave.passed in let order = h.order in grind arith;
+  not_given = λ h. let passed = h.gave.passed in let order = h.order in grind arith;
 }

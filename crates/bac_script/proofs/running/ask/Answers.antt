@@ -7,7 +7,7 @@ use Rattle.bac_script.proofs.running.ask.Goals as goal
 pub returns-clause-device : goal.returns-clause-device
 returns-clause-device g c writes is =
     let written = rw is at c.answer-to.ensures.written in
-    written ∙ next_after small_device demo_points writes (station c.args.received.from.now) c.args.received.datagram.now
+    written ∙ next_after small_device demo_points writes (station c.args.received.from) c.args.received.datagram.now
 
 pub returns-clause-text : goal.returns-clause-text
 returns-clause-text g c writes is =

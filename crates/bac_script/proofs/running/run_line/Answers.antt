@@ -5,7 +5,8 @@ use Rattle.{bac_wire.specs.identifier, bac_pdu.specs.longest_body}
 use Rattle.bac_tsm.specs.{refusal_of, Refused, declared.client.SubmitFault.TheVariants.TooLong}
 use Rattle.{bac_text.specs.whole_body_of, bac_print.proofs.Printed.printed_as, bac_script.specs.is_long}
 use Rattle.bac_script.specs.{line_seen, notes_text, octets_or_none, declared.line.Line.{Line, TheVariants.LongWrite}}
-use Rattle.bac_script.specs.{declared.long_write.LongWrite.LongWrite as Write, Inner.{ran, Stage, Stands, Turn}}
+use Rattle.bac_script.specs.{declared.long_write.LongWrite.LongWrite as Write}
+use Rattle.bac_script.specs.Inner.{ran, ScriptStage, ScriptTurn, Stands}
 use Rattle.bac_script.proofs.running.run_line.Goals as goal
 
 past : (whole : Result (List ℕ) ℕ) → IsTrue (is_long whole) → nat_lt longest_body (length (octets_or_none whole)) ≡ true
@@ -13,7 +14,7 @@ past (Err n) h = absurd (search rules)
 past (Ok body) h = grind (arith, nat_tests, h)
 
 -- The client refuses a request that is too long to be sent, and stays as it was.
-long_refused : (stage : Stage) (line : Line) (write : Write) → line ≡ LongWrite write
+long_refused : (stage : ScriptStage) (line : Line) (write : Write) → line ≡ LongWrite write
     → ran stage (line_seen line) ≡ record { text = notes_text (Refused TooLong ∷ []); after = stage }
 unfolding refusal_of
 long_refused stage _ write is =
@@ -23,10 +24,10 @@ long_refused stage _ write is =
 
 pub returns-in-LongWrite-clause-stage : goal.returns-in-LongWrite-clause-stage
 returns-in-LongWrite-clause-stage g c stage stands =
-    subst (λ (r : Turn). Stands r.after c.args.client.now c.args.device.now)
+    subst (λ (r : ScriptTurn). Stands r.after c.args.client.now c.args.device.now)
     (sym (long_refused stage c.args.line c.in-LongWrite.field-0 c.in-LongWrite.is)) stands
 
 pub returns-in-LongWrite-clause-text : goal.returns-in-LongWrite-clause-text
 returns-in-LongWrite-clause-text g c stage _ =
-    printed_as c.print_refusal.ensures
-    (ap (λ (r : Turn). r.text) (sym (long_refused stage c.args.line c.in-LongWrite.field-0 c.in-LongWrite.is)))
+    printed_as c.print_note.ensures
+    (ap (λ (r : ScriptTurn). r.text) (sym (long_refused stage c.args.line c.in-LongWrite.field-0 c.in-LongWrite.is)))

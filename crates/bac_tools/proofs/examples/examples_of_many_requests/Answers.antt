@@ -1,7 +1,8 @@
--- A run without an input is computed; its lines and its settings tell what is not so.
-use Rattle.std.proofs.Common.{[], arith, length, List, refl, subst, sym, ℕ, ◌<◌, ◌≡◌}
-use Rattle.bac_script.{proofs.Computed.computed, specs.{lines, declared.input.Reading.{Reading, TheVariants.AtEnd}}}
-use Rattle.bac_run.proofs.{Out.out_nothing, ReadBack.settings_read_back}
+-- A run without an input is computed; its lines and its settings refute the others.
+use Rattle.std.proofs.Common.{[], ap, arith, false, inl, inr, length, List, refl, subst, sym, ℕ, ◌<◌, ◌∙◌, ◌∷◌, ◌≡◌}
+use Rattle.bac_script.{proofs.Computed.computed, specs.declared.input.Reading.{Reading, TheVariants.AtEnd}}
+use Rattle.bac_run.proofs.{Cut.{lines_fed, none_fed}, Out.out_unwaited, ReadBack.settings_read_back}
+use Rattle.bac_run.specs.{Input.{Feeds, feeds_in, lines_in}, Journal.{Act, NoLine}}
 use Rattle.bac_tools.{proofs.Worked.given, specs.{Session, Inner.{settings_told, unasked}}}
 use Rattle.bac_tools.proofs.examples.examples_of_many_requests.Goals as goal
 
@@ -9,14 +10,12 @@ abbrev session : 0 < 3000 → 0 < 1 → Session
 session timed some =
     record { config = record { timeout = 3000; retries = 3; positive = timed }; window = 1; some = some }
 
-no_line : 1 ≡ length (lines [] AtEnd) → ⊥
-unfolding computed
-no_line count = grind arith
-
-one_line : (octets : List ℕ) (reading : Reading) → [] ≡ octets → reading ≡ AtEnd → 1 ≡ length (lines octets reading) → ⊥
-one_line octets reading none over count =
-    no_line (subst (λ r. 1 ≡ length (lines [] r)) over
-    (subst (λ os. 1 ≡ length (lines os reading)) (sym none) count))
+no_line : (octets : List ℕ) (reading : Reading) (kept : List ℕ) (acts : List Act) → [] ≡ octets
+    → Feeds reading octets kept (feeds_in acts) → 1 ≡ length (lines_in acts) → ⊥
+no_line octets reading kept acts none feeds count =
+    let taken = none_fed reading (feeds_in acts) kept
+    (subst (λ (os : List ℕ). Feeds reading os kept (feeds_in acts)) (sym none) feeds) in
+    absurd (omega (arith, count, ap (λ (ls : List (List ℕ)). length ls) (sym (lines_fed acts) ∙ taken)))
 
 pub returns : goal.returns
 unfolding computed
@@ -25,34 +24,43 @@ returns c = record {
     session = session (omega arith) (omega arith);
     of_batch = record { timeout = refl; retries = refl; window = refl };
     requested = record {
-      acts = [];
+      acts = NoLine AtEnd ∷ [];
       takes = record {
-        taken = [];
+        given = [];
         kept = [];
-        cut = tt;
+        reading = AtEnd;
         gave = record { passed = refl; known = tt };
+        stands = record { empty = refl; sound = refl; ended = refl; once = refl; left = tt };
+        feeds = (refl, refl, refl);
         all_done = (refl, tt, refl, refl);
       };
-      course = record {
-        given = [];
-        reading = AtEnd;
-        gave = refl;
-        stands = record { empty = refl; sound = refl; ended = refl; once = refl; left = tt };
-        goes = tt;
-        ends = ((refl, refl), refl, refl, refl);
-      };
+      goes = (tt, tt);
+      ends = refl;
+      read = inr (record {
+        before = [];
+        held = [];
+        earlier = [];
+        later = NoLine AtEnd ∷ [];
+        order = refl;
+        did = refl;
+        took = refl;
+        no_line = (tt, omega arith);
+        wanted = (0, refl, refl, omega arith);
+        told = ([], refl);
+      });
       printed = given _ (λ none. grind arith) refl refl refl;
-      out = out_nothing (session (omega arith) (omega arith)) unasked settings_told;
-      asks = record { gained = []; gains = refl; as_due = refl };
+      out = out_unwaited (session (omega arith) (omega arith)) unasked settings_told (NoLine AtEnd) (λ waits. absurd
+          waits);
+      asks = record { gained = []; gains = refl; as_due = (false, inl ([], refl, (refl, refl)), refl) };
       over = refl;
       within = tt;
-      fit = tt;
+      fit = (tt, tt);
       settings = settings_read_back 3000 3 (omega arith) (omega arith) (omega arith);
     };
   };
   counted = λ h.
-      let course = h.requested.course in
-      one_line course.given course.reading course.gave course.ends.1 course.ends.3;
+      let takes = h.requested.takes in
+      no_line takes.given takes.reading takes.kept h.requested.acts takes.gave.passed takes.feeds takes.all_done.3;
   no_timeout = λ h.
       let zero = h.of_batch.timeout in let positive = h.session.config.positive in omega (arith, zero, positive);
   unread = λ error kind. rw kind refl;

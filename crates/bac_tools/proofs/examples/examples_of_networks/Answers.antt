@@ -1,5 +1,5 @@
--- Each computes; what is not so a socket tells.
-use Rattle.std.{proofs.Common.{[], arith, inl, inr, None, refl, subst, sym, ◌∷◌}, specs.Net.Addr.IsIpv4OfBits}
+-- Each computes; a socket refutes the others.
+use Rattle.std.{proofs.Common.{[], ap, arith, inl, inr, None, refl, subst, sym, ◌∷◌}, specs.Net.Addr.IsIpv4OfBits}
 use Rattle.bac_tools.specs.{IsLost, declared.program.Binding.Binding, Inner.{any_at, one_bind}}
 use Rattle.bac_links.specs.{Bind, Binds, BindsAtMost}
 use Rattle.bac_tools.proofs.examples.examples_of_networks.Goals as goal
@@ -26,6 +26,7 @@ returns c = record {
       let (binds, none, later) = h 0 there 0 (record { at = refl; link = refl }) in
       let asked = binds.asked in grind arith;
   asks_first = λ h. let (binds, none, later) = h 0 there 0 (record { at = refl; link = refl }) in grind arith;
-  once = λ network binding none e. inl e;
-  twice = λ h. twice (h 0 there (record { log = record { of = record {}; items = _ } }) refl);
+  once = λ network binding none is. (ap (λ n. n.kept) is, inl (ap (λ n. n.log) is));
+  twice = λ h. twice (h 0 there (record { kept = 0; log = _ }) refl).1;
+  not_kept = λ h. let (kept, _) = h 0 there (record { kept = 0; log = [] }) refl in grind arith;
 }

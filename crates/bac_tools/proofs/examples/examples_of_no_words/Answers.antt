@@ -1,14 +1,15 @@
--- A run that was told no words reports that alone, and its report and its writers tell what is not so.
+-- A run that got no words reports only that; its report and its writers refute the others.
 use Rattle.std.proofs.Common.{ap, arith, codes, Err, false, inl, inr, None, Ok, Option, option_and_then, refl, Result}
 use Rattle.std.proofs.Common.{Some, subst, sym, ℕ, ◌∙◌, ◌≡◌}
 use Rattle.std.specs.{declared.io.ErrorKind.TheVariants.NotFound, Result.result_ok}
 use Rattle.bac_tools.{proofs.Worked.{given, silent, untaken}, specs.{asked_by, Checked, IsGiven, IsRun, IsTold, Job}}
-use Rattle.bac_tools.specs.{NoSocket, on_output, once_given, Over, Ran, Run, RunsAsRead, RunsUnasked, Trace}
-use Rattle.bac_tools.specs.{trace_report, TraceEnd, TraceFault, UsageFault, Inner.{forgotten, gives_none, no_contents}}
-use Rattle.bac_tools.specs.Inner.{no_socket, no_text, ran_without, told_no_socket, told_no_text, unasked, unknown}
+use Rattle.bac_tools.specs.{on_output, once_given, Ran, Run, RunsAsRead, RunsUnasked, Trace}
+use Rattle.bac_tools.specs.{trace_report, TraceEnd, TraceFault, UsageFault, Use}
+use Rattle.bac_tools.specs.Inner.{forgotten, gives_none, no_contents, no_socket, no_text, ran_without, told_no_socket}
+use Rattle.bac_tools.specs.Inner.{told_no_text, unasked, unknown}
 use Rattle.bac_tools.proofs.examples.examples_of_no_words.Goals as goal
 
--- A run that was told no words, since they were not found.
+-- A run that got no words, since they could not be read.
 run : IsRun gives_none unknown no_contents 0 unasked unasked unasked unasked unasked told_no_text
     (ran_without no_text (Some 0)) (Err NotFound)
 run = record {
@@ -20,8 +21,8 @@ run = record {
   fault = (codes "bactool: words that are not UTF-8\n", refl, given _ (λ none. grind arith) refl refl refl);
 }
 
--- What such a run reports.
-module _ {reader reader' writer writer' errors errors' : Checked ℕ} {network : ℕ} {ran : Ran ℕ ℕ}
+-- The report of such a run.
+module _ {reader reader' writer writer' errors errors' : Checked ℕ} {network : ℕ} {ran : Ran ℕ ℕ ℕ}
     (h : IsRun gives_none unknown no_contents network reader reader' writer writer' errors errors' ran
     (Err NotFound)) where
   reports : h.report ≡ no_text
@@ -33,23 +34,23 @@ module _ {reader reader' writer writer' errors errors' : Checked ℕ} {network :
   reported : ran.report ≡ no_text
   reported = subst (λ r. ran.report ≡ once_given r.fault _ r) reports h.reported
 
--- The report of a script tells no fault of words, and no other of a run without a network is that.
+-- The report of a script has no fault of words, and no other report of a run without a network is that.
 not_traced : (answer : Result TraceEnd TraceFault) → no_text ≡ trace_report answer → ⊥
 not_traced (Ok end) e = grind arith
 not_traced (Err fault) e = grind arith
 
-module _ (network : ℕ) (reader reader' writer writer' : Checked ℕ) (ran : Ran ℕ ℕ) (is : ran.report ≡ no_text) where
-  not_run : (answer : Result Job UsageFault) (opened : Option (Result ℕ NoSocket))
+module _ (network : ℕ) (reader reader' writer writer' : Checked ℕ) (ran : Ran ℕ ℕ ℕ) (is : ran.report ≡ no_text) where
+  not_run : (answer : Result Job UsageFault) (opened : Option (Result ℕ ℕ))
       → IsGiven gives_none unknown network (option_and_then asked_by (result_ok answer)) opened
       → RunsAsRead gives_none unknown network reader reader' writer writer' ran answer opened → ⊥
   not_run (Err fault) opened given ends = let same = sym is ∙ ap (λ ran. ran.report) ends.2 in grind arith
   not_run (Ok Trace) opened given ends = not_traced ends.0.answer (sym is ∙ ends.0.reported)
   not_run (Ok (Run batch)) None given ends = given
   not_run (Ok (Run batch)) (Some socket) given ends = absurd (grind arith)
-  not_run (Ok (Over tool)) None given ends = given
-  not_run (Ok (Over tool)) (Some socket) given ends = absurd (grind arith)
+  not_run (Ok (Use tool)) None given ends = given
+  not_run (Ok (Use tool)) (Some socket) given ends = absurd (grind arith)
 
-not_reported : RunsUnasked {L = ℕ} no_contents no_contents no_contents 0 unasked unasked unasked unasked unasked
+not_reported : RunsUnasked no_contents no_contents no_contents 0 unasked unasked unasked unasked unasked
     told_no_socket (ran_without no_socket (Some 0)) (Err NotFound) → ⊥
 not_reported h = elim (h.did) as (λ _. ⊥) [
   | inl (asks, script) ↦ asks
@@ -65,6 +66,7 @@ returns c = record {
   no_memory = λ h.
       let report = ap (λ ran. ran.report) h.called.2 in
       let reported = subst (λ r. no_text ≡ once_given r.fault _ r) report h.reported in grind arith;
+  reported = λ h. let same = reported h in grind arith;
   called = record {
     network = 0;
     reader = unasked;
@@ -84,6 +86,7 @@ returns c = record {
   };
   other_network = λ h. let network = h.unasked in grind arith;
   other_report = not_reported;
+  untold_call = λ h. silent (codes "words that are not UTF-8") h.told;
   only = (refl, refl, refl);
   not_only = λ h. untaken _ h.1;
   lacked = forgotten.program;

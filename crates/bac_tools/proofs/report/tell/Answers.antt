@@ -1,4 +1,4 @@
--- What was printed on the page is what the writer was given.
+-- The writer was given the text that was printed on the page.
 use Rattle.std.proofs.Common.{[], rules, subst}
 use Rattle.{bac_print.{proofs.Printed.finished, specs.Writes}, bac_tools.specs.Checked}
 use Rattle.bac_tools.proofs.report.tell.Goals as goal

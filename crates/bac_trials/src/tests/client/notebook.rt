@@ -5,7 +5,7 @@ ghost use Rattle.std.specs.Prelude.{◌+◌, ◌≡◌, length};
 
 use bac_tsm::{Note, Watcher};
 
-/// Takes so many notes, and says so where it drops one. What it was told is as many notes as it has taken.
+/// Takes up to `room` notes, and sets `has_others` if it drops one. It was told as many notes as it has taken.
 #[derive(Drop)]
 pub(crate) struct Notebook<'a> {
     pub(crate) wanted: &'a [(usize, Note<'a>)],
@@ -16,7 +16,7 @@ pub(crate) struct Notebook<'a> {
 }
 
 impl Notebook<'_> {
-    /// Whether it took the wanted notes that it has room for and no others, and says if it dropped one.
+    /// Returns whether it took the wanted notes that it has room for and no others, and says if it dropped one.
     pub(crate) fn is_right(&self) -> bool {
         let count = self.wanted.len();
         let has_dropped = self.room < count;

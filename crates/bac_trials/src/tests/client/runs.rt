@@ -12,12 +12,12 @@ const LONG: Event<'static> = Event::Ask(CONTROLLER, READ_PROPERTY, &[7; 477]);
 
 const DATA: Event<'static> = Event::Data(CONTROLLER, ANSWER);
 
-/// What is sent for the first request and for the second.
+/// The sends of the first request and of the second.
 const OLDER: &[u8] = b"\x81\x0a\x00\x11\x01\x04\x00\x05\x01\x0c\x0c\x00\x00\x00\x05\x19\x55";
 
 const YOUNGER: &[u8] = b"\x81\x0a\x00\x11\x01\x04\x00\x05\x02\x0c\x0c\x00\x00\x00\x05\x19\x55";
 
-/// What is sent of the requests with these tickets, of which 0, 5 and 7 are the first of a run.
+/// The sends of the requests with these tickets, of which 0, 5 and 7 are the first of a run.
 const OF_0: Note<'static> = Note::Sent(0, CONTROLLER, OLDER);
 
 const OF_5: Note<'static> = Note::Sent(5, CONTROLLER, OLDER);
@@ -28,7 +28,7 @@ const OF_7: Note<'static> = Note::Sent(7, CONTROLLER, OLDER);
 
 const OF_8: Note<'static> = Note::Sent(8, CONTROLLER, YOUNGER);
 
-/// The end of the request with this ticket by its answer, and of the first one without any.
+/// Returns the end of the request with this ticket by its answer, and of the first one without any.
 fn done(ticket: u64) -> Note<'static> {
     let outcome = Outcome::Complex(VALUE);
     Note::Done(Ended { ticket, outcome })
@@ -40,8 +40,8 @@ const LATE: Note<'static> = Note::Dropped;
 
 const FAULT: Note<'static> = Note::Refused(SubmitFault::TooLong);
 
-/// Runs the events. None if a watcher with this room doesn't keep the front of the notes, at these positions, or says
-/// wrongly whether it drops one, or if not so many requests are open afterwards, at this clock.
+/// Runs the events. `None` if a watcher with this room does not keep the front of the notes, at these positions, or
+/// says wrongly whether it drops one, or if another number of requests is open afterwards, at this clock.
 fn run_watched<'n>(
     room: usize,
     (first, events): (u64, &[Event<'_>]),
@@ -80,7 +80,7 @@ fn a_leap_of_the_clock(rt: HostRuntime) {
     assert!(&rt; run_watched(16, (0, &events), &notes, (0, 66000)).is_some());
 }
 
-/// Whether the client takes a read, under the ticket 1 and the invoke id 2.
+/// Returns whether the client takes a read, under the ticket 1 and the invoke id 2.
 fn takes_another(client: Option<Client>) -> bool {
     let Some(mut client) = client else {
         return false;
@@ -99,7 +99,7 @@ fn retries_and_watchers_of_few_notes(rt: HostRuntime) {
     }
 }
 
-// The younger of two requests is due before the older, and is told after it.
+// The younger of two requests is due before the older, and has its note after it.
 #[test]
 fn two_are_due_at_one_tick(rt: HostRuntime) {
     let events = [ASK, At(1000), ASK, At(3000), At(6000)];
@@ -107,7 +107,7 @@ fn two_are_due_at_one_tick(rt: HostRuntime) {
     assert!(&rt; run_watched(16, (7, &events), &notes, (2, 6000)).is_some());
 }
 
-/// Whether the client has the younger request open, and gives the next one the next ticket and invoke id.
+/// Returns whether the client has the younger request open, and gives the next one the next ticket and invoke id.
 fn goes_on(client: Option<Client>) -> bool {
     let Some(mut client) = client else {
         return false;

@@ -20,7 +20,7 @@ const FIRST: Option<Part> = Some(Part {
     window: 16,
 });
 
-/// A request for a property, of the greatest APDU of this code.
+/// Returns a request for a property, of the greatest APDU of this code.
 fn request(part: Option<Part>, code: u8, body: &[u8]) -> Apdu<'_> {
     Apdu::Confirmed {
         part,
@@ -31,7 +31,7 @@ fn request(part: Option<Part>, code: u8, body: &[u8]) -> Apdu<'_> {
     }
 }
 
-/// The answer to a request for a property.
+/// Returns the answer to a request for a property.
 fn answer(part: Option<Part>, body: &[u8]) -> Apdu<'_> {
     Apdu::ComplexAck {
         part,

@@ -1,4 +1,4 @@
-//! Bodies of services, field by field. What is rejected stands with the scripts.
+//! Bodies of services, field by field. Rejects are tested with the scripts.
 
 use crate::tests::{nested, octets};
 use bac_pdu::{
@@ -101,7 +101,7 @@ fn properties_are_read_answered_and_written(rt: HostRuntime) {
     }
 }
 
-/// How many octets the value of an order has that is so many brackets inside one another.
+/// Returns how many octets the value of an order has if it consists of this many nested brackets.
 fn value_len(depth: usize) -> Option<usize> {
     let mut body = nested(b"\x0c\x00\x40\x00\x01\x19\x55\x3e", depth);
     let _ = body.append(&[0x3f]);
@@ -133,8 +133,8 @@ fn are_limits(body: &[u8], low: u32, high: u32) -> bool {
     read_whois(body) == Some(who) && is_written
 }
 
-/// Bodies of a Who-Is that can't be read, and bodies that introduce nobody: an object that is no device, one that is
-/// cut, one with more, and one with another kind of value.
+/// Bodies of a Who-Is that cannot be read, and bodies that introduce nobody: an object that is not a device, one that
+/// is cut, one with more, and one with another kind of value.
 const NO_LIMITS: &str = "0900 1903 0900190300 09001d050000000000 0801190300";
 
 const NOBODY: &str =

@@ -1,4 +1,4 @@
-//! Datagrams from where no script can be, and frames that a datagram fills. The others stand with the scripts.
+//! Datagrams from addresses that no script can name, and frames that a datagram fills. The others are with the scripts.
 
 use crate::tests::{ASKER, octets, routed};
 use bac_pdu::{Peer, Route, open_datagram, wrap};
@@ -30,7 +30,7 @@ const CARRIED: [(&str, Peer, Option<(u16, &[u8])>, bool, usize); 8] = [
     ("8104000ec0a80105bac001001008", FORWARDED, None, true, 12),
 ];
 
-/// Whether the datagram is carried from this peer, behind so many octets.
+/// Returns whether the datagram is carried from this peer, after this many octets.
 pub(crate) fn carries(from: Peer, octets: &[u8], peer: Peer, to_all: bool, headers: usize) -> bool {
     let Some(carried) = open_datagram(from, octets) else {
         return false;
@@ -55,7 +55,8 @@ fn what_is_carried(rt: HostRuntime) {
     }
 }
 
-/// Whether an APDU of so many octets fills a frame with this front, and one octet more leaves the frame as it was.
+/// Returns whether an APDU of this many octets fills a frame with this front, and one octet more leaves the frame as it
+/// was.
 fn is_filled(peer: Peer, is_expected: bool, longest: usize, front: &[u8]) -> bool {
     let apdu = [7; 1492];
     let (Some(most), Some(more)) = (apdu.get(..longest), apdu.get(..longest.wrapping_add(1))) else {

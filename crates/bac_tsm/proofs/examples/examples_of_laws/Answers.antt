@@ -46,6 +46,8 @@ returns c = record {
   answers = answers _ _ _ _ refl;
   from_another = λ h. let e = answered _ _ _ _ h in grind arith;
   to_another = λ h. let e = answered _ _ _ _ h in grind arith;
+  no_datagram = λ h. let e = answered _ _ _ _ h in grind arith;
+  whole_answer = λ h. let e = answered _ _ _ _ h in grind arith;
   in_parts = answers _ _ _ _ refl;
   of_another = λ h. let e = answered _ _ _ _ h in grind arith;
   one_open = refl;

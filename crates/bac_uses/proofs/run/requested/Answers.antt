@@ -5,16 +5,18 @@ use Rattle.std.specs.List.{concat, flat_map}
 use Rattle.bac_tsm.specs.{client_rules, Event, outputs}
 use Rattle.bac_print.specs.{Gave, has_failed, Took, Writes, declared.checked.Checked.Checked}
 use Rattle.{bac_script.specs.declared.tracing.TraceEnd.TraceEnd, bac_links.specs.{Account, Entry, GainsAll}}
-use Rattle.bac_run.specs.{declared.fault.RunFault.RunFault, Input.AllDone, Journal.{events_of, new_client, notes_of}}
-use Rattle.bac_run.specs.{Replay.{AreSent, posted_in, sent_in}, Run.journal_of}
+use Rattle.bac_run.specs.{declared.fault.RunFault.RunFault, Input.{AllDone, lines_in}}
+use Rattle.bac_run.specs.{new_client, Journal.{Act, events_of, notes_of}}
+use Rattle.bac_run.specs.{Replay.{AreSent, posted_in, sends_of}, Run.journal_of}
+use Rattle.bac_run.proofs.Cut.{given_lines}
 use Rattle.bac_uses.proofs.run.requested.Goals as goal
 
--- What holds where there is no fault.
+-- A statement that holds if there is no fault.
 if_ok : {A E : Type 0} (P : Type 0) (result : Result A E) → ((x : A) → result ≡ Ok x → P) → IfOk result (λ x. P)
 if_ok P (Ok x) is = is x refl
 if_ok P (Err fault) is = tt
 
--- A writer of which no failure is told took the whole text.
+-- A writer that has not failed took the whole text.
 took_whole : {W : Type 0} (contents : W → Option (List ℕ)) (before after : Checked W) (text : List ℕ)
     → has_failed after ≡ false → Writes contents before after [] [] text → Took contents before after text
 took_whole contents before after text sound writes =
@@ -22,7 +24,7 @@ took_whole contents before after text sound writes =
     (sym (writes.whole ∙ ap (λ (rest : List ℕ). writes.taken ++ rest) (writes.sound sound).1 ∙ append-nil writes.taken))
     writes.took
 
--- What a link was asked, behind what it had been.
+-- The calls that a link was asked for follow those of before.
 asked_on : {Origin : Type 0} (before after : Account Origin) (gained : List Entry) → GainsAll gained before after
     → after.history ≡ before.history ++ gained
 asked_on before after gained is = ap (λ (account : Account _). account.history) is
@@ -33,25 +35,32 @@ ahead : (timeout retries : ℕ) (events : List Event) → timeout ≡ 3000 → r
     ≡ map (λ (i, note). note) (outputs (client_rules 3000 3) 0 events 0 (length events))
 ahead timeout retries events timed again = rw (timed, again) refl
 
+-- What a client of these settings sends.
+sends_so : (timeout retries : ℕ) (acts : List Act) → timeout ≡ 3000 → retries ≡ 3
+    → sends_of (new_client timeout retries 0) acts ≡ sends_of (new_client 3000 3 0) acts
+sends_so timeout retries acts timed again = rw (timed, again) refl
+
 pub returns-clause-all : goal.returns-clause-all
 returns-clause-all g c = if_ok _ c.run_requests.result (λ end is.
     let runs = c.run_requests.ensures.runs in
     let session = c.unwrap-session.result in
     let (asked, good, empty, count) = subst (λ (result : Result TraceEnd RunFault).
-    AllDone result runs.takes.taken runs.takes.kept runs.acts)
+    AllDone result (lines_in runs.acts) runs.takes.kept runs.acts)
     is runs.takes.all_done in
     let sound : has_failed c.run_requests.new.writer ≡ false =
     elim (cases_Bool (has_failed c.run_requests.new.writer)) [
       | inl failed ↦ absurd (let told = c.run_requests.ensures.write_fault.0 failed in grind (arith, is, told))
       | inr sound ↦ sound
     ] in
-    let notes = notes_of (new_client session.config.timeout session.config.retries) runs.acts in
+    let notes = notes_of (new_client session.config.timeout session.config.retries 0) runs.acts in
     let timed : session.config.timeout ≡ 3000 = search rules in
     let again : session.config.retries ≡ 3 = search rules in
     record {
-      lines = runs.takes.taken;
+      lines = lines_in runs.acts;
       gave = subst (λ (octets : List ℕ). Gave g.R.Read.remaining c.args.reader.now c.run_requests.new.reader octets)
-          (ap (λ (kept : List ℕ). concat runs.takes.taken ++ kept) empty ∙ append-nil (concat runs.takes.taken))
+          (given_lines runs.acts runs.takes
+          ∙ ap (λ (kept : List ℕ). concat (lines_in runs.acts) ++ kept) empty ∙ append-nil (concat (lines_in
+          runs.acts)))
           runs.takes.gave;
       good = good;
       acts = runs.acts;
@@ -66,8 +75,9 @@ returns-clause-all g c = if_ok _ c.run_requests.result (λ end is.
       gained = runs.asks.gained;
       gains = runs.asks.gains;
       sent = subst (λ (result : Result TraceEnd RunFault).
-          AreSent result (flat_map sent_in notes) (flat_map posted_in runs.asks.gained))
+          AreSent result (sends_of (new_client session.config.timeout session.config.retries 0) runs.acts)
+          (flat_map posted_in runs.asks.gained))
           is (c.a_run_sends_what_it_remarks.ensures session _ _ _ _ _ _ _ _ runs
           (asked_on (g.L.Link.seen c.args.link.now) (g.L.Link.seen c.run_requests.new.link) runs.asks.gained
-          runs.asks.gains));
+          runs.asks.gains)) ∙ sends_so session.config.timeout session.config.retries runs.acts timed again;
     })

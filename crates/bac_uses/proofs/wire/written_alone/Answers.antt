@@ -1,4 +1,4 @@
--- What stands alone in a frame is read back whole.
+-- A value that is alone in a frame is read back whole.
 use Rattle.std.proofs.Common.{refl, true}
 use Rattle.bac_wire.proofs.ItemLaws.{value_alone}
 use Rattle.bac_uses.proofs.wire.written_alone.Goals as goal

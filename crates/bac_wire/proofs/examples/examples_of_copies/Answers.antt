@@ -1,4 +1,4 @@
--- A copy or a test that is none is told by one number or two.
+-- One or two numbers show a copy or a test that is wrong.
 use Rattle.std.proofs.{Common.{arith, refl}, lemmas.Bool.{eq-eqb, eqb-true}}
 use Rattle.bac_wire.proofs.examples.examples_of_copies.Goals as goal
 

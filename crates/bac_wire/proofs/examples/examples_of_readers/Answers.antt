@@ -1,6 +1,6 @@
 -- Each is shown by what it says of one list of octets.
 use Rattle.std.proofs.Common.{[], arith, List, refl, Some, ℕ, ◌<◌, ◌∷◌, ◌≡◌}
-use Rattle.bac_wire.proofs.TagLaws.{is_spelled, plain_tag_shortest, spelled_back, tag_reader}
+use Rattle.bac_wire.proofs.TagLaws.{is_read, is_spelled, plain_tag_shortest, spelled_back, tag_reader}
 use Rattle.bac_wire.specs.{AreOctets, length_at, long_length_at, plain_tag, shape_at, tag_at, tag_number_at}
 use Rattle.bac_wire.specs.Inner.{first_at, unsigned_tag}
 use Rattle.bac_wire.proofs.examples.examples_of_readers.Goals as goal
@@ -38,6 +38,7 @@ returns c = record {
   shortest = plain_tag_shortest (unsigned_tag 1) (grind arith);
   longer = λ h.
       let short = h.shortest (0x21 ∷ []) (one_octet _ (grind arith)) (is_spelled tag_reader _ _ refl) in grind arith;
+  short_of_another = λ h. let e = is_read tag_reader _ _ h.spelled in grind arith;
   read_back = spelled_back _ _ _ refl;
   other_back = λ h. let e = h [] (Some (7, 1)) (grind arith) in grind arith;
   octets = two_octets 0 255 (grind arith) (grind arith);
@@ -45,4 +46,6 @@ returns c = record {
   appended = grind arith;
   not_appended = λ h. grind arith;
   has_room = λ h. grind arith;
+  past_room = λ octets e h. let fits = h.fits in grind arith;
+  cleared = λ octets e h. let err = h.err in grind arith;
 }

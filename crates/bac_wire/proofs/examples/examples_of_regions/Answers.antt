@@ -1,4 +1,4 @@
--- What is spelled is what a reader finds, which computes once the definitions that read are opened.
+-- A reader finds what is spelled, which computes once the definitions that read are opened.
 use Rattle.std.proofs.Common.{[], append-nil, arith, inl, inr, List, refl, subst, ℕ, ◌∷◌, ◌≤◌}
 use Rattle.bac_wire.proofs.ItemLaws.{context_reader, enclosed_reader, items_is, nesting, number_reader, one_region}
 use Rattle.bac_wire.proofs.{ItemLaws.{region_reader, whole_is}, TagLaws.{is_read, is_spelled, tag_reader}}
@@ -22,7 +22,7 @@ five = record {
 alone : (depth : ℕ) (item : List ℕ) → IsItem depth item → IsRegion depth item
 alone depth item i = subst (IsRegion depth) (append-nil item) (more {first = item} i none)
 
--- the number 5, and the closing tag 3 or 1 behind it
+-- the number 5, and the closing tag 3 or 1 after it
 ended : (rest : List ℕ) → IsClosedRegion 32 3 (0x21 ∷ 0x05 ∷ 0x3f ∷ rest) (0x21 ∷ 0x05 ∷ [])
 unfolding tag_number_at long_length_at length_at shape_at tag_at
 ended rest = record {
@@ -65,10 +65,16 @@ returns c = record {
   region_too_deep = λ r. let e = (whole_is 0 _).1 r in grind arith;
   leaves = (items_is 32 _ _).0 refl;
   leaves_item = λ r. let e = (items_is 32 _ _).1 r in grind arith;
+  leaves_part = λ r. let e = (items_is 32 _ _).1 r in grind arith;
+  leaves_other = λ r. let e = (items_is 32 _ _).1 r in grind arith;
   closed = is_spelled (region_reader 3) _ _ refl;
   other_closed = λ s. let e = is_read (region_reader 3) _ _ s in grind arith;
+  part_closed = λ s. let e = is_read (region_reader 3) _ _ s in grind arith;
+  closed_otherwise = λ s. let e = is_read (region_reader 3) _ _ s in grind arith;
   ends = ended (0x00 ∷ []);
   other_end = λ r. let same = (one_region 32 32 3 1 _ _ _ r ended_by_1).1 in grind arith;
+  part_ends = λ r. let e = (whole_is 32 _).1 r.region in grind arith;
+  ends_otherwise = λ r. let same = (one_region 32 32 3 3 _ _ _ r (ended [])).0 in grind arith;
   size = record {
     within = grind arith;
     found = ended [];
@@ -85,6 +91,7 @@ returns c = record {
   other_context = λ s. let e = is_read (context_reader 2) _ _ s in grind arith;
   number = is_spelled (number_reader 1) _ _ refl;
   other_number = λ s. let e = is_read (number_reader 1) _ _ s in grind arith;
+  number_in_other = λ s. let e = is_read (number_reader 2) _ _ s in grind arith;
   enclosed = is_spelled (enclosed_reader 3) _ _ refl;
   other_enclosed = λ s. let e = is_read (enclosed_reader 3) _ _ s in grind arith;
 }

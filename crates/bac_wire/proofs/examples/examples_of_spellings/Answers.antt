@@ -1,4 +1,4 @@
--- What is spelled is what a reader finds, which computes once the definitions that read are opened.
+-- A reader finds what is spelled, which computes once the definitions that read are opened.
 use Rattle.std.proofs.Common.{arith, refl}
 use Rattle.bac_wire.proofs.{DatumLaws.value_reader, TagLaws.{is_read, is_spelled, tag_reader}}
 use Rattle.bac_wire.specs.{contents_of, length_at, long_length_at, shape_at, tag_at, tag_number_at, value_at}
@@ -12,6 +12,8 @@ returns c = record {
   two_octets = is_spelled tag_reader _ _ refl;
   four_octets = is_spelled tag_reader _ _ refl;
   other_length = λ s. let e = is_read tag_reader _ _ s in grind arith;
+  other_number = λ s. let e = is_read tag_reader _ _ s in grind arith;
+  more_octets = λ s. let e = is_read tag_reader _ _ s in grind arith;
   low_octet_first = λ s. let e = is_read tag_reader _ _ s in grind arith;
   greatest = grind arith;
   mark = grind arith;
@@ -23,6 +25,7 @@ returns c = record {
   not_boolean = λ s. let e = is_read value_reader _ _ s in grind arith;
   most = grind arith;
   past = grind arith;
+  long = λ octets e h. let short = h.short in grind arith;
   sound = grind arith;
   no_bit = grind arith;
   no_octet = grind arith;

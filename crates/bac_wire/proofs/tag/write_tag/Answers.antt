@@ -1,4 +1,4 @@
--- What was appended is the shortest spelling, and reads back.
+-- The appended octets are the shortest spelling, and read back.
 use Rattle.std.proofs.lemmas.Result.{on_ok_weaker}
 use Rattle.bac_wire.{proofs.{plain_tag_shortest, plain_tag_spells, spelled_back}, specs.SpellsTag}
 use Rattle.bac_wire.proofs.tag.write_tag.Goals as goal

@@ -1,4 +1,4 @@
--- What was appended is the shortest spelling, and reads back.
+-- The appended octets are the shortest spelling, and read back.
 use Rattle.std.proofs.lemmas.Result.{on_ok_weaker}
 use Rattle.bac_wire.{proofs.{plain_shortest, plain_spells, spelled_back, written_datum}, specs.Spells}
 use Rattle.bac_wire.proofs.value.write_value.Goals as goal

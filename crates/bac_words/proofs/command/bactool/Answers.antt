@@ -1,4 +1,4 @@
--- The six tools are added, one after another, to a command that wants one.
+-- The six tools are added, one after another, to a command that needs one.
 use Rattle.clap_laws.proofs.Parsed.{wanting_is}
 use Rattle.bac_words.proofs.command.bactool.Goals as goal
 

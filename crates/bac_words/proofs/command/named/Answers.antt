@@ -1,4 +1,4 @@
--- What help says of a command is none of its rules.
+-- The help of a command is not one of its rules.
 use Rattle.clap_laws.proofs.Parsed.{helped}
 use Rattle.bac_words.proofs.command.named.Goals as goal
 

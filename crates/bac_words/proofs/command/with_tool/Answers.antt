@@ -1,4 +1,4 @@
--- A tool that is added stands behind those that are there.
+-- A tool that is added comes after those that are there.
 use Rattle.std.proofs.lemmas.Result.{IfOk-weaker}
 use Rattle.clap_laws.proofs.Parsed.{with_tool}
 use Rattle.bac_words.proofs.command.with_tool.Goals as goal

@@ -1,5 +1,5 @@
 -- Each is computed: that its words are taken, and the job that they ask for.
-use Rattle.std.proofs.Common.{refl}
+use Rattle.std.proofs.Common.{arith, refl}
 use Rattle.clap.specs.{Faults.{defaults_fault, walk_fault}, Walk.walked}
 use Rattle.bac_words.proofs.examples.examples_of_other_tools.Goals as goal
 
@@ -13,4 +13,6 @@ returns c = record {
   batch = record { taken = refl; answer_is = refl };
   window = record { taken = refl; answer_is = refl };
   script = record { taken = refl; answer_is = refl };
+  not_taken = λ a. let taken = a.taken in grind arith;
+  other_job = λ a. let is = a.answer_is in grind arith;
 }

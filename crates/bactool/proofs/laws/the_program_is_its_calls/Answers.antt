@@ -16,8 +16,8 @@ returns-clause-had g c = λ reader reader' writer writer' errors errors' typed r
     )) had
 
 pub returns-clause-none : goal.returns-clause-none
-returns-clause-none g c = λ reader reader' writer writer' errors errors' typed none run had.
-    run_without run (λ network binding none (_, asked). asked) had
+returns-clause-none g c = λ reader reader' writer writer' errors errors' typed run had.
+    run_without run (λ none. none.sockets) (λ none. none.log.items) (λ network binding none (_, asked). asked) had
 
 pub returns-clause-unasked : goal.returns-clause-unasked
 returns-clause-unasked g c = λ reader reader' writer writer' errors errors' typed run none.

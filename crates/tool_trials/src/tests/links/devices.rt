@@ -1,14 +1,14 @@
 //! The search for devices, and a device that serves, over links in memory.
 use super::*;
 
-/// The line that is printed of the device 1234, and the same twice.
+/// The line that is printed for the device 1234, once and twice.
 const LINE: &str = "1234 127.0.0.1:47808 1476 3 260\n";
 
 const TWICE: &str = "1234 127.0.0.1:47808 1476 3 260\n1234 127.0.0.1:47808 1476 3 260\n";
 
 const AT_07: &str = "1234 127.0.0.1:47808/5/07 1476 3 260\n";
 
-/// Who is asked for, and the datagram that asks.
+/// The devices that are asked for, and the datagram that asks.
 const ALL: (WhoIs, &[u8]) = (WhoIs::All, WHO_IS);
 
 const SOME: &[u8] = b"\x81\x0a\x00\x0e\x01\x00\x10\x08\x0a\x03\xe8\x1a\x04\xd2";
@@ -19,7 +19,7 @@ fn between(low: u32, high: u32) -> WhoIs {
     WhoIs::Range { low, high }
 }
 
-/// Whether a search ends so over these steps and prints this. It asks once, unless that fails.
+/// Returns whether a search ends so over these steps and prints this. It asks once, unless that fails.
 fn searches(
     alloc: Global,
     (who, asks): (WhoIs, &[u8]),
@@ -42,7 +42,7 @@ const HEARD: Step<'static> = Step::Packet(5, CONTROLLER, I_AM);
 
 const LATE: Step<'static> = Step::Packet(3_000, CONTROLLER, I_AM);
 
-/// Whether a search that goes well ends so over these steps.
+/// Returns whether a search that goes well ends so over these steps.
 fn finds(alloc: Global, asked: (WhoIs, &[u8]), steps: &[Step<'_>], exit: Exit, text: &str) -> bool {
     searches(alloc, asked, steps, None, (Ok(exit), text))
 }
@@ -58,7 +58,7 @@ fn devices_are_found(rt: HostRuntime) {
     assert!(rt; finds(rt.alloc(), some, &far, Exit::Good, AT_07));
 }
 
-// What comes when the time is up is still heard; what comes later is not. The time may go back, and stays spent.
+// A datagram that comes when the time is up is still heard; a later one is not. The time may go back, and stays spent.
 #[test]
 fn a_search_ends_in_time(rt: HostRuntime) {
     let back = [Step::Quiet(2_999), Step::Quiet(0), HEARD, LATE];
@@ -77,14 +77,14 @@ fn searches_fail(rt: HostRuntime) {
     assert!(rt; searches(rt.alloc(), ALL, quiet(&rt).as_slice(), None, spent));
 }
 
-/// Lets the demonstration device serve over these steps for so many datagrams: whether it ends so and sent this to
+/// Lets the demonstration device serve over these steps for this many datagrams: whether it ends so and sent this to
 /// OTHER.
 fn serves(
     alloc: Global,
     steps: &[Step<'_>],
     fail: Option<u32>,
     count: u32,
-    (answer, sent): (Result<Exit, ToolFault>, &[(u64, &[u8])]),
+    (answer, sent): (Served, &[(u64, &[u8])]),
 ) -> bool {
     let Some(mut device) = small_device() else {
         return false;
@@ -110,8 +110,8 @@ const REPLIES: &[(u64, &[u8])] = &[(0, VALUE), (0, I_AM)];
 
 #[test]
 fn a_device_serves(rt: HostRuntime) {
-    assert!(rt; serves(rt.alloc(), &COMES, None, 3, (Ok(Exit::Good), REPLIES)));
-    assert!(rt; serves(rt.alloc(), &[Step::Broken], None, 0, (Ok(Exit::Good), &[])));
+    assert!(rt; serves(rt.alloc(), &COMES, None, 3, (Ok(2), REPLIES)));
+    assert!(rt; serves(rt.alloc(), &[Step::Broken], None, 0, (Ok(0), &[])));
     let spent = (Err(ToolFault::TurnsSpent), [].as_slice());
     assert!(rt; serves(rt.alloc(), quiet(&rt).as_slice(), None, 1, spent));
 }

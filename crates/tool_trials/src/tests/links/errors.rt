@@ -16,8 +16,8 @@ enum Asked {
     Time,
 }
 
-/// A socket that gives this datagram whenever it is waited for, but that fails with this error where it is asked for
-/// this. A wait that fails takes 50 ms.
+/// A socket that gives this datagram to each wait, but fails with this error at this kind of call. A wait that fails
+/// takes 50 ms.
 #[derive(Drop)]
 struct Failing<'a> {
     at: Asked,
@@ -38,7 +38,7 @@ impl<'a> Failing<'a> {
         }
     }
 
-    /// What is asked for, or the error.
+    /// Returns this answer, or the error if the call that was asked has to fail.
     fn unless_failing<T: Drop>(&self, asked: Asked, answer: T) -> io::Result<T>
         ensures { IfOk result (λ given. given ≡ answer) }
     {
@@ -94,15 +94,15 @@ impl Socket for Failing<'_> {
     }
 }
 
-/// How a read with a timeout of 100 ms ends over such a socket, which gives the answer to it.
+/// Returns how a read with a timeout of 100 ms ends over such a socket, which gives the answer to it.
 fn read_ends(alloc: Global, at: Asked, kind: ErrorKind) -> Result<Got, LinkFault> {
     let mut link = UdpLink::over(Failing::new(at, kind, VALUE), alloc, OnRefusal::Fails)?;
     let job = Job::Read(&call_of(100, 0, BODY));
     Ok(run_job(job, &mut link, [0; 9].as_mut_slice()))
 }
 
-/// How a device ends that is to answer one datagram over such a socket, which gives a request.
-fn serve_ends(alloc: Global, at: Asked, kind: ErrorKind) -> Result<Got, LinkFault> {
+/// Returns how a device ends that should answer one datagram over such a socket, which gives a request.
+fn serve_ends(alloc: Global, at: Asked, kind: ErrorKind) -> Result<Served, LinkFault> {
     let mut link = UdpLink::over(Failing::new(at, kind, ASK), alloc, OnRefusal::IsLost)?;
     let mut device = small_device().ok_or(LinkFault)?;
     Ok(serve(&mut link, &mut device, 1))
@@ -110,12 +110,14 @@ fn serve_ends(alloc: Global, at: Asked, kind: ErrorKind) -> Result<Got, LinkFaul
 
 const UNHEARD: Got = Err(ToolFault::ReceiveFailed);
 
-/// All turns go by in silence.
-const SILENT: Got = Err(ToolFault::TurnsSpent);
+/// How a device ends that hears nothing, or in silence until all turns have gone by.
+const DEAF: Served = Err(ToolFault::ReceiveFailed);
 
-/// Each kind of error, and how a read and a device end where each receive fails with it. What tells that a wait is
-/// over, or that a device's reply did not come to its peer, is silence.
-static RECEIVING: [(ErrorKind, Got, Got); 12] = [
+const SILENT: Served = Err(ToolFault::TurnsSpent);
+
+/// Each kind of error, and how a read and a device end if each receive fails with it. An error that reports the end of
+/// a wait, or that a device's reply did not reach its peer, counts as silence.
+static RECEIVING: [(ErrorKind, Got, Served); 12] = [
     (ErrorKind::WouldBlock, Ok(Exit::Bad), SILENT),
     (ErrorKind::TimedOut, Ok(Exit::Bad), SILENT),
     (ErrorKind::Interrupted, Ok(Exit::Bad), SILENT),
@@ -123,11 +125,11 @@ static RECEIVING: [(ErrorKind, Got, Got); 12] = [
     (ErrorKind::ConnectionReset, UNHEARD, SILENT),
     (ErrorKind::HostUnreachable, UNHEARD, SILENT),
     (ErrorKind::NetworkUnreachable, UNHEARD, SILENT),
-    (ErrorKind::NetworkDown, UNHEARD, UNHEARD),
-    (ErrorKind::NotConnected, UNHEARD, UNHEARD),
-    (ErrorKind::PermissionDenied, UNHEARD, UNHEARD),
-    (ErrorKind::OutOfMemory, UNHEARD, UNHEARD),
-    (ErrorKind::Other, UNHEARD, UNHEARD),
+    (ErrorKind::NetworkDown, UNHEARD, DEAF),
+    (ErrorKind::NotConnected, UNHEARD, DEAF),
+    (ErrorKind::PermissionDenied, UNHEARD, DEAF),
+    (ErrorKind::OutOfMemory, UNHEARD, DEAF),
+    (ErrorKind::Other, UNHEARD, DEAF),
 ];
 
 #[test]
@@ -145,12 +147,12 @@ fn receives_fail(rt: HostRuntime) -> Result<(), Fail> {
     Ok(())
 }
 
-/// What else fails, and how both end then, whatever the error is. A device loses the reply that it can't send. Without
-/// a clock no time goes by, and what comes is heard all the same.
-static OTHERS: [(Asked, Got, Got); 3] = [
-    (Asked::Limit, UNHEARD, UNHEARD),
-    (Asked::Send, Err(ToolFault::SendFailed), Ok(Exit::Good)),
-    (Asked::Time, Ok(Exit::Good), Ok(Exit::Good)),
+/// The other calls that fail, and how both end then, whatever the error is. A device loses the reply that it cannot
+/// send. Without a clock no time passes, and datagrams are received all the same.
+static OTHERS: [(Asked, Got, Served); 3] = [
+    (Asked::Limit, UNHEARD, DEAF),
+    (Asked::Send, Err(ToolFault::SendFailed), Ok(1)),
+    (Asked::Time, Ok(Exit::Good), Ok(1)),
 ];
 
 #[test]

@@ -4,7 +4,8 @@ use crate::tests::streams::with_room;
 use linked_list_allocator::LocalHeap;
 use std::alloc::Allocator;
 
-/// Whether a writer that takes so many octets has this front of the text, and the tool tells that writing failed.
+/// Returns whether a writer that accepts this many octets has this front of the text, and the tool reports that writing
+/// failed.
 fn leaves_front(alloc: Global, job: Job<'_>, steps: &[Step<'_>], row: (&str, usize, bool)) -> bool {
     let (text, left, fails) = row;
     let Ok(mut link) = MemoryLink::new(alloc, steps, None) else {
@@ -46,7 +47,7 @@ fn read_within<A: Allocator + Copy>(alloc: A, room: &mut [u8]) -> Result<Got, Li
     Ok(run_job(Job::Read(&call_of(100, 1, BODY)), &mut link, room))
 }
 
-// With less memory than it needs a link can't be made, or fails to send.
+// With less memory than it needs a link cannot be made, or fails to send.
 #[test]
 fn memory_is_wanted(rt: HostRuntime) -> Result<(), Fail> {
     let mut refused = false;

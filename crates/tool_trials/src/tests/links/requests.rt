@@ -33,7 +33,7 @@ static ANSWERS: [(&str, Exit, &str); 10] = [
     ("810a00090100710104", Exit::Bad, "abort 4\n"),
 ];
 
-/// Whether a read that is answered so ends so and prints this.
+/// Returns whether a read that is answered so ends so and prints this.
 fn is_answered(alloc: Global, answer: &[u8], exit: Exit, text: &str) -> bool {
     let steps = [Step::Packet(5, CONTROLLER, answer)];
     let call = call_of(3_000, 3, BODY);
@@ -58,14 +58,14 @@ const WRITE: &[u8] =
 
 const WRITE_BODY: &[u8] = b"\x0c\x00\x80\x00\x02\x19\x55\x3e\x31\xfb\x3f\x49\x10";
 
-/// Whether a write ends so over these steps, and prints this.
+/// Returns whether a write ends so over these steps, and prints this.
 fn writes(alloc: Global, steps: &[Step<'_>], exit: Exit, text: &str) -> bool {
     let call = call_of(10, 0, WRITE_BODY);
     let end = (Ok(exit), text, [(0, WRITE)].as_slice());
     ends(alloc, Job::Write(&call), steps, None, end)
 }
 
-/// What the demonstration device answers to the write.
+/// Returns what the demonstration device answers to the write.
 fn denied() -> Option<Frame> {
     let mut device = small_device()?;
     let mut frame = Frame::new();
@@ -95,7 +95,7 @@ fn a_value_is_written(rt: HostRuntime) {
     assert!(rt; writes(rt.alloc(), &[], Exit::Bad, "timeout\n"));
 }
 
-/// Whether a read that waits for 100 ms and is sent again once ends so.
+/// Returns whether a read that waits for 100 ms and is sent again once ends so.
 fn reads(alloc: Global, steps: &[Step<'_>], fail: Option<u32>, end: End<'_>) -> bool {
     let call = call_of(100, 1, BODY);
     ends(alloc, Job::Read(&call), steps, fail, end)
@@ -117,7 +117,7 @@ const HEARD: [Step<'static>; 4] = [
     Step::Packet(130, CONTROLLER, VALUE),
 ];
 
-// What is not to be heard is not, and the request is sent again in time.
+// A datagram that must not be heard is not heard, and the request is sent again in time.
 #[test]
 fn a_request_is_sent_again(rt: HostRuntime) {
     let silence = (Ok(Exit::Bad), "timeout\n", TWICE);

@@ -2,7 +2,8 @@
 ghost use Rattle.std.specs.Prelude.{◌≡◌, false, is_err, OnOk};
 
 use super::*;
-use bac_links::{Datagram, OnRefusal, UdpLink};
+use crate::tests::tools::is_shown;
+use bac_links::{Datagram, OnRefusal, Sockets, UdpLink};
 use std::alloc::AllocError;
 use std::cell::Cell;
 use std::io;
@@ -10,7 +11,7 @@ use std::io::ErrorKind;
 use std::net::{Net, SocketAddr, UdpSocket};
 use std::time::{Clock, Duration};
 
-/// Whether a link hears this within five seconds, from this peer.
+/// Returns whether a link hears this within five seconds, from this peer.
 fn hears<L: Link>(link: &mut L, from: Peer, octets: &[u8]) -> Result<bool, LinkFault>
     requires { L.has_failed link.old ≡ false }
     ensures { L.has_failed link.new ≡ is_err result }
@@ -20,7 +21,7 @@ fn hears<L: Link>(link: &mut L, from: Peer, octets: &[u8]) -> Result<bool, LinkF
     Ok(peer == Some(from) && datagram.as_slice() == octets)
 }
 
-/// How long a receive with this wait takes, by the link's own time. None if it hears something.
+/// Returns how long a receive with this wait takes, by the link's own time. `None` if it hears something.
 fn silence<L: Link>(link: &mut L, wait_ms: u32) -> Result<Option<u64>, LinkFault>
     requires { L.has_failed link.old ≡ false }
     ensures { OnOk result (L.has_failed link.new ≡ false) }
@@ -33,8 +34,8 @@ fn silence<L: Link>(link: &mut L, wait_ms: u32) -> Result<Option<u64>, LinkFault
     Ok(link.now().checked_sub(before))
 }
 
-/// Whether the desk, which waits for a millisecond, ends without an answer, and the field hears it afterwards. Then
-/// both hear nothing more.
+/// Returns whether the desk, which waits for a millisecond, ends without an answer, and the field hears it afterwards.
+/// Then both hear nothing more.
 fn times_out<L: Link>(desk: &mut L, field: &mut L) -> Result<bool, LinkFault>
     requires { (L.has_failed desk.old ≡ false) × (L.has_failed field.old ≡ false) }
 {
@@ -49,17 +50,20 @@ fn times_out<L: Link>(desk: &mut L, field: &mut L) -> Result<bool, LinkFault>
 
 #[test]
 fn two_sockets(rt: HostRuntime) -> Result<(), Fail> {
-    let mut field = UdpLink::bind_with(&rt, rt.alloc(), CONTROLLER, OnRefusal::Fails)?;
-    let mut desk = UdpLink::bind_with(&rt, rt.alloc(), OTHER, OnRefusal::Fails)?;
-    assert!(rt; UdpLink::bind_with(&rt, rt.alloc(), OTHER, OnRefusal::Fails).is_err());
+    let mut field = UdpLink::bind(&rt, rt.alloc(), CONTROLLER)?;
+    let mut desk = UdpLink::bind(&rt, rt.alloc(), OTHER)?;
+    assert!(rt; UdpLink::bind(&rt, rt.alloc(), OTHER).is_err());
+    let sockets = Sockets::new(rt.clone()?, rt.alloc());
+    let taken = UdpLink::bind_with(sockets, OTHER, OnRefusal::Fails);
+    assert!(rt; matches!(&taken, Err(none) if is_shown(rt.alloc(), none, "bind failed")));
     assert!(rt; times_out(&mut desk, &mut field)?);
     Ok(())
 }
 
-/// Where octets are sent from, and where to.
+/// The sender and the receiver of octets.
 type Way = (Peer, Peer);
 
-/// Sends octets from here, and says whether they come there whole.
+/// Sends octets one way, and returns whether they arrive whole.
 fn carries<L: Link>(from: &mut L, to: &mut L, way: Way, octets: &[u8]) -> Is
     requires { (L.has_failed from.old ≡ false) × (L.has_failed to.old ≡ false) }
     ensures { OnOk result ((L.has_failed from.new ≡ false) × (L.has_failed to.new ≡ false)) }
@@ -68,7 +72,7 @@ fn carries<L: Link>(from: &mut L, to: &mut L, way: Way, octets: &[u8]) -> Is
     hears(to, way.0, octets)
 }
 
-/// One octet more than a datagram may have, each its place.
+/// Returns one octet more than a datagram may have, with its position as the value of each.
 fn counted_octets() -> [u8; 2_048] {
     let mut octets = [0; 2_048];
     for (n, octet) in octets.iter_mut().enumerate() {
@@ -77,8 +81,8 @@ fn counted_octets() -> [u8; 2_048] {
     octets
 }
 
-/// Whether the shortest and the longest datagram come whole and from where they were sent, and a longer one does not
-/// come; then nothing is left. A wait that hears nothing takes as long as it was asked for, and one of 0 is one of 1.
+/// Returns whether the shortest and the longest datagram arrive whole and from their sender, a longer one does not
+/// arrive, and nothing is left then. A wait without a datagram takes its full time, and a wait of 0 ms takes 1 ms.
 fn carries_up_to_the_longest<L: Link>(near: &mut L, far: &mut L, way: Way) -> Is
     requires { (L.has_failed near.old ≡ false) × (L.has_failed far.old ≡ false) }
     ensures { OnOk result ((L.has_failed near.new ≡ false) × (L.has_failed far.new ≡ false)) }
@@ -109,8 +113,8 @@ fn long_datagrams(rt: HostRuntime) -> Result<(), Fail> {
         port: 47_811,
         ..CONTROLLER
     };
-    let mut near = UdpLink::bind_with(&rt, rt.alloc(), here, OnRefusal::Fails)?;
-    let mut far = UdpLink::bind_with(&rt, rt.alloc(), there, OnRefusal::Fails)?;
+    let mut near = UdpLink::bind(&rt, rt.alloc(), here)?;
+    let mut far = UdpLink::bind(&rt, rt.alloc(), there)?;
     assert!(rt; carries_up_to_the_longest(&mut near, &mut far, (here, there))?);
     assert!(rt; carries_up_to_the_longest(&mut far, &mut near, (there, here))?);
     Ok(())
@@ -127,13 +131,13 @@ fn one_port_of_two_addresses(rt: HostRuntime) -> Result<(), Fail> {
         ip: 0x7f00_0002,
         ..here
     };
-    let mut near = UdpLink::bind_with(&rt, rt.alloc(), here, OnRefusal::Fails)?;
-    let mut far = UdpLink::bind_with(&rt, rt.alloc(), there, OnRefusal::Fails)?;
+    let mut near = UdpLink::bind(&rt, rt.alloc(), here)?;
+    let mut far = UdpLink::bind(&rt, rt.alloc(), there)?;
     assert!(rt; carries(&mut near, &mut far, (here, there), ASK)?);
     Ok(())
 }
 
-/// A network whose clock tells this, or fails where there is nothing to tell.
+/// A network whose clock tells this time, or fails if there is none.
 struct Timed<'a, N> {
     net: &'a N,
     told: &'a Cell<Option<Duration>>,
@@ -178,12 +182,12 @@ impl<N> Clock for Timed<'_, N> {
     }
 }
 
-/// So many seconds and nanoseconds.
+/// This many seconds and nanoseconds.
 fn after((seconds, nanos): (u64, u64)) -> Duration {
     Duration::from_secs(seconds).saturating_add(Duration::from_nanos(nanos))
 }
 
-/// What a clock tells that was at 7 seconds when a link was made, and the time of the link then.
+/// The time of a clock that was at 7 seconds when a link was made, and the time of the link then.
 static TIMES: [(Option<(u64, u64)>, u64); 6] = [
     (Some((7, 999_999)), 0),
     (Some((8, 1_999_999)), 1_001),
@@ -193,8 +197,8 @@ static TIMES: [(Option<(u64, u64)>, u64); 6] = [
     (Some((6, 0)), 0),
 ];
 
-// The time of a socket is in whole milliseconds since it was made, by the clock that does not go back; where that
-// fails, it stays.
+// The time of a socket is in whole milliseconds since it was made, by the monotonic clock; if that fails, the time
+// stays.
 #[test]
 fn time_of_a_socket(rt: HostRuntime) -> Result<(), Fail> {
     let told = Cell::new(Some(after((7, 0))));
@@ -202,15 +206,11 @@ fn time_of_a_socket(rt: HostRuntime) -> Result<(), Fail> {
         net: &rt,
         told: &told,
     };
-    let mut link = UdpLink::bind_with(
-        &timed,
-        rt.alloc(),
-        Peer {
-            port: 47_816,
-            ..CONTROLLER
-        },
-        OnRefusal::Fails,
-    )?;
+    let here = Peer {
+        port: 47_816,
+        ..CONTROLLER
+    };
+    let mut link = UdpLink::bind(&timed, rt.alloc(), here)?;
     assert!(rt; link.now() == 0);
     for (time, now) in &TIMES {
         told.set(time.map(after));
@@ -226,17 +226,18 @@ const FROM_ALL: &[u8] = b"\x81\x04\x00\x0e\xff\xff\xff\xff\xba\xc0\x01\x00\x10\x
 
 const FROM_NOWHERE: &[u8] = b"\x81\x04\x00\x0e\x00\x00\x00\x00\x00\x00\x01\x00\x10\x08";
 
-/// The desk asks, and the device serves for so many datagrams: whether the desk hears the value.
+/// Asks from the desk, lets the device serve for this many datagrams, and returns whether it replies to each, and the
+/// desk hears the value.
 fn answers<L: Link>(desk: &mut L, field: &mut L, device: &mut Device, to: Peer, count: u32) -> Is
     requires { (L.has_failed desk.old ≡ false) × (L.has_failed field.old ≡ false) }
     ensures { OnOk result (L.has_failed desk.new ≡ false) }
 {
     desk.send(to, ASK)?;
     let got = serve(field, device, count);
-    Ok(got == Ok(Exit::Good) && !field.failed() && hears(desk, to, VALUE)?)
+    Ok(got == Ok(count) && !field.failed() && hears(desk, to, VALUE)?)
 }
 
-/// Whether a device that was asked from where no reply can be sent hears the desk afterwards.
+/// Returns whether a device that was asked from addresses to which no reply can be sent still answers the desk.
 fn goes_on<L: Link>(desk: &mut L, field: &mut L, device: &mut Device, server: Peer) -> Is
     requires { (L.has_failed desk.old ≡ false) × (L.has_failed field.old ≡ false) }
     ensures { OnOk result (L.has_failed desk.new ≡ false) }
@@ -247,7 +248,7 @@ fn goes_on<L: Link>(desk: &mut L, field: &mut L, device: &mut Device, server: Pe
     answers(desk, field, device, server, 4)
 }
 
-/// Whether a device answers the desk, and its link then fails where no reply can be sent.
+/// Returns whether a device answers the desk, and its link then fails if a reply cannot be sent.
 fn is_stopped<L: Link>(desk: &mut L, field: &mut L, device: &mut Device, server: Peer) -> Is
     requires { (L.has_failed desk.old ≡ false) × (L.has_failed field.old ≡ false) }
 {
@@ -258,7 +259,7 @@ fn is_stopped<L: Link>(desk: &mut L, field: &mut L, device: &mut Device, server:
     Ok(serve(field, device, 1) == Err(ToolFault::SendFailed) && field.failed())
 }
 
-// Whoever makes a device answer where nothing can be sent does not stop it; a link that was bound without this fails.
+// A request whose reply cannot be sent does not stop a device; a link that was bound without this fails.
 #[test]
 fn refused_replies_are_lost(rt: HostRuntime) -> Result<(), Fail> {
     let server = Peer {
@@ -270,18 +271,15 @@ fn refused_replies_are_lost(rt: HostRuntime) -> Result<(), Fail> {
         ..CONTROLLER
     };
     let mut device = small_device().ok_or("no device")?;
-    let mut desk = UdpLink::bind_with(
-        &rt,
-        rt.alloc(),
-        Peer {
-            port: 47_812,
-            ..CONTROLLER
-        },
-        OnRefusal::Fails,
-    )?;
-    let mut field = UdpLink::bind_with(&rt, rt.alloc(), server, OnRefusal::IsLost)?;
+    let client = Peer {
+        port: 47_812,
+        ..CONTROLLER
+    };
+    let mut desk = UdpLink::bind(&rt, rt.alloc(), client)?;
+    let sockets = Sockets::new(rt.clone()?, rt.alloc());
+    let mut field = UdpLink::bind_with(sockets, server, OnRefusal::IsLost)?;
     assert!(rt; goes_on(&mut desk, &mut field, &mut device, server)?);
-    let mut brittle = UdpLink::bind_with(&rt, rt.alloc(), strict, OnRefusal::Fails)?;
+    let mut brittle = UdpLink::bind(&rt, rt.alloc(), strict)?;
     assert!(rt; is_stopped(&mut desk, &mut brittle, &mut device, strict)?);
     Ok(())
 }

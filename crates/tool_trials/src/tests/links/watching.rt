@@ -1,19 +1,21 @@
-//! What has gone out before a tool waits, and how often it asks for the time.
+//! The output before a tool waits, and how often it asks for the time.
 ghost use Rattle.std.specs.Prelude.{◌≡◌, false, IfOk, List};
 ghost use Rattle.bac_links.specs.Played.{Scene};
 
 use super::*;
+use crate::tests::runs::run;
 use crate::tests::streams::{Progress, telling};
 use bac_links::Datagram;
 use std::cell::Cell;
 
-/// A link that notes at each receive how long it waits and how many octets were written before it, and counts how often
-/// it is asked for the time.
+/// A link that notes at each receive how long it waits, and at each receive and each send how many octets were written
+/// before it. It counts how often it is asked for the time.
 #[derive(Drop)]
 struct Watching<'a> {
     link: MemoryLink,
     written: &'a Cell<usize>,
     before: Vec<usize>,
+    before_sends: Vec<usize>,
     waits: Vec<u32>,
     asked: u32,
 }
@@ -28,6 +30,7 @@ fn watch<'a>(alloc: Global, steps: &[Step<'_>], written: &'a Cell<usize>) -> Wat
         link: MemoryLink::new(alloc, steps, None)?,
         written,
         before: Vec::new(alloc),
+        before_sends: Vec::new(alloc),
         waits: Vec::new(alloc),
         asked: 0,
     })
@@ -41,6 +44,7 @@ impl Link for Watching<'_> {
     ghost has_failed = { λ watching. ⟦<MemoryLink as Link>⟧.has_failed watching.link };
 
     fn send(&mut self, to: Peer, octets: &[u8]) -> Result<(), LinkFault> {
+        let _ = self.before_sends.push(self.written.get());
         self.link.send(to, octets)
     }
 
@@ -76,8 +80,33 @@ fn lines_go_out_before_the_next_wait(rt: HostRuntime) {
     assert!(rt; !progress.is_wrong.get());
 }
 
-/// Whether a read with this timeout waits so long at each of two receives, and asks for the time as it begins and after
-/// the first.
+/// A read and two writes.
+const REQUESTS: &[u8] = b"read 127.0.0.1:47808 0 5 85\n\
+    write 127.0.0.1:47808 1 1 85 8 -1 4 41a00000\n\
+    write 127.0.0.1:47808 1 1 85 8 -1 4 41a00000\n";
+
+/// Their journal up to the last send. Its lines have 15, 28, 60, 45, 78, 45 and 78 octets.
+const JOURNAL: &[u8] = b"client 100 0 0\n\
+    read 127.0.0.1:47808 0 5 85\n\
+    # send 0 127.0.0.1:47808 810a001101040005010c0c000000051955\n\
+    write 127.0.0.1:47808 1 1 85 8 -1 4 41a00000\n\
+    # send 1 127.0.0.1:47808 810a001a01040005020f0c0040000119553e4441a000003f4908\n\
+    write 127.0.0.1:47808 1 1 85 8 -1 4 41a00000\n\
+    # send 2 127.0.0.1:47808 810a001a01040005030f0c0040000119553e4441a000003f4908\n";
+
+// Before the read only what came before the input is written; before each write the journal up to its line.
+#[test]
+fn lines_of_writes_go_out_before_they_are_sent(rt: HostRuntime) {
+    let progress = Progress::default();
+    let mut link = watch(rt.alloc(), &[Step::Broken], &progress.written).expect(&rt, "a link");
+    let writer = telling(&progress, JOURNAL, usize::MAX, false);
+    assert!(rt; run(3, &mut link, REQUESTS, writer).is_some());
+    assert!(rt; link.before_sends.as_slice() == [15, 148, 271].as_slice());
+    assert!(rt; !progress.is_wrong.get());
+}
+
+/// Returns whether a read with this timeout waits so long at each of two receives, and asks for the time as it begins
+/// and after the first.
 fn reads_waiting(alloc: Global, timeout: u32, wait: u32) -> bool {
     let written = Cell::new(0);
     let steps = [Step::Quiet(1), Step::Packet(5, CONTROLLER, VALUE)];
@@ -89,7 +118,7 @@ fn reads_waiting(alloc: Global, timeout: u32, wait: u32) -> bool {
     got == Ok(Exit::Good) && link.waits.as_slice() == [wait, wait].as_slice() && link.asked == 2
 }
 
-/// Whether a device waits so long at each of two receives.
+/// Returns whether a device waits so long at each of two receives.
 fn serves_waiting(alloc: Global, wait: u32) -> bool {
     let written = Cell::new(0);
     let steps = [Step::Quiet(1_000), Step::Packet(1_500, OTHER, ASK)];
@@ -97,10 +126,10 @@ fn serves_waiting(alloc: Global, wait: u32) -> bool {
         return false;
     };
     let got = serve(&mut link, &mut device, 1);
-    got == Ok(Exit::Good) && link.waits.as_slice() == [wait, wait].as_slice()
+    got == Ok(1) && link.waits.as_slice() == [wait, wait].as_slice()
 }
 
-// A call waits for 50 ms at a time, or for its timeout where that is shorter, and a device for a second.
+// A call waits for 50 ms at a time, or for its timeout if that is shorter, and a device for a second.
 #[test]
 fn waits(rt: HostRuntime) {
     for (timeout, wait) in &[(3_000, 50), (51, 50), (10, 10)] {

@@ -18,7 +18,7 @@ const PRINTED: &[u8] = b"send 0 127.0.0.1:47808 810a001101040005010c0c0000000519
 
 const WHOLE: Result<TraceEnd, TraceFault> = Ok(TraceEnd { lines: 6 });
 
-// Script and text may stand in fixed room: a run asks for no memory, as its signature says.
+// Script and text may be in fixed room: a run asks for no memory, as its signature says.
 #[test]
 fn a_text_in_fixed_room(rt: HostRuntime) {
     let mut room = [0; PRINTED.len()];
@@ -27,7 +27,8 @@ fn a_text_in_fixed_room(rt: HostRuntime) {
     assert!(rt; room.as_slice() == PRINTED);
 }
 
-/// Whether a writer that takes so many octets has this front of the text, and the script tells that writing failed.
+/// Returns whether a writer that accepts this many octets has this front of the text, and the script tells that writing
+/// failed.
 fn leaves_front(alloc: Global, left: usize, fails: bool) -> bool {
     let mut taken = Vec::new(alloc);
     let mut writer = Checked::new(with_room(&mut taken, left, fails));
@@ -59,9 +60,9 @@ const RETRIES: Worked<'static> = Worked {
     ends: &[(28, 58), (48, 116), (58, 174), (68, 232), (79, 242)],
 };
 
-/// Runs a script where the read and the write with these numbers fail: how many reads and writes there were, and how
-/// many octets were written. None if it doesn't end so, writes another text, or reads before it has written what is
-/// printed.
+/// Runs a script while the read and the write with these numbers fail. Returns how many reads and writes there were,
+/// and how many octets were written; `None` if it does not end so, writes another text, or reads before it has written
+/// what is printed.
 fn counts(
     worked: &Worked<'_>,
     (read, write, takes_none): (usize, usize, bool),
@@ -86,8 +87,8 @@ fn counts(
     Some((reads, writes, progress.written.get()))
 }
 
-/// Whether a reader that gives one octet at a time, and fails at this read, is not asked again, and leaves the text of
-/// the whole lines before.
+/// Returns whether a reader that gives one octet at a time, and fails at this read, is not asked again, and leaves the
+/// text of the whole lines before.
 fn fails_at(worked: &Worked<'_>, read: usize) -> bool {
     let fails = (read, usize::MAX, false);
     let wanted = printed_after(worked.ends, read);
@@ -144,7 +145,7 @@ const READ: &[u8] = b"read 127.0.0.1:47808 0 5 85\n";
 /// The answer to the first read.
 const VALUE: &[u8] = b"data 127.0.0.1:47808 810a0017010030010c0c0000000519553e444290999a3f\n";
 
-/// The digit of a number below 16, of base 16.
+/// Returns the digit of a number below 16, of base 16.
 fn digit(number: u8) -> &'static [u8] {
     let place = usize::from(number);
     b"0123456789abcdef".get(place..=place).unwrap_or(b"")
@@ -181,13 +182,13 @@ fn reads_fail_in_turn(rt: HostRuntime) {
     };
     assert!(rt; worked.script.len() == 1_916 && worked.ends.len() == 67);
     for read in 0..=worked.script.len() {
-        // The sixty-one lines behind the second are alike: of those the first octet is tried.
+        // The sixty-one lines after the second are alike: of those the first octet is tried.
         let is_like_others = 56 <= read && read < 1_764 && read % 28 > 0;
         assert!(rt; is_like_others || fails_at(&worked, read), "at {read}");
     }
 }
 
-/// Gives a script at once and then nothing, once. Whoever asks again has a failure or the script once more.
+/// Gives a script at once and then nothing, once. A second request gives a failure or the script once more.
 #[derive(Drop)]
 struct EndedOnce<'a> {
     script: &'a [u8],
@@ -211,7 +212,7 @@ impl Read for EndedOnce<'_> {
     }
 }
 
-/// Whether such a reader is read twice, of which the second is its end, and has not failed.
+/// Returns whether such a reader is read twice, of which the second is its end, and has not failed.
 fn is_read_twice(script: &[u8], fails: bool) -> bool {
     let at = 0;
     let mut reader = Checked::new(EndedOnce { script, at, fails });
@@ -220,7 +221,7 @@ fn is_read_twice(script: &[u8], fails: bool) -> bool {
     got == WHOLE && room.as_slice() == PRINTED && reader.reads() == 2 && !reader.failed()
 }
 
-// A read that gave nothing is the last, whether or not a line feed stands before it.
+// A read that gave nothing is the last, whether or not a line feed comes before it.
 #[test]
 fn what_has_ended_is_not_asked_again(rt: HostRuntime) {
     for fails in &[true, false] {
@@ -229,7 +230,7 @@ fn what_has_ended_is_not_asked_again(rt: HostRuntime) {
     }
 }
 
-/// Whether such a reader is read once where its first read gives a line with this fault.
+/// Returns whether such a reader is read once if its first read gives a line with this fault.
 fn is_read_once(script: &[u8], fault: TraceFault) -> bool {
     let (at, fails) = (0, true);
     let mut reader = Checked::new(EndedOnce { script, at, fails });

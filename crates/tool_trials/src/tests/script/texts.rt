@@ -3,7 +3,7 @@ use crate::tests::is_text;
 use bac_print::{Checked, WriteFailed, show_outcome, show_value};
 use bac_tsm::Outcome;
 
-// What each outcome is printed as stands with the scripts. Here it is written, and what fails is told.
+// The text of each outcome is tested with the scripts. Here it is written, and failures are reported.
 #[test]
 fn an_outcome_and_a_region_are_shown(rt: HostRuntime) {
     let mut room = [0xff; 96];

@@ -19,7 +19,8 @@ fn a_fresh_reader_has_not_failed(rt: HostRuntime) {
     assert!(rt; reader.read(&mut octets).is_err() && reader.failed() && reader.reads() == 2);
 }
 
-// A flush answers what the writer's own does, and is no failed write. A writer that takes none of an octet has failed.
+// A flush returns what the writer's own does, and is not a failed write. A writer that accepts none of an octet has
+// failed.
 #[test]
 fn a_full_writer_has_failed_and_a_flush_has_not(rt: HostRuntime) {
     for fails in &[true, false] {
@@ -30,7 +31,7 @@ fn a_full_writer_has_failed_and_a_flush_has_not(rt: HostRuntime) {
     }
 }
 
-/// What a stream answers to one call after another: so many octets, or a failure of this kind.
+/// What a stream answers to one call after another: this many octets, or a failure of this kind.
 const ANSWERS: [Result<usize, ErrorKind>; 10] = [
     Ok(9),
     Ok(1),
@@ -81,7 +82,7 @@ impl Write for Answering<'_> {
     }
 }
 
-/// Whether a call with so many octets has this answer of the stream.
+/// Returns whether a call with this many octets has this answer of the stream.
 fn is_told(got: io::Result<usize>, answer: &Result<usize, ErrorKind>, octets: usize) -> bool {
     match (got, answer) {
         (Ok(count), Ok(answered)) => count == octets.min(*answered),

@@ -3,7 +3,7 @@ use super::*;
 use std::process::Abort;
 use std::test::Fail;
 
-/// Words behind `bacrp`, and the body of the request.
+/// Words after `bacrp`, and the body of the request.
 static READS: [(&str, &str); 5] = [
     ("1234 0 5 85 --mac 127.0.0.1:47808", "0c000000051955"),
     ("1234 0 5 85 --mac 127.0.0.1", "0c000000051955"),
@@ -14,7 +14,7 @@ static READS: [(&str, &str); 5] = [
 
 const LONGEST_READ: &str = "--mac 127.0.0.1 4194303 1023 4194303 4194303 4294967295";
 
-/// Words behind `bacwp 1234`, in front of which the peer stands, and the body of the request.
+/// Words after `bacwp 1234`, with the peer before them, and the body of the request.
 static MARKED: [(&str, &str); 2] = [
     ("2 2 85 0 -1 -- 7 --x", "0c0080000219553e74002d2d783f"),
     ("2 2 85 0 -1 -- 7 --", "0c0080000219553e73002d2d3f"),
@@ -22,7 +22,7 @@ static MARKED: [(&str, &str); 2] = [
 
 const TWENTY: &str = "0c0040000119553e4441a000003f4910";
 
-/// The same where the peer stands behind them, too. Two spaces enclose an empty word.
+/// Words after `bacwp 1234`, with the peer before them or after them. Two spaces enclose an empty word.
 static WRITES: [(&str, &str); 13] = [
     ("2 2 85 16 -1 3 -5", "0c0080000219553e31fb3f4910"),
     ("1 1 85 16 -1 4 41a00000", TWENTY),
@@ -39,9 +39,10 @@ static WRITES: [(&str, &str); 13] = [
     ("2 2 85 0 -1 7  7 x", "0c0080000219553e71007200783f"),
 ];
 
-/// Whether the words of a line ask for a request to 127.0.0.1 at the port 47808, with the usual settings and this body.
+/// Returns whether the words of a line ask for a request to 127.0.0.1 at the port 47808, with the usual settings and
+/// this body.
 fn asks(alloc: Global, line: &str, body: &str) -> bool {
-    let Ok(Job::Over(Tool::Read(call) | Tool::Write(call))) = parse(alloc, line) else {
+    let Ok(Job::Use(Tool::Read(call) | Tool::Write(call))) = parse(alloc, line) else {
         return false;
     };
     let is_usual = call.to == CONTROLLER
@@ -68,7 +69,7 @@ fn reads_and_writes(rt: HostRuntime) {
     all_ask(&rt, "bactool bacwp 1234", &WRITES, " --mac 127.0.0.1");
 }
 
-/// How long the body is of a write of so many reals.
+/// Returns the length of the body of a write of this many reals.
 fn body_len(alloc: Global, count: usize) -> Result<usize, Fail> {
     let mut words = Vec::new(alloc);
     for word in "bactool bacwp --mac 127.0.0.1 1234 1 1 85 16 -1".split(' ') {
@@ -79,7 +80,7 @@ fn body_len(alloc: Global, count: usize) -> Result<usize, Fail> {
         words.push("41a00000")?;
     }
     match parse_words(alloc, words.as_slice())? {
-        Job::Over(Tool::Write(call)) => Ok(call.body.len()),
+        Job::Use(Tool::Write(call)) => Ok(call.body.len()),
         _ => Ok(0),
     }
 }
@@ -91,16 +92,16 @@ fn the_longest_body(rt: HostRuntime) -> Result<(), Fail> {
     Ok(())
 }
 
-/// Whether the words ask for a request to 127.0.0.1:1 with the settings of the options.
+/// Returns whether the words ask for a request to 127.0.0.1:1 with the settings of the options.
 fn has_settings(alloc: Global, line: &str) -> bool {
-    let Ok(Job::Over(Tool::Read(call) | Tool::Write(call))) = parse(alloc, line) else {
+    let Ok(Job::Use(Tool::Read(call) | Tool::Write(call))) = parse(alloc, line) else {
         return false;
     };
     let is_to = call.to.ip == LOCALHOST && call.to.port == 1;
     is_to && call.timeout == 100 && call.retries == 1 && call.port == 50_000
 }
 
-/// Words in front of options, and words behind them.
+/// Words in front of options, and words after them.
 static PARTED: [(&str, &str); 6] = [
     ("bacrp", "1234 0 5 85"),
     ("bacrp 1234 0", "5 85"),

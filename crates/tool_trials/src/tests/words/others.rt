@@ -18,9 +18,9 @@ static SEARCHES: [(&str, Option<(u32, u32)>); 4] = [
 
 const SET: &str = "bactool bacwi --mac 127.0.0.1 --apdu-timeout 60000 --port 47808";
 
-/// Whether the words ask for a search at 127.0.0.1 for these devices, with this timeout and port.
+/// Returns whether the words ask for a search at 127.0.0.1 for these devices, with this timeout and port.
 fn searches(alloc: Global, line: &str, limits: Option<(u32, u32)>, set: (u32, u16)) -> bool {
-    let Ok(Job::Over(Tool::WhoIs(search))) = parse(alloc, line) else {
+    let Ok(Job::Use(Tool::WhoIs(search))) = parse(alloc, line) else {
         return false;
     };
     let who = match limits {
@@ -39,9 +39,10 @@ fn searches_for_devices(rt: HostRuntime) {
     assert!(rt; searches(rt.alloc(), SET, None, (60_000, 47_808)));
 }
 
-/// Whether the words ask for a device at this port, for so many datagrams, which answers a Who-Is for 1000 to 1234 so.
+/// Returns whether the words ask for a device at this port, for this many datagrams, which answers a Who-Is for 1000 to
+/// 1234 so.
 fn plays(alloc: Global, line: &str, set: (u16, u32), digits: &str) -> bool {
-    let Ok(Job::Over(Tool::Device(serve))) = parse(alloc, line) else {
+    let Ok(Job::Use(Tool::Device(serve))) = parse(alloc, line) else {
         return false;
     };
     let is_set = (serve.port, serve.count) == set;
@@ -60,7 +61,7 @@ fn devices_and_a_trace(rt: HostRuntime) {
     assert!(rt; matches!(parse(rt.alloc(), "bactool bactrace"), Ok(Job::Trace)));
 }
 
-/// Whether the words ask for many requests with this timeout, these retries, this port and this window.
+/// Returns whether the words ask for many requests with this timeout, these retries, this port and this window.
 fn batches(alloc: Global, line: &str, set: (u32, u8, u16, u32)) -> bool {
     let Ok(Job::Run(batch)) = parse(alloc, line) else {
         return false;

@@ -9,14 +9,14 @@ fn memory_is_told(rt: HostRuntime) {
     assert!(rt;
         matches!(
             answer,
-            Ok(Job::Over(Tool::Write(_))) | Err(UsageFault::Memory)
+            Ok(Job::Use(Tool::Write(_))) | Err(UsageFault::Memory)
         )
     );
     let refused = parse(rt.alloc(), "bactool bacrp x");
     assert!(rt; matches!(refused, Err(UsageFault::Words(_) | UsageFault::Memory)));
 }
 
-// A space is no part of a peer.
+// A space is not a part of a peer.
 #[test]
 fn a_peer_with_a_space(rt: HostRuntime) {
     let words = ["bactool", "bacwi", "--mac", "127.0.0.1 "];

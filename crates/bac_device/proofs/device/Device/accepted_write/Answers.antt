@@ -13,7 +13,7 @@ accepted_at : (device : DeviceState) (o : Order) (standing : Standing) (value : 
 unfolding accepted_write
 accepted_at _ o standing value found property = grind arith
 
--- An index of a present value, which is no array.
+-- An index of a present value, which is not an array.
 pub returns-then-is_some-2 : goal.returns-then-is_some-2
 returns-then-is_some-2 c =
     let at = accepted_at c.args.self.now (order c.args.request.now) c.in-Some.point.now _

@@ -1,4 +1,4 @@
--- The acknowledgement is written in three parts; where one is full, the whole has no room.
+-- The acknowledgement is written in three parts; if one is full, the whole has no room.
 use Rattle.std.proofs.{Common.arith, lemmas.Grind.common_steps}
 use Rattle.bac_pdu.{proofs.ShortestLaws.{ack_parts, length_ack}, specs.reference}
 use Rattle.bac_device.specs.{acknowledged, Inner.property_seen}

@@ -1,4 +1,4 @@
--- What holds of the definition's reply holds of the one that was written.
+-- A statement that holds of the definition's reply holds of the written one.
 use Rattle.{bac_pdu.specs.station, bac_device.{proofs.{of_reply, reply_fits}, specs.ReplyFits}}
 use Rattle.bac_device.proofs.device.Device.answer.Goals as goal
 

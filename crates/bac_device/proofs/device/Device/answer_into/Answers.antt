@@ -1,4 +1,4 @@
--- A reply of at most 1476 octets fits a frame behind any header, so wrapping it can't fail.
+-- A reply of at most 1476 octets fits a frame after any header, so wrapping it cannot fail.
 use Rattle.std.proofs.Common.{arith}
 use Rattle.{bac_pdu.proofs.DatagramLaws.{carried_is, wrapped_short}, bac_device.proofs.carried_routable}
 use Rattle.bac_device.proofs.device.Device.answer_into.Goals as goal

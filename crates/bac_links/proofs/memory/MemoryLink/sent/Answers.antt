@@ -1,4 +1,4 @@
--- What was sent is told by the history, and the code has its own list.
+-- The history has the sends, and the code has its own list.
 use Rattle.bac_links.proofs.{sent_so}
 use Rattle.bac_links.proofs.memory.MemoryLink.sent.Goals as goal
 

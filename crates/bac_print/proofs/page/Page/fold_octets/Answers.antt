@@ -1,4 +1,4 @@
--- One more octet is folded behind the others.
+-- One more octet is folded after the others.
 use Rattle.std.proofs.{Common.arith, lemmas.List.take_more}
 use Rattle.bac_print.proofs.{folds_more, folds_none}
 use Rattle.bac_print.proofs.page.Page.fold_octets.Goals as goal

@@ -10,14 +10,16 @@ pub returns-in-Ok-None-clause-went : goal.returns-in-Ok-None-clause-went
 returns-in-Ok-None-clause-went g c =
     went_passed _ _ _ c.longest_wait-wait_ms.result Silence refl refl (λ (time, aims).
     (c.longest_wait-wait_ms.ensures, tt))
-    (λ (time, aims). refl) (λ gained is. is) c.requires.sound c.requires.out
+    (λ (time, aims). refl) (λ gained is. is) c.requires.sound
+    (rw c.longest_wait-wait_ms.ensures c.requires.out)
     (rw c.in-Ok-None.field-0-is at c.in-Ok-None.ensures.told)
 
 pub returns-in-Err-clause-went : goal.returns-in-Err-clause-went
 returns-in-Err-clause-went g c =
     went_passed _ _ _ c.longest_wait-wait_ms.result Failure refl refl (λ (time, aims).
     (c.longest_wait-wait_ms.ensures, tt))
-    (λ (time, aims). refl) (λ gained is. is) c.requires.sound c.requires.out c.in-Err.ensures.told
+    (λ (time, aims). refl) (λ gained is. is) c.requires.sound
+    (rw c.longest_wait-wait_ms.ensures c.requires.out) c.in-Err.ensures.told
 
 pub returns-then-not-has_line-clause-went : goal.returns-then-not-has_line-clause-went
 returns-then-not-has_line-clause-went g c =
@@ -26,7 +28,8 @@ returns-then-not-has_line-clause-went g c =
     went_passed _ _ _ c.longest_wait-wait_ms.result (Arrived (station c.in-Ok-Some.from) c.receive.new.datagram)
     (ap (λ (run : Run). run.session) c.defers.ensures.same) (ap (λ (run : Run). run.client) c.defers.ensures.same)
     (λ (time, aims). (c.longest_wait-wait_ms.ensures, unsaid)) (λ (time, aims). c.defers.ensures.defers time aims)
-    (λ gained is. is) c.requires.sound c.requires.out (rw c.in-Ok-Some.field-0-is at c.in-Ok-Some.ensures.told)
+    (λ gained is. is) c.requires.sound
+    (rw c.longest_wait-wait_ms.ensures c.requires.out) (rw c.in-Ok-Some.field-0-is at c.in-Ok-Some.ensures.told)
 
 pub returns-then-not-has_line-clause-kept : goal.returns-then-not-has_line-clause-kept
 returns-then-not-has_line-clause-kept g c =
@@ -47,7 +50,8 @@ returns-clause-went g c =
     (λ (time, aims). ap (λ (client : Client).
     settled (heard_at (record { client = client; behind = c.args.self.now.behind; phase = Outside; aims = aims }) time))
     (sym c.datagram.ensures.left) ∙ c.defers-2.ensures.defers time aims)
-    c.print_arrival.ensures c.remark_end.ensures c.requires.sound c.requires.out
+    c.print_arrival.ensures c.remark_end.ensures c.requires.sound
+    (rw c.longest_wait-wait_ms.ensures c.requires.out)
     (rw c.as_slice-octets.ensures.value (rw c.in-Ok-Some.field-0-is at c.in-Ok-Some.ensures.told)))
 
 pub returns-clause-kept : goal.returns-clause-kept

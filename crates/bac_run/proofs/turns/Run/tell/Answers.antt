@@ -1,4 +1,4 @@
--- What is told at a time.
+-- The notes at a time.
 use Rattle.std.proofs.Common.{ap, arith, false, length, nat_lt, refl, rules, sym, true, ◌∙◌, ◌≡◌}
 use Rattle.std.proofs.lemmas.Bool.Decides.{nat_tests}
 use Rattle.{bac_tsm.specs.Client.Client, bac_run.{proofs.{comes_sent, tick_open, went_still, went_told}, specs.ready}}

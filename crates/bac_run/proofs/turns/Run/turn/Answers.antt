@@ -1,29 +1,29 @@
--- A turn: the time is read, a wait, and what is told behind it.
+-- A turn: the time is read, a wait follows, and after that the client may get the time.
 use Rattle.std.proofs.{Common.{refl, ◌∷◌}, lemmas.Result.err_from_is_err_and}
 use Rattle.bac_script.specs.declared.tracing.TraceFault.TheVariants.{WriteFailed}
 use Rattle.bac_run.proofs.{went_at, went_failed, went_more, went_ok, went_read, went_stopped, went_to, went_turned}
-use Rattle.bac_run.specs.{Turns, write_failed}
+use Rattle.bac_run.specs.{Turns}
 use Rattle.bac_run.proofs.turns.Run.turn.Goals as goal
 
 pub returns-then-failed-clause-went : goal.returns-then-failed-clause-went
 returns-then-failed-clause-went g c =
-    went_turned c.turn_in.ensures.printed
-    (rw c.from.ensures (went_failed (Unit {0}) write_failed tt (went_stopped (Unit {0}) _ _ _ _ WriteFailed)))
+    went_turned c.let_out.ensures.printed
+    (rw c.from.ensures (went_stopped (Unit {0}) _ _ _ _ _ WriteFailed (λ i. tt)))
 
 pub returns-in_err-hear-clause-went : goal.returns-in_err-hear-clause-went
 returns-in_err-hear-clause-went g c =
     let (_, was, same) = err_from_is_err_and c.from_residual.result c.from_residual.ensures.1 in
     rw (was, same)
-    (went_turned c.turn_in.ensures.printed
+    (went_turned c.let_out.ensures.printed
     (went_more
     (went_read _ _ _ c.now-now.result refl refl (λ (until, left, later). tt) (λ
     (until, left, later). refl) c.now-now.ensures.told)
-    (went_failed (Unit {0}) _ c.in_err-hear.ensures.cause
+    (went_failed (Unit {0}) _
     (went_at (λ (until, left, later). (c.now-now.result, Turns until left ∷ later)) c.in_err-hear.ensures.went))))
 
 pub returns-then-branch-clause-went : goal.returns-then-branch-clause-went
 returns-then-branch-clause-went g c =
-    went_turned c.turn_in.ensures.printed
+    went_turned c.let_out.ensures.printed
     (went_more
     (went_read _ _ _ c.now-now.result refl refl (λ (until, left, later). tt) (λ
     (until, left, later). refl) c.now-now.ensures.told)
@@ -32,7 +32,7 @@ returns-then-branch-clause-went g c =
 
 pub returns-clause-went : goal.returns-clause-went
 returns-clause-went g c =
-    went_turned c.turn_in.ensures.printed
+    went_turned c.let_out.ensures.printed
     (went_more
     (went_read _ _ _ c.now-now.result refl refl (λ (until, left, later). tt) (λ
     (until, left, later). refl) c.now-now.ensures.told)

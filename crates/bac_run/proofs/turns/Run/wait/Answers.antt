@@ -32,7 +32,7 @@ returns-in_err-turn-clause-went g c =
     rw (was, same)
     (went_more (went_to (λ later. begun c.turns.self c.args.until c.turns.left later unmet (λ none. omega
     (arith, none, c.if-left-eq0.false))) c.turns.invariant.went)
-    (went_failed (Unit {0}) _ c.in_err-turn.ensures.cause
+    (went_failed (Unit {0}) _
     (went_at (λ later. (c.args.until, c.turns.left - 1, later)) c.in_err-turn.ensures.went)))
 
 pub returns-then-left-eq0-clause-went : goal.returns-then-left-eq0-clause-went

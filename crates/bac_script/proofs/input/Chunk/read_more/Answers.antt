@@ -1,4 +1,4 @@
--- The chunk is read into behind what is held, which may have been moved to the front before.
+-- The chunk is read into after what is held, which may have been moved to the front before.
 use Rattle.std.proofs.Common.{ap, arith, inr, take, ◌∙◌}
 use Rattle.bac_script.proofs.{last_none, last_on, Placed, placed_moved, read_ended, read_none, read_on, still_held}
 use Rattle.bac_script.proofs.input.Chunk.read_more.{Given.Over, Goals.{After-read, else-self, then-self}}

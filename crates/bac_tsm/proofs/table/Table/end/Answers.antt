@@ -1,4 +1,4 @@
--- Taking one request out keeps the invariant: its slot goes behind the free ones and out of the sends.
+-- Taking one request out keeps the invariant: its slot goes after the free ones and out of the sends.
 use Rattle.std.proofs.Common.{arith}
 use Rattle.bac_tsm.proofs.{ended_by, rank_within, read_within, same_turn, sent_slot}
 use Rattle.bac_tsm.proofs.table.Table.end.Goals as goal

@@ -1,4 +1,4 @@
--- Where the request that was sent longest ago is not due, none is, since the others were sent later.
+-- If the request that was sent longest ago is not due, none is, since the others were sent later.
 use Rattle.std.proofs.Common.{◌∙◌}
 use Rattle.bac_tsm.{proofs.{front_below, rising, some_due}, specs.client_rules}
 use Rattle.bac_tsm.proofs.table.Table.is_due.Goals as goal

@@ -1,4 +1,4 @@
--- Each turn passes one request; what is told in that order, sorted by ticket, is what the definition tells.
+-- Each turn passes one request; the notes in that order, sorted by ticket, are those of the definition.
 use Rattle.std.proofs.{Common.{arith, List, subst, sym, ◌∙◌}, lemmas.List.Sorted.IsPermutation-trans}
 use Rattle.std.specs.List.Sorted.{IsPermutation}
 use Rattle.bac_tsm.{proofs.{all_passed, few_due, fewer, is_passed, refilled}, specs.{client_rules, DueEntry}}

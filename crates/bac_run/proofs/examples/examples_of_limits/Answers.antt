@@ -1,0 +1,18 @@
+-- Each computes.
+use Rattle.std.proofs.Common.{arith, refl}
+use Rattle.bac_script.proofs.Computed.{computed}
+use Rattle.bac_run.proofs.examples.examples_of_limits.Goals as goal
+
+pub returns : goal.returns
+unfolding computed
+returns c = record {
+  one = refl;
+  longest = refl;
+  too_long = refl;
+  empty = refl;
+  heard_unsaid = refl;
+  silent = refl;
+  unsaid = refl;
+  to_be_said = λ h. grind arith;
+  room = refl;
+}

@@ -1,0 +1,238 @@
+"""Finds all stations of networks behind routers: each router broadcasts a Who-Is there."""
+
+from __future__ import annotations
+
+import math
+import time
+from collections import Counter, deque
+from typing import NamedTuple, Sequence, Tuple
+
+from .bodies import elements_of
+from .device import Bounds
+from .output import times
+from .messages import UNCONFIRMED, Message, Refusals
+from .tools import BIND_FAILED, Tools, NotBegun, deadline_of
+from .session import Session
+from .standard import DEVICE, OBJECT
+
+EVERYONE = (0, 4194303)  # all instances
+FEW = 16  # about so many of the known stations are asked at once
+WAIT = 500  # milliseconds of one line of bacrun
+QUIET = 3.0  # seconds without a new station, once all known ones have answered
+LINES = 256  # of one text for bacrun: it prints as many before it reads on
+MOST_ROUNDS = 64
+MOST_STATIONS = 4096  # of a reach, since anyone can send an I-Am
+I_AM = 0
+Range = Tuple[int, int]  # of instances: the least and the greatest
+
+
+class Station(NamedTuple):
+    """A station that has said which device it is."""
+
+    instance: int
+    address: str  # with its route
+
+    @property
+    def router(self) -> str:
+        """The router that it is behind."""
+        return self.address.partition("/")[0]
+
+    @property
+    def place(self) -> tuple[int, str]:
+        """The number of its network, and its address there."""
+        _, network, station = self.address.split("/")
+        return int(network), station
+
+
+def station_of(message: Message) -> Station | None:
+    """Returns the station of an I-Am from behind a router; None for any other datagram."""
+    apdu = message.apdu
+    if not apdu or (apdu.kind, apdu.service) != (UNCONFIRMED, I_AM):
+        return None
+    found = elements_of(apdu.body) or []
+    if len(found) != 4 or found[0].kind != OBJECT or found[0].of_object.object_type != DEVICE:
+        return None
+    station = Station(found[0].of_object.instance, message.sender)
+    return station if message.sender.count("/") == 2 else None
+
+
+class Reach:
+    """192.0.2.7/5/*, or 192.0.2.7/* for all networks there: the stations that were heard, and the
+    ranges of instances that are left to ask."""
+
+    def __init__(self, word: str) -> None:
+        self.word, self.front = word, word[: -len("*")]
+        self.router = word.partition("/")[0]
+        self.found: set[Station] = set()
+        self.elsewhere: set[Station] = set()  # which answered through another router
+        self.left: deque[Range] = deque([EVERYONE])
+        self._before: set[Station] = set()  # those that were known when the question was sent
+        self._asked: Range | None = None
+        self._silent = 0  # questions without any station so far
+        self._answered: set[Station] = set()
+
+    def question(self) -> str:
+        """Begins the next question; its line, or an empty text if no range is left."""
+        self._before, self._answered = set(self.found), set()
+        self._asked = asked = self.left.popleft() if self.left else None
+        if not asked:
+            return ""
+        limits = "" if asked == EVERYONE else " " + " ".join(map(str, asked))
+        where = self.front[:-1] if self.front.count("/") == 2 else self.word
+        return f"who {where}{limits}\n"
+
+    def heard(self, station: Station) -> bool:
+        """Notes a station; returns whether it belongs to this reach."""
+        is_here = station.address.startswith(self.front)
+        if is_here and (station in self.found or len(self.found) < MOST_STATIONS):
+            self.found.add(station)
+            self._answered.add(station)
+        return is_here
+
+    def may_have(self, station: Station) -> bool:
+        """Returns whether a station that answered through another router is in a network of this
+        reach."""
+        return self.front[len(self.router) : -1] in ("", f"/{station.place[0]}")
+
+    @property
+    def is_complete(self) -> bool:
+        """Whether all stations that were known in the range have answered, if any were known."""
+        if not self._asked:
+            return True
+        return bool(self._before) and _within(self._asked, self._before) <= self._answered
+
+    def end(self) -> None:
+        """Ends a question. A range that brought a new station is asked again, in parts; a reach
+        without any station is asked twice."""
+        self._silent += not self.found
+        if self._silent == 1:
+            self.left.append(EVERYONE)
+        if self._asked and self.found != self._before:
+            known = sorted(it.instance for it in _within(self._asked, self.found))
+            self.left.extend(parts_of(self._asked, known))
+
+
+class Sweep:
+    """Asks all stations of some reaches which devices they are, until no question finds a new one.
+
+    At first all stations are asked at once. A range of instances that brought a new station is then
+    asked again in parts with few known stations each: so an answer that a bus or a router has lost,
+    because all answered at once, comes later.
+    """
+
+    def __init__(self, tools: Tools, words: Sequence[str], bounds: Bounds, quiet: Sequence[str]):
+        self._tools, self._bounds = tools, bounds
+        self._quiet = quiet  # reaches that need not have a station
+        self._last = 0.0  # when a station was heard
+        self._begin(words)
+        self.faults: list[str] = []  # why it is not whole
+        self.rounds = 0
+
+    def _begin(self, words: Sequence[str]) -> None:
+        self.reaches = [Reach(it) for it in words]
+        self.refusals = {it.router: Refusals() for it in self.reaches}
+
+    def run(self) -> None:
+        """Finds the stations of each reach."""
+        until = deadline_of(self._bounds.deadline)
+        for port in (self._bounds.listen_port, 0):
+            try:
+                process = self._tools.listener(port, until)
+            except NotBegun as why:
+                self.faults.insert(0, str(why))
+                break
+            session, fault = Session(self._tools, process, "stations"), ""
+            session.on_message = self._take
+            while self._ask(session):
+                if self.rounds == MOST_ROUNDS:
+                    fault = f"new stations still answered after {MOST_ROUNDS} questions"
+                    break
+            told = session.close().told
+            if told != BIND_FAILED or not port:
+                self.faults[:0] = filter(None, [told or fault])
+                break
+            self.faults = [f"port {port} is taken: answers by broadcast are not heard"]
+            self._begin([it.word for it in self.reaches])
+
+    def _ask(self, session: Session) -> bool:
+        """Asks one range of each reach, and hears the answers; False if nothing is left to ask."""
+        questions = list(filter(None, [it.question() for it in self.reaches]))
+        begun = self._last = time.monotonic()
+        for at in range(0, len(questions), LINES):
+            self._tools.counted()
+            if not session.hear(1, "".join(questions[at : at + LINES])):
+                return False
+        latest = begun + self._bounds.listen
+        while questions and time.monotonic() < latest and not self._is_quiet():
+            if not session.hear(WAIT):
+                return False
+        for it in self.reaches:
+            it.end()
+        self.rounds += 1
+        return bool(questions)
+
+    def _is_quiet(self) -> bool:
+        """Returns whether all known stations have answered, and no other one for some time."""
+        silent = time.monotonic() - self._last
+        return silent >= QUIET and all(it.is_complete for it in self.reaches)
+
+    def _take(self, message: Message) -> None:
+        peer, station = message.datagram.sender, station_of(message)
+        if message.network and peer in self.refusals:
+            self.refusals[peer].heard(message.network)
+        if not station:
+            return
+        asked = [it for it in self.reaches if it.router == station.router]
+        heard = [it.heard(station) for it in asked]
+        if any(heard):
+            self._last = time.monotonic()
+        elif not asked:
+            for it in nearest(self.reaches, station):
+                if len(it.elsewhere) < MOST_STATIONS:
+                    it.elsewhere.add(station)
+
+    def stations(self) -> list[Station]:
+        """Returns all stations, by their networks, each behind the first router it was found at."""
+        found: dict[tuple[object, ...], Station] = {}
+        for reach in self.reaches:
+            for it in sorted(reach.found, key=lambda it: (*it.place, it.instance)):
+                found.setdefault((*it.place, it.instance), it)
+        return list(found.values())
+
+    def reasons_of(self, reach: Reach, stations: Sequence[Station]) -> list[str]:
+        """Returns the reasons why a reach is not whole; `stations` are those of all reaches."""
+        firsts = {(*it.place, it.instance): it.router for it in stations}
+        others = (firsts[(*it.place, it.instance)] for it in reach.found)
+        twice = Counter(it for it in others if it != reach.router)
+        places = {it.place for it in stations}
+        through = Counter(it.router for it in reach.elsewhere if it.place not in places)
+        reasons = self.refusals[reach.router].lines()
+        reasons += [f"{times(count, 'station')} also behind {it}" for it, count in twice.items()]
+        for router, count in through.items():
+            reasons.append(f"{times(count, 'station')} answered through {router}")
+        if not reach.found and (reasons or reach.word not in self._quiet):
+            reasons.append("no station answers")
+        return reasons
+
+
+def nearest(reaches: Sequence[Reach], station: Station) -> Sequence[Reach]:
+    """Returns the reaches that show a station which answered through another router: those at the
+    same host or else of its network, or else one of those that may have it."""
+    host = station.router.partition(":")[0]
+    there = [it for it in reaches if it.may_have(station)]
+    near = [it for it in there if it.router.partition(":")[0] == host] or there
+    named = [it for it in near if it.front != it.router + "/"]
+    return named or (near if near != there else there[:1])
+
+
+def _within(asked: Range, stations: set[Station]) -> set[Station]:
+    """Returns those of the stations whose instances are in the range."""
+    return {it for it in stations if asked[0] <= it.instance <= asked[1]}
+
+
+def parts_of(asked: Range, known: Sequence[int]) -> list[Range]:
+    """Returns the range in parts that have few of the known instances each, but in two at least."""
+    count = max(2, math.ceil(len(known) / FEW)) if len(known) > 1 else 1
+    cuts = {known[at * len(known) // count] for at in range(1, count)} - {asked[0]}
+    lows = [asked[0], *sorted(cuts)]
+    return list(zip(lows, [*(it - 1 for it in lows[1:]), asked[1]]))

@@ -1,0 +1,55 @@
+#!/usr/bin/env python3
+"""Sees that edits are refused that no contract mentions. The language refuses those of out_of_reach.edits. The worked
+examples refuse those of definitions.edits, in which a definition is emptied or weakened: the example that an entry
+names is not proved then, and nothing else is refused except its answers. The code does not follow such an edit, because
+an example is tried without the code.
+
+Usage: tests/bodies/definition_mutants.py [TREE [PATTERN]]: all of them, or those in whose name the pattern is found,
+over the libraries that this tree, or another, has of the crates below, as `make demo` keeps them. Each takes some
+seconds.
+"""
+import re
+import sys
+import tempfile
+from concurrent.futures import ThreadPoolExecutor
+
+sys.path.insert(0, sys.path[0] + "/..")
+from tree import TOP, copy_crate, processors, ran, status_of, text_of, write
+from mutants import command
+
+ENTRY = re.compile(r"(?ms)^\[(\w+)\]\n(.*?)^(by|error): (.*?)$")
+PAIR = re.compile(r"(?m)^file: (.*)\nold: (.*)\nnew: (.*)$")
+
+
+def fault_of(over, pairs, how, by):
+    """Returns why this edit is not refused as it should be, or ""."""
+    pairs = [[cell.replace("\\n", "\n") for cell in pair] for pair in PAIR.findall(pairs)]
+    crate, example = pairs[0][0].split("/")[1], by if how == "by" else "nothing"
+    with tempfile.TemporaryDirectory(prefix="refused-") as room:
+        copy_crate(crate, f"{room}/crates/{crate}")
+        for file, old, new in pairs:
+            text = text_of(f"{room}/{file}")
+            if text.count(old) != 1:
+                return f"its old text does not stand once in {file}"
+            write(f"{room}/{file}", text.replace(old, new))
+        words = [word for word in command(crate, over) if not word.startswith("--links")] + [f"--only={example}"]
+        said = ran(*words, cwd=f"{room}/crates/{crate}").stdout
+    answers = f"./proofs/examples/{example}/Answers.antt"
+    places = {line.startswith(answers) for line in re.findall(r"(?m)^(\S+): error", said)}
+    if example == by:
+        is_so = f"fn {crate}::examples::{by}: not proved" in said and places == {True}
+    else:
+        is_so = {*re.findall(r"error\[([\w-]+)\]", said)} == {*by.split()}
+    return "" if is_so else f"it is not refused by {by} alone: {said[-600:]}"
+
+
+def main(over=TOP, pattern=""):
+    texts = (text_of(f"tests/bodies/{name}.edits") for name in ("out_of_reach", "definitions"))
+    tried = [it for text in texts for it in ENTRY.findall(text) if re.search(pattern, it[0])]
+    with ThreadPoolExecutor(processors()) as workers:
+        faults = [*workers.map(lambda edit: fault_of(over, *edit[1:]), tried)]
+    bad = [f"{edit[0]}: {fault}" for edit, fault in zip(tried, faults) if fault]
+    return status_of(bad, tried, f"{len(tried)} drops, calls or definitions, {len(bad)} not refused")
+
+
+sys.exit(main(*sys.argv[1:]))

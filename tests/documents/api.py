@@ -1,0 +1,133 @@
+#!/usr/bin/env python3
+"""The public signatures of the program's crates: docs/API.txt, made from the sources by what sources.py tells. Of each
+crate it has the functions, types, traits and constants that src/lib.rt names, with the methods and the traits of the
+types; of another crate's names that it passes on only the names. What a call promises stands at the call.
+
+Usage: tests/documents/api.py [--write]: compares docs/API.txt with the tree, and exits with status 1 if they
+differ. With --write it writes the file anew (make reading). A change of a signature is named in CHANGELOG.md.
+"""
+import os
+import re
+import sys
+import textwrap
+
+sys.path.insert(0, os.path.dirname(__file__) + "/..")
+from sources import CRATES, OF_PROGRAM, SOURCES, public_calls, read_tree
+from tree import TOP, text_of, well_or, write
+
+LIST = "docs/API.txt"
+HEAD = """\
+The public signatures of the program's crates, made from the sources by `make reading` and compared by `make documents`.
+What a call promises stands at the call.
+"""
+
+
+def one_line(text):
+    """A signature as one line, without what rt fmt breaks lines for."""
+    text = re.sub(r"([(<\[]) ", r"\1", re.sub(r"\s+", " ", text).strip())
+    text = re.sub(r",? ([)>\]])", r"\1", text)
+    return re.sub(r",? *\}", " }", re.sub(r"\{ *", "{ ", text))
+
+
+def signature(code, start):
+    """From here to where the signature ends: at its clauses, its body, or only a semicolon."""
+    return one_line(re.split(r"\n *(?:requires|ensures)\b|\s*\{|;\s*\n", code[start:], maxsplit=1)[0])
+
+
+def type_lines(item):
+    """A type with what of it is public: the cases of an enum, the fields of a struct, the methods of a trait."""
+    start, end = next(iter(item.file.blocks(0, item.place, len(item.file.code))))
+    block = item.file.code[start:end]
+    if item.kind in ("const", "static", "type"):
+        yield f"{item.kind} {block.split(item.kind, 1)[1].partition(' =' if item.kind == 'const' else ';')[0].strip()}"
+        return
+    head, opening, body = block.partition("{")
+    if item.kind == "enum":
+        head = f"{head}{{{body.rstrip()[:-1]}}}"
+    elif item.kind == "struct" and opening:
+        fields = ", ".join(re.findall(r"(?m)^    pub (?!ghost)(\w+: .*),$", body))
+        head = f"{head}{{{fields}}}" if fields else head
+    yield one_line(head.rstrip(";\n ")) + traits_of(item)
+    if item.kind == "trait":
+        for found in re.finditer(r"(?m)^    (?:unsafe |const )*fn ", body):
+            yield f"    {item.name}: {signature(body, found.start())}"
+        for found in re.findall(r"(?m)^    (type .*);$", body):
+            yield f"    {item.name}: {found}"
+
+
+def traits_of(item):
+    """The traits that the attributes before a type derive; those of `impl` blocks have lines of their own."""
+    before = text_of(item.file.path)[: item.place].rstrip("\n").split("\n\n")[-1]
+    found = ", ".join(re.findall(r"#\[derive\((.*?)\)\]", before))
+    traits = sorted({*found.split(", ")} - {""})
+    return f" (derives {', '.join(traits)})" if traits else ""
+
+
+def impls(crate, types):
+    """The traits that `impl` blocks give these types."""
+    names = {item.name for item in types}
+    for source in (it for it in SOURCES.values() if it.crate == crate):
+        heads = re.findall(r"(?m)^(impl(?:<.*?> | )\S.*? for (\w+).*?) \{", source.code)
+        yield from (one_line(head) for head, owner in heads if owner in names)
+
+
+def passed_on(crate, top):
+    """The names of other crates that a crate passes on, a line for each crate."""
+    others = {}
+    for parts in (top.uses[name] for name in top.passed):
+        if parts[0] in CRATES and parts[0] != crate:
+            others.setdefault(parts[0], []).append(parts[-1])
+    return [f"use {other}::{{ {', '.join(sorted(names))} }}" for other, names in sorted(others.items())]
+
+
+def lines_of(crate):
+    calls, types = public_calls(crate)
+    types = sorted((it for it in types if it.file.crate == crate), key=lambda it: it.name)
+    yield from passed_on(crate, SOURCES[f"crates/{crate}/src/lib.rt"])
+    for item in types:
+        yield from type_lines(item)
+    yield from sorted({*impls(crate, types)})
+    for name, item in sorted(calls.items()):
+        if item.kind == "call" and "::" not in name.removeprefix("laws::"):
+            module = name.rpartition("::")[0]
+            yield (f"{module}: " if module else "") + signature(item.file.code, item.place)
+    owners, methods = {it.name for it in types}, []
+    for source in (it for it in SOURCES.values() if it.crate == crate):
+        for owner, item in source.methods:
+            if item.kind == "call" and owner in owners and source.code[item.place :].lstrip().startswith("pub "):
+                methods.append(f"{owner}: {signature(source.code, item.place)}")
+    yield from sorted(methods)
+
+
+def set_in(line):
+    """A line of a crate, cut to 120 columns."""
+    margin = " " * (len(line) - len(line.lstrip()) + 4)
+    how = {"initial_indent": margin, "subsequent_indent": margin + " " * 8, "break_on_hyphens": False}
+    return textwrap.fill(line.strip(), 120, **how)
+
+
+def made():
+    """The whole list."""
+    parts = [HEAD]
+    for crate in (it for it in CRATES if it in OF_PROGRAM and f"crates/{it}/src/lib.rt" in SOURCES):
+        lines = (re.sub(r"\bpub (?:const )?(?=\w)", "", line) for line in lines_of(crate))
+        parts.append("\n".join([crate, *map(set_in, lines)]) + "\n")
+    return "\n".join(parts)
+
+
+def main(arguments):
+    os.chdir(TOP)
+    read_tree()
+    text, problems = made(), []
+    if arguments == ["--write"]:
+        write(f"{TOP}/{LIST}", text)
+    else:
+        then = text_of(LIST) if os.path.exists(LIST) else ""
+        differ = {*text.splitlines()} ^ {*then.splitlines()}
+        problems = [f"{LIST} differs from the tree: {line.strip()[:100]}" for line in sorted(differ)[:9]]
+        problems += [f"{LIST} differs from the tree in its order"] if not differ and text != then else []
+    crates = len(re.findall(r"(?m)^\w+$", text))
+    return well_or(problems, f"{crates} crates in {LIST} agree with the tree")
+
+
+sys.exit(main(sys.argv[1:]))

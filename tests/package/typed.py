@@ -1,0 +1,140 @@
+#!/usr/bin/env python3
+"""Runs what people type from the help of the tools and from the documents, so that order and role of each word are
+tried, and not only that they are there: the examples of the help, the filter of tcpdump, umask, the names and numbers
+beside each other, the parts of a date. Usage: tests/package/typed.py PROGRAM
+"""
+import os
+import re
+import shlex
+import struct
+import sys
+import tempfile
+
+sys.path.insert(0, os.path.dirname(__file__) + "/..")
+from tree import TOOLS, TOP, device, files, free_port, plain, put_tools, ran, same, shown, text_of, verdict, write
+
+sys.path.append(TOP + "/man")
+import tables
+
+PROGRAM = os.path.realpath(sys.argv[1])
+NAMES = {(row[0], row[1].replace("-", " ").lower()) for *_, rows in tables.sections() for row in rows}
+READ, REAL = "read 192.0.2.7 0 5 85", r"\b(?=\d*[a-f])[0-9a-f]{8}\b"
+# What an example prints, by how it begins.
+PRINTS = {
+    "bacrp 1234 0 5 85 ": "4290999a\n",
+    "bacwp 1234 1 1 85 8 -1 4 41a00000 ": "ok\n",
+    "bacwp 1234 1 1 85 8 -1 0 null ": "ok\n",
+    "bacwi ": r"1234 [\d.:]+ 1476 3 260\n",
+    "bacdev 1234": "",
+    "bacrun < requests": r"client 3000 3 0\n(?:.*\n)*# done 0 value 4290999a\n",
+    "bactrace < session.trace": "send 0 192.0.2.7:47808 810a001101040005010c0c000000051955\n",
+}
+# What help says of a word or an option is about this; two of them in each other's place would be wrong.
+ABOUT = {
+    "bacwi": {"min": "lowest instance", "max": "highest instance", "--apdu-timeout": "answers", "--port": "broadcast"},
+    "bacrp": {"device-instance": "device", "object-type": "type", "object-instance": "instance", "index": "element"},
+    "bacwp": {"priority": "priority", "index": "element", "tag value": "tag", "--mac": "address", "--port": "from"},
+    "bacrun": {"--apdu-timeout": "again", "--apdu-retries": "often", "--window": "at once", "--port": "run"},
+    "bacdev": {"--port": "listen", "--count": "datagrams"},
+}
+DATES = {"10": ["year", "month", "day", "day of the week"], "11": ["hour", "minute", "second", "hundredth"]}
+TIMES = "no one two three four five six seven eight nine ten".split()
+LATE = int(re.search(r"(?m)^LATE = (\d+)", text_of("site/bacsite/survey.py"))[1])
+PARTS = r"day of the week|year|month|day|hour|minute|second|hundredth"
+PAGES = ["README.md", "SECURITY.md", "docs/GUIDE.md", "docs/PROTOCOL.md", "docs/LIMITS.md", *files(f"{TOP}/man/*.[17]")]
+
+
+def numbers_beside_names(what, text):
+    """Each `name (number)` is a row of the numbers, with the name in plain words."""
+    for name, number in re.findall(r"([A-Za-z][a-z -]*) \((\d+)\)", text):
+        has = any(number == known and name.lower().replace("-", " ").endswith(called) for known, called in NAMES)
+        same(f"{what}: {name} is number {number}", has, True)
+
+
+def example(what, command, said, folder, mac):
+    """An example runs; what is said of it are its own words: priority, least and greatest, and the number of a Real."""
+    words = command.split()[1:]
+    numbers_beside_names(what, said)
+    reals = [round(struct.unpack(">f", bytes.fromhex(it))[0], 4) for it in re.findall(REAL, f"{command} {said}")]
+    for number in re.findall(r"(?<![\d.])\d+\.\d(?![\d.])", said):
+        same(f"{what}: {number} is one of {reals}", float(number) in reals, True)
+    same(f"{what}: the priority", re.findall(r"priority (\d+)", said), [words[5]] if "priority" in said else [])
+    for least, greatest in re.findall(r"(\d+) to (\d+)", said):
+        same(f"{what}: the limits", [least, greatest], words[1:3])
+    line = command.replace("192.0.2.7", mac)
+    if "bacdev" in line:
+        line = f"timeout 1 {line} --port {free_port()}; test $? = 124"
+    line += "; cat journal" * line.endswith("> journal")
+    done = ran("sh", "-c", line, cwd=folder, env={**os.environ, "PATH": f"{folder}:{os.environ['PATH']}"})
+    wanted = next((it for begins, it in PRINTS.items() if " ".join(words).startswith(begins)), None)
+    same(f"{what}: {command}: its status", done.returncode, 0)
+    same(f"{what}: {command} prints {done.stdout!r}", bool(re.fullmatch(wanted or "$^", done.stdout)), True)
+
+
+def examples(folder):
+    """Those of the help of bactool and of each tool."""
+    with device(program=[PROGRAM]) as (_, port):
+        mac = f"127.0.0.1:{port}"
+        write(f"{folder}/requests", READ.replace("192.0.2.7", mac) + "\n")
+        write(f"{folder}/session.trace", READ + "\n")
+        for tool in ("", *TOOLS):
+            text = shown(PROGRAM, *[tool][: bool(tool)], "--help")
+            found = re.findall(r"(?m)^  (bactool .*)\n((?:      .*\n)*)", text)
+            same(f"the help of {tool or 'bactool'} has examples", bool(found), True)
+            for command, said in found:
+                example(f"the help of {tool or 'bactool'}", command, plain(said), folder, mac)
+                for requests in re.findall("has: (.*)", said):
+                    same(f"the help of {tool}: a request", requests, READ)
+
+
+def words_of_help():
+    """The help of a word is about it; the parts of a date are in the order of the standard, here and on the page."""
+    for tool, words in ABOUT.items():
+        text = shown(PROGRAM, tool, "--help")
+        for word, about in words.items():
+            told = re.search(rf"(?m)^ +[<\[]?{word}[>\]]?[ .].*\n?(?: {{10,}}.*\n)*", text)
+            same(f"the help of {tool}: {word} is about {about}", about in plain(told[0] if told else "").lower(), True)
+    rows = dict(re.findall(r"(?m)^ *(1[01])  \w+ +(.*)$", shown(PROGRAM, "bacwp", "--help")))
+    page = dict(re.findall(r"(?ms)^\.It (1[01])  \w+\n(.*?)(?=^\.)", text_of("man/bacwp.1")))
+    for tag, parts in DATES.items():
+        for told in rows, page:
+            same(f"the parts of tag {tag}", re.findall(PARTS, plain(told.get(tag, "")))[:4], parts)
+    whole = plain(text_of("man/bacrp.1"))
+    there = re.findall(PARTS, whole[whole.index("year minus") :])[:8]
+    same("the parts of both in bacrp(1)", there, sum(DATES.values(), []))
+
+
+def sentences(folder):
+    """What pages say once more: which priority is the most urgent, how requests are numbered, umask, and tcpdump."""
+    texts = {page: plain(text_of(page)) for page in PAGES}
+    texts.update((f"the help of {tool}", plain(shown(PROGRAM, tool, "--help"))) for tool in TOOLS)
+    for page, text in texts.items():
+        for number in re.findall(r"(\d+)(?:,| is)? \(?(?:the )?most urgent", text):
+            same(f"{page}: the most urgent priority", number, "1")
+        for times in re.findall(r"(\w+) times (?:Fl )?apdu-timeout", text):
+            same(f"{page}: how long a range is waited for", times, TIMES[LATE])
+        for mask in re.findall(r"umask (\d+)", text):
+            ran("sh", "-c", f"umask {mask}; : >made{mask}", cwd=folder)
+            same(f"{page}: the mode by umask {mask}", f"{os.stat(f'{folder}/made{mask}').st_mode & 0o777:o}", "600")
+        for numbers in re.findall(r"numbers its requests from (\d+) to (\d+), and then from (\d+)", text):
+            same(f"{page}: the numbers of requests", numbers, ("1", "255", "0"))
+        for line in re.findall(r"(tcpdump .*?port \d+)", text):
+            _, option, _, write_to, file, *terms = shlex.split(line)
+            same(f"{page}: {line}", (option, write_to, file[-5:]), ("-i", "-w", ".pcap"))
+            same(f"{page}: {line}", terms, ["udp", "port", "47808"])
+    lines = [f"{READ}\ndata 192.0.2.7 810a00090100{0x60:02x}{at % 256:02x}09" for at in range(1, 258)]
+    traced = ran(PROGRAM, "bactrace", input="\n".join(lines) + "\n", stdin=None)
+    sent = re.findall(r"(?m)^send \d+ \S+ .{16}(..)", traced.stdout)
+    same("the numbers of requests", sent, [f"{at % 256:02x}" for at in range(1, 258)])
+
+
+def main():
+    with tempfile.TemporaryDirectory() as folder:
+        put_tools(PROGRAM, folder)
+        examples(folder)
+        words_of_help()
+        sentences(folder)
+    return verdict("things that people type do what is said of them")
+
+
+sys.exit(main())

@@ -1,0 +1,74 @@
+#!/usr/bin/env python3
+"""Plants faults in a copy of the tree, each of which the script that looks for it has to report. And makes each
+check of such a script pass always, one at a time: then a fault has to be missed. Usage: tests/planted_faults.py PROGRAM
+[SCRIPT], with planted_faults.txt, whose head says what its rows are.
+"""
+import os
+import pathlib
+import re
+import shutil
+import sys
+import tempfile
+from concurrent.futures import ThreadPoolExecutor
+
+from tree import TOP, end_by_signals, processors, ran, sections_of, status_of, text_of, write
+
+NOT_COPIED = shutil.ignore_patterns(".git", "out", "__pycache__", "*_cache")
+
+
+def plant(tree, path, old, new):
+    """Plants a fault in a copy of the tree, in a new file. Returns the text that is missing for it."""
+    place = pathlib.Path(tree, path)
+    text, mode = (text_of(place), place.stat().st_mode) if place.exists() else ("", 0o644)
+    place.unlink(missing_ok=True)
+    write(place, new if old == "*" else text.replace(old, new, 1) if old else text + new)
+    place.chmod(mode)
+    return [] if old == "*" or old in text else [f"{path} has no {old}"]
+
+
+def missed(command, faults, check):
+    """Which of the faults the command does not tell of in a copy of the tree, where this check passes always."""
+    with tempfile.TemporaryDirectory(prefix="false-checks-", dir=f"{TOP}/out") as room:
+        tree = f"{room}/tree"
+        shutil.copytree(TOP, tree, symlinks=True, ignore=NOT_COPIED, copy_function=os.link)
+        lost = [it for row in [*faults, *check] for it in plant(tree, *row[:3])]
+        runs = "bash" if command[0].endswith(".sh") else sys.executable
+        done = ran("timeout", "1200", runs, *command, cwd=tree)
+    lost += [message for *_, message in faults if message not in done.stdout]
+    return lost if done.returncode else [*lost, "status 0"]
+
+
+def tries(program, only):
+    """The command of each section, its faults, and one check that passes always, or none, with a name."""
+    for head, lines in sections_of("tests/planted_faults.txt"):
+        script, needed, words = re.fullmatch(r"(\S+)(?: if ([\w+]+))?(.*)", head).groups()
+        is_here = lambda it: shutil.which(it) or it == "root" and os.geteuid() == 0
+        if needed and not all(map(is_here, needed.split("+"))):
+            print(f"tests/planted_faults.py: {needed}: not here, left out")
+        elif only in head:
+            command = [script, *words.replace("PROGRAM", program).split()]
+            rows = [line.split(" || ") for line in lines]
+            faults = [[cell.replace("\\n", "\n") for cell in row] for row in rows if len(row) == 4]
+            yield f"{head}: faults", command, faults, []
+            for path, old, new in (row for row in rows if len(row) == 3):
+                for at in re.finditer(old, text_of(path), re.M):
+                    check = [(path, at[0], at.expand(new))]
+                    yield f"{head}, where {at[0].strip()} passes always", command, faults, check
+
+
+def main(words):
+    program = (*words, "PROGRAM")[0]
+    if not os.path.isfile(program):
+        sys.exit(f"tests/planted_faults.py: {program} is no program: `make program` builds one")
+    os.environ["BACTOOL"] = os.path.realpath(program)  # for scripts that aren't told of a program
+    os.makedirs(f"{TOP}/out", exist_ok=True)  # for links to the files of the tree
+    every = list(tries(os.path.realpath(program), "".join(words[1:])))
+    with ThreadPoolExecutor(processors()) as pool:
+        found = list(pool.map(lambda it: missed(*it[1:]), every))
+    wrong = [f"{name}: missed: {lost}" for (name, _, _, check), lost in zip(every, found) if bool(check) != bool(lost)]
+    faults = sum(len(faults) for _, _, faults, check in every if not check)
+    checks = sum(bool(check) for *_, check in every)
+    return status_of(wrong, faults and checks, f"{faults} faults and {checks} false checks, {len(wrong)} not seen")
+
+
+end_by_signals(main)

@@ -1,0 +1,189 @@
+#!/usr/bin/env python3
+"""Refuses each request for memory that the program makes, one in each run: it has to end with `out of memory` and
+status 4. And has each call of the program to the system fail so, by each of the errors below: the run has to end with
+status 3 and the line of its fault, after a front of what it prints otherwise. But where a receive fails by what is
+silence, it goes on as if nothing had come, and where the clock fails later, as if no time had passed; a device goes on
+where it can't send a reply, too. Each run makes the calls that are wanted (RUNS, SERVED), and no others:
+fault_injection.c has the kernel end it at any call that it does not note, except those for memory, signals and the end.
+
+Usage: tests/program/fault_injection.py PROGRAM [tried|calls]; it needs cc. By `calls` only calls of the system fail,
+and so they do of a program that `rt try` has made (`tried`), which has its memory from elsewhere. But there it shows
+whether what was searched of a line is searched again at each read: one that LLVM makes searches so fast that reads hide
+it.
+"""
+import errno
+import itertools
+import os
+import re
+import subprocess
+import sys
+import tempfile
+from collections import namedtuple
+
+sys.path.insert(0, os.path.dirname(__file__) + "/..")
+from tree import TOP, failing_library, files, free_port, text_of
+
+# The errors, by what a receive that fails so is: a fault; a fault to the tool that sent, since its peer refuses, or no
+# way leads there, while a device has its peers from strangers; and silence to both.
+FAULTS = ["EIO", "EPERM", "ENOBUFS"]
+REFUSALS = ["ECONNREFUSED", "ECONNRESET", "ENETUNREACH", "EHOSTUNREACH"]
+SILENCE = ["EINTR", "EAGAIN", "ETIMEDOUT"]
+ERRORS = FAULTS + REFUSALS + SILENCE
+# The text of standard error after `bactool: `, once a call of this kind has failed.
+LINES = {it: "bind failed" for it in ("socket", "bind", "fcntl", "clock_gettime")}
+LINES.update(memory="out of memory", setsockopt="receiving failed", recvfrom="receiving failed")
+LINES.update(sendto="sending failed", read="reading failed", write="writing failed")
+SCRIPT = "read 127.0.0.1:47808 0 5 85\ntick 3000\ntick 6000\ntick 9000\ntick 12000\n"
+NO_LINE_FEED = "read 127.0.0.1:47808 0 5 85\ntick 3000"
+PORT = str(free_port())
+SILENT = ["--mac", "127.0.0.1:" + PORT, "--apdu-timeout", "7"]
+READ, WRITE = ["bacrp", "1234", "0", "5", "85"], ["bacwp", "1234", "1", "1", "85", "8", "-1", "4", "41a00000"]
+BATCH, LINE = ["bacrun", "--apdu-timeout", "7"], f"read 127.0.0.1:{PORT} 0 5 85\n"
+BOUND = "socket bind fcntl clock_gettime"
+OPENED = f"{BOUND} clock_gettime sendto setsockopt 7000 recvfrom clock_gettime"
+# A time that was read before a wait is printed after it: the first is that of the send.
+BATCHED = f"{BOUND} write read clock_gettime sendto write clock_gettime setsockopt 7000 recvfrom clock_gettime recvfrom"
+# The runs: the status if nothing fails, the calls that are made then, words, and what is read. What the lines of
+# one read print goes out at once.
+RUNS = [
+    (0, "write", ["bacrun", "--help"], ""),
+    (0, "read", ["bactrace"], ""),
+    (0, "read write read", ["bactrace"], SCRIPT),
+    (0, "read write read write", ["bactrace"], NO_LINE_FEED),
+    (1, f"{OPENED} write", [*READ, *SILENT, "--apdu-retries", "0"], ""),
+    (1, f"{OPENED} sendto recvfrom clock_gettime write", [*READ, *SILENT, "--apdu-retries", "1"], ""),
+    (1, f"{OPENED} write", [*WRITE, *SILENT, "--apdu-retries", "0"], ""),
+    (1, f"{OPENED} sendto recvfrom clock_gettime write", [*WRITE, *SILENT, "--apdu-retries", "1"], ""),
+    (1, OPENED, ["bacwi", *SILENT], ""),
+    (0, f"{BOUND} write read", ["bacrun"], ""),
+    (0, f"{BATCHED} write read", [*BATCH, "--apdu-retries", "0"], LINE),
+    (0, f"{BATCHED} sendto write clock_gettime recvfrom write read", [*BATCH, "--apdu-retries", "1"], LINE),
+    (2, f"{BOUND} write read tell", ["bacrun"], "no line\n"),
+    (2, "tell", [*READ, "--mac", "1.2.3"], ""),
+]
+# A device that waits for a second at a time, and its calls until it hears something.
+DEVICE = ["bacdev", "1234", "--port", PORT, "--count"]
+SERVED = f"{BOUND} setsockopt 1000000 recvfrom"
+NAME = "tests/program/fault_injection.py"
+PROGRAM, ROOM = os.path.realpath(sys.argv[1]), tempfile.TemporaryDirectory()
+Ended = namedtuple("Ended", "status output error said words")
+
+
+def run(words, given="", error="EIO", **settings):
+    """Returns how a run by these settings ends, and what fault_injection.c says; a call that fails gives this error."""
+    settings["ERRNO"] = getattr(errno, error)
+    settings.update({"TRIED": 1} if sys.argv[2:] else {})
+    environment = {**os.environ, **{name: str(number) for name, number in settings.items()}}
+    preloaded = f'exec env LD_PRELOAD={ROOM.name}/fault_injection.so "$0" "$@" 3>{ROOM.name}/said'
+    command = ["sh", "-c", preloaded, PROGRAM, *words]
+    how = {"input": given, "capture_output": True, "text": True, "timeout": 200}
+    it = subprocess.run(command, check=False, env=environment, **how)
+    output = re.sub(r"tick \d+\n", "", it.stdout)  # when a run of many requests was told the time
+    return Ended(it.returncode, output, it.stderr, text_of(f"{ROOM.name}/said").split(), words)
+
+
+def expect(is_so, what, ended):
+    if not is_so:
+        print(f"not as it is to be: {what}: {ended}")
+        sys.exit(1)
+
+
+def is_fault(ended, call, whole="", status=3):
+    """The last calls are this one and the report, except the clock after `fcntl` and what bacrun still writes. The
+    fault is its, and what was printed is a front of the whole."""
+    is_told = ended.error == f"bactool: {LINES[call]}\n"
+    more = ["clock_gettime"] * (call == "fcntl"), ["write"] * (ended.words[:1] == ["bacrun"])
+    is_last = any(ended.said[-2 - len(it):] == [call, *it, "tell"] for it in more)
+    return ended.status == status and is_told and is_last and whole.startswith(ended.output)
+
+
+def memory_refused(status, words, given=""):
+    """Each request for memory is refused in turn; with none refused the status is this one."""
+    for number in itertools.count(1):
+        ended = run(words, given, REFUSED=number)
+        if "memory" not in ended.said:
+            expect(number > 1 and ended.status == status, words, ended)
+            return number - 1
+        expect(is_fault(ended, "memory", status=4), f"request {number} of {words} refused", ended)
+
+
+def memory():
+    requests = sum(memory_refused(0, ["bactrace"], text_of(script)) for script in files(f"{TOP}/examples/*.trace"))
+    bad = [[], READ[:4], [*READ, "--mac", "1.2.3"], [*WRITE[:5], "16", "-1", "4", "zz", "--mac", "127.0.0.1"]]
+    bad.append(["bacwi", "1", "2", "--mac", "1.2.3"])
+    for status, words in [(0, ["--help"]), (0, ["bacwp", "--help"]), *((2, words) for words in bad)]:
+        requests += memory_refused(status, words)
+    print(f"{NAME}: {requests} requests for memory refused, each told as it is to be", flush=True)
+
+
+def errors_of(call):
+    """The errors by which a call is tried: one, where what it does by each is the same code of the system's library."""
+    return ERRORS[:1] if call in ("fcntl", "clock_gettime") else ERRORS
+
+
+def in_turn(status, calls, words, given):
+    """The words make these calls and no others, with this status; then each of them fails, by each error."""
+    whole, tried = run(words, given), 0
+    expect((whole.status, " ".join(whole.said)) == (status, calls), words, whole)
+    names = [it for it in calls.split() if it != "tell" and not it.isdigit()]
+    for number, call in enumerate(names, 1):
+        for error in errors_of(call):
+            ended = run(words, given, error, FAILED=number)
+            if (call == "recvfrom" and error in SILENCE) or (call == "clock_gettime" and number > 4):
+                is_right = ended[:3] == whole[:3]
+            else:
+                is_right = is_fault(ended, call, whole.output if "write" in names[:number] else "")
+            expect(is_right, f"{error} at call {number} of {words}", ended)
+            tried += 1
+    return tried
+
+
+def devices():
+    """Each call of a device fails once; if the device goes on, it answers a later request, by the right calls."""
+    client = [PROGRAM, *READ, "--mac", "127.0.0.1:" + PORT, "--apdu-timeout", "300", "--apdu-retries", "9"]
+    names, tried = [it for it in f"{SERVED} sendto".split() if not it.isdigit()], 0
+    for number, call in enumerate(["", *names]):
+        for error in errors_of(call):
+            goes_on = not call or call == "sendto" or call == "recvfrom" and error not in FAULTS
+            with subprocess.Popen(client, stdout=subprocess.PIPE, text=True) as asking:
+                ended = run([*DEVICE, str(2 if call == "sendto" else 1)], error=error, FAILED=number)
+                if not goes_on:
+                    asking.kill()
+                heard = asking.stdout.read()
+            if goes_on:
+                again = {"sendto": "sendto recvfrom sendto", "recvfrom": "recvfrom sendto"}.get(call, "sendto")
+                is_right = (heard, ended.status, " ".join(ended.said)) == ("4290999a\n", 0, f"{SERVED} {again}")
+            else:
+                is_right = is_fault(ended, call) and SERVED.startswith(" ".join(ended.said[:-1]))
+            expect(is_right, f"a device by {error} at call {number}, heard {heard!r}", ended)
+            tried += 1
+    return tried
+
+
+def calls_of_the_system():
+    calls = sum(in_turn(*it) for it in RUNS) + devices()
+    # The text after the last line feed is not a line if the read after it fails.
+    front = run(["bactrace"], NO_LINE_FEED).output.splitlines(keepends=True)[0]
+    ended = run(["bactrace"], NO_LINE_FEED, FAILED=3)
+    expect(is_fault(ended, "read", front) and ended.output, "a last line without its line feed", ended)
+    # A send of fewer octets than there are has failed. It is the sixth call.
+    ended = run([*READ, *SILENT], FAILED=6, SHORT=1)
+    expect(is_fault(ended, "sendto"), "a short send", ended)
+    print(f"{NAME}: {calls} calls failed in turn, each told as it is to be, or taken for silence")
+
+
+def searching():
+    """With one octet a read, the longest lines may take three times as long as short lines of as many octets."""
+    took = []
+    for length in (32, 4096):
+        begun = os.times().children_user
+        ended = run(["bactrace"], ("tick 1".ljust(length - 1) + "\n") * (64 * 1024 // length), ONE_OCTET=1)
+        expect(ended.status == 0, "a script of long lines", ended[:1])
+        took.append(os.times().children_user - begun)
+    expect(took[1] <= 3 * took[0], "the seconds of short lines and of long ones", took)
+
+
+if failing_library(ROOM.name):
+    if sys.argv[2:] != ["calls"]:
+        searching() if sys.argv[2:] == ["tried"] else memory()
+    calls_of_the_system()

@@ -1,0 +1,68 @@
+"""A clock for long tests that runs faster than that of the machine, and can be put on, as where a machine sleeps.
+
+Run as a program, it runs bacsite by this clock: fast_clock.py FILE BACSITE WORD .., where FILE has the clock.
+"""
+
+import mmap
+import os
+import struct
+import sys
+import threading
+import time
+from contextlib import contextmanager
+
+FORM = struct.Struct("<dqq")  # how fast it is; when it began, in nanoseconds; how far it was put on
+
+
+class Clock:
+    """The clock of a file, which several programs read."""
+
+    def __init__(self, path, speed=0.0):
+        if speed:
+            with open(path, "wb") as file:
+                file.write(FORM.pack(speed, time.time_ns(), 0))
+        with open(path, "r+b") as file:
+            self._shared = mmap.mmap(file.fileno(), FORM.size)
+        self.speed, self.begun, _ = FORM.unpack(self._shared[:])
+
+    def put_on(self, seconds):
+        """Has a machine sleep for so long, by its clock: time goes on, and nothing else does."""
+        on = FORM.unpack(self._shared[:])[2] + int(seconds * 1e9)
+        self._shared[:] = FORM.pack(self.speed, self.begun, on)
+
+    def monotonic(self):
+        """The seconds since it began, without those of a machine that slept."""
+        return (time.time_ns() - self.begun) / 1e9 * self.speed
+
+    def time_ns(self):
+        """The time of the day."""
+        return self.begun + int(self.monotonic() * 1e9) + FORM.unpack(self._shared[:])[2]
+
+    def localtime(self, seconds):
+        return time.localtime(seconds)
+
+    strftime = staticmethod(time.strftime)
+
+
+@contextmanager
+def running_by(clock, *modules):
+    """These modules of bacsite run by the clock, and events are waited for as shortly."""
+    wait = threading.Event.wait
+    threading.Event.wait = lambda self, timeout=None: wait(self, timeout and timeout / clock.speed)
+    for module in modules:
+        module.time = clock
+    yield
+
+
+def main(path, bacsite, *words):
+    sys.path.insert(0, bacsite)
+    sys.argv = ["bacsite", *words]
+    from bacsite import charts, main as program, watch
+
+    watch.PAGE_EVERY = 60.0
+    with running_by(Clock(path), watch, charts):
+        program.main()
+
+
+if __name__ == "__main__":
+    main(*sys.argv[1:])

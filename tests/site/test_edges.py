@@ -1,0 +1,117 @@
+"""Ends of ranges, and cases of two, that no other test has: addresses, routers, surveys, dates, cells, charts."""
+
+import contextlib
+import os
+import tempfile
+import unittest
+from types import SimpleNamespace
+from unittest import mock
+
+import harness  # noqa: F401  it makes bacsite known
+from bacsite import addresses, survey
+from bacsite.charts import Line, Sample
+from bacsite.device import Bounds, Device, SiteObject, _Reader
+from bacsite.earlier import Earlier, Known
+from bacsite.files import MOST_KEPT, Rows
+from bacsite.output import Failure, harmless
+from bacsite.points import Point
+from bacsite.search import Scan
+from bacsite.standard import ObjectId, PropertyRef
+from bacsite.sweep import Station, Sweep
+from bacsite.tools import Tools
+from bacsite.values import shown
+from instant_devices import QuickWhoIs
+
+OLD, NEW = "192.0.2.7:47808", "192.0.2.9:47808"
+
+
+class Edges(unittest.TestCase):
+    @contextlib.contextmanager
+    def surveys(self, devices):
+        """Has a survey find these devices."""
+        with mock.patch.object(survey, "_Survey"), mock.patch.object(survey, "side_by_side", lambda *_: [devices]):
+            yield
+
+    def test_the_largest_range(self):
+        found = addresses.targets(["10.0.0.0-10.0.255.255"])
+        self.assertEqual((len(found), found[-1].address), (65536, "10.0.255.255:47808"))
+        with self.assertRaises(Failure):
+            addresses.targets(["10.0.0.0-10.1.0.0"])
+
+    def test_a_question_ends_once_both_routers_are_complete(self):
+        sweep = Sweep(None, [OLD + "/*", NEW + "/*"], Bounds(), [])
+        stations = [Station(7, it.router + "/5/07") for it in sweep.reaches]
+        for reach, station in zip(sweep.reaches, stations):
+            reach.heard(station)
+            reach.question()
+        sweep.reaches[0].heard(stations[0])
+        self.assertFalse(sweep._is_quiet())
+        sweep.reaches[1].heard(stations[1])
+        self.assertTrue(sweep._is_quiet())
+
+    def test_the_successor_of_a_device_that_moved_is_new(self):
+        for instance, changes in ((78, ["new"]), (None, [])):
+            successor = Device(OLD, instance, changes=["was device 77"], gone=77)
+            with self.surveys([successor, Device(NEW, 77)]):
+                found = list(survey.surveyed(None, [], Bounds(), Earlier({})))
+            self.assertEqual([(it.address, it.changes) for it in found], [(NEW, []), (OLD, changes)])
+
+    def test_what_was_not_read_has_not_changed(self):
+        object_id = ObjectId(0, 1)
+        known = Known(77, {"name": "D"}, "", {object_id: {"name": "T", "unit": "percent"}})
+        for reasons, changes in ((["units: timeout"], []), ([], ["unit of 0:1 T was percent"])):
+            objects = [SiteObject(*object_id, name="T", reasons=reasons)]
+            device = Device(OLD, 77, "D", objects=objects, listed=[object_id])
+            Earlier({OLD: known}).compare(device, Bounds())
+            self.assertEqual(device.changes, changes)
+
+    def test_the_last_day_of_a_month_has_its_day_of_the_week(self):
+        for octets, text in (
+            ("7c0a2004", "2024-10-last Thu"),
+            ("7c0a2104", "2024-10-odd Thu"),
+            ("7c0a1f04", "2024-10-31"),
+        ):
+            self.assertEqual(shown(bytes.fromhex("a4" + octets)), text)
+
+    def test_numbers_are_no_formulas(self):
+        for cell in ("-1e+30", "-1e-30", "-1e30", "-0.5"):
+            self.assertEqual(harmless(cell), cell)
+        for cell in ("-1e+", "-1e+3x", "+1", "-x", "=1", "@x"):
+            self.assertEqual(harmless(cell), "'" + cell)
+
+    def test_the_latest_samples_are_kept(self):
+        line = Line(Point("p", ref=PropertyRef(0, 1, 85)))
+        made = [Sample(at, str(at % 3) if at % 2 else "", "timeout" * (1 - at % 2)) for at in range(50000)]
+        for it in made:
+            line.add(it)
+        self.assertTrue(line.samples[-3000:] == made[-3000:])
+
+    def test_who_sends_anything_is_there(self):
+        lines = ["# send 0 %s 81" % OLD, "data %s 810a00090100600109" % OLD, "# drop", "# timeout 0"]
+        calls, found = Tools("none", 1000, 0, 8), []
+        calls.start = lambda *_: QuickWhoIs(lines=lines)
+        Scan(calls, [OLD]).run(lambda *it: found.append(it))
+        self.assertEqual(found, [(OLD, True)])
+
+    def test_a_list_may_grow_or_shrink(self):
+        own = ObjectId(8, 77)
+        now = SimpleNamespace(own=own, controller=SimpleNamespace(count=lambda ref: (2, "")))
+        self.assertEqual(_Reader.changed(now, "", 2), [])
+        for listed in (1, 3):
+            told = ["object-list: %d listed, 2 at the end" % listed]
+            self.assertEqual(_Reader.changed(now, "", listed), told)
+
+    def test_latin_1_has_control_characters(self):
+        self.assertEqual(shown(bytes.fromhex("740580e9c4")), '"\\x80éÄ"')
+
+    def test_the_earliest_lines_are_lost(self):
+        with tempfile.TemporaryDirectory() as folder:
+            rows = Rows(folder + "/kept", "head\n")
+            os.unlink(folder + "/kept")
+            rows.add(["%d\n" % at for at in range(MOST_KEPT + 2)])
+            rows.add(["last\n"])
+        self.assertEqual((rows.lost, rows._waiting[0], rows._waiting[-1]), (3, b"3\n", b"last\n"))
+
+
+if __name__ == "__main__":
+    unittest.main()
