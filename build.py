@@ -1,13 +1,13 @@
 #!/usr/bin/env python3
-"""Proves the crates that the program rests on, and builds the program. Usage: ./build.py [--tests]
+"""Proves the crates of the program, and builds it. Usage: ./build.py [--tests]
 
-With --tests it runs the tests of the trials, over what is kept of the crates below. Those of tool_trials take long to
-prove, and are run as the sources stand, by `rt try`, until `rt test` was run there.
+With --tests it runs the tests of the trials, with the kept proofs of the crates below. Those of tool_trials take long
+to prove, and are run without proof by `rt try`, until `rt test` was run there.
 
-Crates that don't rest on one another are proved at the same time, as many as there are processors (as taskset leaves
-them) and memory for. `rt` lets nobody else into a crate that it works in, nor into the crates below. So each crate is
-proved in a room of its own, out/build/CRATE: a copy of the sources, with links to what is built of the crates below.
-The proofs that are kept of the crate go there and come back. The prover's output for a crate is in out/build/CRATE.log.
+Crates that don't depend on one another are proved at the same time, as many as there are processors (as taskset leaves
+them) and memory for. `rt` locks the crate that it works in, and the crates below. So each crate is proved in a folder
+of its own, out/build/CRATE: a copy of the sources, with links to the results of the crates below. The kept proofs of
+the crate are moved there and back. The prover's output for a crate is in out/build/CRATE.log.
 """
 import fcntl
 import os
@@ -29,17 +29,17 @@ so that the next build proves only what has changed."""
 
 
 def size(crate):
-    """The octets of a crate's code: a measure of the time that its proof takes. Lemmas take little."""
+    """The octets of a crate's code: a measure of the time that its proof takes. Lemmas take little time."""
     return sum(map(os.path.getsize, tree.files(f"crates/{crate}/src/**")))
 
 
 class Work(tree.Job):
-    """A crate at work in its room."""
+    """A crate that is being proved in its folder."""
 
     def __init__(self, crate, below, jobs):
         self.crate, self.jobs, self.home, self.room = crate, jobs, f"crates/{crate}", f"{ROOMS}/{crate}"
         self.held = os.open(self.home, os.O_RDONLY)
-        fcntl.flock(self.held, fcntl.LOCK_EX)  # as rt does, so that rt waits
+        fcntl.flock(self.held, fcntl.LOCK_EX)  # as rt does, to make rt wait
         self.enter(below)
         self.is_proved = crate != "tool_trials" or os.path.isfile(f"{self.room}/{self.home}/out/{crate}_tests")
         verb = "test" if crate in TRIALS else "run" if crate == PROGRAM else "lib"

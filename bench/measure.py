@@ -1,13 +1,13 @@
 #!/usr/bin/env python3
 """Measures the built program as docs/SPEED.md shows it. Usage: bench/measure.py [--write] [PART ..]: these parts, or
-all; with --write what comes is written there.
+all; with --write the results are written there.
 
     network       over 127.0.0.1: bacdev beside a bare echo server, and memory
     runs          over 127.0.0.1: reads by one bacrun beside a bare client, and beside a process of bacrp each
     instructions  by callgrind, where valgrind is installed: the same numbers whatever else is at work
     calls         the benchmarks of this folder, files .rattle, which are proved first: some minutes
 
-BACTOOL names another program than the repository's own, and ROUNDS how often two servers are compared.
+BACTOOL names a program other than the repository's own, and ROUNDS how often two servers are compared.
 """
 import os
 import re
@@ -37,7 +37,7 @@ MIXED = [
 
 
 def mixed(count):
-    """A script of so many lines: reads, writes, their answers, questions to the device, ticks."""
+    """A script of this many lines: reads, writes, their answers, requests to the device, ticks."""
     for line in range(count):
         yield MIXED[line % 6].format(line=line, number=(line // 3 + 1) % 256)
 
@@ -58,18 +58,18 @@ def wide(name, one, many):
 
 
 def load(port, outstanding, count):
-    """The replies a second of a server, with so many requests on their way."""
+    """The replies a second of a server, with this many requests on their way."""
     return int(subprocess.check_output([UDP, "load", str(port), str(outstanding), str(count)]))
 
 
 def spread(numbers, form="{}"):
-    """The median of the numbers, their least and their greatest."""
+    """The median, the least and the greatest of the numbers."""
     shown = [form.format(it) for it in (statistics.median_low(numbers), min(numbers), max(numbers))]
     return "{:>8} ({} to {})".format(*shown)
 
 
 def rounds(windows, asked):
-    """Of the echo server and of bacdev, what is asked of each with so many requests open, by turns."""
+    """Measures the echo server and bacdev in turn, with each of these numbers of open requests."""
     rates = {(program, window): [] for window in windows for program in (UDP, PROGRAM)}
     for _ in range(ROUNDS):
         for (program, window), found in rates.items():
@@ -90,7 +90,7 @@ def network():
 
 
 def grown(words, lines, count):
-    """The most that lay in memory of a command, once it had a tenth of these lines and all of them."""
+    """The most memory of a command after a tenth of these lines, and after all of them."""
     how = {"stdin": subprocess.PIPE, "stdout": subprocess.DEVNULL, "text": True}
     with subprocess.Popen(words, **how) as process:
         for number, line in enumerate(lines):
@@ -101,7 +101,7 @@ def grown(words, lines, count):
 
 
 def memory():
-    """The most that lay in memory so far. A child's `ru_maxrss` would count what Python had before it was begun."""
+    """The most memory so far. A child's `ru_maxrss` would include the memory of Python before the child began."""
     yield row("\nresident memory, kilobytes", "early", "late")
     with device() as (process, port):
         load(port, 32, 1000)
@@ -115,7 +115,7 @@ def memory():
 
 
 def batch(port, window):
-    """The reads a second of one bacrun, each of which has to be answered."""
+    """The reads a second of one bacrun, all of which must be answered."""
     with tempfile.TemporaryFile("w+") as lines, tempfile.TemporaryFile("w+") as journal:
         lines.write(f"read 127.0.0.1:{port} 0 5 85\n" * REPLIES)
         lines.seek(0)
@@ -127,7 +127,7 @@ def batch(port, window):
 
 
 def floor(window):
-    """The reads a second of a plain client that makes the calls which the contract of bacrun wants."""
+    """The reads a second of a plain client that makes the calls that the contract of bacrun requires."""
     with device() as (_, port), tempfile.TemporaryFile() as journal:
         words = [UDP, "batch", str(port), str(window), str(REPLIES)]
         return int(subprocess.run(words, stdout=journal, stderr=subprocess.PIPE, check=True).stderr)
@@ -150,7 +150,7 @@ def runs():
 
 
 def counted(said):
-    """The instructions of a run, as callgrind says."""
+    """The instructions of a run, from callgrind."""
     return int(re.search(r"refs: +([\d,]+)", said)[1].replace(",", ""))
 
 
@@ -159,14 +159,14 @@ def of_a_run(*words, given=""):
 
 
 def of_replies(count):
-    """The instructions of a device that answers so many requests, one after another."""
+    """The instructions of a device that answers this many requests, one after another."""
     with device("--count", str(count), program=CALLGRIND, stderr=subprocess.PIPE, text=True) as (process, port):
         load(port, 1, count)
         return counted(process.communicate()[1])
 
 
 def instructions():
-    """Each of the first two is the difference of two runs, so that the program's start is not in it."""
+    """Each of the first two is the difference of two runs, so the program's start is not included."""
     if left_out("valgrind"):
         return
     few, many = (of_a_run("bactrace", given="".join(mixed(count))) for count in (6000, 66000))
@@ -178,7 +178,7 @@ def instructions():
 
 
 def calls():
-    """What each benchmark prints; of the client's calls the least of nine runs. They are proved beside a copy of the
+    """The output of each benchmark; for the client's calls, the least of nine runs. They are proved in a copy of the
     crates that they call: in the tree the gate would prove them too."""
     below, texts = ["bac_wire", "bac_work", "bac_pdu", "bac_tsm", "bac_device"], {}
     with tempfile.TemporaryDirectory(dir=f"{TOP}/out") as room:
@@ -204,7 +204,7 @@ PARTS = {"network": network, "runs": runs, "instructions": instructions, "calls"
 
 
 def lines_of(part):
-    """A box: the command, when and where it was run, and what came."""
+    """A box: the command, when and where it was run, and its output."""
     tree = subprocess.check_output(["git", "describe", "--always"], cwd=TOP, text=True).strip()
     yield f"$ bench/measure.py {part}"
     load_now = lambda: "{:.2f} {:.2f} {:.2f}".format(*os.getloadavg())

@@ -1,24 +1,24 @@
 #!/usr/bin/env python3
-"""Gives the built program random input, and follows what it answers and prints: the lines and datagrams of the rows
-that it is tried by, as they are and damaged.
+"""Gives the built program random input, and checks its answers and its output. The input is the lines and datagrams of
+the test rows, unchanged and damaged.
 
 Usage: bench/soak.py device DATAGRAMS [SEED], script LINES [SEED], runs RUNS [SEED], or readers ANSWERS [SEED]; BACTOOL
-names another program than the tree's.
+names a program other than the tree's.
 
-`device` sends datagrams to bacdev over 127.0.0.1, and reads every reply. What each must get is told from what bacsite
-reads of it, by the rules of docs/PROTOCOL.md: silence, an I-Am, or one reply to its confirmed request, to its own
-invoke id and of no more octets than it announced.
+`device` sends datagrams to bacdev over 127.0.0.1, and reads every reply. The expected reply comes from bacsite's
+reading of the datagram, by the rules of docs/PROTOCOL.md: silence, an I-Am, or one reply to its confirmed request, with
+its own invoke id and no more octets than it announced.
 
-`script` runs one long script through bactrace, and follows each request through what it prints. Each line but a tick
-prints one line. A request that is sent gets the next ticket, and is sent again three times at most; it ends once, and
-only while it is open; at most 64 are open, under different invoke numbers, and `full` comes only where 64 are.
+`script` runs one long script through bactrace, and follows each request through the output. Each line except a tick
+prints one line. A request that is sent gets the next ticket, and is sent again at most three times; it ends once, and
+only while it is open; at most 64 are open, with different invoke ids, and `full` comes only if 64 are.
 
 `runs` runs bacrun over random requests, against two peers that answer, lose, double, hold back and damage what they
-send, and looks at each run as tests/program/runs.py does: bactrace prints the remarks of its journal, octet for octet.
+send, and checks each run as tests/program/runs.py does: bactrace prints the remarks of its journal, octet for octet.
 
-`readers` gives bactrace unusual answers to a read, and compares how each ended the request with what bacsite reads.
+`readers` gives bactrace unusual answers to a read, and compares how each ended the request with bacsite's reading.
 
-It stops at the first that is not so, and shows it.
+It stops at the first difference, and shows it.
 """
 import contextlib
 import itertools
@@ -39,8 +39,8 @@ from tree import PROGRAM, TOP, WRONG, device, files, local_socket, resident
 
 
 def known():
-    """What the scripts of the rows have: lines by which the client asks, datagrams, and the answers among these, each
-    with the place of its invoke number."""
+    """The contents of the scripts of the rows: lines with requests of the client, datagrams, and the answers among
+    these, each with the place of its invoke id."""
     cases = [case for path in files(TOP + "/tests/program/rows/scripts-*.rows") for case in row_cases(path)]
     asks = {line for case in cases if case.status == 0 for line in re.findall("(?m)^(?:read|write) .*", case.script)}
     found = {it for case in cases for it in re.findall(r"\b81(?:0a|0b|04)[0-9a-f]{4,}", case.script)}
@@ -50,12 +50,13 @@ def known():
 
 
 def read(octets):
-    """What bacsite reads in a datagram."""
+    """bacsite's reading of a datagram."""
     return message_of(Datagram(0, "", "", octets))
 
 
 def damaged(dice, datagram):
-    """The datagram with octets put in, replaced or cut off, or a bit turned; most say their new length."""
+    """The datagram with octets inserted, replaced or cut off, or a bit changed; most have their new length in the
+    header."""
     octets = bytearray(datagram)
     for _ in range(dice.randint(1, 3)):
         at = dice.randrange(len(octets) + 1)
@@ -69,7 +70,7 @@ def damaged(dice, datagram):
 
 
 def any_datagram(dice, datagrams, port):
-    """One of these, as it is or damaged. If it is forwarded, it names this machine alone, or port 0 there."""
+    """One of these datagrams, unchanged or damaged. If it is forwarded, it names only this machine, or port 0 there."""
     datagram = dice.choice(datagrams)
     if dice.random() < 0.6:
         datagram = damaged(dice, datagram)
@@ -84,7 +85,7 @@ BATCH, BATCHES = 16, 3000  # of datagrams to one bacdev; each batch ends with on
 VENDOR = bytes.fromhex("810a0011010400059b0c0c020004d21978")
 ANNOUNCED = [50, 128, 206, 480, 1024, 1476] + [50] * 10
 I_AM = "1000c4020004d22205c49103220104"
-# Replies to a confirmed request, without its invoke id.
+# Replies to a confirmed request, without the invoke id.
 KINDS = {
     "SimpleACK": "200f",
     "ComplexACK": "300c.*",
@@ -111,7 +112,7 @@ def expected(datagram):
     origin, *source = message.sender.split("/")
     is_to_all = datagram[1] != UNICAST or message.receiver != ""
     is_here = datagram[1] != DISTRIBUTE and message.receiver.split("/")[1:2] in ([], ["65535"])
-    if not message.apdu or not is_here or origin.endswith(":0"):  # to the port 0 no reply can be sent
+    if not message.apdu or not is_here or origin.endswith(":0"):  # no reply can be sent to port 0
         return None
     route = b""
     if source:
@@ -128,7 +129,7 @@ def expected(datagram):
 
 
 def kind_of(reply, route, invoke_id, room):
-    """Returns the kind of a reply, if it can be read and fits; else None."""
+    """Returns the kind of a reply, if it can be read and fits; otherwise None."""
     network = b"\x01\x20" + route + b"\xff" if route else b"\x01\x00"
     head = b"\x81\x0a" + len(reply).to_bytes(2, "big") + network
     octets = reply[len(head) :]
@@ -144,8 +145,8 @@ def kind_of(reply, route, invoke_id, room):
 
 
 def tried(desk, batch):
-    """The kinds of what a batch gets. Its last datagram is ours, and has its reply in its place only where no reply was
-    too many."""
+    """The kinds of the replies to a batch. The reply to the last datagram is known; it is in its place only if there
+    were no additional replies."""
     wanted, replies = [it for it in map(expected, batch) if it], []
     with contextlib.suppress(OSError):
         for datagram in batch:
@@ -159,7 +160,7 @@ def tried(desk, batch):
 
 
 def soak_device(dice, left):
-    """Sends so many datagrams, and counts what comes back."""
+    """Sends this many datagrams, and counts the replies."""
     counts, (_, datagrams, _) = Counter(), known()
     while left > 0:
         batches = min(BATCHES, -(-left // BATCH))
@@ -178,7 +179,7 @@ def soak_device(dice, left):
 
 PLACES, RETRIES = 64, 3
 BLOCK = 200
-# Each block ends by a question, whose answer says that all before it has been printed.
+# Each block ends with a request to the device, whose reply shows that everything before it was printed.
 ASK, REPLY = "ask 127.0.0.9:9 810a001101040005010c0c000000051955", "reply 127.0.0.9:9 810a0017010030010c"
 PRINTED = re.compile(
     r"send \d+ \S+ [0-9a-f]+|done \d+ .+|timeout \d+|full|too-long|drop|silent|reply \S+ 810a[0-9a-f]+"
@@ -186,14 +187,14 @@ PRINTED = re.compile(
 
 
 def any_answer(dice, answers, number):
-    """The digits of one of the answers, with this invoke number; it may be damaged."""
+    """The digits of one of the answers, with this invoke id; it may be damaged."""
     octets, at = dice.choice(answers)
     octets = octets[:at] + bytes([number]) + octets[at + 1 :]
     return (damaged(dice, octets) if dice.random() < 0.2 else octets).hex()
 
 
 def pool(dice):
-    """Returns lines to choose from, except ticks, in their shares. An answer has any invoke number."""
+    """Returns lines to choose from, except ticks, in their shares. An answer has any invoke id."""
     asks, datagrams, answers = known()
     peers = [line.split()[1].split("/")[0] for line in asks]
     lines = dice.choices(asks, k=6000) + ["", "# a comment", "  \t"]
@@ -205,14 +206,14 @@ def pool(dice):
 
 
 class Followed:
-    """What the printed lines say of the requests: those that are open, each with its datagram, its number, and how
-    often it was sent again."""
+    """The requests in the printed lines: those that are open, each with its datagram, its invoke id, and how often it
+    was sent again."""
 
     def __init__(self):
         self.open, self.next, self.counts = {}, 0, Counter()
 
     def holds(self, line):
-        """Whether a line fits those before it."""
+        """Whether a line is possible after those before it."""
         if not PRINTED.fullmatch(line):
             return False
         word, *words = line.split(" ", 2)
@@ -238,7 +239,7 @@ class Followed:
 
 
 def soak_script(dice, lines):
-    """Runs a script of so many lines, with a tick now and then, and counts what it prints."""
+    """Runs a script of this many lines, with a tick now and then, and counts the printed lines."""
     seen, chosen, asked, now = Followed(), pool(dice), 0, 0
     how = {"stdin": subprocess.PIPE, "stdout": subprocess.PIPE, "text": True}
     with subprocess.Popen([PROGRAM, "bactrace"], **how) as process:
@@ -263,7 +264,7 @@ def soak_script(dice, lines):
 
 
 def plan(dice, answers):
-    """What the peers do with each datagram that they hear, as tests/program/runs.txt has it: mostly they answer it."""
+    """A plan for the peers, as in tests/program/runs.txt: mostly they answer each datagram."""
     for number in itertools.count():
         words = [str(number)] * dice.choice([0, 1, 1, 1, 1, 2])
         if dice.random() < 0.2:
@@ -277,7 +278,7 @@ def plan(dice, answers):
 
 
 def soak_runs(dice, count):
-    """Makes so many runs, and counts what their remarks say."""
+    """Makes this many runs, and counts their remarks."""
     counts, (asks, _, answers) = Counter(), known()
     asks += [f"read P 2 {dice.randrange(17000)} 85" for _ in range(len(asks) // 10)]  # bits of many lines
     asks = [re.sub("(?<=[de]) [^/ ]+", f" {peer}", ask, count=1) for ask in asks if len(ask) < 4000 for peer in "AB"]
@@ -318,8 +319,8 @@ def odd_answer(dice, number, body=bytes.fromhex("0c4b00000119553e")):
 
 
 def soak_readers(dice, count):
-    """Each answer meets a request of its own, which a Reject ends if the answer does not: if it is invalid, has
-    another number, or is about another service."""
+    """Each answer is for a request of its own. A Reject ends the request if the answer does not: if it is invalid, has
+    another number, or is for another service."""
     answers = [odd_answer(dice, (at + 1) % 256) for at in range(count)]
     ends = ["810a0009010060%02x09" % ((at + 1) % 256) for at in range(count)]
     lines = (f"read {ASKED} 300 1 85\ndata {ASKED} {it.hex()}\ndata {ASKED} {end}\n" for it, end in zip(answers, ends))

@@ -10,6 +10,7 @@
 #include <stdio.h>
 #include <stdlib.h>
 #include <string.h>
+#include <sys/ioctl.h>
 #include <sys/socket.h>
 #include <time.h>
 #include <unistd.h>
@@ -57,6 +58,15 @@ static void load(int client, long outstanding, long count)
     printf("%.0f\n", count / (seconds_now() - begun));
 }
 
+/* Receives answer at once from now on, or wait. The system is asked only if they did not. */
+static void answer_at_once(int client, int on)
+{
+    static int is_on;
+    if (on != is_on && ioctl(client, FIONBIO, &on) != 0)
+        err(1, "ioctl");
+    is_on = on;
+}
+
 static size_t written(size_t held)
 {
     static char journal[MOST_HELD + 64 * ASKED_TEXT];
@@ -81,11 +91,14 @@ static void batch(int client, struct sockaddr_in to, long outstanding, long coun
         }
         seconds_now();
         socklen_t size = sizeof from;
-        ssize_t length = recvfrom(client, reply, sizeof reply, MSG_DONTWAIT, (struct sockaddr *)&from, &size);
+        answer_at_once(client, 1);
+        ssize_t length = recvfrom(client, reply, sizeof reply, 0, (struct sockaddr *)&from, &size);
         if (length < 0 || held > MOST_HELD)
             held = written(held);
-        if (length < 0)
+        if (length < 0) {
+            answer_at_once(client, 0);
             length = recvfrom(client, reply, sizeof reply, 0, (struct sockaddr *)&from, &size);
+        }
         if (length != ANSWER || reply[INVOKE_ID - 1] != answered % 256)
             errx(1, "not the answer to request %ld, but %zd octets", answered, length);
         held += ANSWERED_TEXT;

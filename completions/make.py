@@ -1,8 +1,8 @@
 #!/usr/bin/env python3
-"""Makes the completions of bactool and bacsite for bash, zsh and fish, from their help, site/bacsite/numbers.txt, and
-a template of each shell, which finds of which kind the word at the cursor is by the words before it; bash and zsh have
-walk.sh in common for that. Usage: completions/make.py PROGRAM FOLDER, where PROGRAM is bactool. The folder gets
-NAME.bash, _NAME and NAME.fish of bactool and of bacsite.
+"""Makes the completions of bactool and bacsite for bash, zsh and fish, from their help, site/bacsite/numbers.txt, and a
+template for each shell. The template finds the kind of the word at the cursor from the words before it; bash and zsh
+share walk.sh for that. Usage: completions/make.py PROGRAM FOLDER, where PROGRAM is bactool. The folder gets NAME.bash,
+_NAME and NAME.fish for bactool and for bacsite.
 """
 import os
 import re
@@ -24,8 +24,8 @@ SHELLS = {
 }
 
 
-# The kinds of the words that stand for a value; `-` is a word that nobody can know. With `..` at the end the last two
-# kinds come again and again.
+# The kinds of the words that stand for a value; `-` is a word without suggestions. If `..` is at the end, the last two
+# kinds repeat.
 KINDS = {"FILE": "FILE", "file": "FILE", "list": "FILE", "FOLDER": "FOLDER", "PROPERTY": "NAME", "": ""}
 KINDS.update({"TYPE": "NAME", "tool": "TOOL", "COMMAND": "COMMAND", "tag value": "TAG - .."})
 
@@ -74,7 +74,7 @@ def arms(shell, tools, words):
 
 
 def filled(template, places):
-    """The template with each place filled: lines that stand alone keep its margin."""
+    """The template with each place filled. Lines that are only a place keep its margin."""
     for place, lines in places.items():
         template = re.sub(rf"(?m)^( *)@{place}@$", lambda at: "\n".join(at[1] + line for line in lines), template)
         template = template.replace(f"@{place}@", " ".join(lines))

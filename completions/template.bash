@@ -3,7 +3,7 @@
 _@program@() {
     local current tool word at=0 ended=no
     local -a before kinds repeats options value offered
-    # Words by spaces alone: bash itself would split addresses at their colon.
+    # Splits words only at spaces: bash itself would split addresses at their colon.
     read -ra before <<<"${COMP_LINE:0:COMP_POINT}"
     [[ ${COMP_LINE:0:COMP_POINT} == *[[:space:]] ]] && before+=("")
     current=${before[-1]}

@@ -1,10 +1,10 @@
 #!/usr/bin/env python3
-"""Makes what is made of manual pages. bactool-numbers.7, with docs/NUMBERS.md, is made from site/bacsite/numbers.txt;
-what stands round its tables is in numbers.page and numbers.text. In the pages of the tools and of bacsite, the options
-of the SYNOPSIS and the entries of each list below the remark `of --help` are made from the help, which is what bactool
-prints, and what the parser of bacsite has. The order of the entries stays, and so does what an entry has below its
-remark `by hand`. A new entry is put at the end of the last list. completions/make.py reads the same help.
-Usage: man/tables.py PROGRAM
+"""Makes the generated parts of manual pages. bactool-numbers.7 and docs/NUMBERS.md are made from
+site/bacsite/numbers.txt; the text around the tables is in numbers.page and numbers.text. In the pages of the tools and
+of bacsite, the options of the SYNOPSIS and the entries of each list below the comment `of --help` are made from the
+help, which is what bactool prints, or the parser of bacsite has. The order of the entries stays, and so does the text
+of an entry below its comment `by hand`. A new entry is put at the end of the last list. completions/make.py reads the
+same help. Usage: man/tables.py PROGRAM
 """
 import os
 import re
@@ -23,7 +23,7 @@ ENTRY = r'(?m)^\.It (.*)\n(?:(?!\.It |\.El|\.\\").*\n)*(\.\\" by hand\n(?:(?!\.I
 
 
 class Word(typing.NamedTuple):
-    """An argument or an option: the names of an option, what stands for its value, and what help says of it."""
+    """An argument or an option: the names of an option, the name of its value, and its help."""
 
     names: list = []
     value: str = ""
@@ -46,12 +46,12 @@ def folded(text, width):
 
 
 def sentences(text):
-    """The lines of a text on the page, where each sentence begins a line."""
+    """The lines of a text on the page. Each sentence begins a line."""
     return "".join(folded(sentence, 78) for sentence in re.split(r"(?<=\.) ", plain(text)))
 
 
 def plain(text):
-    """A text in which `man` reads nothing otherwise than as it stands."""
+    """A text without anything that `man` would treat as markup."""
     return text.replace("-", r"\-").replace("'", r"\(aq").replace('"', r"\(dq") + r"\&" * (text == "No.")
 
 
@@ -93,8 +93,8 @@ def words_of_parser(parser):
 
 
 def programs(program):
-    """The names of each program, and its tools or commands: each with its name, what it does, and its words. The first
-    one is the program itself."""
+    """The names of each program, and its tools or commands: each with its name, its help, and its words. The first one
+    is the program itself."""
     *tools, of_help = re.findall(r"(?m)^  ([a-z]+)  +([A-Z].*)$", shown(program, "--help"))
     made_of = [(*it, [*words_of_tool(program, it[0])]) for it in tools] + [(*of_help, [Word(value="tool")])]
     yield ["bactool", *TOOLS], [("bactool", "", [Word(value="COMMAND"), Word(["--help"], text="Print help")]), *made_of]
@@ -105,7 +105,7 @@ def programs(program):
 
 
 def marked(names, it):
-    """A word in the marks of a page, by these of its names."""
+    """An option or a word in the markup of a page, with the given names."""
     value = f"Ar {CALLED.get(it.value.lower(), it.value.lower())}" if it.value else ""
     value = f"Cm {' | '.join(it.choices)}" if it.choices and it.value.islower() else value
     flags = ["Fl " * (len(name) - len(name.lstrip("-"))) + name.lstrip("-") for name in names]
@@ -150,7 +150,8 @@ def page_of_tool(path, words, linked):
 
 
 def page_of_bacsite(path, tools):
-    """Its page. The arguments of a command stay in the SYNOPSIS as they are, since they are explained in one place."""
+    """The page of bacsite. The arguments of a command stay in the SYNOPSIS unchanged, since they are explained in one
+    place."""
     common = [tuple(names.split()) for names, *_ in parsing.ASKING.lines]
     usage, page = text_of(path).split(".Sh DESCRIPTION\n")
     for name, _, words in tools:
@@ -166,7 +167,7 @@ def page_of_bacsite(path, tools):
 
 
 def made(program):
-    """The path of each, and its text."""
+    """The path and the text of each generated page."""
     page = "".join(on_page(*part) for part in sections())
     yield "man/bactool-numbers.7", text_of("man/numbers.page").replace("@sections@\n", page)
     document = "\n".join(in_document(*part) for part in sections())

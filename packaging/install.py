@@ -1,12 +1,12 @@
 #!/usr/bin/env python3
-"""Puts the built program, links of the tools' names, bacsite, manual pages, completions, documents and examples below
-PREFIX, or takes them away again. Usage: packaging/install.py PROGRAM | --remove. From the environment: PREFIX
-(/usr/local), DESTDIR, which is put in front of all paths, and ZSH_COMPLETIONS (PREFIX/share/zsh/site-functions), which
-has to lie below PREFIX.
+"""Installs the built program, links with the tools' names, bacsite, manual pages, completions, documents and examples
+below PREFIX, or removes them. Usage: packaging/install.py PROGRAM | --remove. From the environment: PREFIX
+(/usr/local), DESTDIR, which is put before all paths, and ZSH_COMPLETIONS (PREFIX/share/zsh/site-functions), which must
+be below PREFIX.
 
-PREFIX/share/bactool/installed lists what was put, with a sum of each. A file that is there and not in this list as it
-stands, such as another vendor's bacrp, is not replaced: all of these are named, and nothing is put, unless FORCE=1 says
-so. It removes the files of the list that are unchanged, and nothing that is not below PREFIX.
+PREFIX/share/bactool/installed lists the installed files, with a checksum of each. An existing file that is not
+unchanged in this list, such as another vendor's bacrp, is not replaced: all of these are named, and nothing is
+installed, unless FORCE=1 is set. --remove removes the unchanged files of the list, and nothing outside PREFIX.
 """
 import contextlib
 import os
@@ -24,8 +24,8 @@ TOOLS = ["bacrp", "bacwp", "bacwi", "bacdev", "bacrun", "bactrace"]
 
 
 def lay_out(program, version, tree, prefix, zsh):
-    """Makes in a folder the tree of all that is put below a prefix. A manual page has the version at its foot, and what
-    names a place below /usr/local names the one below the prefix. Documents keep their folders, for their links."""
+    """Makes in a folder the tree of all files below a prefix. A manual page has the version at its foot, and places
+    below /usr/local are named below the prefix instead. Documents keep their folders, for their links."""
 
     def put(source, path, mode=0o644):
         target = tree / path
@@ -70,7 +70,7 @@ def sums(root, paths):
 
 
 def listed(root):
-    """The sums of the list by their paths; nothing touches a path that is not below PREFIX or leads out of it."""
+    """The sums of the list by their paths, without paths that are not below PREFIX or lead out of it."""
     text = (root / LIST).read_text(encoding="utf-8") if (root / LIST).is_file() else ""
     rows = (line.partition(" ")[::2] for line in text.splitlines())
     return {path: found for found, path in rows if not path.startswith("/") and ".." not in path.split("/")}
@@ -86,7 +86,7 @@ def remove(root, prefix):
         else:
             print(f"left there, since it is not as it was put: {prefix}/{path}")
     (root / LIST).unlink()
-    # The folders that only its own files were in.
+    # The folders that contained only installed files.
     folders = {str(folder) for path in had for folder in pathlib.Path(path).parents if str(folder).startswith(DOC)}
     for folder in [os.path.dirname(LIST), *sorted(folders, reverse=True)]:
         with contextlib.suppress(OSError):
@@ -95,7 +95,7 @@ def remove(root, prefix):
 
 
 def install(tree, root, prefix):
-    """Puts a tree in its place, and answers how many files and links it has."""
+    """Installs a tree, and returns how many files and links it has."""
     paths = sorted(str(path.relative_to(tree)) for path in tree.rglob("*") if path.is_symlink() or path.is_file())
     had = listed(root)
     new, there = sums(tree, paths), sums(root, {*paths, *had})
@@ -105,7 +105,7 @@ def install(tree, root, prefix):
                               " FORCE=1 replaces them:", *foreign]))
     for path in foreign:
         print(f"replaced: {path}")
-    for path in had:  # what an earlier version put and this one does not have
+    for path in had:  # installed by an earlier version, but not by this one
         if path not in new and there.get(path) == had[path]:
             (root / path).unlink()
     for path in paths:

@@ -1,7 +1,7 @@
 #!/usr/bin/env python3
-"""Plants faults in a copy of the tree, each of which the script that looks for it has to report. And makes each
-check of such a script pass always, one at a time: then a fault has to be missed. Usage: tests/planted_faults.py PROGRAM
-[SCRIPT], with planted_faults.txt, whose head says what its rows are.
+"""Plants faults in a copy of the tree; the script that looks for each fault must report it. It also makes each check of
+such a script pass always, one at a time: then a fault must be missed. Usage: tests/planted_faults.py PROGRAM [SCRIPT],
+with planted_faults.txt, whose head explains the rows.
 """
 import os
 import pathlib
@@ -27,7 +27,7 @@ def plant(tree, path, old, new):
 
 
 def missed(command, faults, check):
-    """Which of the faults the command does not tell of in a copy of the tree, where this check passes always."""
+    """The faults that the command does not report in a copy of the tree in which this check always passes."""
     with tempfile.TemporaryDirectory(prefix="false-checks-", dir=f"{TOP}/out") as room:
         tree = f"{room}/tree"
         shutil.copytree(TOP, tree, symlinks=True, ignore=NOT_COPIED, copy_function=os.link)
@@ -60,7 +60,7 @@ def main(words):
     program = (*words, "PROGRAM")[0]
     if not os.path.isfile(program):
         sys.exit(f"tests/planted_faults.py: {program} is no program: `make program` builds one")
-    os.environ["BACTOOL"] = os.path.realpath(program)  # for scripts that aren't told of a program
+    os.environ["BACTOOL"] = os.path.realpath(program)  # for scripts that have no argument for a program
     os.makedirs(f"{TOP}/out", exist_ok=True)  # for links to the files of the tree
     every = list(tries(os.path.realpath(program), "".join(words[1:])))
     with ThreadPoolExecutor(processors()) as pool:

@@ -1,8 +1,7 @@
 #!/usr/bin/env python3
-"""Tries build.py, suite.py and .ci/run in trees of two crates, where rt, make's scripts and the script of the wrong
-bodies are false and fail as the rows of stand_in_tools.txt have it: what comes of it has to be said, and to be the
-status. And tries what make says where there is no rt. Usage: tests/stand_in_tools.py [COMMAND], to try no rows of
-others.
+"""Tries build.py, suite.py and .ci/run in trees of two crates, in which rt, make's scripts and the script of the
+mutants are stand-ins that fail by the rows of stand_in_tools.txt: the failure must be reported, and be the status. It
+also tries the message of make without rt. Usage: tests/stand_in_tools.py [COMMAND], to try only its rows.
 """
 import os
 import re
@@ -16,7 +15,7 @@ from concurrent.futures import ThreadPoolExecutor
 
 from tree import ran, sections_of, status_of, text_of, write
 
-# A false command does what the rule in FALSE says, if its words begin so. Else it does well.
+# A stand-in does what the rule in RULE says, if its words begin as there. Otherwise it succeeds.
 RULE = r"""#!/bin/bash
 [[ "${0##*/} $* " != "${FALSE%%: *} "* ]] || { eval "${FALSE#*: }"; exit; }
 """
@@ -55,14 +54,14 @@ bac_trials: 7
 
 
 def rows(only):
-    """A command, the rule of what is false, the status, and what has to be said."""
+    """Yields a command, the rule of the stand-ins, the status, and the expected message."""
     for command, lines in sections_of("tests/stand_in_tools.txt"):
         for rule, status, wanted in (line.split(" || ") for line in lines if only in command):
             yield command.split(), rule, int(status), wanted
 
 
 def made(room, rule, is_built=True):
-    """A tree with a crate below the program, and the trials, where this rule holds; with what a build has kept."""
+    """A tree with a crate below the program, and the trials, with this rule; and with the results of a build."""
     crates = "low:\nbactool: low\nbac_trials: low\ntool_trials: low\n"
     texts = {"Makefile": MAKEFILE, "HANDLES": "", "crates.txt": crates, "../bin/rt": RT}
     texts.update((path, text_of(path)) for path in ("build.py", "tests/suite.py", "tests/tree.py", ".ci/run"))
@@ -82,7 +81,7 @@ def made(room, rule, is_built=True):
 
 
 def tried(command, rule, status, wanted):
-    """Returns how a row failed, or "". One that goes on for five minutes ends it all."""
+    """Returns how a row failed, or "". A row that takes five minutes ends the script."""
     with tempfile.TemporaryDirectory() as room:
         done = ran(*command, timeout=300, **made(room, rule, command != ["./build.py"]))
     if done.returncode == status and re.search(wanted, done.stdout.rstrip("\n")):
@@ -91,7 +90,7 @@ def tried(command, rule, status, wanted):
 
 
 def stopped(command):
-    """A run that is told to end does so, and a crate's own folder is in its place then."""
+    """A run that gets a signal ends, and then a crate's own folder is in its place."""
     with tempfile.TemporaryDirectory() as room:
         how = {"text": True, "stdout": subprocess.PIPE, "stderr": subprocess.STDOUT}
         how.update(made(room, "rt: touch ../../../begun ../../begun; sleep 60"))
@@ -107,7 +106,8 @@ def stopped(command):
 
 
 def timed():
-    """After a build that had nothing to do the program is newer than its sources, or make would build it again."""
+    """After a build that had nothing to do the program is newer than its sources, so that make does not build it
+    again."""
     with tempfile.TemporaryDirectory() as room:
         how, program = made(room, "rt run: true"), f"{room}/tree/crates/bactool/out/bactool"
         os.utime(program, (1, 1))
@@ -117,7 +117,8 @@ def timed():
 
 
 def without_kit():
-    """Alone make lists each target and builds nothing. A target that needs rt says so in one line."""
+    """make without a target lists the targets and builds nothing. If rt is missing, a target that needs it prints one
+    line."""
     texts = [text_of(name) for name in ("Makefile", "packaging.mk", "measuring.mk")]
     targets = {name for text in texts for row in re.findall(r"(?m)^\.PHONY: (.*)", text) for name in row.split()}
     with tempfile.TemporaryDirectory() as room:
@@ -127,7 +128,7 @@ def without_kit():
         listed = told("make", "--no-print-directory")
         if listed.returncode or listed.stdout != told("make", "--no-print-directory", "help").stdout:
             yield f"make alone is not make help: status {listed.returncode}: {listed.stdout}"
-        for name in sorted(targets - {"documents", "kit"}):  # parts of others
+        for name in sorted(targets - {"documents", "kit"}):  # targets that are parts of others
             if not re.search(rf"(?m)^(make, )?make {name}\b", listed.stdout):
                 yield f"make help does not list {name}"
         for words in (["make", "-s", "try"], ["make", "-s", "check"], ["make", "-s", "test"], ["./build.py"]):

@@ -1,13 +1,13 @@
 #!/usr/bin/env python3
-"""Runs what is tried of the tree, part by part, and ends with a line of counts. Usage: tests/suite.py test|gate|counts
+"""Runs the tests of the tree, part by part, and ends with a line of counts. Usage: tests/suite.py test|gate|counts
 
 CONTRIBUTING.md (The gate) says what the parts of each are, in which order they come, and when one has failed. In `test`
-such a part ends no other; in `gate` it ends all. There `rt ci` sets aside what is kept of the proofs: so it goes on in
-a copy of the tree, without must-fail/, whose edits it would try one by one. The last line is `N passed, M failed, K
-skipped`: so much was left out, as for a tool that is not installed here.
+a failed part does not end the others; in `gate` it ends all. There `rt ci` would set aside the kept proofs, so it runs
+in a copy of the tree, without must-fail/, whose edits it would try one by one. The last line is `N passed, M failed, K
+skipped`: parts are skipped for example if a tool is not installed.
 
-What each script says of how much it compared is compared with counts.txt. `counts` writes that file anew, from what the
-parts said when they last ran.
+The counts that each script prints are compared with counts.txt. `counts` writes that file anew, from what the parts
+printed when they last ran.
 """
 import os
 import re
@@ -22,10 +22,10 @@ from tree import TOP, Job, crates_below, end_by_signals, free_memory, processors
 LOGS, GENTLY, COUNTS = "out/parts", ["nice", "-n", "5"], "tests/documents/counts.txt"
 PROGRAM = "crates/bactool/out/bactool"
 BEGAN = time.monotonic()
-LEFT_OUT, SHOWN = [], []  # what the parts say of what was left out, and of what shows the mutants wrong
-MISCOUNTED = []  # which scripts have not compared as much as they are to
-TOOK = {}  # the seconds of each script that said how much it tried, and of what its part did besides
-# What a script says of how much it tried, mutants with their controls, and of how much of it failed.
+LEFT_OUT, SHOWN = [], []  # what the parts print of skipped tests, and of how mutants were shown to be wrong
+MISCOUNTED = []  # the scripts that compared less than expected
+TOOK = {}  # the seconds of each script that printed its counts, and of the rest of its part
+# The line of a script on how much it tried, mutants with their controls, and on how much of it failed.
 TRIED = r"^[\w./]+: (\d+) (?!not )(?:.* of (\d+) controls)?|^examples/\S+: as it is to be$"
 FAILED = r"(\d+) (?:not |don't |failed$)"
 # A line of counts, and whose they are: those of a script, or of the tests of a crate.
@@ -33,21 +33,21 @@ COUNTED = r"(?m)^(?:(tests/\S+): |[ \d]+of \d+ +(\w+) +)(\d.*?)(?: +\d+:\d\d)?$"
 
 
 class Part(typing.NamedTuple):
-    """A part, and how what it says is read."""
+    """A part, and how its output is read."""
 
     name: str
     command: list
-    scripts: list = []  # those of its scripts that have to say what they tried, each after its own path
-    tried: str = TRIED  # the numbers of what it tried; without one, each find counts as one
+    scripts: list = []  # those of its scripts that must print their counts, each after its own path
+    tried: str = TRIED  # the numbers of what it tried; without one, each match counts as one
     failed: str = FAILED
     shown: str = "."  # which lines are shown as they come
-    lost: str = "$^"  # which line says that it will fail
+    lost: str = "$^"  # the line which shows that it will fail
     place: str = "."
     settings: dict = {}
 
 
 def beside(*rows):
-    """These rows of parts, or one after the other if memory is short: each takes about 2 GB a processor."""
+    """These rows of parts, or one after the other if memory is short: each takes about 2 GB for each processor."""
     return rows if free_memory() >= 4000000000 * processors() else [[part for row in rows for part in row]]
 
 
@@ -58,7 +58,7 @@ def target(name):
 
 
 def whole_proof(room):
-    """`rt ci` in a copy of the tree without must-fail/, in this room."""
+    """`rt ci` in a copy of the tree without must-fail/, in this folder."""
     shutil.copytree(".", f"{room}/tree", symlinks=True, ignore=shutil.ignore_patterns(".git", "out", "must-fail"))
     os.mkdir(f"{room}/tree/.git")  # the top of a repository, for rt ci
     os.mkdir(f"{room}/rooms")
@@ -72,13 +72,13 @@ def whole_proof(room):
         shown=r"^rt: |^\d+ passed",
         lost=r"^rt: .* NOT PROVED",
         place=f"{room}/tree",
-        # with a number given, it proves as many crates at a time, each by one process
+        # with a number given, it proves that many crates at a time, each in one process
         settings={"RT_JOBS": str(processors()), "TMPDIR": f"{room}/rooms"},
     )
 
 
 def counts_in(said):
-    """What each script of a part has counted, unless it left something out: its numbers, in their order."""
+    """The counts of each script of a part, unless it skipped something: its numbers, in their order."""
     found = {}
     for script, crate, numbers in re.findall(COUNTED, said):
         found.setdefault(script or crate, []).extend(map(int, re.findall(r"\d+", numbers.replace(",", ""))))
@@ -86,21 +86,21 @@ def counts_in(said):
 
 
 def miscounted(part, said):
-    """Which scripts of a part have not compared as much as counts.txt has; behind `+` it is at least so much."""
+    """The scripts of a part that did not compare as much as in counts.txt, or with `+` at least as much."""
     found, wanted = counts_in(said), dict(row.split(": ") for row in dict(sections_of(COUNTS)).get(part.name, []))
     yield from (f"{COUNTS} has nothing of {name}" for name in part.scripts if name not in wanted)
     for name, numbers in wanted.items():
         least = [int(it.strip("+")) for it in numbers.split()]
         is_so = [at >= it if "+" in numbers else at == it for at, it in zip(found.get(name, []), least)]
         if re.search(rf"(?m)^{re.escape(name)}: ", said) and name not in found:
-            continue  # it left something out
+            continue  # it skipped something
         if is_so != [True] * len(least) or len(found[name]) != len(least):
             told = f"{name} counted {found.get(name)}, and {COUNTS} has {numbers}"
             yield f"{told}; `tests/suite.py counts` writes it anew"
 
 
 def counts():
-    """Writes counts.txt anew. What had `+` keeps it, and so does the section of a part that has no log."""
+    """Writes counts.txt again. A line with `+` keeps the `+`, and the section of a part without a log stays."""
     head, *_ = text_of(COUNTS).partition("\n= ")
     text = head + "\n"
     for part, rows in sections_of(COUNTS):
@@ -113,13 +113,13 @@ def counts():
 
 
 def say(text):
-    """Says this behind the minutes since the beginning."""
+    """Prints this after the minutes since the beginning."""
     minutes, seconds = divmod(int(time.monotonic() - BEGAN), 60)
     print(f"{minutes:3}:{seconds:02}  {text}", flush=True)
 
 
 class Work(Job):
-    """A part at work."""
+    """A running part."""
 
     def __init__(self, part):
         self.part, self.told, self.is_lost, self.since = part, 0, False, time.monotonic()
@@ -128,7 +128,7 @@ class Work(Job):
         super().__init__(part.command, log, cwd=part.place, env={**outer, **part.settings})
 
     def has_ended(self):
-        """Shows what came since the last look, and answers whether the part has ended, or will fail."""
+        """Shows the output since the last look, and returns whether the part has ended, or will fail."""
         ended, lines = super().has_ended(), self.said().split("\n")[:-1]
         for line in lines[self.told :]:
             if re.search(self.part.shown, line):
@@ -144,7 +144,8 @@ class Work(Job):
         TOOK[name], self.since = time.monotonic() - self.since, time.monotonic()
 
     def counts(self):
-        """How many passed and failed. A part that tried nothing has failed, and one a script of which says nothing."""
+        """How many passed and failed. A part that tried nothing has failed, and so has one with a script that printed
+        no counts."""
         said = self.said()
         rows = [row.groups() for row in re.finditer(self.part.tried, said, re.M)] if self.part.tried else []
         tried = [sum(int(it) for it in row if it) if any(row) else 1 for row in rows]
@@ -169,7 +170,7 @@ class Work(Job):
 
 
 def run(steps, ends_at_failure):
-    """Runs step after step, the rows of each at the same time. Returns how many passed, and failed of a part."""
+    """Runs step after step, the rows of each at the same time. Returns how many passed and failed."""
     passed, lost = 0, {}
     for rows in steps:
         left, working = [list(row) for row in rows], {}
@@ -198,7 +199,7 @@ def test(_):
         yield [[Part("build", ["./build.py"], tried=r"^ *\d+ of \d+ +\w+ +proved")]]
     trials = Part("trials", ["./build.py", "--tests"], tried=r"(\d+) tests passed")
     yield beside([trials], [Part("mutants", [*GENTLY, "tests/bodies/mutants.py", "--sample"])])
-    yield beside([target("examples")], [target("lint")])  # which have ports that the trials have, too
+    yield beside([target("examples")], [target("lint")])  # they use the ports that the trials use too
 
 
 def gate(room):

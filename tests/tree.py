@@ -1,5 +1,6 @@
-"""Functions that scripts share: where tree and program are, the texts of files, their comparison, the crates, and the
-machine with its ports. Usage: python3 tests/tree.py COMMAND.., which runs a command with a free port after its words.
+"""Functions that scripts share: the places of tree and program, the texts of files, their comparison, the crates, and
+the machine with its ports. Usage: python3 tests/tree.py COMMAND.., which runs a command with a free port after its
+words.
 """
 import contextlib
 import fcntl
@@ -35,7 +36,7 @@ def files(*places):
 
 
 def sections_of(path):
-    """Yields the head of each section of a table, after `= `, and its lines without empty ones and remarks."""
+    """Yields the head of each section of a table, after `= `, and its lines without empty ones and comments."""
     for section in re.split(r"(?m)^= ", text_of(path))[1:]:
         head, *lines = section.splitlines()
         yield head, [line for line in lines if line and line[0] != "#"]
@@ -54,7 +55,7 @@ def all_crates():
 
 
 def crates_below():
-    """Each crate of the repository with those that it rests on, itself among them."""
+    """Each crate of the repository with the crates that it depends on, and itself."""
     below = {}
     for name, parts in all_crates().items():
         below[name] = {name}.union(*(below.get(it, set()) for it in parts))
@@ -62,19 +63,19 @@ def crates_below():
 
 
 def ran(*words, **how):
-    """Runs a command, and returns it with its output and errors."""
+    """Runs a command, and returns its result with its output and errors."""
     how = {"stdin": subprocess.DEVNULL, "stdout": subprocess.PIPE, "stderr": subprocess.STDOUT, "cwd": TOP, **how}
     return subprocess.run(words, text=True, errors="replace", check=False, **how)
 
 
-@functools.lru_cache(maxsize=None)  # as Python 3.8 has it
+@functools.lru_cache(maxsize=None)  # not `cache`, which Python 3.8 does not have
 def shown(*words):
     """Returns the output of a command, as on a wide terminal."""
     return ran(*words, env={**os.environ, "COLUMNS": "200"}, stderr=None).stdout
 
 
 def same(what, one, other):
-    """Notes a comparison, and a difference."""
+    """Notes that two values were compared, and any difference."""
     COMPARED.append(what)
     if one != other:
         WRONG.append(f"{what}: {one!r}, not {other!r}"[:600])
@@ -95,19 +96,19 @@ def says(document, *sentences):
 
 
 def verdict(well):
-    """Returns the status of a script that has compared this much, which must not be nothing."""
+    """Returns the status of a script that compares texts: it fails if none was compared."""
     nothing = [] if COMPARED else ["nothing was compared"]
     return well_or([*nothing, *(f"not as it is to be: {it}" for it in WRONG)], f"{len(COMPARED)} {well}")
 
 
 def well_or(differences, well):
-    """The status of a script: it prints the differences, or after its path that all is well."""
+    """Returns the status of a script: it prints the differences, or after its path that all is well."""
     print("\n".join(differences) or f"{SCRIPT}: {well}")
     return 1 if differences else 0
 
 
 def status_of(wrong, tried, told):
-    """Returns the status of a script, and prints what is wrong and what it tried, which must not be nothing."""
+    """Prints the failures and what was tried. Returns the status of a script: it fails if nothing was tried."""
     print("".join(f"{it}\n" for it in wrong) + f"{SCRIPT}: {told}")
     return 1 if wrong or not tried else 0
 
@@ -132,7 +133,7 @@ def put_tools(program, room):
     os.makedirs(room, exist_ok=True)
     for name in ("bactool", *TOOLS):
         os.symlink(program, f"{room}/{name}")
-    subprocess.run([f"{TOP}/packaging/onefile.py", f"{room}/bacsite"], check=True)
+    subprocess.run([f"{TOP}/packaging/onefile.py", "--compiled", f"{room}/bacsite"], check=True)
 
 
 def left_out(*tools):
@@ -143,7 +144,7 @@ def left_out(*tools):
 
 
 def failing_library(room):
-    """Makes a library of fault_injection.c in a folder. Returns None, and says so, if there is no cc."""
+    """Makes a library of fault_injection.c in a folder. Returns None, and prints a note, if there is no cc."""
     if left_out("cc"):
         return None
     library, source = f"{room}/fault_injection.so", f"{TOP}/tests/program/fault_injection.c"
@@ -175,7 +176,7 @@ class Job:
 
 
 def end_by_signals(main):
-    """Ends with the status of a call with the words of the script. Signals stop it as ^C does, except one that nohup
+    """Exits with the status of a call with the words of the script. Signals stop it as ^C does, except one that nohup
     has ignored."""
     for number in (signal.SIGTERM, signal.SIGHUP):
         if signal.getsignal(number) != signal.SIG_IGN:
@@ -199,7 +200,8 @@ def local_socket():
 
 
 def free_port(first=47808):
-    """Returns the first UDP port from this one on that no socket has; no other call does until this process ends."""
+    """Returns the first UDP port from this one on that no socket has; no other call returns it until this process
+    ends."""
     for port in range(first, 65536):
         lock = open(f"{tempfile.gettempdir()}/bactool-port-{port}-{os.getuid()}", "a", encoding="utf-8")
         with contextlib.suppress(BlockingIOError):
@@ -219,7 +221,7 @@ def is_taken(port):
 
 @contextlib.contextmanager
 def device(*words, program=(PROGRAM,), **how):
-    """A bacdev of instance 1234, once it has a free port: its process, and the port. In the end it is killed."""
+    """A bacdev with instance 1234, at a free port: its process, and the port. At the end it is killed."""
     port = free_port()
     with subprocess.Popen([*program, "bacdev", "1234", "--port", str(port), *words], **how) as process:
         try:

@@ -1,4 +1,4 @@
-"""The addresses of controllers, as words give them: numbers, or the name of a host."""
+"""The addresses of controllers in the words: numbers, or the name of a host."""
 
 from __future__ import annotations
 
@@ -16,7 +16,7 @@ MOST_DEVICE = 4194302
 MOST_NETWORK = 65534
 INSTANCE_AT = re.compile(r"(?:([0-9]{1,7})@)?(.*)", re.S)
 ADDRESS = re.compile(r"([0-9]{1,3}(?:\.[0-9]{1,3}){3})(?::([0-9]{1,5}))?")
-# No host's name ends in a number: a resolver would take 0x7f.2.31 for an address, as it is written.
+# A host's name ends in no number: a resolver would take 0x7f.2.31 for an address.
 HOST = re.compile(
     r"(?!(?:.*\.)?(?:0[xX][0-9A-Fa-f]*|[0-9]+)\.?(?::|\Z))([A-Za-z0-9._-]{1,253})(?::([0-9]{1,5}))?"
 )
@@ -26,30 +26,30 @@ ADDRESS_RANGE = re.compile(r"([0-9.]+)(?:/([0-9]{1,2})|-([0-9.]+))(?::([0-9]{1,5
 
 
 class Target(NamedTuple):
-    """An address, and which devices are looked for there. None stands for any."""
+    """An address, and the devices that are looked for there. None means any device."""
 
     address: str
     wanted: tuple[int | None, ...]
-    in_range: bool = False  # it was not named itself, so that nobody may be there
+    in_range: bool = False  # only a range has the address, so perhaps nobody is there
 
     @property
     def is_network(self) -> bool:
-        """Whether it is all stations of one network behind a router, or of all networks there."""
+        """Whether these are all stations of a network behind a router, or of all networks there."""
         return self.address.endswith("*")
 
     @property
     def may_be_router(self) -> bool:
-        """Whether its stations are looked for: it was named itself, and no device there."""
+        """Whether stations are looked for there: the address was named itself, without a device."""
         return None in self.wanted and not self.in_range and not is_routed(self.address)
 
     @property
     def reach(self) -> str:
-        """The word for all its stations; empty if it is a station itself."""
+        """The word for all stations of the address; empty for the address of a station."""
         return self.address if self.is_network else all_behind(self.address)
 
 
 def one(word: str) -> tuple[int | None, str]:
-    """The instance, if there is one, and the address with its port, of [INSTANCE@]ADDRESS.
+    """The instance, if there is one, and the address with its port, in [INSTANCE@]ADDRESS.
 
     A station behind a router is 192.0.2.7/5/01: the router, the number of the network there, and
     the octets of its address in that network.
@@ -84,18 +84,18 @@ def network_at(word: str) -> str:
 
 
 def all_behind(address: str) -> str:
-    """All stations behind a router; empty for the address of a station."""
+    """The word for all stations behind a router; empty for the address of a station."""
     return "" if is_routed(address) else address + "/*"
 
 
 def is_routed(address: str) -> bool:
-    """Whether it is that of a station behind a router."""
+    """Whether the address is that of a station behind a router."""
     return "/" in address
 
 
 @lru_cache(maxsize=None)
 def _looked_up(name: str) -> str:
-    """The address of a host; empty where it has none. Each name is looked up once."""
+    """The address of a host; empty if it has none. Each name is looked up once."""
     try:
         hosts = socket.getaddrinfo(name, None, socket.AF_INET, socket.SOCK_DGRAM)
     except (OSError, UnicodeError):

@@ -8,9 +8,16 @@ from typing import Iterator, NamedTuple, Sequence
 from . import standard
 from .standard import PropertyRef, ObjectId
 
-MOST_OPEN = 32  # opening tags at once
+MOST_OPEN = 32  # open at the same time
 OPENING, CLOSING = -1, -2  # in place of the length of a tag
 QUOTES = {standard.OCTETS: "X", standard.DATE: "D", standard.TIME: "T"}
+# Each octet of a text between quotes, in printable ASCII.
+QUOTED = {it: chr(it) if 0x20 <= it < 0x7F else f"\\x{it:02x}" for it in range(256)}
+QUOTED.update({ord(it): "\\" + it for it in '"\\'})
+# The tags of a body: object, property, perhaps an index, a value, and perhaps a priority.
+OF_READ = ([0, 1], [0, 1, 2])
+OF_ACK = ([0, 1, 3], [0, 1, 2, 3])
+OF_WRITE = (*OF_ACK, [0, 1, 3, 4], [0, 1, 2, 3, 4])
 
 
 class Tag(NamedTuple):
@@ -23,7 +30,7 @@ class Tag(NamedTuple):
 
 
 class Element(NamedTuple):
-    """A value: the number of its tag, and its contents; of a Boolean one octet."""
+    """A value: the number of its tag, and its contents; a Boolean has one octet."""
 
     kind: int
     octets: bytes
@@ -35,12 +42,12 @@ class Element(NamedTuple):
 
     @property
     def of_object(self) -> ObjectId:
-        """The object that it names."""
+        """The object that the value names."""
         return object_id_of(self.number)
 
 
 class Body(NamedTuple):
-    """What a read or a write is about, and its value."""
+    """The property that a read or a write names, and its value."""
 
     ref: PropertyRef
     value: bytes | None = None
@@ -48,12 +55,12 @@ class Body(NamedTuple):
 
 
 def object_id_of(number: int) -> ObjectId:
-    """The object of the number that stands for it."""
+    """The object in this number."""
     return ObjectId(number >> 22, number & standard.THIS_DEVICE)
 
 
 def tag_at(octets: bytes, at: int) -> Tag | None:
-    """The tag that begins at a place, if one does."""
+    """The tag that begins at a place, if there is one."""
     try:
         first, at = octets[at], at + 1
         number, context, length = first >> 4, bool(first & 8), first & 7
@@ -75,7 +82,7 @@ def tag_at(octets: bytes, at: int) -> Tag | None:
 
 
 class Item(NamedTuple):
-    """A tag and its contents; of an opening one the items up to its closing one too."""
+    """A tag and its contents; for an opening tag the items up to its closing tag too."""
 
     number: int
     context: bool
@@ -89,7 +96,7 @@ class Item(NamedTuple):
 
 
 def _items(octets: bytes, at: int, opened: int = 0) -> tuple[list[Item], int]:
-    """The whole items from a place on, and where they end; -1 if another one is not whole."""
+    """The whole items from a place on, and where they end; -1 if an item is not whole."""
     found: list[Item] = []
     while at < len(octets):
         first, end = octets[at], at + 1 + (octets[at] & 7)
@@ -150,7 +157,7 @@ def elements_of(region: bytes) -> Sequence[Element] | None:
 
 
 def device_in(region: bytes) -> int | None:
-    """Returns the instance of the device that a value names; None if the value is another one."""
+    """Returns the instance of the device that a value names; None if it names no device."""
     found = elements_of(region) or []
     is_device = len(found) == 1 and found[0].kind == standard.OBJECT
     is_device = is_device and found[0].of_object.object_type == standard.DEVICE
@@ -162,19 +169,14 @@ def bits_of(octets: bytes) -> str:
     return "".join(f"{it:08b}" for it in octets[1:])[: 8 * (len(octets) - 1) - octets[0]]
 
 
-def _quoted(octets: bytes) -> str:
-    """A text between quotes, in printable ASCII."""
-    chars = [chr(it) if 0x20 <= it < 0x7F else f"\\x{it:02x}" for it in octets]
-    return '"' + "".join("\\" + it if it in '"\\' else it for it in chars) + '"'
-
-
 def element_text(element: Element) -> str:
     """A value as bacrp prints it."""
     kind, octets = element
     if kind in (standard.NULL, standard.BOOLEAN):
         return "null" if kind == standard.NULL else ("false", "true")[octets[0]]
     if kind == standard.STRING:
-        return (f"{octets[0]}:" if octets[0] else "") + _quoted(octets[1:])
+        text = octets[1:].decode("latin-1").translate(QUOTED)
+        return f'{octets[0]}:"{text}"' if octets[0] else f'"{text}"'
     if kind == standard.BITS:
         return f"B'{bits_of(octets)}'"
     if kind in QUOTES:
@@ -184,6 +186,7 @@ def element_text(element: Element) -> str:
     return str(element.of_object if kind == standard.OBJECT else element.number)
 
 
+@lru_cache(maxsize=1024)
 def region_text(region: bytes) -> str:
     """A property's value as bacrp prints it."""
     elements = elements_of(region)
@@ -194,9 +197,9 @@ def region_text(region: bytes) -> str:
 
 
 def parameters(octets: bytes) -> Iterator[tuple[int, bytes]]:
-    """Each context tag with its contents; the tag 3, and no other, opens. After a part that can't
-    be read comes the tag -1."""
-    items, end = _items(octets, 0, opened=-1)  # what the tag 3 opens is the value itself
+    """Each context tag with its contents. Only the tag 3 may be an opening tag. A part that can't
+    be read gives the tag -1."""
+    items, end = _items(octets, 0, opened=-1)  # the value is what the tag 3 encloses
     for it in items:
         if not it.context or (it.inner is None) == (it.number == 3):
             yield -1, b""
@@ -206,36 +209,36 @@ def parameters(octets: bytes) -> Iterator[tuple[int, bytes]]:
         yield -1, b""
 
 
-def body_of(octets: bytes, has_value: bool, may_command: bool = False) -> Body | None:
-    """A body: object, property, perhaps an index, a value, and perhaps a priority."""
+def body_of(octets: bytes, forms: Sequence[list[int]]) -> Body | None:
+    """A body whose tags are those of one of these forms."""
     found = list(parameters(octets))
-    tags, by_tag = [tag for tag, _ in found], dict(found)
-    needed = [0, 1, 3] if has_value else [0, 1]
-    if [it for it in tags if it not in (2, 4)] != needed or tags != sorted(set(tags)):
+    if [tag for tag, _ in found] not in forms:
         return None
-    if len(by_tag[0]) != 4 or any(not 1 <= len(by_tag.get(it, b"0")) <= 4 for it in (1, 2, 4)):
+    by_tag = dict(found)
+    value = by_tag.pop(3, None)
+    if len(by_tag[0]) != 4 or any(not 1 <= len(it) <= 4 for it in by_tag.values()):
         return None
-    number = {tag: int.from_bytes(contents, "big") for tag, contents in found if tag != 3}
-    if 4 in number and not (may_command and 1 <= number[4] <= 16):
+    number = {tag: int.from_bytes(contents, "big") for tag, contents in by_tag.items()}
+    if not 1 <= number.get(4, 1) <= 16:
         return None
     ref = object_id_of(number[0]).ref(number[1], number.get(2))
-    return Body(ref, by_tag.get(3), number.get(4))
+    return Body(ref, value, number.get(4))
 
 
 def read_body(octets: bytes) -> Body | None:
     """Returns what a ReadProperty asks for."""
-    return body_of(octets, has_value=False)
+    return body_of(octets, OF_READ)
 
 
-@lru_cache(maxsize=64)  # it is read twice: how it ends a request, and what it is about
+@lru_cache(maxsize=64)  # read twice: for the end of a request, and for its object
 def read_ack(octets: bytes) -> Body | None:
     """Returns what the acknowledgement of a ReadProperty says."""
-    return body_of(octets, has_value=True)
+    return body_of(octets, OF_ACK)
 
 
 def write_body(octets: bytes) -> Body | None:
     """Returns what a WriteProperty asks for."""
-    return body_of(octets, has_value=True, may_command=True)
+    return body_of(octets, OF_WRITE)
 
 
 def error_body(octets: bytes) -> tuple[int, int] | None:

@@ -1,4 +1,4 @@
-"""Points in the course of time: as a page of charts that needs nothing else, and on a terminal."""
+"""Points over time: as a page of charts that needs no other file, and on a terminal."""
 
 from __future__ import annotations
 
@@ -22,8 +22,8 @@ SCRIPT, STYLE, BODY = content_of("charts.js"), content_of("charts.css"), content
 
 
 class Sample(NamedTuple):
-    """What a point had at a time, in milliseconds since 1970. The note is the text of its state;
-    without a value it says why there is none."""
+    """The value of a point at a time, in milliseconds since 1970. The note is the text of its
+    state; without a value it says why there is none."""
 
     at: int
     text: str
@@ -32,8 +32,8 @@ class Sample(NamedTuple):
 
 
 class Line:
-    """The samples of a point: all of them, or of runs of equal ones the ends. If these are too
-    many, of every four the least and the greatest, what is missing, and each flag."""
+    """The samples of a point: all of them, or the ends of runs of equal ones. If these are too
+    many, every four are reduced to the least, the greatest, missing values, and each flag."""
 
     def __init__(self, point: Point) -> None:
         self.name, tags = point.name, form_of(point.ref).tags
@@ -42,7 +42,7 @@ class Line:
         self.samples: list[Sample] = []
 
     def add(self, sample: Sample) -> None:
-        """Adds one."""
+        """Adds a sample."""
         kept = self.samples
         if len(kept) > 1 and kept[-1][1:] == kept[-2][1:] == sample[1:]:
             kept[-1] = sample
@@ -54,8 +54,8 @@ class Line:
 
 
 def _ends(samples: Sequence[Sample]) -> list[Sample]:
-    """The least and the greatest, what is missing between others, and one with each of the flags
-    that those do not have, in their order."""
+    """The least and the greatest sample, missing values between others, and one sample for each
+    other flag, in their order."""
     size = {it: float(it.text) if DECIMAL.fullmatch(it.text) else 0.0 for it in samples}
     there = sorted((it for it in samples if it.text), key=size.__getitem__)
     ends = [*there[:1], *there[1:][-1:]]
@@ -79,7 +79,7 @@ def page_of(
 
 
 def _told(line: Line) -> dict[str, object]:
-    """A line for the script. Texts at the end of a sample that are empty are left out."""
+    """A line for the script. Empty texts at the end of a sample are omitted."""
     samples = [list(it[: 4 if _flags(it) else 3 if it.note else 2]) for it in line.samples]
     told = {"name": line.name, "label": line.label, "unit": line.unit, "step": line.is_step}
     return {**told, "samples": samples}
@@ -92,11 +92,11 @@ def _flags(sample: Sample) -> str:
 BARS = "▁▂▃▄▅▆▇█"
 MISSING = "·"  # in place of a bar
 COLUMNS = 30  # of a curve
-LEAST_SECONDS, LEAST_ROUNDS = 60, COLUMNS  # that a curve shows
+LEAST_SECONDS, LEAST_ROUNDS = 60, COLUMNS  # of the time that a curve shows
 
 
 def is_terminal() -> bool:
-    """Whether standard output is a terminal on which lines can be written again."""
+    """Whether standard output is a terminal on which lines can be overwritten."""
     return sys.stdout is not None and os.isatty(1) and os.environ.get("TERM", "dumb") != "dumb"
 
 
@@ -108,7 +108,7 @@ class Live:
         self._height = 0  # lines that are shown
 
     def clear(self) -> None:
-        """Takes the lines away."""
+        """Removes the lines."""
         if self._height:
             put(f"\x1b[{self._height}A\r\x1b[J")
         self._height = 0
@@ -136,7 +136,7 @@ class Live:
 
 
 def told_of(sample: Sample, unit: str) -> Sequence[str]:
-    """The value of a sample with its unit, its state and the flags that are set; or the reason."""
+    """The value of a sample with its unit, its state and the set flags; or the reason."""
     if not sample.text:
         return ["no value:", sample.note]
     flags = "" if sample.flags == "normal" else sample.flags
@@ -144,8 +144,8 @@ def told_of(sample: Sample, unit: str) -> Sequence[str]:
 
 
 def curve_of(samples: Sequence[Sample], until: int, seconds: float, every: float) -> str:
-    """The values of the last so many seconds as bars: each the latest one at the end of its part of
-    that time. The last value stands for two rounds."""
+    """The values of the last seconds as bars: each is the latest value at the end of its part of
+    the time. The last value is shown for two rounds."""
     part, first = seconds * 1000 / COLUMNS, until - seconds * 1000
     places: dict[int, Sample] = {}
     for it in reversed(samples):
@@ -163,7 +163,7 @@ def curve_of(samples: Sequence[Sample], until: int, seconds: float, every: float
 
 
 def _sizes(texts: Sequence[str]) -> dict[str, str]:
-    """The bar of each text: by its number, or by its place among the others."""
+    """The bar for each text: by its number, or by its position among the others."""
     names = sorted(set(texts))
     numbers = [float(it) for it in names if DECIMAL.fullmatch(it)]
     if len(numbers) < len(names):

@@ -15,7 +15,7 @@ from . import standard
 from .controller import Controller
 from .output import Failure, put, wrong
 from .points import Point, point_of
-from .poll import Reading, Wanted, reading_of
+from .poll import Reading, reading_of
 from .tools import Tools, alone, deadline_of
 from .reasons import TOO_LATE, Why
 from .values import Kind
@@ -28,7 +28,7 @@ RANGE = re.compile(rf"(@?)(?:(~|{BOUND})?:({BOUND})?|({BOUND}))")
 
 
 class Range(NamedTuple):
-    """A range of monitoring plugins: it alerts outside of it, or inside if the word has @."""
+    """A range of monitoring plugins: it alerts outside the range, or inside if the word has @."""
 
     word: str
     inside: bool
@@ -36,7 +36,7 @@ class Range(NamedTuple):
     high: Decimal
 
     def alerts(self, number: Decimal) -> bool:
-        """Returns whether the number has to be reported."""
+        """Returns whether the number causes an alert."""
         return (self.low <= number <= self.high) == self.inside
 
 
@@ -67,7 +67,7 @@ def range_of(word: str) -> Range:
 
 
 def verdict_on(reading: Reading, warning: Range, critical: Range) -> Verdict:
-    """Returns what the value is to monitoring."""
+    """Returns the status of the value for monitoring."""
     value = reading.value
     if value.why.is_gone or value.why is Why.NO_NUMBER:
         return Verdict(CRITICAL, value.fault)
@@ -80,13 +80,13 @@ def verdict_on(reading: Reading, warning: Range, critical: Range) -> Verdict:
     by_flags, flags = verdict_on_flags(reading)
     text = ", ".join(filter(None, [reading.shown, flags]))
     numbers = f"value={number:f};{warning.word};{critical.word}"
-    order = (OK, UNKNOWN, WARNING, CRITICAL)  # not to know is less than an alert, and more than OK
+    order = (OK, UNKNOWN, WARNING, CRITICAL)  # UNKNOWN is less than an alert, more than OK
     return Verdict(max(status, by_flags, key=order.index), text, numbers)
 
 
 def verdict_on_flags(reading: Reading) -> tuple[int, str]:
-    """Returns the status for the flags: a fault is critical, since the value says nothing then; out
-    of service, it is not that of the plant. The other flags are shown."""
+    """Returns the status for the flags. A fault is critical, since the value means nothing then. If
+    the point is out of service, the value is not the plant's. The other flags are shown."""
     flags = reading.flags
     if flags.fault:
         return UNKNOWN, reading.told_flags
@@ -105,7 +105,7 @@ def looked_up(words: Sequence[str], deadline: float) -> Point | None:
         except Failure as failure:
             found.set_exception(failure)
 
-    threading.Thread(target=look, daemon=True).start()  # nothing else ends what looks it up
+    threading.Thread(target=look, daemon=True).start()  # nothing else can end the lookup
     with suppress(TimeoutError):
         return found.result(min(deadline - time.monotonic(), threading.TIMEOUT_MAX))
     return None
@@ -114,10 +114,10 @@ def looked_up(words: Sequence[str], deadline: float) -> Point | None:
 def _asked(
     controller: Controller, point: Point, ranges: tuple[Range, Range], with_flags: bool
 ) -> Verdict:
-    """Returns what the point is to monitoring, and why it has a fault, as the object says."""
+    """Returns the status of the point, and the fault that the object reports, if any."""
 
     def asked() -> tuple[Reading, str]:
-        reading = reading_of(controller, point, Wanted(with_flags, texts=True))
+        reading = reading_of(controller, point, with_flags)
         has_fault = "fault" in reading.flags.bits
         if not has_fault:
             return reading, ""
@@ -130,7 +130,7 @@ def _asked(
 
 
 def check(words: argparse.Namespace) -> int:
-    """Prints a line, and has a status, for monitoring."""
+    """Prints a line for monitoring, and returns the status."""
     ranges = range_of(words.warning), range_of(words.critical)
     deadline, verdict = deadline_of(words.timeout), Verdict(CRITICAL, TOO_LATE)
     point = looked_up(([words.hostname] if words.hostname else []) + words.words, deadline)

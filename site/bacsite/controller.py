@@ -1,9 +1,8 @@
-"""One controller: what its properties have, and which device it is."""
+"""One controller: the values of its properties, and its identity."""
 
 from __future__ import annotations
 
 import time
-from dataclasses import dataclass, field
 from typing import Sequence
 
 from .bodies import device_in, elements_of
@@ -15,42 +14,41 @@ from .session import ReadResult
 from .standard import DEVICE, INTEGERS, OBJECT_ID, Form, ObjectId, PropertyRef, form_of
 from .values import Value, fault, shown, value_of
 
-PAUSE, MOST_PAUSE = 8, 8.0  # times --apdu-timeout, and seconds: so long a device has to restart
+PAUSE, MOST_PAUSE = 8, 8.0  # times --apdu-timeout, and seconds: the time for a device to restart
 LEAST_WAIT = 0.1  # seconds, for an answer that may not come
 MOST_ELEMENTS = 100000  # of a list which is read element by element
 
 
-@dataclass
 class Elements:
     """The known part of a list: the octets of its elements, and why some are missing."""
 
-    found: list[bytes] = field(default_factory=list)
-    count: int = 0  # how many it says that it has
-    reasons: list[str] = field(default_factory=list)
-    lost: int = 0  # how many were asked for, and did not come
+    def __init__(self, *found: bytes, count: int = 0, reason: str = "") -> None:
+        self.found, self.reasons = list(found), [reason] if reason else []
+        self.count = count  # how many elements the device says that the list has
+        self.lost = 0  # how many elements were asked for, and did not come
 
 
 class Controller(Requester):
-    """Says what it has, in readable form, and which device it is."""
+    """Reads the values of a controller in readable form, and its identity."""
 
     def __init__(self, tools: Tools, address: str, deadline: float = FOREVER) -> None:
         super().__init__(tools, address, deadline)
-        self.instance: int | None = None  # which device it is, once it has said so
-        self._took = 0.0  # how many seconds it took to say that
+        self.instance: int | None = None  # the controller's instance, once it is known
+        self._took = 0.0  # how many seconds that answer took
 
     @property
     def own(self) -> ObjectId:
-        """The object that it is itself."""
+        """The device object of the controller."""
         assert self.instance is not None, "it was identified"
         return ObjectId(DEVICE, self.instance)
 
     def again(self) -> None:
-        """Asks once more, and also which device it is."""
+        """Asks once more, also for the identity."""
         super().again()
         self.instance = None
 
     def read(self, ref: PropertyRef) -> ReadResult:
-        """Reads as `ask`; what is too long for a datagram is put together of its elements."""
+        """Reads like `ask`; a value too long for a datagram is put together from its elements."""
         return self.read_all([ref])[0]
 
     def read_all(self, refs: Sequence[PropertyRef]) -> list[ReadResult]:
@@ -58,7 +56,7 @@ class Controller(Requester):
         return [self._whole(*it) for it in zip(refs, self.ask_all(refs))]
 
     def _whole(self, ref: PropertyRef, answer: ReadResult) -> ReadResult:
-        if ref.element is not None or answer.why is not Why.TOO_LONG:
+        if not answer.reason or ref.element is not None or answer.why is not Why.TOO_LONG:
             return answer
         elements = self.elements(MOST_ELEMENTS, ref, whole=True)
         if elements.reasons:
@@ -66,7 +64,7 @@ class Controller(Requester):
         return ReadResult(b"".join(elements.found))
 
     def count(self, ref: PropertyRef) -> tuple[int, str]:
-        """Returns how many elements an array says that it has; or -1, and why that is not known."""
+        """Returns the number of elements of an array; or -1, and why it is not known."""
         answer = self.ask(ref.at(0))
         counts = elements_of(answer.region) or []
         if answer.reason or [it.kind in INTEGERS for it in counts] != [True]:
@@ -74,14 +72,14 @@ class Controller(Requester):
         return counts[0].number, ""
 
     def elements(self, most: int, ref: PropertyRef, whole: bool = False) -> Elements:
-        """Reads the elements of a list, one by one, up to so many. Lost ones are skipped; if the
-        list is wanted whole, it ends there."""
+        """Reads the elements of a list, one by one, at most this many. Lost ones are skipped; if
+        the whole list is needed, reading stops there."""
         count, why = self.count(ref)
         if why:
-            return Elements(reasons=["number of elements: " + why])
+            return Elements(reason="number of elements: " + why)
         elements = Elements(count=count)
         if whole and count > most:
-            return Elements(reasons=[f"too many elements: {count}"])
+            return Elements(reason=f"too many elements: {count}")
         for places in self.parts(range(1, min(count, most) + 1)):
             if self.is_over or (whole and elements.lost):
                 break
@@ -112,7 +110,7 @@ class Controller(Requester):
         return self.values([ref])[0]
 
     def identify(self, wanted: int | None = None) -> str:
-        """Returns why it is not to be asked as this device, or as any; empty if it is."""
+        """Returns why to ask nothing as this device, or as any; empty if asking is allowed."""
         if self.instance is None:
             begun = time.monotonic()
             found, reason = self._own_instance(wanted)
@@ -124,7 +122,7 @@ class Controller(Requester):
         return ""
 
     def other_than(self, device: int | None) -> str:
-        """Returns why it is not this device, if a device is named; empty otherwise."""
+        """Returns why the controller is not this device, if one is named; otherwise empty."""
         return "" if device is None else self.identify(device)
 
     def comes_back(self) -> bool:
@@ -140,14 +138,14 @@ class Controller(Requester):
         return is_back
 
     def has_changed(self) -> str:
-        """Returns what else it says to be now; empty if it is still the same device."""
+        """Returns the device that the controller now says it is; empty if it is still the same."""
         found, reason = self._own_instance(self.instance)
         if found == self.instance or reason == NOT_ASKED:
             return ""
         return f"at the end: {reason}" if found is None else f"at the end another device: 8:{found}"
 
     def _own_instance(self, wanted: int | None) -> tuple[int | None, str]:
-        """Returns the instance that it says to be; or why that is not known."""
+        """Returns the instance of the controller; or why it is not known."""
         answer = self._own_object(wanted)
         found = device_in(answer.region)
         if found is None:
@@ -155,8 +153,8 @@ class Controller(Requester):
         return found, ""
 
     def _own_object(self, wanted: int | None) -> ReadResult:
-        """Reads the object that it is. An old device knows itself by its number alone, not by
-        4194303: then it is asked by the number that is wanted, or that a Who-Is brings."""
+        """Reads the device object. An old device knows only its own instance, not 4194303: then the
+        wanted instance is asked for, or the one that a Who-Is brings."""
         answer = self.ask(ITSELF)
         if not answer.reason or answer.why.is_gone:
             return answer
@@ -168,8 +166,8 @@ class Controller(Requester):
         return self.ask(PropertyRef(DEVICE, found[0], OBJECT_ID)) if len(found) == 1 else answer
 
     def search(self) -> Search:
-        """Sends a Who-Is to here, or to the router. Nothing else is sent until it is answered, or
-        for twice as long as it took to say which device that is."""
+        """Sends a Who-Is to this address, or to the router. Nothing else is sent until it is
+        answered, or for twice as long as the read of the identity took."""
         with self._line:
             search = Search(self.tools, self.address, self._pace.patience, self.deadline)
             search.wait_for(self.address, max(LEAST_WAIT, 2 * self._took))

@@ -6,7 +6,6 @@ import argparse
 import math
 import re
 import struct
-from contextlib import suppress
 from decimal import ROUND_UP, Context, Decimal
 
 from .output import MISSING, put, wrong
@@ -38,8 +37,8 @@ def shortest(octets: str) -> str:
 
 
 def _shortest_of_real(number: float, octets: str) -> float:
-    """Tries each count of digits, also rounded up: above a power of two there is more room than
-    below, so the nearest number of so many digits may give other octets."""
+    """Tries each number of digits, also rounded up: above a power of two there is more room than
+    below, so the nearest number with that many digits may give other octets."""
     for digits in range(1, 10):
         short = float(f"{number:.{digits}g}")
         if abs(short) < abs(number) and _octets_or_none(short) != octets:
@@ -50,9 +49,10 @@ def _shortest_of_real(number: float, octets: str) -> float:
 
 
 def _octets_or_none(number: float) -> str:
-    with suppress(OverflowError):
+    try:
         return octets_of(number)
-    return ""
+    except OverflowError:
+        return ""
 
 
 def encoded(word: str, double: bool = False) -> str:

@@ -1,4 +1,4 @@
-"""What a device has, and each of its objects, as it says itself."""
+"""The properties of a device, and those of each of its objects."""
 
 from __future__ import annotations
 
@@ -15,22 +15,21 @@ from .standard import DEVICE, OBJECT, OBJECT_NAME, OBJECT_TYPES, PRESENT_VALUE, 
 from .standard import STATUS_FLAGS, ObjectId, PropertyRef, form_of
 from .values import NOTHING, Kind, Value, flags_of, shown, state_of, told, value_of
 
-# The texts that a device says of itself: members of Device, each with its property. CSV, JSON, the
-# page and the comparison with an earlier survey have these names, in this order. A device has to
-# have each of them, except those of MAY_LACK.
+# The texts of a device: members of Device, each with its property. CSV, JSON, the page and the
+# comparison with an earlier survey have these names, in this order. A device must have each of
+# them.
 TEXTS = {"name": OBJECT_NAME, "vendor": standard.VENDOR_NAME, "model": standard.MODEL_NAME}
-MAY_LACK: tuple[str, ...] = ()
-# What else a device says of itself, if devices alone are asked; it may lack any of these.
+# Other texts of a device, read if only devices are surveyed; any of them may be missing.
 FACTS = {"firmware": standard.FIRMWARE, "software": standard.SOFTWARE}
 FACTS.update(status=standard.SYSTEM_STATUS, protocol_revision=standard.PROTOCOL_REVISION)
 CLOCK = (standard.LOCAL_DATE, standard.LOCAL_TIME)
-# The settings of an object which are asked for with --details.
+# The settings of an object that are read with --details.
 SETTINGS = (standard.LOW_LIMIT, standard.HIGH_LIMIT, standard.MIN_VALUE, standard.MAX_VALUE)
 
 
 @dataclass
 class SiteObject:
-    """An object of a device, and why something of it is missing."""
+    """An object of a device, and why parts of it are missing."""
 
     object_type: int
     instance: int
@@ -38,9 +37,9 @@ class SiteObject:
     value: Value = NOTHING
     meaning: str = ""  # of a state
     unit: str = ""
-    flags: tuple[str, ...] | None = None  # those that are set; None if it has no flags
-    name_read: bool = True  # or else it is that of an earlier survey
-    priorities: tuple[int, ...] = ()  # those above the program that command it, if that was asked
+    flags: tuple[str, ...] | None = None  # the set flags; None if the object has no flags
+    name_read: bool = True  # otherwise the name is from an earlier survey
+    priorities: tuple[int, ...] = ()  # above the program, if they were read
     description: str = ""
     event_state: str = ""
     settings: dict[str, str] = field(default_factory=dict)  # limits and texts, by their properties
@@ -48,12 +47,12 @@ class SiteObject:
 
     @property
     def object_id(self) -> ObjectId:
-        """Its type and its instance."""
+        """The type and the instance of the object."""
         return ObjectId(self.object_type, self.instance)
 
     @property
     def type_name(self) -> str:
-        """The name of its type; empty for a vendor's own."""
+        """The name of the object's type; empty for a vendor's own type."""
         return OBJECT_TYPES.get(self.object_type, "")
 
     @property
@@ -63,7 +62,7 @@ class SiteObject:
 
     @property
     def told_name(self) -> str:
-        """The name, and that it was not read now."""
+        """The name, with a note if it was not read now."""
         return self.name if self.name_read else f"{self.name} (not read)"
 
     @property
@@ -73,7 +72,7 @@ class SiteObject:
 
     @property
     def has_lost(self) -> bool:
-        """Whether something is missing because nobody answered."""
+        """Whether a value is missing because nobody answered."""
         return any(why_of(it.partition(": ")[2]).is_gone for it in self.reasons)
 
     @property
@@ -84,22 +83,22 @@ class SiteObject:
 
 @dataclass
 class Device:
-    """A device, and why something of it is missing. Without an instance nobody said which it is."""
+    """A device, and why parts of it are missing. Without an instance it is unknown."""
 
     address: str
     instance: int | None = None
     name: str = ""
     vendor: str = ""
     model: str = ""
-    revision: str = ""  # of its database: another one if objects or names are others
+    revision: str = ""  # of the database: it changes if objects or names change
     objects: list[SiteObject] = field(default_factory=list)
-    listed: list[ObjectId] | None = None  # its object list, if that is known to be whole
+    listed: list[ObjectId] | None = None  # the object list, if it is known to be whole
     reasons: list[str] = field(default_factory=list)
     changes: list[str] = field(default_factory=list)  # since an earlier survey
     gone: int | None = None  # the device that an earlier survey has at this address instead
     facts: dict[str, str] = field(default_factory=dict)  # those of FACTS, and its clock
-    hidden: bool = False  # nobody is there, and nobody said that somebody is
-    asked: str = ""  # when
+    hidden: bool = False  # nobody is there, and no earlier survey or Who-Is has a device there
+    asked: str = ""  # when it was asked
     is_named: bool = False  # only address and instance are known, and nothing else was asked
 
     @property
@@ -124,7 +123,7 @@ class Device:
 
     @property
     def is_whole(self) -> bool:
-        """Whether nothing of it is missing."""
+        """Whether no part of the device is missing."""
         return not self.reasons and not any(it.reasons for it in self.objects)
 
 
@@ -133,12 +132,12 @@ class Bounds(NamedTuple):
 
     objects: int = 5000
     deadline: int = 600  # seconds for one controller
-    devices: bool = False  # without their objects
+    devices: bool = False  # devices without their objects
     details: bool = False  # descriptions and event states too
-    held: bool = False  # only what is commanded above the program
-    stations: bool = False  # those behind a router too
+    held: bool = False  # only objects that are commanded above the program
+    stations: bool = False  # stations behind a router too
     listen: int = 10  # seconds, after each question to all stations of a network
-    listen_port: int = 47808  # at which these are heard
+    listen_port: int = 47808  # the port for the answers of stations
 
 
 NamesOf = Callable[[Device], Mapping[ObjectId, str]]
@@ -146,9 +145,9 @@ Held = Tuple[Tuple[int, ...], str]  # priorities above the program, or why they 
 
 
 def device_of(controller: Controller, bounds: Bounds, names_of: NamesOf) -> Device:
-    """Reads the device that a controller has said it is, and its objects.
+    """Reads the device that a controller says it is, and its objects.
 
-    `names_of` returns the names of objects that are known already, and are not asked for.
+    `names_of` returns the known names of objects, which are not read.
     """
     device = _Reader(controller, bounds).device(names_of)
     is_early = device.listed is None and not device.objects
@@ -161,7 +160,7 @@ def device_of(controller: Controller, bounds: Bounds, names_of: NamesOf) -> Devi
 
 
 class _Reader:
-    """Reads a device: the values that were read, and the names that need not be."""
+    """Reads a device; has the values that were read, and the names that need no reading."""
 
     def __init__(self, controller: Controller, bounds: Bounds) -> None:
         self.controller, self.bounds, self.own = controller, bounds, controller.own
@@ -190,7 +189,7 @@ class _Reader:
         more = [*FACTS.values(), *CLOCK] if is_alone else [standard.DATABASE_REVISION]
         self.ask([self.own.ref(it) for it in [*TEXTS.values(), *more]])
         for name, number in TEXTS.items():
-            value = self.value(device.reasons, self.own.ref(number), optional=name in MAY_LACK)
+            value = self.value(device.reasons, self.own.ref(number), optional=False)
             setattr(device, name, value.text)
         if is_alone:
             device.facts = self.facts()
@@ -201,14 +200,14 @@ class _Reader:
         return device
 
     def facts(self) -> dict[str, str]:
-        """Returns what it says of its software, its state and its clock, as far as it does."""
+        """Returns the device's software, state and clock, as far as it reports them."""
         values = {name: self.values[self.own.ref(number)] for name, number in FACTS.items()}
         facts = {name: it.named for name, it in values.items() if not it.fault}
         drift = clock_drift("T".join(self.values[self.own.ref(it)].text for it in CLOCK))
         return {**facts, "clock": drift} if drift else facts
 
     def add_objects(self, device: Device) -> None:
-        """Reads the objects, and whether they are still those that were listed."""
+        """Reads the objects, and whether they are still those of the list."""
         controller, bounds = self.controller, self.bounds
         listed, reasons = self.object_list()
         device.reasons += ["object-list: " + reason for reason in shortened(reasons)]
@@ -237,10 +236,10 @@ class _Reader:
             device.reasons += self.changed(device.revision, -1 if reasons else len(listed))
 
     def object_list(self) -> tuple[list[ObjectId], list[str]]:
-        """Returns the objects that it says it has, and why some are lost."""
+        """Returns the object list, and why some objects are lost."""
         ref = self.own.ref(standard.OBJECT_LIST)
         answer = self.controller.ask(ref)
-        listed = Elements([answer.region])
+        listed = Elements(answer.region)
         if answer.reason:  # whatever it is, the elements may be answered
             listed = self.controller.elements(self.bounds.objects + 1, ref)  # one is the device
             if not listed.count and answer.why is not Why.TOO_LONG:
@@ -260,7 +259,7 @@ class _Reader:
         return found, reasons + [f"another device: {it}" for it in others]
 
     def changed(self, before: str, count: int) -> list[str]:
-        """Returns what tells that the objects are others than when they were listed."""
+        """Returns signs that the objects have changed since they were listed."""
         now, why = self.controller.count(self.own.ref(standard.OBJECT_LIST))
         found = []
         if count >= 0 and not why and now != count:
@@ -281,7 +280,7 @@ class _Reader:
         return found
 
     def some_objects(self, part: Sequence[ObjectId]) -> list[SiteObject]:
-        """Reads objects; those whose names were not asked for any more are left out."""
+        """Reads objects; those whose names could no longer be read are omitted."""
         self.ask([it.ref(OBJECT_NAME) for it in part if it not in self.names])
         known = {it: Value(Kind.TEXT, self.names[it]) for it in part if it in self.names}
         self.values.update({it.ref(OBJECT_NAME): name for it, name in known.items()})
@@ -303,7 +302,7 @@ class _Reader:
         return [*found, standard.DESCRIPTION, standard.EVENT_STATE, *_settings(object_type)]
 
     def an_object(self, object_id: ObjectId) -> SiteObject:
-        """Returns the object, made of what was read of it."""
+        """Returns the object, made from the values that were read."""
         made = SiteObject(*object_id)
 
         def value(number: int, optional: bool = True) -> Value:
@@ -321,13 +320,15 @@ class _Reader:
         made.meaning = made.meaning or made.value.meaning
         made.description = value(standard.DESCRIPTION).text
         made.event_state = value(standard.EVENT_STATE).named
-        settings = {PROPERTIES[it]: value(it) for it in _settings(object_id.object_type)}
-        made.settings = {name: it.shown() for name, it in settings.items() if it is not NOTHING}
+        for number in _settings(object_id.object_type) if self.bounds.details else []:
+            setting = value(number)
+            if setting is not NOTHING:
+                made.settings[PROPERTIES[number]] = setting.shown()
         return made
 
 
 def shortened(reasons: Sequence[str]) -> list[str]:
-    """Returns the first reasons, and the number of the others except the last, which counts."""
+    """Returns the first reasons, the number of omitted ones, and the last one, which decides."""
     if len(reasons) <= 4:
         return list(reasons)
     return [*reasons[:3], f"{len(reasons) - 4} more such", reasons[-1]]
@@ -351,8 +352,8 @@ def _settings(object_type: int) -> list[int]:
 
 
 def _held(controller: Controller, objects: Sequence[ObjectId]) -> tuple[dict[ObjectId, Held], int]:
-    """Returns the objects that do not have the value of their program: a priority above it commands
-    them, they are overridden, or out of service. And how many objects were looked at."""
+    """Returns the objects without the value of their program: a priority above it commands them,
+    they are overridden, or out of service. Also returns how many objects were read."""
     found: dict[ObjectId, Held] = {}
     count = 0
     for part in controller.parts(objects):
@@ -371,7 +372,7 @@ def _held(controller: Controller, objects: Sequence[ObjectId]) -> tuple[dict[Obj
 
 def _held_by(ref: PropertyRef, answer: ReadResult) -> Held | None:
     """Returns which entries of a priority array above the program are not null, whatever they
-    contain; or that status flags say that an object is overridden or out of service."""
+    contain; or the status flags that show an object as overridden or out of service."""
     name = PROPERTIES[ref.number]
     if answer.reason:
         missing = answer.why in (Why.NO_PROPERTY, Why.NO_OBJECT)

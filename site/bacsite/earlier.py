@@ -1,4 +1,4 @@
-"""An earlier survey: which names are known from it, and what has changed since."""
+"""An earlier survey: the names that are known from it, and the changes since."""
 
 from __future__ import annotations
 
@@ -6,8 +6,8 @@ import json
 from typing import Any, Iterator, Mapping, NamedTuple, Sequence
 
 from .device import TEXTS, Bounds, Device, SiteObject
-from .files import opened
-from .output import BROKEN, Failure, wrong
+from .files import octets_of
+from .output import wrong
 from .standard import ObjectId
 
 
@@ -17,10 +17,10 @@ class Known(NamedTuple):
     instance: int
     texts: dict[str, str]
     revision: str
-    objects: dict[ObjectId, dict[str, str]]  # what is compared of each, by the names in changes
+    objects: dict[ObjectId, dict[str, str]]  # facts of each, by their names in changes
     is_named: bool = False  # only address and instance
-    is_held: bool = False  # only the objects that do not have the value of their program
-    is_whole: bool = True  # it has all objects that it asked for
+    is_held: bool = False  # only the objects without the value of their program
+    is_whole: bool = True  # the survey has all objects that it asked for
 
 
 class Earlier:
@@ -30,15 +30,11 @@ class Earlier:
         self._devices = devices or {}  # by their addresses
         self._addresses = {it.instance: address for address, it in self._devices.items()}
         self._reuses = reuses
-
-    @property
-    def is_given(self) -> bool:
-        """Whether there is an earlier survey."""
-        return bool(self._devices)
+        self.is_given = bool(self._devices)  # whether there is an earlier survey
 
     def names_of(self, device: Device) -> dict[ObjectId, str]:
-        """Returns the names of objects that are not read again: the revision of the database is the
-        same, and it was asked for that."""
+        """Returns the names of objects that are not read again: those of a survey with names, if
+        the revision of the database is the same."""
         known = self._devices.get(device.address) if self._reuses else None
         is_same = known and (known.instance, known.revision) == (device.instance, device.revision)
         if not known or not is_same or not device.revision:
@@ -46,7 +42,7 @@ class Earlier:
         return {object_id: it["name"] for object_id, it in known.objects.items() if it["name"]}
 
     def stations_at(self, reaches: Sequence[str]) -> list[str]:
-        """Returns the addresses of all stations that it has behind these routers, or in these
+        """Returns the addresses of all stations of the survey behind these routers, or in these
         networks."""
         fronts = tuple(it.rstrip("*") for it in reaches)
         return [it for it in self._devices if "/" in it and it.startswith(fronts)]
@@ -65,7 +61,7 @@ class Earlier:
 
 
 def _changes(device: Device, known: Known, bounds: Bounds) -> Iterator[str]:
-    """Yields what has changed, of what both surveys have."""
+    """Yields the changes of what both surveys have."""
     if device.is_named or known.is_named:
         return
     for name, before in known.texts.items():
@@ -106,11 +102,7 @@ def _changed(
 
 def earlier_of(path: str, reuses: bool = False) -> Earlier:
     """Reads the survey in a file, as --json prints it."""
-    try:
-        with opened(path) as file:
-            lines = file.read().splitlines()
-    except OSError as error:
-        raise Failure(f"cannot read {path}: {error.strerror}", BROKEN) from error
+    lines = octets_of(path).splitlines()
     try:
         return Earlier(dict(filter(None, map(_known_of, lines))), reuses)
     except (ValueError, KeyError, TypeError, AttributeError):
@@ -139,7 +131,7 @@ def _known_of(line: bytes) -> tuple[str, Known] | None:
 
 
 def _facts(told: Mapping[str, Any]) -> dict[str, str]:
-    """Returns the facts of an object that are compared, as far as that survey asked for it."""
+    """Returns the compared facts of an object, as far as the survey asked for them."""
     found = {"name": told["name"], "unit": told["unit"]}
     found.update({"priority": told["held"]} if "held" in told else {})
     found.update({"description": told["description"]} if "description" in told else {})

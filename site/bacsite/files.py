@@ -1,5 +1,5 @@
-"""Files that are read, that are replaced as a whole, and that grow by lines; and journals: scripts
-for bactrace of what each bacrun prints."""
+"""Files that are read, files that are replaced as a whole, and files that grow by lines; and
+journals: scripts for bactrace that bacrun prints."""
 
 from __future__ import annotations
 
@@ -12,7 +12,6 @@ import re
 import signal
 import stat
 import sys
-import tempfile
 from collections import deque
 from contextlib import suppress
 from typing import BinaryIO, Iterable, Iterator
@@ -20,7 +19,7 @@ from typing import BinaryIO, Iterable, Iterator
 from .output import BROKEN, SIGNALS, Failure, wrong
 
 MOST_JOURNAL = 4 << 20  # octets of a journal, after which another one is begun
-MOST_KEPT, BLOCK = 100_000, 65536  # lines that wait for the disk; octets that are looked through
+MOST_KEPT, BLOCK = 100_000, 65536  # lines that wait; octets searched at once
 
 
 def content_of(name: str) -> str:
@@ -37,8 +36,17 @@ def opened(path: str) -> BinaryIO:
     return sys.stdin.buffer
 
 
+def octets_of(path: str) -> bytes:
+    """The octets of such a file."""
+    try:
+        with opened(path) as file:
+            return file.read()
+    except OSError as error:
+        raise Failure(f"cannot read {path}: {error.strerror}", BROKEN) from error
+
+
 def is_replaceable(path: str) -> bool:
-    """Whether there is a plain file, or nothing."""
+    """Whether the path is a plain file, or does not exist."""
     return not os.path.lexists(path) or (os.path.isfile(path) and not os.path.islink(path))
 
 
@@ -57,6 +65,8 @@ def replace_file(path: str, parts: Iterable[str], for_all: bool = False) -> None
 
 
 def _replace(path: str, parts: Iterable[str], for_all: bool) -> None:
+    import tempfile  # pylint: disable=import-outside-toplevel
+
     folder, name = os.path.split(path)
     mask = os.umask(0)
     os.umask(mask)
@@ -77,7 +87,7 @@ def _replace(path: str, parts: Iterable[str], for_all: bool) -> None:
 
 
 class Journals:
-    """The folder of them, if they are kept; and why one of them is not whole."""
+    """The folder of the journals, if they are kept; and why a journal is not whole."""
 
     def __init__(self, folder: str = "") -> None:
         if folder and not os.path.isdir(folder):
@@ -86,7 +96,7 @@ class Journals:
         self._latest: dict[str, int] = {}  # numbers of journals by their paths
 
     def begun(self, address: str) -> Journal | None:
-        """One more, for a bacrun that asks this address, if they are kept."""
+        """Begins a journal for a bacrun that asks this address, if journals are kept."""
         path = os.path.join(self.folder, re.sub("[:/]", "_", address))
         number = self._latest.get(path, 0) + 1
         while self.folder:
@@ -101,19 +111,19 @@ class Journals:
         return None
 
     def failed(self, path: str, error: OSError) -> None:
-        """Notes a fault, the first of them; what is asked goes on without the journal."""
+        """Notes the first fault; requests go on without the journal."""
         self.fault = self.fault or f"cannot write {path}: {error.strerror}"
 
 
 class Journal:
-    """A journal. If it can't be written it ends, and its folder knows that."""
+    """A journal. If it can't be written it ends, and its folder notes the fault."""
 
     def __init__(self, journals: Journals, file: io.FileIO | None = None) -> None:
         self._journals, self._file, self._size = journals, file, 0
 
     @property
     def is_full(self) -> bool:
-        """Whether another one is to be begun."""
+        """Whether another journal is needed."""
         return self._size >= MOST_JOURNAL
 
     def add(self, line: str) -> None:
@@ -128,7 +138,7 @@ class Journal:
             self.close()
 
     def close(self) -> None:
-        """Adds no more."""
+        """Ends the journal."""
         if self._file:
             with suppress(OSError):
                 self._file.close()
@@ -136,8 +146,8 @@ class Journal:
 
 
 class Rows:
-    """A file of CSV that grows by whole lines, whatever ends the program or fills the disk. No
-    other program of this kind has it open. What can't be written waits."""
+    """A CSV file that grows by whole lines, whatever ends the program or fills the disk. No other
+    program of this kind has it open. Lines that can't be written wait."""
 
     def __init__(self, path: str, head: str) -> None:
         self.path, self.fault, self.lost = path, "", 0
@@ -160,13 +170,14 @@ class Rows:
             self.add([head])
 
     def _whole(self, end: int) -> int:
-        """Returns the end of the last whole line: a loss of power may leave a part, or zeros."""
+        """Returns the end of the last whole line: a loss of power may leave part of one, or
+        zeros."""
         start = max(0, end - BLOCK)
         found = os.pread(self._file, end - start, start).rfind(b"\n") + 1
         return start + found if found or not start else self._whole(start)
 
     def rows(self, most: int) -> Iterator[list[str]]:
-        """Yields the rows of the last so many octets."""
+        """Yields the rows in the last `most` octets of the file."""
         with open(self.path, "rb") as file:
             file.seek(max(0, self._end - most))
             if self._end > most:
@@ -175,7 +186,7 @@ class Rows:
                 yield from csv.reader(text)
 
     def add(self, lines: list[str]) -> None:
-        """Adds lines, and sees that they are on the disk; if not, the latest of them wait."""
+        """Adds lines, and makes sure that they are on the disk; if not, the latest ones wait."""
         self._waiting.extend(it.encode("utf-8", "backslashreplace") for it in lines)
         while len(self._waiting) > MOST_KEPT:
             self._waiting.popleft()

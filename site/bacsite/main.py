@@ -1,10 +1,9 @@
-"""The program: what its words say is done, and how that ended is its status."""
+"""The program: runs the command in its words, and exits with its status."""
 
 from __future__ import annotations
 
 import os
 import sys
-import traceback
 from contextlib import suppress
 
 from .parsing import parsed
@@ -33,6 +32,8 @@ def main() -> int:
     except Exception as error:  # a fault of this program  pylint: disable=broad-except
         text, status = repr(error), BROKEN
         if os.environ.get("BACSITE_DEBUG") == "1":
+            import traceback  # pylint: disable=import-outside-toplevel
+
             show(traceback.format_exc())
     if checks:
         with suppress(Failure):
@@ -45,5 +46,5 @@ def main() -> int:
 
 
 def run() -> None:
-    """Ends with the status of the program: what the one file that is built of the package calls."""
+    """Exits with the status of the program; the one file built from the package calls this."""
     sys.exit(main())

@@ -1,12 +1,12 @@
-"""The headers of BACnet/IP (ANSI/ASHRAE 135: Annex J, 6, 20.1), what routers say (6.4), and how an
-answer ends a request."""
+"""The headers of BACnet/IP (ANSI/ASHRAE 135: Annex J, 6, 20.1), the messages of routers (6.4), and
+how an answer ends a request."""
 
 from __future__ import annotations
 
 from typing import NamedTuple
 
 from .bodies import error_body, read_ack, region_text
-from .standard import DEVICE, THIS_DEVICE, PropertyRef
+from .standard import DEVICE, THIS_DEVICE, PropertyRef, numbered
 
 FORWARDED, DISTRIBUTE, UNICAST, BROADCAST = 4, 9, 10, 11
 NETWORK_AT = {FORWARDED: 10, DISTRIBUTE: 4, UNICAST: 4, BROADCAST: 4}
@@ -16,35 +16,16 @@ READ, WRITE = 12, 15  # services
 TARGET, SOURCE, NETWORK_MESSAGE = 0x20, 0x08, 0x80  # bits of the network header
 
 I_AM_ROUTER, I_COULD_BE, REJECTED, BUSY, AVAILABLE = 1, 2, 3, 4, 5
-NETWORK_NAMES = {
-    0: "who-is-router-to-network",
-    I_AM_ROUTER: "i-am-router-to-network",
-    I_COULD_BE: "i-could-be-router-to-network",
-    REJECTED: "reject-message-to-network",
-    BUSY: "router-busy-to-network",
-    AVAILABLE: "router-available-to-network",
-    6: "initialize-routing-table",
-    7: "initialize-routing-table-ack",
-    8: "establish-connection-to-network",
-    9: "disconnect-connection-to-network",
-}
+NETWORK_NAMES = numbered("Network messages")[0]
+REASONS = numbered("Reasons of a reject-message-to-network")[0]
 LISTS = (0, I_AM_ROUTER, BUSY, AVAILABLE)  # messages that consist of network numbers
 FIRST = (I_COULD_BE, 8, 9)  # messages that begin with one network number
-REASONS = (  # of a Reject-Message-To-Network (clause 6.4.4), from 0
-    "another error",
-    "no route to that network",
-    "the router is busy",
-    "unknown network message",
-    "message too long for that network",
-    "security error",
-    "wrong length of the address",
-)
 
 
 class Datagram(NamedTuple):
-    """A UDP datagram: nanoseconds since 1970, from and to whom as ADDRESS:PORT, its octets.
+    """A UDP datagram: nanoseconds since 1970, sender and receiver as ADDRESS:PORT, octets.
 
-    If it is cut, a capture has kept only the first octets.
+    A datagram that is cut has only its first octets in the capture.
     """
 
     nanos: int
@@ -70,7 +51,7 @@ class Apdu(NamedTuple):
 
     @property
     def is_answer(self) -> bool:
-        """Whether it answers a request: an Abort does only if the server sends it."""
+        """Whether the APDU answers a request: an Abort does only if the server sent it."""
         return self.kind in ANSWERS and (self.kind != ABORT or bool(self.flags & 1))
 
 
@@ -88,17 +69,16 @@ class NetworkMessage(NamedTuple):
         text = f"{name} {', '.join(map(str, self.networks))}".rstrip()
         if self.reason is None:
             return text
-        reason = dict(enumerate(REASONS)).get(self.reason, "unknown reason")
-        return f"{text}: {reason} ({self.reason})"
+        return f"{text}: {REASONS.get(self.reason, 'unknown reason')} ({self.reason})"
 
     @property
     def is_refusal(self) -> bool:
-        """Whether it says that nothing is passed on to these networks."""
+        """Whether the message says that these networks are not reached."""
         return self.kind in (REJECTED, BUSY)
 
 
 class Message(NamedTuple):
-    """A datagram that was read: the APDU, if there is one, and where it begins; else words of it.
+    """A datagram that was read: the APDU and where it begins, or otherwise its meaning in words.
 
     Sender and receiver have their routes with them, as ADDRESS:PORT/NETWORK/STATION.
     """
@@ -113,13 +93,13 @@ class Message(NamedTuple):
 
     @property
     def is_fault(self) -> bool:
-        """Whether it is a refusal of a router, or (outside of a talk) an answer to nothing."""
+        """Whether this is a router's refusal, or an answer, which is a fault outside a talk."""
         refuses = self.network is not None and self.network.is_refusal
         return refuses or (self.apdu is not None and self.apdu.is_answer)
 
     @property
     def nanos(self) -> int:
-        """When it was sent."""
+        """When the message was sent."""
         return self.datagram.nanos
 
 
@@ -139,22 +119,18 @@ def message_of(datagram: Datagram) -> Message:
     if not network:
         return plain._replace(words="a network header that is cut")
     source, target, start = network
-    routed = Message(datagram, plain.sender + source, plain.receiver + target, at=start)
-    return _read_on(routed, is_network_message=bool(octets[at + 1] & NETWORK_MESSAGE))
+    ends = plain.sender + source, plain.receiver + target
+    if octets[at + 1] & NETWORK_MESSAGE:
+        said = network_message_of(octets[start:])
+        words = said.words if said else "a network message that is cut"
+        return Message(datagram, *ends, None, start, words, said)
+    apdu = apdu_of(octets[start:], datagram.is_cut)
+    return Message(datagram, *ends, apdu, start, "" if apdu else _unread(datagram, start))
 
 
-def _read_on(routed: Message, is_network_message: bool) -> Message:
-    """Reads what follows the network header."""
-    octets, is_cut = routed.datagram.octets[routed.at :], routed.datagram.is_cut
-    if is_network_message:
-        found = network_message_of(octets)
-        words = found.words if found else "a network message that is cut"
-        return routed._replace(words=words, network=found)
-    apdu = apdu_of(octets, is_cut)
-    if apdu:
-        return routed._replace(apdu=apdu)
-    why = "is cut" if is_cut else "can't be read"
-    return routed._replace(words=f"an APDU that {why}: {octets.hex() or 'none'}")
+def _unread(datagram: Datagram, at: int) -> str:
+    why = "is cut" if datagram.is_cut else "can't be read"
+    return f"an APDU that {why}: {datagram.octets[at:].hex() or 'none'}"
 
 
 def _network_of(octets: bytes, at: int) -> tuple[str, str, int] | None:
@@ -212,7 +188,7 @@ def apdu_of(octets: bytes, is_cut: bool = False) -> Apdu | None:
 
 
 def is_about(told: PropertyRef, asked: PropertyRef) -> bool:
-    """Returns whether an answer is about what was asked for. THIS_DEVICE stands for any device."""
+    """Returns whether an answer is about the requested property. THIS_DEVICE means any device."""
     is_own = asked.object_id == (DEVICE, THIS_DEVICE)
     return told == (asked._replace(instance=told.instance) if is_own else asked)
 
@@ -242,11 +218,11 @@ def _acknowledged(apdu: Apdu) -> str:
 
 
 class Refusals:
-    """What routers have said of networks. It is shown as a reason, and nothing else depends on it:
-    anyone can send such a message."""
+    """The refusals of routers for networks. They are shown as reasons, and nothing else depends on
+    them: anyone can send such a message."""
 
     def __init__(self) -> None:
-        self._said: dict[int, str] = {}  # by the networks; 0 stands for all
+        self._said: dict[int, str] = {}  # by network; 0 means all
 
     def heard(self, message: NetworkMessage) -> None:
         """Notes a message."""

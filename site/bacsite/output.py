@@ -14,12 +14,12 @@ import unicodedata
 from contextlib import suppress
 from typing import Mapping, Sequence
 
-MISSING, WRONG_WORDS, BROKEN = 1, 2, 3  # statuses; 0 is that all which was asked for came
-SIGNALS = (signal.SIGINT, signal.SIGHUP, signal.SIGTERM)  # which end it
+MISSING, WRONG_WORDS, BROKEN = 1, 2, 3  # statuses; 0 means that all requested values came
+SIGNALS = (signal.SIGINT, signal.SIGHUP, signal.SIGTERM)  # the signals that end the program
 
 
 class Failure(Exception):
-    """What ends the program: a line for standard error, if there is one, and the status."""
+    """Ends the program with a line for standard error, if there is one, and a status."""
 
     def __init__(self, text: str, status: int) -> None:
         super().__init__(clean(text))
@@ -51,7 +51,7 @@ def show(text: str) -> None:
 
 
 def on_terminal() -> bool:
-    """Whether somebody sees what is shown."""
+    """Whether standard error is a terminal."""
     with suppress(OSError, ValueError):
         return sys.stderr is not None and sys.stderr.isatty()
     return False
@@ -63,7 +63,7 @@ PLAIN_NUMBER = re.compile(r"-?[0-9.]+(e[-+]?[0-9]+)?")
 
 
 def clean(text: str) -> str:
-    """A text in which what would steer a terminal or end a line is escaped."""
+    """A text with all characters escaped that would control a terminal or end a line."""
     if text.isprintable():
         return text
     return "".join(
@@ -72,21 +72,21 @@ def clean(text: str) -> str:
 
 
 def escaped(text: str) -> str:
-    """Returns a foreign text, escaped like by `clean`. If it has something to escape, or looks as
-    if it had, each backslash is doubled: so no two texts look alike."""
+    """Returns a foreign text, escaped as by `clean`. If a character is escaped, or the text looks
+    as if one were, each backslash is doubled: so no two texts look alike."""
     if text.isprintable() and not ESCAPE.search(text):
         return text
     return clean(text.replace("\\", "\\\\"))
 
 
 def stamp(seconds: float | None = None) -> str:
-    """A time as 2026-11-27T08:13:42Z; now where none is given."""
+    """A time as 2026-11-27T08:13:42Z; without an argument, the present time."""
     return time.strftime("%Y-%m-%dT%H:%M:%SZ", time.gmtime(seconds))
 
 
 def clock_drift(text: str) -> str:
-    """By how many seconds a local time, like 2026-11-27T08:13:42.05, differs from that of this
-    machine; empty if it is not a time."""
+    """The difference in seconds between a local time, like 2026-11-27T08:13:42.05, and the time of
+    this machine; empty if the text is not a time."""
     try:
         seconds = time.mktime(time.strptime(text[:19], "%Y-%m-%dT%H:%M:%S"))
     except (ValueError, OverflowError):
@@ -100,7 +100,7 @@ def moment(millis: int) -> str:
 
 
 def times(count: int, what: str) -> str:
-    """So many of something: 1 device, 2 devices."""
+    """A number with a noun: 1 device, 2 devices."""
     return f"{count} {what}{'' if count == 1 else 's'}"
 
 

@@ -1,4 +1,4 @@
-"""A survey as one page of HTML that needs nothing else, and can be read without its script."""
+"""A survey as one page of HTML that needs no other file, and can be read without its script."""
 
 from __future__ import annotations
 
@@ -27,7 +27,7 @@ def safe(text: str) -> str:
 
 
 def _own(text: str) -> str:
-    """Returns a text whose direction does not reach its surroundings."""
+    """Returns a text whose writing direction does not affect the text around it."""
     return f"<bdi>{safe(text)}</bdi>" if text else ""
 
 
@@ -40,11 +40,11 @@ class Column(NamedTuple):
 
     name: str  # the class of its cells
     head: str
-    inner: Callable[[int, Any], str]  # what its cell contains: of the n-th device, of an object
-    number: Callable[[Any], Any] = lambda _: None  # by what it is sorted, if by a number
+    inner: Callable[[int, Any], str]  # the contents of a cell: of the n-th device, of an object
+    number: Callable[[Any], Any] = lambda _: None  # by which the column is sorted
 
     def cell(self, at: int, it: object) -> str:
-        """Returns its cell of the device or object `it`, which is the `at`-th one."""
+        """Returns the cell of the device or object `it`, which is the `at`-th one."""
         number = self.number(it)
         sorts = "" if number is None else f' data-n="{number!r}"'
         return f'<td class="{self.name}"{sorts}>{self.inner(at, it)}</td>'
@@ -146,7 +146,7 @@ def _of_text(text: str) -> Column:
 
 
 def _flags(device: Device) -> str:
-    """Returns how many objects of a device have which flag set, those of the standard first."""
+    """Returns how many objects of a device have each flag set, the standard's flags first."""
     counts = Counter(flag for it in device.objects for flag in it.flags or ())
     known = sorted(counts, key=lambda it: (FLAGS.index(it) if it in FLAGS else len(FLAGS), it))
     return " ".join(_badge(flag, f"{counts[flag]} {flag}") for flag in known)

@@ -12,22 +12,21 @@ from .files import Journals, content_of
 from .output import WRONG_WORDS, Failure, put, wrong
 
 POINT = "[INSTANCE@]ADDRESS [real|double|integer] TYPE INSTANCE PROPERTY [INDEX]"
-MARK = "\0"  # of a word that argparse must not accept as an option; no word has it
 SHORT = ("-h", "-V", "-H", "-w", "-c", "-t")  # the options of one letter
 UNITS_OF_TIME = {"s": 1, "m": 60, "h": 3600, "d": 86400}
 MOST_DURATION = 1000 * 86400  # seconds
 
 
 class Command(NamedTuple):
-    """A section of the table: what does it, its usual --at-once, what it does, and its lines."""
+    """A section of the table: the function, its usual --at-once, its help, and its lines."""
 
-    function: str  # of which module; it returns the status
-    at_once: str  # empty if it asks no controllers
+    function: str  # with its module; it returns the status
+    at_once: str  # empty if the command asks no controllers
     summary: str
     lines: list[list[str]]  # names, value, kind and help
 
     def work(self, words: argparse.Namespace) -> int:
-        """Does it. Only its module is loaded: monitoring starts the program again and again."""
+        """Runs it. Only its module is loaded: monitoring starts the program again and again."""
         module, _, name = self.function.rpartition(".")
         function = getattr(import_module("." + module, __package__), name)
         return int(function(words))
@@ -50,6 +49,10 @@ PROGRAM, ASKING = COMMANDS.pop("program"), COMMANDS.pop("asking")
 class Parser(argparse.ArgumentParser):
     """A parser that writes and fails as the rest of the program does."""
 
+    def __init__(self, **more: Any) -> None:
+        super().__init__(**more)
+        self._negative_number_matcher = re.compile(r"-\.?[0-9]")  # so begins no option, as -10:5
+
     def take(self, command: Command) -> Parser:
         """Adds the lines of a command, and returns the parser."""
         either = None
@@ -64,29 +67,18 @@ class Parser(argparse.ArgumentParser):
         put(message)
 
     def error(self, message: str) -> NoReturn:
-        raise wrong(f"{message.replace(MARK, '')}; see {self.prog} --help")
+        raise wrong(f"{message}; see {self.prog} --help")
 
     def parsed(self, given: Sequence[str]) -> argparse.Namespace:
-        """Reads words; those that begin as negative numbers, such as -10:5, are not options."""
-        marked = [MARK + word if re.match(r"-\.?[0-9]", word) else word for word in given]
+        """Reads words."""
         try:
-            words = self.parse_args(marked)
+            return self.parse_args(given)
         except Failure as failure:
             if failure.status != WRONG_WORDS:
                 raise
             odd = [it for it in given if re.match("-[^-]", it) and it[:2] not in SHORT]
             hint = "" if "--" in given or not odd else f"; put a value like {odd[0]} after --"
             raise wrong(f"{failure}{hint}") from None
-        for name, it in vars(words).items():
-            if isinstance(it, list):
-                setattr(words, name, [_unmarked(one) for one in it])
-            elif isinstance(it, str):
-                setattr(words, name, _unmarked(it))
-        return words
-
-
-def _unmarked(word: str) -> str:
-    return word[1:] if word.startswith(MARK) else word
 
 
 def within(least: int, most: int) -> Callable[[str], int]:
@@ -101,7 +93,7 @@ def within(least: int, most: int) -> Callable[[str], int]:
 
 
 def duration_of(word: str) -> float:
-    """Returns seconds, by a word such as 90, 90s, 10m, 8h, 1d or 1h30m."""
+    """Returns the seconds in a word such as 90, 90s, 10m, 8h, 1d or 1h30m."""
     parts = re.findall(r"([0-9]{1,9}(?:\.[0-9]{1,9})?)([smhd]?)", word)
     seconds = sum(float(number) * UNITS_OF_TIME[unit or "s"] for number, unit in parts)
     if "".join(map("".join, parts)) != word or not 0 < seconds <= MOST_DURATION:
@@ -113,7 +105,7 @@ KINDS: dict[str, dict[str, Any]] = {  # what argparse needs to know of each
     "version": {"action": "version", "version": f"bacsite {VERSION}"},
     "decimal": {"type": float},
     "duration": {"type": duration_of},
-    "journals": {"type": lambda it: Journals(_unmarked(it)), "default": ""},
+    "journals": {"type": Journals, "default": ""},
     "text": {"default": ""},
     "+": {"nargs": "+"},
     "3": {"nargs": 3},

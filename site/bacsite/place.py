@@ -1,11 +1,10 @@
-"""The place of a write: what is there now, and which values can be written to it; and a value as
-somebody writes it, made into the tag and the word that bacwp accepts."""
+"""The place of a write: its present value, and the values that can be written to it; and a value as
+a user writes it, turned into the tag and the word that bacwp accepts."""
 
 from __future__ import annotations
 
 import datetime
 import re
-from dataclasses import dataclass, field, replace
 from decimal import Decimal
 from typing import NamedTuple
 
@@ -25,19 +24,19 @@ LIMITS = {
     standard.SIGNED: (-(2**63), 2**63 - 1),
     standard.ENUMERATED: (0, 2**32 - 1),
 }
-WORDS = {  # the pattern of a word, the reason if it does not fit, and how it is read back
+WORDS = {  # the pattern of a word, the reason if it does not match, and how the value is read back
     standard.NULL: ("null", "not null: ", "{}"),
     standard.BOOLEAN: ("true|false", "neither true nor false: ", "{}"),
     standard.BITS: ("[01]+", "no bits, as 0101: ", "B'{}'"),
     standard.OCTETS: ("([0-9a-f]{2})+", "no octets in hexadecimal digits, as 01ff: ", "X'{}'"),
 }
 WHOLE = re.compile("-?[0-9]+")
-LAST_YEAR = 2154  # the octet of the next one stands for any
+LAST_YEAR = 2154  # the octet of the next year means any year
 TIME = re.compile(r"([0-9]{1,2}):([0-9]{2})(?::([0-9]{2})(?:\.([0-9]{2}))?)?")
 
 
 class Encoded(NamedTuple):
-    """A value for bacwp: its tag and its word; and its readable text, as it is read back."""
+    """A value for bacwp: its tag and its word; and its text when it is read back."""
 
     tag: int
     word: str
@@ -52,7 +51,7 @@ NULL = Encoded(standard.NULL, "null", "null")
 
 
 def encode(word: str, tag: int) -> Encoded:
-    """Returns the value of a word as one of this tag; it fails if the word is not one."""
+    """Returns the value of a word with this tag; fails if the word is not one."""
     if tag in standard.INTEGERS:
         return _integer(word, tag)
     if tag in (standard.REAL, standard.DOUBLE):
@@ -109,22 +108,21 @@ OTHERS = {standard.DATE: _date, standard.TIME: _time, standard.OBJECT: _object}
 
 
 class Priorities(NamedTuple):
-    """The priority array by its numbers, from 1, if there is one; or why it is not read."""
+    """The priority array by its numbers, from 1, if there is one; or why it cannot be read."""
 
     values: dict[int, Value] = {}
     fault: str = ""
 
 
-@dataclass(frozen=True)
-class Place:
-    """A property of an object, and what it has."""
+class Place(NamedTuple):
+    """A property of an object, and its value."""
 
     address: str
     ref: PropertyRef
     is_present_value: bool
     name: str = ""  # of the object
     value: Value = NOTHING
-    texts: dict[int, str] = field(default_factory=dict)  # what the object calls its states
+    texts: dict[int, str] = {}  # the object's names for its states
     priorities: Priorities = Priorities()
 
     def words(self) -> str:
@@ -133,10 +131,10 @@ class Place:
         return told.rstrip() + ("" if self.is_present_value else " " + _name_of(self.ref))
 
     def shown(self, value: Value) -> str:
-        """Returns the text of a value that it has, a state by what the object calls it."""
+        """Returns the text of the present value; for a state, the object's name for it."""
         is_state = self.texts and value.kind is Kind.NUMBER
         own = self.texts.get(int(value.text)) if is_state else None
-        return replace(value, meaning=own or value.meaning).shown()
+        return value._replace(meaning=own or value.meaning).shown()
 
     def named(self, number: int) -> str:
         """Returns a number that it may have, with its name."""
@@ -144,12 +142,11 @@ class Place:
         return self.shown(Value(Kind.NUMBER, str(number), meaning))
 
     def told(self, value: Encoded) -> str:
-        """Returns the text of a value that it should get."""
+        """Returns the text of the value that is to be written."""
         return self.named(int(value.text)) if value.tag in standard.INTEGERS else value.shown()
 
     def numbers(self) -> dict[str, set[int]]:
-        """Returns which numbers a name stands for, in small letters: by the standard, and by the
-        object."""
+        """Returns the numbers for each name, in small letters: the standard's and the object's."""
         found: dict[str, set[int]] = {}
         for table in (form_of(self.ref).names, self.texts):
             for number, name in table.items():
@@ -162,7 +159,7 @@ def _name_of(ref: PropertyRef) -> str:
 
 
 def looked_at(controller: Controller, place: Place) -> Place:
-    """Returns the place with what it has now; it fails if the object is not there, or another."""
+    """Returns the place with its present value; fails if the object is missing or another one."""
     name = _needed(controller, place.ref.other(standard.OBJECT_NAME))
     found = _needed(controller, place.ref.other(standard.OBJECT_TYPE))
     if found.text not in ("", str(place.ref.object_type)):
@@ -173,11 +170,11 @@ def looked_at(controller: Controller, place: Place) -> Place:
     texts = _texts(controller, place) if form_of(place.ref).states else {}
     array = priorities(controller, place) if place.is_present_value else Priorities()
     _refuse_unanswered("priority-array", array.fault)
-    return replace(place, name=name.text, value=value, texts=texts, priorities=array)
+    return place._replace(name=name.text, value=value, texts=texts, priorities=array)
 
 
 def _needed(controller: Controller, ref: PropertyRef) -> Value:
-    """Returns a value, or nothing if there is no such property; any other reason is a failure."""
+    """Returns a value, or nothing if there is no such property; fails for any other reason."""
     value = controller.value(ref)
     if value.why is Why.NO_PROPERTY:
         return NOTHING
@@ -187,13 +184,13 @@ def _needed(controller: Controller, ref: PropertyRef) -> Value:
 
 
 def _refuse_unanswered(name: str, reason: str) -> None:
-    """Fails if something is missing for a reason that is not an answer."""
+    """Fails if a value is missing for a reason that is not an answer."""
     if reason and not reason.startswith(ANSWERED):
         raise Failure(f"{name}: {reason}", MISSING)
 
 
 def _texts(controller: Controller, place: Place) -> dict[int, str]:
-    """Returns what the object calls its states, as far as it says so."""
+    """Returns the object's names for its states, as far as it has them."""
     if place.ref.object_type in MULTI_STATE:
         ref = place.ref.other(standard.STATE_TEXT)
         answer = controller.read(ref)
@@ -219,7 +216,7 @@ def priorities(controller: Controller, place: Place) -> Priorities:
 
 
 def encoded_for(controller: Controller, place: Place, word: str, type_: str | None) -> Encoded:
-    """Returns the value of a word here; it fails if that is of the wrong type, or past a range."""
+    """Returns the value of a word here; fails if its type is wrong, or it is out of range."""
     form = form_of(place.ref)
     if word == "null" and place.is_present_value and not type_:
         return NULL
@@ -239,7 +236,7 @@ def encoded_for(controller: Controller, place: Place, word: str, type_: str | No
 
 
 def _number(place: Place, word: str, type_: str) -> str:
-    """Returns the number that a word is, or is the name of; it fails if it may be two."""
+    """Returns the number in a word, or of the name in it; fails if there are two such numbers."""
     known, is_number = place.numbers(), WHOLE.fullmatch(word)
     found = known.get(word.lower(), set()) | ({int(word)} if is_number else set())
     if len(found) > 1:
@@ -254,7 +251,7 @@ def _number(place: Place, word: str, type_: str) -> str:
 
 
 def _refuse_past_the_range(controller: Controller, place: Place, value: Encoded) -> None:
-    """Fails if the number is not one that the object has, as it says itself."""
+    """Fails if the number is outside the object's own limits."""
 
     def limit(number: int) -> Decimal | None:
         limit = _needed(controller, place.ref.other(number))
@@ -267,7 +264,7 @@ def _refuse_past_the_range(controller: Controller, place: Place, value: Encoded)
         least, most = Decimal(states[0]), count or Decimal(states[1])
     else:
         found = [limit(standard.MIN_VALUE), limit(standard.MAX_VALUE)]
-        if found != [0, 0]:  # so says an object that does not know
+        if found != [0, 0]:  # [0, 0] is the answer of an object without limits
             least, most = found
     if (least is None or least <= number) and (most is None or number <= most):
         return

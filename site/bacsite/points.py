@@ -1,4 +1,4 @@
-"""Points: what is read of which controller, as the words and the lists say it."""
+"""Points: a property of a controller, as the words and the lists name it."""
 
 from __future__ import annotations
 
@@ -9,14 +9,14 @@ from functools import partial
 from typing import Iterable, NamedTuple, Sequence
 
 from . import addresses
-from .output import BROKEN, Failure, clean, wrong
-from .files import opened
+from .output import Failure, clean, wrong
+from .files import octets_of
 from .parsing import POINT
 from .standard import DOUBLE, INTEGERS, OBJECT_TYPES, PROPERTIES, REAL, Form, PropertyRef
 
 MOST_TYPE, MOST_INSTANCE, MOST_INDEX = 1023, 4194303, 4294967295
-WORD = re.compile(rb"[!-\xff]+")  # what can be a word of a line of a script
-# What a list may name in front of a type: a value of another one is a reason then.
+WORD = re.compile(rb"[!-\xff]+")  # octets that can be a word of a line of a script
+# The types that a list may name; then a value of another type is a reason.
 FORMS = {"integer": Form(INTEGERS), "real": Form((REAL,)), "double": Form((DOUBLE,))}
 
 
@@ -43,7 +43,7 @@ def number(word: str, what: str, most: int, names: dict[int, str] | None = None)
 
 
 def _hint(word: str, names: Iterable[str]) -> str:
-    """The names that may be meant: those with these initials, or else those that look like it."""
+    """The names that may be meant: those with these initials, or otherwise similar ones."""
     known = list(names)
     near = [name for name in known if "".join(it[:1] for it in name.split("-")) == word]
     near = near or difflib.get_close_matches(word.replace("_", "-"), known, n=3)
@@ -69,7 +69,7 @@ def point_of(name: str, words: Sequence[str]) -> Point:
 
 
 def points_of(path: str) -> list[Point]:
-    """The points of a list; of a line that is wrong one with a fault. `-` is standard input."""
+    """The points of a list; a wrong line gives a point with a fault. `-` is standard input."""
     points = []
     for line in text_of(path).split("\n"):
         words = line.split()
@@ -93,7 +93,7 @@ def by_address(points: Iterable[Point]) -> dict[str, list[Point]]:
 
 
 def distinct(points: list[Point]) -> list[Point]:
-    """The points; it fails where two have one name."""
+    """The points; fails if two have the same name."""
     for name, count in Counter(it.name for it in points).items():
         if count > 1:
             raise wrong("two points have the name " + name)
@@ -103,11 +103,6 @@ def distinct(points: list[Point]) -> list[Point]:
 def text_of(path: str) -> str:
     """Returns the text of a file, or of standard input for `-`."""
     try:
-        with opened(path) as file:
-            octets = file.read()
-    except OSError as error:
-        raise Failure(f"cannot read {path}: {error.strerror}", BROKEN) from error
-    try:
-        return octets.decode("utf-8-sig")
+        return octets_of(path).decode("utf-8-sig")
     except UnicodeDecodeError as error:
         raise wrong("not UTF-8: " + path) from error

@@ -1,4 +1,4 @@
-"""Points of many controllers are read: for a table, or for Prometheus; and what values mean."""
+"""Reads points of many controllers: for a table, or for Prometheus; and what values mean."""
 
 from __future__ import annotations
 
@@ -13,22 +13,15 @@ from .points import Point, by_address, distinct, points_of
 from .reasons import Why
 from .standard import OBJECT_NAME, PRESENT_VALUE, RELINQUISH_DEFAULT, STATUS_FLAGS, UNITS
 from .standard import PropertyRef, may_have_unit
-from .tools import FOREVER, Tools, side_by_side
+from .tools import Tools, side_by_side
 from .values import NOTHING, Kind, Value, fault, flags_of, state_of
 
 NOT_UP = ("fault", "out-of-service")
 
 
-class Wanted(NamedTuple):
-    """Properties to ask for with the values of points: status flags, and the texts of states."""
-
-    flags: bool = False
-    texts: bool = False
-
-
 class Reading(NamedTuple):
-    """The value of a point, and when it was asked for. The flags are nothing if nobody looked at
-    them, and so is the device's own text of a state."""
+    """The value of a point, and when it was read. The flags are None if they were not read, and so
+    is the device's own text of a state."""
 
     point: Point
     value: Value
@@ -38,7 +31,7 @@ class Reading(NamedTuple):
 
     @property
     def missing(self) -> str:
-        """Why there is no good value: there is none, or the object says that it has a fault."""
+        """Why there is no good value: it is missing, or the object reports a fault."""
         if not self.value.fault and "fault" in self.flags.bits:
             return "fault: " + self.shown
         return self.value.fault
@@ -50,45 +43,49 @@ class Reading(NamedTuple):
 
     @property
     def told_flags(self) -> str:
-        """The flags that are set, or why they are not known."""
+        """The set flags, or why they are not known."""
         if self.flags.fault:
             return "status-flags: " + self.flags.fault
         return self.flags.text if self.flags.bits else ""
 
     @property
     def is_up(self) -> bool:
-        """Whether the point has a value which the device stands for."""
+        """Whether the point has a good value."""
         missing = self.value.fault or self.flags.fault
         return not (missing or any(flag in NOT_UP for flag in self.flags.bits))
 
 
 def polled(
-    tools: Tools, points: Sequence[Point], wanted: Wanted = Wanted(), deadline: float = FOREVER
+    tools: Tools, points: Sequence[Point], with_flags: bool, with_texts: bool = False
 ) -> Iterator[list[Reading]]:
-    """Reads the points of each controller; yields these as the controllers are ready."""
+    """Reads the points of each controller; yields them as the controllers are ready."""
 
     def readings(group: Sequence[Point]) -> list[Reading]:
-        with Controller(tools, group[0].address, deadline) as controller:
+        with Controller(tools, group[0].address) as controller:
             parts = controller.parts(group)
-            return [it for part in parts for it in readings_of(controller, part, wanted)]
+            found = [readings_of(controller, part, with_flags, with_texts) for part in parts]
+            return [reading for part in found for reading in part]
 
     return side_by_side(tools, [partial(readings, it) for it in by_address(points).values()])
 
 
 def in_order(points: Sequence[Point], groups: Iterator[list[Reading]]) -> list[Reading]:
-    """Returns all of them, in the order of the list."""
+    """Returns all readings, in the order of the list."""
     places = {id(point): at for at, point in enumerate(points)}
     readings = [reading for group in groups for reading in group]
     return sorted(readings, key=lambda reading: places[id(reading.point)])
 
 
-def reading_of(controller: Controller, point: Point, wanted: Wanted) -> Reading:
-    """Reads a point; if it is a present value, also flags and the text of its state, if wanted."""
-    return readings_of(controller, [point], wanted)[0]
+def reading_of(controller: Controller, point: Point, with_flags: bool) -> Reading:
+    """Reads a point, also the text of its state, and its flags if they are wanted."""
+    return readings_of(controller, [point], with_flags, with_texts=True)[0]
 
 
-def readings_of(controller: Controller, points: Sequence[Point], wanted: Wanted) -> list[Reading]:
-    """Reads several points, each like `reading_of`."""
+def readings_of(
+    controller: Controller, points: Sequence[Point], with_flags: bool, with_texts: bool = False
+) -> list[Reading]:
+    """Reads several points; of those that are present values also flags, and texts of states, if
+    these are wanted."""
     reasons = [it.fault or controller.other_than(it.device) for it in points]
     asked = [point for point, reason in zip(points, reasons) if not reason]
     at = stamp()
@@ -99,21 +96,23 @@ def readings_of(controller: Controller, points: Sequence[Point], wanted: Wanted)
         for point, value in zip(points, values)
         if not value.fault and point.ref == point.ref.other(PRESENT_VALUE)
     }
-    flags: dict[object, Value] = {}
-    if wanted.flags:
-        read = controller.values([it.other(STATUS_FLAGS) for it in present])
-        for ref, value in zip(present, map(flags_of, read)):
-            flags[ref] = NOTHING if value.why is Why.NO_PROPERTY else value
-    states = [(ref, it) for ref, value in present.items() for it in state_of(ref.object_id, value)]
-    states = states if wanted.texts else []
-    read = controller.values([it for _, it in states])
-    texts = {ref: it.text for (ref, _), it in zip(states, read) if it.kind is Kind.TEXT}
+    flags = _flags_of(controller, list(present)) if with_flags else {}
+    states = {ref: it for ref, value in present.items() for it in state_of(ref.object_id, value)}
+    read = controller.values(list(states.values()) if with_texts else [])
+    texts = {ref: it.text for ref, it in zip(states, read) if it.kind is Kind.TEXT}
     return [
         Reading(point, value, at, flags.get(point.ref, NOTHING), texts.get(point.ref, ""))
         if not value.fault
         else Reading(point, value, at)
         for point, value in zip(points, values)
     ]
+
+
+def _flags_of(controller: Controller, refs: Sequence[PropertyRef]) -> dict[PropertyRef, Value]:
+    """Returns the flags of the objects of present values; nothing of one that has none."""
+    read = controller.values([it.other(STATUS_FLAGS) for it in refs])
+    found = zip(refs, map(flags_of, read))
+    return {ref: NOTHING if it.why is Why.NO_PROPERTY else it for ref, it in found}
 
 
 def row_of(reading: Reading) -> str:
@@ -126,7 +125,7 @@ def row_of(reading: Reading) -> str:
 def poll(words: argparse.Namespace) -> int:
     """Prints the points of a list."""
     points, missing = points_of(words.list), False
-    groups = polled(Tools.of(words), points, Wanted(flags=not words.no_flags, texts=True))
+    groups = polled(Tools.of(words), points, not words.no_flags, with_texts=True)
     for group in [in_order(points, groups)] if words.sorted else groups:
         missing = missing or any(reading.missing for reading in group)
         put("".join(map(row_of, group)))
@@ -165,14 +164,14 @@ def prometheus(words: argparse.Namespace) -> int:
     if not words.file.endswith(".prom") or not is_replaceable(words.file):
         raise wrong("no plain file whose name ends in .prom: " + words.file)
     distinct(points)
-    groups = polled(Tools.of(words), points, Wanted(flags=not words.no_flags))
+    groups = polled(Tools.of(words), points, not words.no_flags)
     readings = in_order(points, groups)
     replace_file(words.file, [metrics_of(readings)], for_all=True)
     return 0 if all(it.is_up for it in readings) else MISSING
 
 
 class Meaning(NamedTuple):
-    """What a device says of a value; each text is empty if it says nothing."""
+    """A device's texts for a value; each is empty if the device has none."""
 
     name: str = ""  # of the object
     unit: str = ""
@@ -180,14 +179,14 @@ class Meaning(NamedTuple):
 
 
 class Meanings:
-    """Names, units and texts of states of one controller, each asked for once."""
+    """Names, units and texts of states of one controller, each read once."""
 
     def __init__(self, controller: Controller) -> None:
         self._controller = controller
         self.known: dict[PropertyRef, str] = {}
 
     def of(self, values: Sequence[tuple[PropertyRef, Value]]) -> list[Meaning]:
-        """Returns the meaning of each value. A text that did not come is asked for next time."""
+        """Returns the meaning of each value. A text that did not come is read next time."""
         wanted = [it for ref, value in values if not value.fault for it in _texts_of(ref, value)]
         refs = [it for it in dict.fromkeys(wanted) if it not in self.known]
         for ref, found in zip(refs, self._controller.values(refs)):
@@ -204,7 +203,7 @@ class Meanings:
 
 
 def _texts_of(ref: PropertyRef, value: Value) -> list[PropertyRef]:
-    """Returns the properties that say what this value means: name, unit, and text of a state."""
+    """Returns the properties that explain this value: name, unit, and text of a state."""
     units = [ref.other(UNITS)] if _has_unit(ref) else []
     states = state_of(ref.object_id, value) if _is_value(ref) else []
     return [ref.other(OBJECT_NAME), *units, *states]

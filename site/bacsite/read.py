@@ -1,4 +1,4 @@
-"""One value is read, or all that an object has."""
+"""Reads one value, or all properties of an object."""
 
 from __future__ import annotations
 
@@ -9,7 +9,7 @@ from .tools import Tools, alone
 from .controller import Controller
 from .output import MISSING, put
 from .points import MOST_INSTANCE, Point, point_of
-from .poll import Wanted, reading_of
+from .poll import reading_of
 from .reasons import Why
 from .standard import INTEGERS, OBJECT_ID, OBJECT_NAME, OBJECT_TYPE, PROPERTIES, PROPERTY_LIST
 from .standard import ObjectId
@@ -20,8 +20,7 @@ def read(words: argparse.Namespace) -> int:
     """Prints the value of a point, or why there is none."""
     point, tools = point_of("", words.words), Tools.of(words)
     with Controller(tools, point.address) as controller:
-        wanted = Wanted(flags=not words.no_flags, texts=True)
-        found = alone(tools, lambda: reading_of(controller, point, wanted))
+        found = alone(tools, lambda: reading_of(controller, point, not words.no_flags))
     put((found.missing or ", ".join(filter(None, [found.shown, found.told_flags]))) + "\n")
     return MISSING if found.missing else 0
 
@@ -51,7 +50,7 @@ def _values(controller: Controller, point: Point, last: int) -> dict[int, Value]
     if name.why not in (Why.NONE, Why.NO_PROPERTY):
         return values
     listed, refusal = _numbers(controller, object_id), ""
-    if listed is None:  # what no object has shows how the device refuses an unknown number
+    if listed is None:  # how does the device refuse an unknown number?
         refusal = controller.value(object_id.ref(MOST_INSTANCE)).fault
     numbers = listed if listed is not None else range(last + 1)
     for part in controller.parts([it for it in numbers if it != OBJECT_NAME]):

@@ -1,4 +1,4 @@
-"""Why there is no value: what a reason is to those who go on by it."""
+"""Why there is no value: the kinds of reasons, for code that depends on them."""
 
 from __future__ import annotations
 
@@ -11,7 +11,7 @@ STRANGE, NO_INDEX = "an answer about another point", "an answer without its inde
 
 
 class Why(enum.Enum):
-    """What a reason says, whatever its words are."""
+    """The kind of a reason, whatever its words are."""
 
     NONE = enum.auto()  # nothing is missing
     SILENT = enum.auto()
@@ -28,33 +28,21 @@ class Why(enum.Enum):
 
     @property
     def is_gone(self) -> bool:
-        """Whether nobody answered, in time or at all: the plant is gone, or its network."""
+        """Whether nobody answered, in time or at all: the controller or its network is down."""
         return self in (Why.SILENT, Why.NOT_ASKED, Why.TOO_LATE, Why.UNREACHABLE)
 
     @property
     def is_for_now(self) -> bool:
-        """Whether the same may be answered in another way if it is asked for again."""
+        """Whether the answer may differ if the value is asked for again."""
         return self in (Why.BUSY, Why.STRANGE)
 
 
-# The reasons by their words; those of bactool have numbers of the standard in them.
-WORDS = {
-    "": Why.NONE,
-    TIMEOUT: Why.SILENT,
-    NOT_ASKED: Why.NOT_ASKED,
-    TOO_LATE: Why.TOO_LATE,
-    "bactool: sending failed": Why.UNREACHABLE,
-    "error 0 3": Why.BUSY,
-    "abort 3": Why.BUSY,
-    "abort 8": Why.BUSY,
-    "abort 9": Why.BUSY,
-    STRANGE: Why.STRANGE,
-    NO_INDEX: Why.STRANGE,
-    "abort 1": Why.TOO_LONG,
-    "abort 4": Why.TOO_LONG,
-    "abort 11": Why.TOO_LONG,
-    "segmented": Why.TOO_LONG,
-}
+# The kinds of reasons by their words; those of bactool have numbers of the standard in them.
+WORDS = {"": Why.NONE, TIMEOUT: Why.SILENT, NOT_ASKED: Why.NOT_ASKED, TOO_LATE: Why.TOO_LATE}
+WORDS.update({"bactool: sending failed": Why.UNREACHABLE})
+WORDS.update(dict.fromkeys(["error 0 3", "abort 3", "abort 8", "abort 9"], Why.BUSY))
+WORDS.update(dict.fromkeys([STRANGE, NO_INDEX], Why.STRANGE))
+WORDS.update(dict.fromkeys(["abort 1", "abort 4", "abort 11", "segmented"], Why.TOO_LONG))
 
 
 @lru_cache(maxsize=1024)

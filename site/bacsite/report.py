@@ -13,21 +13,20 @@ from .device import FACTS, TEXTS, Bounds, Device, SiteObject
 from .output import MISSING, csv_lines, json_line, put, show, stamp, table, times, wrong
 from .earlier import Earlier, earlier_of
 from .files import is_replaceable, replace_file
-from .page import page_of
 from .reasons import TIMEOUT
 from .standard import UNIT_NAMES, may_be_commanded
 from .survey import surveyed
 from .values import NOTHING
 
 OWN = 6  # the priority that no one else may write
-MISSES = "present-value: "  # so begins why there is none
+MISSES = "present-value: "  # the beginning of a reason for a missing value
 ASKED_FOR = ("devices", "held", "details", "objects", "deadline")
 
 EDE_COLUMNS = """\
 # keyname;device obj.-instance;object-name;object-type;object-instance;description;\
 present-value-default;min-present-value;max-present-value;settable;supports COV;hi-limit;low-limit;\
 state-text-reference;unit-code;vendor-specific-addres;notification-class"""
-NEEDED = 5  # of these; the others are optional
+NEEDED = 5  # how many of these are always needed; the others are optional
 UNIT_NUMBERS = {name: str(number) for number, name in UNIT_NAMES.items()}
 
 # The members of a device and of an object, by the names of the columns.
@@ -47,7 +46,7 @@ def _told(it: object, names: Mapping[str, str]) -> dict[str, object]:
 
 
 class Columns(NamedTuple):
-    """Which columns there are beside those of every survey."""
+    """The columns besides those of every survey."""
 
     objects: tuple[str, ...] = ()
     changes: bool = False
@@ -62,7 +61,7 @@ class Columns(NamedTuple):
 
 
 def as_lines(device: Device, columns: Columns) -> str:
-    """Returns a line of the device, one of each object, in columns, and what has changed."""
+    """Returns a line for the device, one for each object, in columns, and the changes."""
     instance = "-" if device.instance is None else str(device.instance)
     head = [device.address, "device " + instance, *device.texts.values()]
     lines = ["  ".join(filter(None, [*head, "; ".join(device.reasons)]))]
@@ -82,7 +81,7 @@ def _cells(it: SiteObject, columns: Columns) -> list[str]:
 
 
 def as_csv(device: Device, columns: Columns) -> str:
-    """Returns a row of each object, and one of the device if it has a reason, or no object."""
+    """Returns a row for each object, and one for the device if it has a reason, or no object."""
     told = {**_told(device, OF_DEVICE), **device.facts}
     rows: list[dict[str, object]] = []
     for it in device.objects:
@@ -108,8 +107,8 @@ def as_json(device: Device, columns: Columns) -> str:
 
 
 def as_release(device: Device, _: Columns) -> str:
-    """Returns a line for write-list that releases each priority above the program, and as comments
-    why something may be missing. Priority 6 is the device's own."""
+    """Returns a line for write-list that releases each priority above the program, and in comments
+    why objects may be missing. Priority 6 is the device's own."""
     lines = [f"# {device.address}: {it}" for it in device.reasons]
     for it in device.objects:
         what = f"{it.type_name or it.object_type} {it.instance}"
@@ -123,7 +122,7 @@ def as_release(device: Device, _: Columns) -> str:
 
 def ede_of(devices: Sequence[Device], made: str) -> Iterator[str]:
     """Yields an EDE file, layout 2.1, by which engineering tools exchange points (B.I.G.-EU), part
-    by part. Texts of states would be a second file, and are left out."""
+    by part. Texts of states would be a second file, and are omitted."""
     names = EDE_COLUMNS.split(";")
     needs = ["mandatory"] * NEEDED + ["optional"] * (len(names) - NEEDED)
     yield "# Proposal_Engineering-Data-Exchange - B.I.G.-EU\n"
@@ -146,7 +145,7 @@ def _ede_row(device: Device, it: SiteObject) -> list[str]:
 
 
 class PollList:
-    """The points of a survey as a list that `poll` reads, each under a name of its own."""
+    """The points of a survey as a list that `poll` reads, each with a name of its own."""
 
     def __init__(self) -> None:
         self._names: set[str] = set()
@@ -173,7 +172,7 @@ class PollList:
 
 
 class Counts:
-    """How many addresses were asked, and what came of that."""
+    """How many addresses were asked, and the results."""
 
     def __init__(self, asked: int) -> None:
         self.asked, self.devices, self.silent, self.others = asked, 0, 0, 0
@@ -201,6 +200,12 @@ class Counts:
             at = f"answered on {times(len(networks), 'network')}"
             told.append(f"{times(len(self.stations), 'station')} {at}")
         return ", ".join(told) + "\n"
+
+
+def _write_page(file: str, devices: Sequence[Device]) -> None:
+    from .page import page_of  # pylint: disable=import-outside-toplevel
+
+    replace_file(file, page_of(devices, stamp()))
 
 
 def survey(words: argparse.Namespace) -> int:
@@ -236,8 +241,10 @@ def survey(words: argparse.Namespace) -> int:
         devices.append(device)
         if not file:
             put(form(device, columns))
-    if file:
-        replace_file(file, (page_of if words.html else ede_of)(devices, stamp()))
+    if words.ede:
+        replace_file(file, ede_of(devices, stamp()))
+    elif file:
+        _write_page(file, devices)
     if any(it.in_range or it.is_network for it in targets) or words.stations:
         show(counts.line())
     return MISSING if counts.missing or not devices else 0

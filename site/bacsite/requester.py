@@ -1,9 +1,9 @@
-"""Asks one controller by a bacrun, for one thing after another or for several at once."""
+"""Asks one controller through a bacrun, for one property after another or for several at once."""
 
 from __future__ import annotations
 
 import time
-from collections import Counter, deque
+from collections import deque
 from typing import Iterator, Sequence, TypeVar
 
 from .tools import BIND_FAILED, FOREVER, MOST_TIMEOUT, MOST_TRIES, Tools, NotBegun, Outcome
@@ -11,31 +11,32 @@ from .reasons import NOT_ASKED, TIMEOUT, TOO_LATE, Why
 from .session import Ended, ReadResult, Session, answer_of, read_by
 from .standard import PropertyRef
 
-PART = 8  # times the window: so much is asked for before the answers are looked at
+PART = 8  # times the window: how many requests are made before the answers are looked at
 MOST_PATIENCE = 4  # times --apdu-timeout, for a device that answers late
-CALM, MOST_CALM = 256, 8192  # answers in a row, each in time, after which it is asked faster
+CALM, MOST_CALM = 256, 8192  # answers in a row, each in time, after which the pace is raised
+UNASKED = ReadResult(reason=NOT_ASKED)
 
 Each = TypeVar("Each")
 Self = TypeVar("Self", bound="Requester")
 
 
 class Pace:
-    """How long an answer is awaited, in milliseconds, and how many requests are open at once.
+    """The pace: how long an answer is awaited, in milliseconds, and how many requests are open.
 
-    A device that answers only after the request was sent again gets more time from now on. If it
-    had to be asked again, or is busy, it gets half as many requests at once. After many answers in
-    time it gets as much time as at first, and twice as many requests; after more answers if the
-    last attempt to ask faster failed.
+    A device that answers only after a request was sent again gets more time from then on. If it had
+    to be asked again, or is busy, it gets half as many requests at once. After many answers in time
+    it gets the first time limit again, and twice as many requests. If the last attempt at a higher
+    pace failed, this takes more answers.
     """
 
     def __init__(self, timeout: int, window: int) -> None:
         self._timeout, self._most = timeout, window
         self.patience, self.window = timeout, window
         self._calm, self._needed = 0, CALM
-        self._is_attempt = False  # whether it was made faster, and has not held for long
+        self._is_attempt = False  # whether the pace was raised, and has not been kept for long
 
     def learn(self, ended: Ended, why: Why) -> bool:
-        """Learns from the end of a request; returns whether the pace is another one now."""
+        """Learns from the end of a request; returns whether the pace has changed."""
         before, taken = (self.patience, self.window), int(ended.seconds * 1000)
         if why is not Why.SILENT and taken > self.patience:
             most = min(MOST_TIMEOUT, MOST_PATIENCE * self._timeout)
@@ -57,13 +58,13 @@ class Pace:
 class Requester:
     """Asks a controller until a deadline, or until it is silent: at first, or twice in a row.
 
-    Up to `window` requests are open at once, as its pace says.
+    Up to `window` requests are open at once, as the pace allows.
     """
 
     def __init__(self, tools: Tools, address: str, deadline: float = FOREVER) -> None:
         self.tools, self.address, self.deadline = tools, address, deadline
         self.silent = self.late = False
-        self._heard = False  # whether the request before was answered
+        self._heard = False  # whether the last request was answered
         self._pace = Pace(tools.timeout, tools.window)
         self._session: Session | None = None
         self._is_stale = False  # whether the next session gets other settings
@@ -78,27 +79,27 @@ class Requester:
 
     @property
     def is_over(self) -> bool:
-        """Whether it is asked no more."""
+        """Whether the controller is no longer asked."""
         return self.silent or self.late
 
     def again(self) -> None:
-        """Asks once more, also a device that was silent."""
+        """Asks the controller again, even if it was silent."""
         self.silent = False
         self.renew()
 
     def renew(self) -> None:
-        """Goes on from another port if an answer to something before may still come: it would be
-        mistaken for one to a question that has the same number."""
+        """Goes on from another port if an answer to an earlier request may still come: it would be
+        mistaken for an answer to a request with the same number."""
         session = self._session
         self._is_stale = self._is_stale or bool(session and (session.is_owed or session.is_used_up))
 
     def rest(self) -> Outcome:
-        """Ends its bacrun, and returns how it ended; the next question begins another one."""
+        """Ends the bacrun, and returns how it ended; the next request begins another one."""
         session, self._session, self._is_stale = self._session, None, False
         return session.close() if session else Outcome(0)
 
     def parts(self, items: Sequence[Each]) -> Iterator[Sequence[Each]]:
-        """Yields the items, as many at a time as are well asked for together."""
+        """Yields the items in parts that are asked for together."""
         at = 0
         while at < len(items):
             size = 1 if self._pace.window == 1 else PART * self._pace.window
@@ -106,17 +107,17 @@ class Requester:
             at += size
 
     def options(self) -> list[str]:
-        """Returns the options that say how and where a tool sends."""
+        """Returns the options for the timing and the port of a tool."""
         return ["--mac", self.address, *self.tools.times(self._pace.patience)]
 
     def ask(self, ref: PropertyRef) -> ReadResult:
-        """Returns what a property or an element has; a busy device is asked again later."""
+        """Returns the value of a property or an element; a busy device is asked again later."""
         return self.ask_all([ref])[0]
 
     def ask_all(self, refs: Sequence[PropertyRef]) -> list[ReadResult]:
-        """Returns what properties and elements have, in their order."""
+        """Returns the values of properties and elements, in their order."""
         answers: dict[int, ReadResult] = {}
-        tries: Counter[int] = Counter()
+        tries = [0] * len(refs)
         left = deque(range(len(refs)))
         while left:
             with self._line:
@@ -124,14 +125,15 @@ class Requester:
             again = [at for at in busy if tries[at] < self.tools.retries]
             if again and self.tools.processes.ended.wait(self._pace.patience / 1000):
                 break
-            tries.update(again)
+            for at in again:
+                tries[at] += 1
             left.extendleft(reversed(again))
-        return [answers.get(at, ReadResult(reason=NOT_ASKED)) for at in range(len(refs))]
+        return [answers.get(at, UNASKED) for at in range(len(refs))]
 
     def write(self, request: str) -> Outcome:
-        """Writes, once, by a line of a script; the outcome is in the words of bacwp.
+        """Writes, once, with a line of a script; the outcome is in the words of bacwp.
 
-        The caller says that a write is under way meanwhile.
+        The caller counts the write as under way meanwhile.
         """
         with self._line:
             while True:
@@ -151,43 +153,50 @@ class Requester:
     def _round(
         self, refs: Sequence[PropertyRef], left: deque[int], answers: dict[int, ReadResult]
     ) -> list[int]:
-        """Asks for what is left, as long as nobody is busy; returns which answers say so."""
+        """Asks for the values that are left, until one is busy; returns the busy answers."""
         busy: list[int] = []
-        opened: dict[int, int] = {}  # places by tickets
+        opened: dict[int, int] = {}  # positions by ticket
         while opened or (left and not busy):
-            if self._is_done(opened):
-                why = TOO_LATE if self.late else TIMEOUT
-                answers.update({at: ReadResult(reason=why) for at in opened.values()})
+            if self._is_done():
+                self._end_open(opened, answers)
                 left.clear()
                 break
             try:
                 ended = self._next(refs, left if not busy else deque(), opened)
-            except NotBegun as why:
-                answers[left.popleft()] = ReadResult(reason=str(why))
+            except NotBegun as error:
+                answers[left.popleft()] = ReadResult(reason=str(error))
                 continue
             if ended is None:
-                self._give_up(left, opened, answers)
+                if not self._is_done():
+                    self._give_up(left, opened, answers)
                 continue
             at = opened.pop(ended.ticket)
             answers[at] = answer_of(ended, refs[at])
-            self._learn(ended, answers[at].why)
-            if answers[at].why.is_for_now:
+            why = answers[at].why
+            self._learn(ended, why)
+            if why.is_for_now:
                 busy.append(at)
         return busy
 
-    def _is_done(self, opened: dict[int, int]) -> bool:
-        """Returns whether nothing more is asked; what is open is waited for no longer then."""
+    def _is_done(self) -> bool:
+        """Returns whether no more requests are made."""
         self.late = self.late or time.monotonic() >= self.deadline
-        if self.is_over and opened and self._session:
+        return self.is_over
+
+    def _end_open(self, opened: dict[int, int], answers: dict[int, ReadResult]) -> None:
+        """Waits no longer for what is open. What bacrun has not sent yet was not asked."""
+        if opened and self._session:
+            waiting = self._session.unsent()
+            why = ReadResult(reason=TOO_LATE if self.late else TIMEOUT)
+            answers.update({at: why for ticket, at in opened.items() if ticket not in waiting})
             self._session.process.kill()
             self.rest()
-        return self.is_over
 
     def _next(
         self, refs: Sequence[PropertyRef], left: deque[int], opened: dict[int, int]
     ) -> Ended | None:
-        """Fills the window, and returns the next request that ends. There is one request at a time
-        until an answer came, and after one that did not come."""
+        """Fills the window, and returns the next request that ends. Only one request is open
+        before the first answer, and after a request without an answer."""
         session = self._ready() if not opened else self._session
         assert session, "what is open is open there"
         while left and session.has_room and not (opened and (self._is_stale or not self._heard)):
@@ -199,7 +208,7 @@ class Requester:
     def _give_up(
         self, left: deque[int], opened: dict[int, int], answers: dict[int, ReadResult]
     ) -> None:
-        """Ends what is open after bacrun has ended, or asks for it from another port."""
+        """Ends open requests after bacrun has ended, or makes them again from another port."""
         over = self.rest()
         if self._may_retry(over):
             left.extendleft(reversed(list(opened.values())))
@@ -225,7 +234,7 @@ class Requester:
         return over.told == BIND_FAILED and self._failed < MOST_TRIES
 
     def _learn(self, ended: Ended, why: Why) -> None:
-        """Notes whether it is silent, and at which pace it is asked from now on."""
+        """Notes whether the controller is silent, and its pace from now on."""
         answered = why is not Why.SILENT
         self.silent = not answered and not self._heard
         self._heard = answered

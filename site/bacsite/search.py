@@ -1,4 +1,4 @@
-"""Finds what is at an address: devices that answer a Who-Is there, or a read very late."""
+"""Finds the devices at an address: those that answer a Who-Is there, or a read very late."""
 
 from __future__ import annotations
 
@@ -14,12 +14,12 @@ from .session import Ended, Session, answer_of
 from .standard import DEVICE, OBJECT_ID, THIS_DEVICE, PropertyRef
 
 MOST_OPEN = 64  # requests of one bacrun
-LOOK = 50  # milliseconds for what waits at a socket
+LOOK = 50  # milliseconds for datagrams that wait at a socket
 ITSELF = PropertyRef(DEVICE, THIS_DEVICE, OBJECT_ID)  # which device it is
 
 
 class Search:
-    """A Who-Is to an address, or to the router there. It waits beside what else is asked."""
+    """A Who-Is to an address, or to the router there. It waits while other requests are made."""
 
     def __init__(self, tools: Tools, address: str, patience: int, until: float) -> None:
         where = address.partition("/")[0]
@@ -33,7 +33,7 @@ class Search:
             self._begun = tools.start(self._words, until)
 
     def wait_for(self, address: str, seconds: float) -> None:
-        """Waits until this address has answered, but no longer than so many seconds."""
+        """Waits until this address has answered, but no longer than this many seconds."""
         latest = time.monotonic() + seconds
         while self._begun and self._begun.is_ready(max(0.0, latest - time.monotonic())):
             line = self._begun.line()
@@ -42,8 +42,8 @@ class Search:
                 return
 
     def heard(self, by_now: bool = False) -> list[tuple[int, str]]:
-        """Returns the devices that have answered, by instance and address, once the time is up; or
-        those that have answered by now."""
+        """Returns the devices that have answered, by instance and address, at the end of the time,
+        or those that have answered by now."""
         if by_now and self._begun:
             self._begun.kill()
         if not self._is_over:
@@ -56,8 +56,8 @@ class Search:
 class Scan:
     """A first read of some addresses of a range, by one bacrun whose socket stays open to the end.
 
-    Any datagram from an address means that somebody is there: a device that serves one request at a
-    time may answer when nobody waits for it any more.
+    Any datagram from an address means that a device is there: a device that serves one request at a
+    time may answer when its answer is no longer awaited.
     """
 
     def __init__(self, tools: Tools, addresses: Sequence[str]) -> None:
@@ -65,7 +65,7 @@ class Scan:
         self._session: Session | None = None
 
     def run(self, then: Callable[[str, bool], None]) -> None:
-        """Reads; `then` gets each address as soon as it is known, and whether somebody is there. If
+        """Reads; `then` gets each address as soon as it is known whether somebody is there. If
         bacrun can't be run, each address is asked in another way."""
         left = set(self._addresses)
         for _ in range(MOST_TRIES):
@@ -83,7 +83,7 @@ class Scan:
             then(address, True)
 
     def late(self, looks: bool) -> set[str]:
-        """Ends it; returns the addresses that have sent something by now, if that is looked at."""
+        """Ends the scan; returns the addresses that have sent a datagram by now, if `looks`."""
         if looks and self._session:
             self._session.hear(LOOK)
         peers = self._session.peers if self._session else set()
@@ -96,7 +96,7 @@ class Scan:
 
 
 def _ends(session: Session, addresses: Sequence[str]) -> Iterator[tuple[str, Ended]]:
-    """Asks each address which device it is; yields how each of these reads ended."""
+    """Asks each address for its identity; yields how each of these reads ended."""
     asked = {session.put(f"read {it} {ITSELF.words()}"): it for it in addresses}
     while asked:
         ended = session.ended()
@@ -106,7 +106,7 @@ def _ends(session: Session, addresses: Sequence[str]) -> Iterator[tuple[str, End
 
 
 def late_answers(tools: Tools, addresses: Sequence[str], patience: int) -> dict[str, str]:
-    """Returns what those say that answer a read at last. All are waited for at the same time."""
+    """Returns the answers of devices that answer a read late. All are awaited together."""
     count = len(addresses) if patience > 0 else 0
     parts = [addresses[at : at + MOST_OPEN] for at in range(0, count, MOST_OPEN)]
     told: dict[str, str] = {}
@@ -117,7 +117,7 @@ def late_answers(tools: Tools, addresses: Sequence[str], patience: int) -> dict[
 
 
 def _ended_late(tools: Tools, addresses: Sequence[str], patience: int) -> dict[str, Ended]:
-    """Returns how a read of each of these ends, which is sent once."""
+    """Returns how a read of each address ends, which is sent once."""
     ends: dict[str, Ended] = {}
     for _ in range(MOST_TRIES):
         with suppress(NotBegun):
@@ -131,7 +131,7 @@ def _ended_late(tools: Tools, addresses: Sequence[str], patience: int) -> dict[s
 
 
 def _told(ended: Ended) -> str:
-    """Returns which device it is, or else what it answers."""
+    """Returns the identity, or otherwise the answer."""
     answer = answer_of(ended, ITSELF)
     device = device_in(answer.region)
     if device is not None:

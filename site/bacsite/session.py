@@ -1,10 +1,9 @@
-"""A bacrun for one controller: requests go in, and what becomes of them comes out."""
+"""A bacrun for one controller: requests go in, and their ends come out."""
 
 from __future__ import annotations
 
 import re
 import time
-from dataclasses import dataclass
 from typing import Callable, NamedTuple
 
 from .bodies import read_ack
@@ -15,8 +14,8 @@ from .standard import PropertyRef
 
 FAULT = "a fault of bacsite: "
 ENDED = re.compile("# (done|timeout) ([0-9]+) ?(.*)")
-MOST_LINE, MORE = 4096, "#+"  # a remark of so many octets goes on in a line that begins so
-NUMBERS, SAFE = 256, 60.0  # numbers of requests, and the seconds before one may come again
+MOST_LINE, MORE = 4096, "#+"  # longer remarks go on in a line with MORE
+NUMBERS, SAFE = 256, 60.0  # the numbers of requests, and the seconds before one may be used again
 
 
 class ReadResult(NamedTuple):
@@ -32,86 +31,87 @@ class ReadResult(NamedTuple):
 
 
 class Ended(NamedTuple):
-    """How a request ended, as bacrun says it; by which datagram, and how long it took."""
+    """How a request ended, in the words of bacrun; the datagram, and how long it took."""
 
     outcome: str
     datagram: bytes = b""
     seconds: float = 0.0
     sends: int = 1
     ticket: int = 0
-    hint: str = ""  # why no answer came, as far as another datagram says it
+    hint: str = ""  # why no answer came, if another datagram explains it
 
     @property
     def silence(self) -> str:
-        """That no answer came, and the hint."""
+        """The text for a missing answer, with the hint if there is one."""
         return f"{TIMEOUT} ({self.hint})" if self.hint else TIMEOUT
 
 
-@dataclass
 class _Open:
-    """A request that is open: when it was sent first, how often, to which address, the datagram in
-    hexadecimal digits, and from where an answer with its number came instead."""
+    """An open request: when it was first sent, how often, to which address, the datagram in
+    hexadecimal digits, and the other address from which an answer with its number came."""
 
-    since: float
-    address: str
-    sends: int = 0
-    sent: str = ""
-    elsewhere: str = ""
+    def __init__(self, address: str) -> None:
+        self.since, self.address = time.monotonic(), address
+        self.sends, self.sent, self.elsewhere = 0, "", ""
 
 
 class Session:
-    """Requests of a bacrun. Its lines are a script for bactrace, kept as a journal by a name.
+    """Requests through a bacrun. Its lines are a script for bactrace, kept as a journal.
 
-    bacrun reads its input, and not the network, while fewer requests are open than may be. So if
-    more than one may be, it gets one more, which waits there. If there is no other request, it gets
-    an empty line, at which it waits until no request is open.
+    bacrun reads its input, and not the network, while fewer requests are open than its window. So
+    it gets one more request, which waits there. If there is no other request, it gets an empty
+    line, at which it waits until no request is open.
     """
 
     def __init__(self, tools: Tools, process: Process, name: str = "", window: int = 1) -> None:
         self.process, self.journal = process, tools.journals.begun(name) if name else None
-        self._tools, self._most = tools, 1 if window == 1 else window + 1
-        self._open: dict[int, _Open] = {}  # by their tickets
+        self._tools, self._window = tools, window
+        self._open: dict[int, _Open] = {}  # by ticket
         self._tickets = 0
-        self._text = ""  # which is to be handed over
+        self._text = ""  # still to be handed over
         self._has_settled = False
-        self._kept: str | None = None  # a line that is taken next
+        self._kept: str | None = None  # a line that is read next
         self._data = b""  # the latest datagram
-        self._peer = ""  # its sender
+        self._peer = ""  # the sender of that datagram
         self.peers: set[str] = set()  # the senders of all datagrams
-        self.on_message: Callable[[Message], None] | None = None  # gets each one, if it is set
+        self.on_message: Callable[[Message], None] | None = None  # called with each one
         self._refusals: dict[str, Refusals] = {}  # by the hosts of routers
         self._begun = time.monotonic()
-        # Whether an answer may still come: to what was given up or sent twice, or a second one.
+        # Whether an answer may still come: to a request given up or sent twice, or a second one.
         self.is_owed = False
 
     @property
     def has_room(self) -> bool:
-        """Whether more may be put."""
-        return len(self._open) < self._most
+        """Whether more requests may be put."""
+        return len(self._open) <= self._window
+
+    def unsent(self) -> list[int]:
+        """Returns the tickets of the requests that wait in bacrun, by what it has said so far."""
+        return [ticket for ticket, request in self._open.items() if not request.sends]
 
     @property
     def is_used_up(self) -> bool:
-        """Whether the number of a request comes again within a minute, at this rate."""
+        """Whether the number of a request is used again within a minute, at this rate."""
         age = time.monotonic() - self._begun
         return self._tickets > NUMBERS // 2 and age * NUMBERS < SAFE * self._tickets
 
     def close(self) -> Outcome:
-        """Ends it, and returns how bacrun ended."""
+        """Ends the session, and returns how bacrun ended."""
         outcome = self._tools.processes.over(self.process)
         if self.journal:
             self.journal.close()
         return outcome
 
     def put(self, request: str) -> int:
-        """Adds a line of a script. Returns the ticket by which `ended` knows the request."""
+        """Adds a line of a script. Returns the ticket with which `ended` returns the request."""
         self._text += request + "\n"
-        self._open[self._tickets] = _Open(time.monotonic(), request.split(" ", 2)[1])
+        self._open[self._tickets] = _Open(request.split(" ", 2)[1])
         self._tickets, self._has_settled = self._tickets + 1, False
         return self._tickets - 1
 
     def ended(self) -> Ended | None:
         """Returns the next request that ends; None if bacrun has ended before."""
-        if self.has_room or self._most == 1:
+        if len(self._open) < self._window:
             self._settle()
         self._hand_over()
         while True:
@@ -121,8 +121,8 @@ class Session:
                 return ended
 
     def hear(self, milliseconds: int, text: str = "") -> bool:
-        """Hands over lines, and hears for so long what comes, and what has come before. Returns
-        whether bacrun still runs."""
+        """Hands over lines, and reads the output of bacrun for this time. Returns whether bacrun
+        still runs."""
         self._text += f"{text}wait {milliseconds}\n"
         self._hand_over()
         line = self._line()
@@ -141,7 +141,7 @@ class Session:
             self._text = ""
 
     def _line(self) -> str | None:
-        """Returns the next line, put together of those that it comes in."""
+        """Returns the next line, put together from its continuation lines."""
         line, self._kept = self._kept or self._read(), None
         if line is None or len(line) != MOST_LINE:
             return line
@@ -163,7 +163,7 @@ class Session:
         return line
 
     def _take(self, line: str) -> Ended | None:
-        """Notes what a line says of a request; returns the request if it has ended."""
+        """Notes a line about a request; returns the request if it has ended."""
         try:
             if line.startswith("data "):
                 _, self._peer, octets = line.split(" ")
@@ -196,8 +196,8 @@ class Session:
         return Ended(TIMEOUT, b"", seconds, request.sends, ticket, self._hint(request))
 
     def _look_at_dropped(self) -> None:
-        """Notes what a datagram that ends no request says: a router that refuses a network, or an
-        answer to an open request that came from another address than it was sent to."""
+        """Notes a datagram that ends no request: a router's refusal of a network, or an answer to
+        an open request that came from another address."""
         message = _message_of(self._data, self._peer)
         if message and message.network:
             host = self._peer.partition(":")[0]
@@ -210,7 +210,7 @@ class Session:
                     request.elsewhere = message.sender
 
     def _hint(self, request: _Open) -> str:
-        """Returns what explains the silence of a request; an empty text if nothing does."""
+        """Returns an explanation for the silence of a request; an empty text if there is none."""
         router, _, route = request.address.partition("/")
         refusals = self._refusals.get(router.partition(":")[0])
         refusal = refusals.of(int(route.partition("/")[0])) if refusals and route else ""
@@ -219,9 +219,9 @@ class Session:
 
 
 def read_by(ended: Ended) -> str:
-    """Returns how the datagram ended the request, by the reader of captures.
+    """Returns how the datagram ended the request, with the reader of captures.
 
-    That reader is not proved, and bacrun is: if they don't agree, this program has a fault.
+    That reader is not proved, and bacrun is: if they disagree, this program has a fault.
     """
     return ended.silence if ended.outcome == TIMEOUT else _read_by(ended, _apdu_of(ended.datagram))
 
@@ -237,8 +237,8 @@ def _read_by(ended: Ended, apdu: Apdu | None) -> str:
 def answer_of(ended: Ended, asked: PropertyRef) -> ReadResult:
     """Returns the answer to a read that has ended.
 
-    bacrun knows an answer by its number alone, which a late one to an earlier request may have. So
-    a value is taken only if the answer itself says that it is what was asked for.
+    bacrun matches an answer only by its number, which a late answer to an earlier request may have.
+    So a value is accepted only if the answer itself names the requested property.
     """
     if ended.outcome == TIMEOUT:
         return ReadResult(reason=ended.silence)

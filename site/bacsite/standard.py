@@ -11,7 +11,7 @@ from .files import content_of
 NULL, BOOLEAN, UNSIGNED, SIGNED, REAL, DOUBLE, OCTETS, STRING, BITS, ENUMERATED = range(10)
 DATE, TIME, OBJECT = 10, 11, 12
 INTEGERS = (UNSIGNED, SIGNED, ENUMERATED)
-LOOK_ALIKE = (*INTEGERS, REAL, DOUBLE)  # the tags whose values bacrp spells by digits alone
+LOOK_ALIKE = (*INTEGERS, REAL, DOUBLE)  # the tags whose values bacrp prints only in digits
 LONG = 1 << 32
 # The types of values by their tags: their names, and the least and the most octets of a value. The
 # value of a Boolean is its length.
@@ -22,7 +22,7 @@ MOST = (0, 0, 8, 8, 4, 8, LONG, LONG, LONG, 4, 4, 4, 4)
 
 BINARY, MULTI_STATE = (3, 4, 5), (13, 14, 19)
 COMMAND_OBJECT, DEVICE = 7, 8
-THIS_DEVICE = 4194303  # the instance that whichever device is asked takes for its own
+THIS_DEVICE = 4194303  # the instance that every device accepts as its own
 
 ACTION, ACTIVE_TEXT, ALARM_VALUE, ALARM_VALUES, INACTIVE_TEXT = 2, 4, 6, 7, 46
 DATABASE_REVISION, DESCRIPTION, EVENT_STATE = 155, 28, 36
@@ -34,7 +34,7 @@ OBJECT_ID, OBJECT_LIST, OBJECT_NAME, OBJECT_TYPE = 75, 76, 77, 79
 PRESENT_VALUE, PRIORITY_ARRAY, RELIABILITY, RELINQUISH_DEFAULT = 85, 87, 103, 104
 STATE_TEXT, STATUS_FLAGS, UNITS, VENDOR_NAME, PROPERTY_LIST = 110, 111, 117, 121, 371
 
-# What the standard keeps each priority for; the others are free.
+# The standard's names of reserved priorities; the others are free.
 PRIORITY_NAMES = {
     1: "manual-life-safety",
     2: "automatic-life-safety",
@@ -44,7 +44,7 @@ PRIORITY_NAMES = {
 }
 DATE_LIST, EXCEPTIONS, WEEK = 23, 38, 123  # properties of calendars and schedules
 DAYS = ("Mon", "Tue", "Wed", "Thu", "Fri", "Sat", "Sun")
-BY_HAND = 8  # an entry of the priority array at this place, or before, stands above the program
+BY_HAND = 8  # entries of the priority array up to this place are above the program
 NOT_COMMANDED = (0, 3, 6, 7, 12, 13, 17, 21, 22, 23, 24, 28)  # types without a priority array
 
 
@@ -55,7 +55,7 @@ class ObjectId(NamedTuple):
     instance: int
 
     def ref(self, number: int, element: int | None = None) -> PropertyRef:
-        """Returns a property of it, or an element of that property."""
+        """Returns a property of the object, or an element of that property."""
         return PropertyRef(self.object_type, self.instance, number, element)
 
     def __str__(self) -> str:
@@ -80,35 +80,35 @@ class PropertyRef(NamedTuple):
         return self.object_id.ref(number)
 
     def at(self, element: int) -> PropertyRef:
-        """Returns an element of it."""
+        """Returns an element of the property."""
         return PropertyRef(self.object_type, self.instance, self.number, element)
 
     def numbers(self) -> list[int]:
-        """Returns all its numbers."""
+        """Returns all numbers of the property."""
         found = [self.object_type, self.instance, self.number]
         return found if self.element is None else [*found, self.element]
 
     def words(self) -> str:
-        """Returns the words of a script's line that reads it."""
+        """Returns the words of a script's line that reads the property."""
         return " ".join(map(str, self.numbers()))
 
     def words_at(self, priority: int | None) -> str:
-        """Returns the words of a script's line that writes it: 0: no priority, -1: no index."""
+        """Returns the words of a script's line that writes it: 0 means no priority, -1 no index."""
         element = -1 if self.element is None else self.element
         return f"{self.object_type} {self.instance} {self.number} {priority or 0} {element}"
 
 
 class Form(NamedTuple):
-    """Which values a property has. Without tags any: it is a vendor's own, or made of parts."""
+    """The values that a property may have. Without tags any: it is a vendor's own, or has parts."""
 
-    tags: tuple[int, ...] = ()  # those that a value may have, or in a row those of its parts
+    tags: tuple[int, ...] = ()  # the tags that a value may have, or, in a row, those of its parts
     is_list: bool = False  # a list or an array of such values
-    is_row: bool = False  # a part of each tag, as a date and a time
+    is_row: bool = False  # a part for each tag, such as a date and a time
     states: tuple[int, int] | None = None  # the least and the greatest of a state
-    names: dict[int, str] = {}  # of numbers, or of the bits that are set
+    names: dict[int, str] = {}  # names of numbers, or of set bits
     is_choice: bool = False  # values may also have parts, like those in a priority array
     labels: tuple[str, ...] = ()  # of the parts at the top, like the days of a week
-    has_entries: bool = False  # its parts may be entries of a calendar
+    has_entries: bool = False  # parts may be entries of a calendar
 
 
 TEXT = content_of("numbers.txt")
@@ -178,6 +178,7 @@ def may_be_commanded(object_type: int) -> bool:
     return has_value(object_type) and object_type not in NOT_COMMANDED
 
 
+@lru_cache(maxsize=1024)
 def present_form(object_type: int) -> Form:
     """Returns the form of the present value of an object."""
     tags = tags_of(TYPE_TELLS.get(object_type, ""))

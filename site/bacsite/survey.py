@@ -15,9 +15,8 @@ from .earlier import Earlier
 from .tools import MOST_TIMEOUT, Tools, deadline_of, side_by_side
 from .reasons import TIMEOUT
 from .search import MOST_OPEN, Scan, Search, late_answers
-from .sweep import Sweep
 
-LATE = 8  # times --apdu-timeout: so long the silent addresses of a range are waited for at last
+LATE = 8  # times --apdu-timeout: how long the silent addresses of a range are awaited at the end
 MOST_SCANS = 64  # at once
 
 
@@ -28,10 +27,10 @@ class _Turn:
         self.target = target
         self.answered = answered  # the device that a Who-Is has found there
         self.is_over = Event()
-        self.search: Search | None = None  # for others that are there, if one was needed
-        self.silent: list[Device] = []  # which may answer at last
-        self.is_scanned = Event()  # if it is of a range
-        self.is_heard = not target.in_range  # or somebody is there
+        self.search: Search | None = None  # for other devices there, if one was needed
+        self.silent: list[Device] = []  # devices that may still answer at the end
+        self.is_scanned = Event()  # if the address is in a range
+        self.is_heard = not target.in_range  # or a device is there
 
     def scanned(self, is_heard: bool) -> None:
         """Notes whether somebody is at an address of a range."""
@@ -46,8 +45,8 @@ def surveyed(
     earlier: Earlier,
     in_order: bool = False,
 ) -> Iterator[Device]:
-    """Yields the devices at these addresses as they are ready, or in order. One with the instance
-    of another says so, and one that has moved is not gone."""
+    """Yields the devices at these addresses as they are ready, or in order. A device with the
+    instance of another is reported, and one that has moved is not gone."""
     jobs = _Survey(tools, bounds, earlier).jobs(targets)
     devices: Iterator[Device] = (it for some in side_by_side(tools, jobs, in_order) for it in some)
     if in_order and any(it.in_range for it in targets):  # stations follow
@@ -65,7 +64,7 @@ def surveyed(
         else:
             later.append(device)
     for device in later:
-        if device.gone in seen:  # the line of its new address says so
+        if device.gone in seen:  # the line of the device's new address reports the move
             device.changes = ["new"] if device.instance is not None else []
         yield device
 
@@ -78,7 +77,7 @@ class _Survey:
         self.scans: list[Scan] = []
 
     def jobs(self, targets: Sequence[Target]) -> list[partial[list[Device]]]:
-        """Returns the jobs: addresses of ranges are scanned first, and looked at again at last."""
+        """Returns the jobs: addresses of ranges are scanned first, and looked at again last."""
         turns = [_Turn(it) for it in targets if not it.is_network]
         last = [it for it in turns if it.target.in_range]
         size = max(MOST_OPEN, -(-len(last) // MOST_SCANS))
@@ -93,7 +92,7 @@ class _Survey:
         return jobs + ([partial(self.looked_at_last, last)] if last else [])
 
     def scanned(self, turns: Sequence[_Turn]) -> list[Device]:
-        """Finds at which addresses of a range somebody is."""
+        """Finds the addresses of a range at which a device is."""
         by_address = {it.target.address: it for it in turns}
         scan = Scan(self.tools, list(by_address))
         self.scans.append(scan)
@@ -119,9 +118,9 @@ class _Survey:
         return [it for it in devices if it not in turn.silent]
 
     def stations_behind(self, turn: _Turn) -> list[Device]:
-        """Returns the stations behind a router that have answered a Who-Is, by address and instance
-        alone. The Who-Is was sent once it was known which device the router is, and is waited for
-        no longer than that one is asked."""
+        """Returns the stations behind a router that have answered a Who-Is, only by address and
+        instance. The Who-Is was sent once the router's identity was known, and is awaited no longer
+        than the router is asked."""
         turn.is_over.wait()
         router, search = turn.target.address + "/", turn.search
         heard = search.heard(by_now=True) if search else []
@@ -138,7 +137,7 @@ class _Survey:
         return devices
 
     def _named(self, address: str) -> Device:
-        """Returns a station that an earlier survey has, by address and instance alone."""
+        """Returns a station of an earlier survey, only by address and instance."""
         device = Device(address, asked=stamp(), is_named=True)
         with Controller(self.tools, address, deadline_of(self.bounds.deadline)) as controller:
             device.reasons += filter(None, [controller.identify()])
@@ -146,9 +145,11 @@ class _Survey:
         return device
 
     def stations_of(self, reaches: Sequence[str], quiet: Sequence[str]) -> list[Device]:
-        """Returns all stations that answer a Who-Is which their routers broadcast, and a line of
-        each reach that is not whole; `quiet` are those that need not have any. All routers are
-        asked at the same time: all answers come to one port."""
+        """Returns all stations that answer a Who-Is which their routers broadcast, and a line for
+        each reach that is not whole; a reach in `quiet` may have none. All routers are asked at the
+        same time: all answers come to one port."""
+        from .sweep import Sweep  # pylint: disable=import-outside-toplevel
+
         sweep = Sweep(self.tools, reaches, self.bounds, quiet)
         sweep.run()
         stations = sweep.stations()
@@ -171,7 +172,7 @@ class _Survey:
 
     def looked_at_last(self, turns: Sequence[_Turn]) -> list[Device]:
         """Returns the silent addresses of ranges. They are asked once more after all others, and
-        waited for as long as their time allows; what came to the first sockets counts, too."""
+        awaited as long as their time allows; datagrams to the first sockets count too."""
         for turn in turns:
             turn.is_over.wait()
         silent, timeout = [it for turn in turns for it in turn.silent], self.tools.timeout
@@ -203,8 +204,8 @@ class _Survey:
 
 
 def _identified(controller: Controller, wanted: int | None, turn: _Turn) -> str:
-    """Returns why it is not to be asked as this device. A silent device is asked once more if it
-    answers a Who-Is: another client kept it busy, or the request was lost."""
+    """Returns why the controller must not be asked as this device. A silent device is asked once
+    more if it answers a Who-Is: another client kept it busy, or the request was lost."""
     if turn.is_heard:
         reason = controller.identify(wanted)
     else:

@@ -16,25 +16,25 @@ from .session import Session
 from .standard import DEVICE, OBJECT
 
 EVERYONE = (0, 4194303)  # all instances
-FEW = 16  # about so many of the known stations are asked at once
+FEW = 16  # about this many of the known stations are asked at once
 WAIT = 500  # milliseconds of one line of bacrun
 QUIET = 3.0  # seconds without a new station, once all known ones have answered
-LINES = 256  # of one text for bacrun: it prints as many before it reads on
+LINES = 256  # lines of one text for bacrun: it prints their remarks before it reads on
 MOST_ROUNDS = 64
-MOST_STATIONS = 4096  # of a reach, since anyone can send an I-Am
+MOST_STATIONS = 4096  # for one reach, since anyone can send an I-Am
 I_AM = 0
 Range = Tuple[int, int]  # of instances: the least and the greatest
 
 
 class Station(NamedTuple):
-    """A station that has said which device it is."""
+    """A station, with its instance."""
 
     instance: int
     address: str  # with its route
 
     @property
     def router(self) -> str:
-        """The router that it is behind."""
+        """The router of the station."""
         return self.address.partition("/")[0]
 
     @property
@@ -57,16 +57,16 @@ def station_of(message: Message) -> Station | None:
 
 
 class Reach:
-    """192.0.2.7/5/*, or 192.0.2.7/* for all networks there: the stations that were heard, and the
-    ranges of instances that are left to ask."""
+    """192.0.2.7/5/*, or 192.0.2.7/* for all networks there: the stations that have answered, and
+    the ranges of instances that are left to ask."""
 
     def __init__(self, word: str) -> None:
         self.word, self.front = word, word[: -len("*")]
         self.router = word.partition("/")[0]
         self.found: set[Station] = set()
-        self.elsewhere: set[Station] = set()  # which answered through another router
+        self.elsewhere: set[Station] = set()  # stations that answered through another router
         self.left: deque[Range] = deque([EVERYONE])
-        self._before: set[Station] = set()  # those that were known when the question was sent
+        self._before: set[Station] = set()  # stations that were known when the question was sent
         self._asked: Range | None = None
         self._silent = 0  # questions without any station so far
         self._answered: set[Station] = set()
@@ -102,8 +102,8 @@ class Reach:
         return bool(self._before) and _within(self._asked, self._before) <= self._answered
 
     def end(self) -> None:
-        """Ends a question. A range that brought a new station is asked again, in parts; a reach
-        without any station is asked twice."""
+        """Ends a question. A range with a new station is asked again, in parts; a reach without any
+        station is asked twice."""
         self._silent += not self.found
         if self._silent == 1:
             self.left.append(EVERYONE)
@@ -113,19 +113,19 @@ class Reach:
 
 
 class Sweep:
-    """Asks all stations of some reaches which devices they are, until no question finds a new one.
+    """Asks all stations of some reaches for their instances, until no question finds a new one.
 
-    At first all stations are asked at once. A range of instances that brought a new station is then
-    asked again in parts with few known stations each: so an answer that a bus or a router has lost,
-    because all answered at once, comes later.
+    At first all stations are asked at once. A range of instances with a new station is then asked
+    again in parts with few known stations each: an answer that a bus or a router lost, because all
+    answered at once, comes then.
     """
 
     def __init__(self, tools: Tools, words: Sequence[str], bounds: Bounds, quiet: Sequence[str]):
         self._tools, self._bounds = tools, bounds
-        self._quiet = quiet  # reaches that need not have a station
-        self._last = 0.0  # when a station was heard
+        self._quiet = quiet  # reaches that may have no station
+        self._last = 0.0  # when the last station answered
         self._begin(words)
-        self.faults: list[str] = []  # why it is not whole
+        self.faults: list[str] = []  # why the reaches are not whole
         self.rounds = 0
 
     def _begin(self, words: Sequence[str]) -> None:
@@ -155,7 +155,7 @@ class Sweep:
             self._begin([it.word for it in self.reaches])
 
     def _ask(self, session: Session) -> bool:
-        """Asks one range of each reach, and hears the answers; False if nothing is left to ask."""
+        """Asks one range of each reach, and receives the answers; returns False if none is left."""
         questions = list(filter(None, [it.question() for it in self.reaches]))
         begun = self._last = time.monotonic()
         for at in range(0, len(questions), LINES):
@@ -192,7 +192,7 @@ class Sweep:
                     it.elsewhere.add(station)
 
     def stations(self) -> list[Station]:
-        """Returns all stations, by their networks, each behind the first router it was found at."""
+        """Returns all stations, by their networks, each behind the router that found it first."""
         found: dict[tuple[object, ...], Station] = {}
         for reach in self.reaches:
             for it in sorted(reach.found, key=lambda it: (*it.place, it.instance)):
@@ -216,8 +216,8 @@ class Sweep:
 
 
 def nearest(reaches: Sequence[Reach], station: Station) -> Sequence[Reach]:
-    """Returns the reaches that show a station which answered through another router: those at the
-    same host or else of its network, or else one of those that may have it."""
+    """Returns the reaches that list a station which answered through another router: those at the
+    same host, otherwise those of its network, otherwise those that may have it."""
     host = station.router.partition(":")[0]
     there = [it for it in reaches if it.may_have(station)]
     near = [it for it in there if it.router.partition(":")[0] == host] or there
@@ -226,12 +226,12 @@ def nearest(reaches: Sequence[Reach], station: Station) -> Sequence[Reach]:
 
 
 def _within(asked: Range, stations: set[Station]) -> set[Station]:
-    """Returns those of the stations whose instances are in the range."""
+    """Returns the stations whose instances are in the range."""
     return {it for it in stations if asked[0] <= it.instance <= asked[1]}
 
 
 def parts_of(asked: Range, known: Sequence[int]) -> list[Range]:
-    """Returns the range in parts that have few of the known instances each, but in two at least."""
+    """Returns the range in at least two parts that have few of the known instances each."""
     count = max(2, math.ceil(len(known) / FEW)) if len(known) > 1 else 1
     cuts = {known[at * len(known) // count] for at in range(1, count)} - {asked[0]}
     lows = [asked[0], *sorted(cuts)]

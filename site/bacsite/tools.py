@@ -15,10 +15,9 @@ import time
 from collections import deque
 from concurrent.futures import Future, ThreadPoolExecutor
 from contextlib import contextmanager, suppress
-from dataclasses import dataclass, field
 from queue import Empty, SimpleQueue
 from types import FrameType
-from typing import Callable, Iterator, Sequence, TypeVar
+from typing import Callable, Iterator, NamedTuple, Sequence, TypeVar
 
 from .output import BROKEN, SIGNALS, Failure, clean, on_terminal, show
 from .files import Journals
@@ -27,31 +26,30 @@ from .reasons import TOO_LATE
 FOREVER = float("inf")
 LONGEST_START = 1.0  # seconds
 MOST_OCTETS = 65536  # of one reading
-FIRST_PORT, PORTS = 49152, 16384  # those that nobody has for long, by RFC 6335
-FAR_APART = 6229  # process numbers within 700 of each other, times this, lie 8 ports or more apart
+FIRST_PORT, PORTS = 49152, 16384  # ports that no service has for long, by RFC 6335
+FAR_APART = 6229  # times process numbers less than 700 apart: 8 ports or more
 MOST_TIMEOUT = 60000  # milliseconds that a tool takes
-MOST_TRIES = 100  # of other ports, if another program has one
+MOST_TRIES = 100  # attempts with other ports, if another program has one
 BIND_FAILED = "bactool: bind failed"
-LOOK_EVERY = 0.2  # seconds: a signal is heard at the latest then
+LOOK_EVERY = 0.2  # seconds: how soon a signal or a time that is up is noticed
 Result = TypeVar("Result")
 
 
 def deadline_of(seconds: int | None) -> float:
-    """Returns the time by `time.monotonic` in so many seconds; without any, never."""
+    """Returns the time by `time.monotonic` after these seconds; without an argument, never."""
     return time.monotonic() + seconds if seconds else FOREVER
 
 
-@dataclass(frozen=True)
-class Outcome:
-    """How a process ended: its status, its lines, and the first one of standard error."""
+class Outcome(NamedTuple):
+    """How a process ended: its status, its lines, and the first line of standard error."""
 
-    status: int | None  # None where it was not begun, or was ended before it was done
-    lines: list[str] = field(default_factory=list)
+    status: int | None  # None if it was not begun, or was ended early
+    lines: Sequence[str] = ()
     told: str = ""
 
 
 class Process:
-    """A process: lines go in, and lines come out, until its time is up."""
+    """A process: lines go in, and lines come out, until its time is over."""
 
     def __init__(self, popen: subprocess.Popen[bytes], until: float) -> None:
         self._popen, self._until = popen, until
@@ -62,19 +60,16 @@ class Process:
             self._waits.register(popen.stdout, select.POLLIN)
 
     def put(self, text: str) -> None:
-        """Hands it a text. `line` tells whether it has ended."""
+        """Hands the process a text. `line` shows whether it has ended."""
         with suppress(BrokenPipeError):
             assert self._popen.stdin, "it is a pipe"
             os.write(self._popen.stdin.fileno(), os.fsencode(text))
 
     def line(self) -> str | None:
-        """Returns the next line, once that has come; None if it has ended, or is ended here."""
+        """Returns the next line, once it has come; None if the process has ended. `end_if_late`
+        watches the time: a look at it here would need Python's lock once more."""
         assert self._popen.stdout, "it is a pipe"
         while not self._lines:
-            left = self._left()
-            if not self._waits.poll(None if left is None else left * 1000):
-                self._end()
-                return None
             octets = os.read(self._popen.stdout.fileno(), MOST_OCTETS)
             if not octets:
                 return None
@@ -83,16 +78,12 @@ class Process:
         return self._lines.popleft()
 
     def is_ready(self, seconds: float) -> bool:
-        """Returns whether something more of it, or its end, comes within so many seconds."""
+        """Returns whether more output, or the end of the process, comes within these seconds."""
         return bool(self._lines) or bool(self._waits.poll(seconds * 1000))
 
     def outcome(self) -> Outcome:
-        """Lets it end, and returns how it did, with the lines that nobody has read."""
-        try:
-            out, err = self._popen.communicate(timeout=self._left())
-        except subprocess.TimeoutExpired:
-            self._end()
-            out, err = self._popen.communicate()
+        """Waits for its end, and returns the outcome, with the lines that were not read."""
+        out, err = self._popen.communicate()
         lines = [*self._lines, *_texts((self._rest + out).splitlines())]
         told = _texts(err.splitlines())
         if self._is_late:
@@ -100,16 +91,14 @@ class Process:
         return Outcome(self._popen.returncode, lines, told[0] if told else "")
 
     def kill(self) -> None:
-        """Ends it at once."""
+        """Ends the process at once."""
         self._popen.kill()
 
-    def _left(self) -> float | None:
-        """Returns the seconds that it has; None stands for ever."""
-        return None if self._until == FOREVER else max(0.0, self._until - time.monotonic())
-
-    def _end(self) -> None:
-        self._is_late = True
-        self.kill()
+    def end_if_late(self) -> None:
+        """Ends the process if its time is up."""
+        if time.monotonic() >= self._until:
+            self._is_late = True
+            self.kill()
 
 
 class NotBegun(Exception):
@@ -117,7 +106,7 @@ class NotBegun(Exception):
 
 
 class Processes:
-    """Begins processes. `end` ends those that run, and lets no other begin."""
+    """Begins processes. `end` ends running ones, and lets no other begin."""
 
     def __init__(self) -> None:
         self.ended = threading.Event()
@@ -126,7 +115,7 @@ class Processes:
         self._starting = 0
 
     def start(self, command: Sequence[str], until: float = FOREVER) -> Process:
-        """Starts a process; without the lock, since to start one takes longer than all else."""
+        """Starts a process; without the lock, since the start takes longer than anything else."""
         with self._lock:
             self._starting += 1
         try:
@@ -156,8 +145,14 @@ class Processes:
             with self._lock:
                 self._running.discard(process)
 
+    def end_late(self) -> None:
+        """Ends those whose time is up."""
+        with self._lock:
+            for process in self._running:
+                process.end_if_late()
+
     def end(self) -> None:
-        """Ends those that run. One that is just being started ends itself: that is waited for."""
+        """Ends running processes. One that is just being started ends itself, which is awaited."""
         with self._lock:
             self.ended.set()
             for process in self._running:
@@ -172,9 +167,9 @@ def _texts(lines: Sequence[bytes]) -> list[str]:
 
 
 def ports() -> Iterator[int]:
-    """Yields a port for each tool, and none again for 16,384 tools: a tool would accept a late
-    answer to an earlier tool at its port. The first one depends on the number of this process, so
-    that programs which run at nearly the same time begin far apart."""
+    """Yields a port for each tool, and the same one only after 16,384 tools: a tool would accept a
+    late answer to an earlier tool at its port. The first one depends on the number of this process,
+    so that programs which run at nearly the same time begin far apart."""
     return (FIRST_PORT + at % PORTS for at in itertools.count(os.getpid() * FAR_APART + 1))
 
 
@@ -186,22 +181,22 @@ class Tools:
         self.window = 1  # how many requests one controller has at the same time
         self.journals = Journals()
         self.processes = Processes()
-        self.count = 0  # of the requests
-        self.writes = 0  # how many are under way, or were when all was ended
+        self.count = 0  # how many requests were made
+        self.writes = 0  # how many writes are under way, or were at the end
         self._lock = threading.RLock()  # a signal may come while the main thread has it
         self._lines: dict[str, threading.Lock] = {}
         self._ports = ports()
 
     @classmethod
     def of(cls, words: argparse.Namespace) -> Tools:
-        """Makes those that the words ask for; signals end them from now on."""
+        """Makes the tools that the words ask for; from now on signals end them."""
         tools = cls(_found(words.tools), words.apdu_timeout, words.apdu_retries, words.at_once)
         tools.window, tools.journals = words.window, words.journal
         tools.heed(tools._on_signal)
         return tools
 
     def start(self, words: Sequence[str], until: float = FOREVER) -> Process:
-        """Begins a tool, with a port that none before it had."""
+        """Begins a tool, with a port that no earlier tool had."""
         with self._lock:
             port = next(self._ports)
         command = [self.tool, words[0], "--port", str(port), *words[1:]]
@@ -210,7 +205,7 @@ class Tools:
     def run(
         self, words: Sequence[str], until: float = FOREVER, first: Process | None = None
     ) -> Outcome:
-        """Returns how a tool ended that asks for one thing; `first` is one that runs already."""
+        """Returns how a tool ended that makes one request; `first` is one that runs already."""
         if not first:
             self.counted()
         for _ in range(MOST_TRIES):
@@ -241,7 +236,7 @@ class Tools:
             self.writes += 1
         yield
         with self._lock:
-            if not self.processes.ended.is_set():  # one that was ended may have been made
+            if not self.processes.ended.is_set():  # a write that was ended may have been made
                 self.writes -= 1
 
     def write(self, words: Sequence[str]) -> Outcome:
@@ -250,7 +245,7 @@ class Tools:
             return self.run(["bacwp", *words])
 
     def times(self, patience: int, retries: int | None = None) -> list[str]:
-        """Returns the options that say how long a tool waits."""
+        """Returns the options for how long a tool waits."""
         retries = self.retries if retries is None else retries
         return ["--apdu-timeout", str(patience), "--apdu-retries", str(retries)]
 
@@ -262,7 +257,7 @@ class Tools:
         return self.start(["bacrun", *options], until)
 
     def listener(self, port: int, until: float) -> Process:
-        """Begins a bacrun at this port, which hears the stations of networks."""
+        """Begins a bacrun at this port, which receives the answers of stations."""
         return self.processes.start([self.tool, "bacrun", "--port", str(port)], until)
 
     def heed(self, then: Callable[[int, FrameType | None], None]) -> None:
@@ -296,7 +291,7 @@ def side_by_side(
     tools: Tools, jobs: Sequence[Callable[[], Result]], in_order: bool = False, quiet: bool = False
 ) -> Iterator[Result]:
     """Yields the results of jobs as they come, or in their order. A terminal shows how many are
-    done, except for quiet jobs, which print themselves. The calls are ended at the end."""
+    done, except for quiet jobs, which print themselves. At the end all calls are ended."""
     with ThreadPoolExecutor(tools.at_once) as pool:
         try:
             futures = [pool.submit(job) for job in jobs]
@@ -324,6 +319,7 @@ def _as_come(
         while not came:
             with suppress(Empty):
                 came = done.get(timeout=LOOK_EVERY)
+            tools.processes.end_late()
             if shows:  # a line, which goes where something is printed
                 told = f"{count} of {len(futures)} done, {tools.count} calls "
                 show("\r\x1b[K" if came else "\r" + told)

@@ -1,10 +1,9 @@
-"""Values in readable form, of the octets of an answer: their tags tell which types they have."""
+"""Values in readable form, from the octets of an answer, whose tags show the types."""
 
 from __future__ import annotations
 
 import enum
-from dataclasses import dataclass
-from typing import Sequence
+from typing import NamedTuple, Sequence
 
 from . import standard
 from .bodies import Element, Item, bits_of, element_of, element_text, elements_of, items_of
@@ -15,22 +14,21 @@ from .standard import Form, ObjectId, PropertyRef
 
 
 class Kind(enum.Enum):
-    """What a value is to those who ask."""
+    """The kind of a value."""
 
     NUMBER = "number"
     TEXT = "text"
     OTHER = "other"  # bits, a date, a list, null, ..
-    FAULT = "fault"  # it is missing, or is not what the property has to have
+    FAULT = "fault"  # the value is missing, or does not fit the property
 
 
-@dataclass(frozen=True)
-class Value:
+class Value(NamedTuple):
     """A value. The text of a fault says why there is none."""
 
     kind: Kind
     text: str
     meaning: str = ""  # the name of a number, or of the bits that are set
-    bits: tuple[str, ...] = ()  # the names of those that are set
+    bits: tuple[str, ...] = ()  # the names of the set bits
 
     @property
     def fault(self) -> str:
@@ -39,12 +37,12 @@ class Value:
 
     @property
     def why(self) -> Why:
-        """The reason that the fault stands for."""
+        """The kind of the reason in the fault."""
         return why_of(self.fault)
 
     @property
     def number(self) -> float | None:
-        """The number, if it is one."""
+        """The number, if the value is one."""
         return float(self.text) if self.kind is Kind.NUMBER else None
 
     @property
@@ -53,16 +51,16 @@ class Value:
         return self.meaning or self.text
 
     def shown(self) -> str:
-        """Returns the value with what it means."""
+        """Returns the value with its meaning."""
         return f"{self.text} ({self.meaning})" if self.meaning else self.text
 
     def told(self) -> str:
-        """Returns what `shown` does, but a text in quotation marks."""
+        """Returns the same as `shown`, but a text in quotation marks."""
         return f'"{self.text}"' if self.kind is Kind.TEXT else self.shown()
 
 
 def fault(text: str) -> Value:
-    """No value, and why."""
+    """Returns a missing value, with the reason."""
     return Value(Kind.FAULT, text)
 
 
@@ -75,7 +73,7 @@ WEEKS = {1: "1-7", 2: "8-14", 3: "15-21", 4: "22-28", 5: "29-31", 6: "last 7"}
 
 
 def value_of(region: bytes, form: Form) -> Value:
-    """The value of a property, or of an element, whose values are to be of this form."""
+    """Returns the value of a property, or of an element, whose values must have this form."""
     elements = elements_of(region)
     if elements is None:
         items = items_of(region)
@@ -95,7 +93,7 @@ def value_of(region: bytes, form: Form) -> Value:
 
 
 def values_of(region: bytes, form: Form) -> list[Value]:
-    """Each value of a list or an array, whose elements are to be of this form."""
+    """Returns each value of a list or an array, whose elements must have this form."""
     return [_value(it, form) for it in elements_of(region) or []]
 
 
@@ -105,25 +103,25 @@ def told(element: Element) -> str:
 
 
 def shown(region: bytes) -> str:
-    """A value that nothing is known of."""
+    """Returns the text of a value without a known form."""
     return value_of(region, Form()).told()
 
 
 def _listed(found: Sequence[Value]) -> str:
-    """A list; of one element that alone."""
+    """Returns the text of a list; of one element, only the element's."""
     texts = [it.told() for it in found]
     return texts[0] if len(texts) == 1 else "{" + ", ".join(texts) + "}"
 
 
 def _none(form: Form, found: str) -> Value:
-    """The fault that a value is of another type than it has to be."""
+    """Returns the fault that a value has the wrong type."""
     tags = form.tags if form.is_row else form.tags[:1]
     called = ["integer" if it in standard.INTEGERS else standard.TAGS[it] for it in tags]
     return fault(f'no {" and ".join(called)}: {found}')
 
 
 def _value(element: Element, form: Form) -> Value:
-    """Returns a value of this form. Whole numbers of all types fit, except a sign without one."""
+    """Returns a value of this form. Whole numbers of all types fit, unless the sign is wrong."""
     value, kind, tags = _plain(element, form.names), element.kind, form.tags
     whole = kind in standard.INTEGERS and any(it in standard.INTEGERS for it in tags)
     is_below = whole and element.number < 0 and standard.SIGNED not in tags
@@ -138,15 +136,15 @@ def _value(element: Element, form: Form) -> Value:
 
 
 def _plain(element: Element, meanings: dict[int, str] | None = None) -> Value:
-    """A value of any type, with what its number or its bits mean."""
-    kind, octets, text, known = *element, element_text(element), meanings or {}
+    """Returns a value of any type, with the meaning of its number or its bits."""
+    kind, octets, known = *element, meanings or {}
+    if kind == standard.STRING:
+        return Value(Kind.TEXT, _decoded(element))
+    text, meaning = element_text(element), ""
     if kind in (standard.REAL, standard.DOUBLE):
         return Value(Kind.NUMBER, shortest(text))
     if kind in standard.INTEGERS:
-        return Value(Kind.NUMBER, text, known.get(int(text), ""))
-    if kind == standard.STRING:
-        return Value(Kind.TEXT, _decoded(octets, text))
-    meaning = ""
+        return Value(Kind.NUMBER, text, known.get(element.number, ""))
     if kind == standard.BITS:
         places = [at for at, bit in enumerate(bits_of(octets)) if bit == "1"] if known else []
         bits = tuple(known.get(at, f"bit {at}") for at in places)
@@ -158,15 +156,15 @@ def _plain(element: Element, meanings: dict[int, str] | None = None) -> Value:
     return Value(Kind.OTHER, text, meaning)
 
 
-def _decoded(octets: bytes, text: str) -> str:
-    """A text by its set; as bacrp prints it where that can't be read."""
-    is_page = octets[0] == CODE_PAGE
-    page = f"cp{int.from_bytes(octets[1:3], 'big')}"
+def _decoded(element: Element) -> str:
+    """Returns a text in its character set; as bacrp prints it if that can't be read."""
+    octets = element.octets
     try:
-        name = page if is_page else CHARACTER_SETS[octets[0]]
-        return escaped(octets[3 if is_page else 1 :].decode(name))
-    except (KeyError, LookupError, UnicodeDecodeError):
-        return text
+        if octets[0] == CODE_PAGE:
+            return escaped(octets[3:].decode(f"cp{int.from_bytes(octets[1:3], 'big')}"))
+        return escaped(octets[1:].decode(CHARACTER_SETS[octets[0]]))
+    except (LookupError, UnicodeDecodeError):
+        return element_text(element)
 
 
 def _moment_of(kind: int, octets: bytes) -> str:
@@ -208,7 +206,7 @@ def _entry(item: Item) -> str:
 
 
 def _constructed(items: Sequence[Item], form: Form = Form()) -> str:
-    """Items with context tags, which do not tell types: [1]X'05' is a value, [0]{..} has others."""
+    """Items with context tags, which show no types: [1]X'05' is a value, [0]{..} has others."""
     texts = []
     labels = form.labels if len(form.labels) == len(items) else ()
     for at, it in enumerate(items):

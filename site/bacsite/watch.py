@@ -1,4 +1,4 @@
-"""Points are asked again and again: what they have is printed, kept in a file, and drawn."""
+"""Asks for points again and again, and prints, keeps and draws their values."""
 
 from __future__ import annotations
 
@@ -16,19 +16,19 @@ from .charts import Line, Live, Sample, is_terminal, page_of
 from .controller import Controller
 from .output import BROKEN, MISSING, Failure, csv_lines, harmless, moment, put, show, wrong
 from .files import is_replaceable, replace_file
-from .poll import Meaning, Meanings, Reading, Wanted, readings_of
+from .poll import Meaning, Meanings, Reading, readings_of
 from .points import Point, by_address, distinct, point_of, points_of
 from .reasons import NOT_ASKED, why_of
 from .files import Rows
 
 HEAD = "time,point,value,unit,state,flags,missing\n"
-LONGEST = 3  # times the pause: after more than that long something was not asked
+LONGEST = 3  # times the pause: after a longer time a round was missed
 PAGE_EVERY = 5.0  # seconds
 MOST_EARLIER, LATEST = 32 << 20, 1 << 20  # octets of the file that are read: for the page, or not
 
 
 class Row(NamedTuple):
-    """What a point had when it was asked, at a time in milliseconds."""
+    """The value of a point when it was read, at a time in milliseconds."""
 
     at: int
     point: Point
@@ -36,19 +36,19 @@ class Row(NamedTuple):
     meaning: Meaning = Meaning()
     flags: str = ""
     fault: str = ""
-    clock: int = 0  # that time by a clock which stands while the machine sleeps, and is never set
+    clock: int = 0  # the time by a clock that stops while the machine sleeps, and is never set
 
     def cells(self) -> list[str]:
-        """What the file has of it, beside time and point."""
+        """The cells of the row in the file, after time and point."""
         return [self.text, self.meaning.unit, self.meaning.state, self.flags, self.fault]
 
 
-Found = Union[List[Row], BaseException]  # rows, none of them at the end; or what went wrong
+Found = Union[List[Row], BaseException]  # rows, none of them at the end; or an error
 Charts = List[List[str]]  # the names of the points of each
 
 
 class Rounds:
-    """Rounds of all controllers, which have one beginning, by a clock that does not drift."""
+    """Rounds of all controllers, which begin together, by a clock that does not drift."""
 
     def __init__(self, tools: Tools, words: argparse.Namespace, points: Sequence[Point]) -> None:
         self._tools, self._every, self._flags = tools, words.every, not words.no_flags
@@ -109,8 +109,8 @@ class Rounds:
 def with_gaps(
     rows: Sequence[Row], before: Mapping[str, Row], step: int, is_late: bool
 ) -> list[Row]:
-    """Returns the rows, each after one which says that nothing was asked, if that is so: the round
-    is late, or the machine slept since the row before, or its time was set."""
+    """Returns the rows, each after a row for a gap if nothing was asked before it: the round is
+    late, or the machine slept since the row before, or its time was set."""
     found: List[Row] = []
     for row in rows:
         last = before.get(row.point.name)
@@ -122,20 +122,20 @@ def with_gaps(
 
 
 def unasked(last: Row, step: int) -> Row:
-    """Says that nothing was asked after this row."""
+    """Returns a row for the gap after this row."""
     return Row(last.at + step, last.point, fault=NOT_ASKED)
 
 
 def _asked(
     controller: Controller, points: Sequence[Point], meanings: Meanings, with_flags: bool
 ) -> list[Row]:
-    """Returns what they have now; nothing of a device that is another one before or after that."""
+    """Returns the present values; none if the device was another one before or after."""
     controller.again()
     found: List[Row] = []
     for part in controller.parts(points):
         controller.renew()
         at, clock = time.time_ns() // 10**6, _clock()
-        readings = readings_of(controller, part, Wanted(flags=with_flags))
+        readings = readings_of(controller, part, with_flags)
         meant = meanings.of([(it.point.ref, it.value) for it in readings])
         rows = [_row(at, it, meaning) for it, meaning in zip(readings, meant)]
         found += [it._replace(clock=clock) for it in rows]
@@ -164,7 +164,7 @@ def _clock() -> int:
 
 
 class Watch:
-    """All that is known of the points: it is printed, kept and drawn."""
+    """All known values of the points, which are printed, kept and drawn."""
 
     def __init__(self, points: Sequence[Point], charts: Charts, words: argparse.Namespace) -> None:
         self.words, self.charts = words, charts
@@ -179,7 +179,7 @@ class Watch:
         self.earlier = set(self.latest)  # names of points whose latest row is of an earlier watch
 
     def _take_earlier(self, file: Rows, known: Dict[str, Point]) -> None:
-        """Notes the rows of an earlier watch: all for the page, else the latest ones."""
+        """Notes the rows of an earlier watch: all for the page, otherwise the latest ones."""
         for cells in file.rows(MOST_EARLIER if self.words.page else LATEST):
             with suppress(ValueError, KeyError):
                 when, name, *texts = cells
@@ -196,7 +196,7 @@ class Watch:
         return row
 
     def take(self, rows: Sequence[Row]) -> None:
-        """Notes rows, and tells them."""
+        """Notes rows, and prints them."""
         told, found = "", []
         for row in rows:
             last, step = self.latest.get(row.point.name), int(self.words.every * 1000)
@@ -250,7 +250,7 @@ def _cells(row: Row) -> list[str]:
 
 
 def _chosen(words: Sequence[str]) -> tuple[list[Point], Charts]:
-    """Returns the points, and which of their names have one chart; it fails if a point is wrong."""
+    """Returns the points, and the charts of their names; fails if a point is wrong."""
     parts: list[list[str]] = [[]]
     for word in words:
         if word == "+":
@@ -274,7 +274,7 @@ def _chosen(words: Sequence[str]) -> tuple[list[Point], Charts]:
 
 
 def _joined(parts: Sequence[Sequence[str]]) -> Charts:
-    """Returns names by their charts: one that begins a part has a + between it and the last one."""
+    """Returns names by their charts: a + joins the last name and the first one after it."""
     groups: Charts = []
     for part in parts:
         if groups:
@@ -284,7 +284,7 @@ def _joined(parts: Sequence[Sequence[str]]) -> Charts:
 
 
 def watch(words: argparse.Namespace) -> int:
-    """Asks the points until a signal ends that, or all rounds are done."""
+    """Asks for the points until a signal ends the watch, or all rounds are done."""
     points, charts = _chosen(words.words)
     if not 0.1 <= words.every <= 86400:
         raise wrong(f"not 0.1 to 86400 seconds: {words.every}")

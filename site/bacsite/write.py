@@ -1,4 +1,4 @@
-"""A property is written once it is sure which one that is, and read back; or those of a list."""
+"""Writes a property once its identity is sure, and reads it back; or the properties of a list."""
 
 from __future__ import annotations
 
@@ -59,7 +59,7 @@ def ending_of(outcome: Outcome) -> Ending:
 
 
 def written(controller: Controller, order: Order) -> int:
-    """Looks, writes, and looks again; returns the status of the program."""
+    """Reads, writes, and reads again; returns the status of the program."""
     try:
         place, value = prepared(controller, order)
         put(f"device {controller.instance or 0} at {controller.address}\n")
@@ -76,7 +76,7 @@ def written(controller: Controller, order: Order) -> int:
         return 0
     told = head + NOT_KNOWN
     try:
-        with controller.tools.writing():  # until it is told how that ended
+        with controller.tools.writing():  # until its outcome was printed
             ending = ending_of(_sent(controller, order, value))
             told = head + ending.told
             put(told + "\n")
@@ -86,7 +86,7 @@ def written(controller: Controller, order: Order) -> int:
 
 
 def _checked(control: Controller, order: Order, place: Place, value: Encoded, end: Ending) -> int:
-    """Looks again, also which device that is; returns the status of the program."""
+    """Reads again, also the identity of the device; returns the status of the program."""
     if not end.was_sent:
         return end.status
     found, status = _read_back(control, order, place), end.status
@@ -105,7 +105,7 @@ def _checked(control: Controller, order: Order, place: Place, value: Encoded, en
 
 
 def prepared(controller: Controller, order: Order) -> tuple[Place, Encoded]:
-    """Returns place and value; it fails if the place is not the one to write to."""
+    """Returns place and value; fails if the place is not the one to write to."""
     reason = controller.identify(order.device)
     if reason:
         raise Failure(reason, MISSING)
@@ -131,7 +131,7 @@ def _sent(controller: Controller, order: Order, value: Encoded) -> Outcome:
 
 
 def _read_back(controller: Controller, order: Order, place: Place) -> Value:
-    """Prints what the property is now; returns what is at the place of the written value."""
+    """Prints the present value; returns the value at the priority that was written."""
     now = controller.value(place.ref)
     put(f"now: {place.shown(now)}\n")
     array = priorities(controller, place) if place.is_present_value else Priorities()
@@ -151,7 +151,7 @@ def _read_back(controller: Controller, order: Order, place: Place) -> Value:
 
 
 def order_of(words: argparse.Namespace) -> Order:
-    """Returns what the words order; it fails if they are wrong."""
+    """Returns the order in the words; fails if they are wrong."""
     device, address = addresses.one(words.address)
     object_id = ObjectId(object_type(words.object_type), instance(words.instance))
     at = None if words.index is None else index(words.index)
@@ -173,7 +173,7 @@ Line = Tuple[int, Order]  # a number, from 1, and what the line with that number
 
 
 def lines_of(path: str, dry: bool) -> list[Line]:
-    """Returns the lines of a list; it fails if one of them is wrong."""
+    """Returns the lines of a list; fails if one of them is wrong."""
     parser = Parser(prog="bacsite write", add_help=False).take(COMMANDS["write"])
     lines = []
     for number, line in enumerate(text_of(path).split("\n"), 1):
@@ -195,7 +195,7 @@ def lines_of(path: str, dry: bool) -> list[Line]:
 
 def _all_written(tools: Tools, lines: Sequence[Line], dry: bool) -> int:
     """Checks all lines, then writes them; returns the status of the first that is not sure, or 0.
-    Once something was written, it is not WRONG_WORDS, which means that nothing was."""
+    Once a line was written, the status is not WRONG_WORDS, which means that none was."""
     for number, order in [] if dry else lines:
         try:
             with Controller(tools, order.place.address) as controller:

@@ -1,7 +1,7 @@
-"""What of a control shows nothing, as CONTRIBUTING.md (A mutant) has it: other words for what stood there, a right
-text without what is hard in the wrong one, a branch of its own that is never taken. A control is tried once more for
-each such branch, with `unreachable!()` in the place of what the branch does, and that may not be proved. A branch that
-the wrong text has too needs no such try: were it never taken, the mutant would be proved.
+"""Finds controls that show nothing, by the rules of CONTRIBUTING.md (A mutant): one that writes the old text in other
+words, one that lacks what is hard for the prover in the mutant, or one with a new branch that is never taken. For each
+such branch a control is tried once more, with `unreachable!()` in the branch, and that must not be proved. A branch
+that the mutant has too needs no such try: if it were never taken, the mutant would be proved.
 """
 import collections
 import re
@@ -20,7 +20,7 @@ NEUTRAL = re.compile(
 NAME = r"(?:_|(?:mut )?(?!true |false )[a-z]\w*)"
 ONE_ARM = re.compile(rf" match ([^{{}}]*) (\{{) ({NAME}|\( (?:{NAME} ,? ?)*\)) => ")
 PARTS = re.compile(rf" let (\() (?:{NAME} ,? ?)*\) = (\() ")
-# Methods of which the prover knows as little.
+# Methods about which the prover knows equally little.
 METHODS = re.compile(
     r"(?:checked_|wrapping_|saturating_|overflowing_)?(?:pow|rem_euclid|div_euclid|rem|div|shl|shr|ilog\w*|isqrt|abs_diff)"
     r"|count_(?:ones|zeros)|(?:leading|trailing)_(?:ones|zeros)|rotate_\w+|swap_bytes|reverse_bits|is_power_of_two"
@@ -30,12 +30,12 @@ EMPTY = "unreachable!()"
 
 
 def words(text):
-    """The words and signs of a text, apart from its remarks."""
+    """The words and signs of a text, without its comments."""
     return TOKEN.findall(re.sub(r"//.*", "", text))
 
 
 def parts(text, begin):
-    """What stands between the commas in the bracket at this place of a text."""
+    """The parts between the commas in the bracket at this place of a text."""
     found, depth = [""], 0
     for it in text[begin + 1 : closing(text, begin)]:
         depth += (it in "([{") - (it in ")]}")
@@ -44,7 +44,7 @@ def parts(text, begin):
 
 
 def unfolded(said):
-    """These words with names bound in the place of a match of one arm, and a part in the place of a list of parts."""
+    """These words, with names bound instead of a match with one arm, and a part instead of a list of parts."""
     if it := ONE_ARM.search(said):
         end = closing(said, it.start(2))
         return f"{said[: it.start()]} let {it[3]} = {it[1]} ; {said[it.end() : end]}{said[end + 1 :]}"
@@ -79,7 +79,7 @@ def plain(text):
 
 
 def call_of(head):
-    """How a function with these lines for its head is called by the right body that does nothing but call it."""
+    """How a function with these head lines is called by the correct body that only calls it."""
     text = " ".join(it.strip() for it in head if not it.strip().startswith(("//", "#[")))
     name, rest = re.search(r"\bfn (\w+)(.*)", text).groups()
     given = re.split(r"\)(?: ->| where| requires| ensures| ghost| {|$)", rest[rest.index("(") :])[0]
@@ -88,14 +88,14 @@ def call_of(head):
 
 
 def calls_more(old, wrong):
-    """The functions that the wrong text calls, and the text that stood there does not."""
+    """The functions that the mutant calls, and the old text does not."""
     plainly = lambda text: re.sub(r"//.*|::<[^()]*>(?=\()", "", text)
     calls = lambda text: {*re.findall(r"(?<!\bfn )\b([a-z]\w*)\(", plainly(text))}
     return sorted(calls(wrong) - calls(old))
 
 
 def hard(text):
-    """The operators for which the prover has no more than single laws, each with the words before and after it."""
+    """The operators about which the prover knows only single laws, each with the words before and after it."""
     said = ["", *words(text), ""]
     of_two = lambda at: re.match(r"[\w)\]]", said[at - 1]) and said[at - 1] not in ("return", "in", "if", "else")
     signs = ("<<", ">>", "^", "%", "/", "<<=", ">>=", "^=", "%=", "/=", "*=", "&=", "|=")
@@ -106,12 +106,12 @@ def hard(text):
 
 
 def harder(old, wrong):
-    """Returns the hard operators of the wrong text whose sign the old text lacks."""
+    """Returns the hard operators in the mutant that the old text does not have."""
     return [it for it in hard(wrong) if it[0] not in {sign for sign, *_ in hard(old)}]
 
 
 def fault(old, wrong, control):
-    """Why a control beside this wrong text shows nothing, where this stood there, or ""."""
+    """Why a control shows nothing about this mutant of the old text, or ""."""
     if plain(old) == plain(control):
         return "its control is what stood there in other words"
     has_like = lambda one: any(one[0] == it[0] and (one[1] == it[1] or one[2] == it[2]) for it in hard(control))
@@ -120,7 +120,7 @@ def fault(old, wrong, control):
 
 
 def doubt(old, wrong, control):
-    """What the tool can't tell of this control, or ""."""
+    """Why the tool cannot judge this control, or ""."""
     if signs := {it[0] for it in harder(old, wrong)}:
         return f"the tool can't tell whether the control has {' '.join(sorted(signs))} for the same"
     counts = [collections.Counter(words(it)) for it in (old, wrong, control)]
@@ -129,7 +129,7 @@ def doubt(old, wrong, control):
 
 
 def closing(text, begin):
-    """Returns the place at which the bracket at this place is closed, or 0 if it is closed after the text."""
+    """Returns where the bracket at this place is closed, or 0 if it is closed after the text."""
     depth = 0
     for at in range(begin, len(text)):
         depth += (text[at] in "([{") - (text[at] in ")]}")
@@ -139,7 +139,7 @@ def closing(text, begin):
 
 
 def branches(control):
-    """What the branches of a control are entered by, and where they begin and end: of `if` and `else`, and arms."""
+    """The conditions of a control's branches, and where they begin and end: of `if` and `else`, and arms."""
     for it in re.finditer(r"(?:\bif (?:let .*? = )?[^{}]*?|\belse )\{(?!\s*\})", control):
         end = closing(control, it.end() - 1)
         if " => " not in it[0] and end:
@@ -157,6 +157,6 @@ def branches(control):
 
 
 def emptied(known, control):
-    """This control once for each of its branches that none of the known texts has, with nothing in it."""
+    """This control once for each of its branches that none of the known texts has, with that branch emptied."""
     own = (it for it in branches(control) if not any(it[0].strip() in text for text in known))
     return [f"{control[:begin]} {EMPTY} {control[end:]}" for _, begin, end in own]

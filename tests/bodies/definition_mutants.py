@@ -1,12 +1,11 @@
 #!/usr/bin/env python3
-"""Sees that edits are refused that no contract mentions. The language refuses those of out_of_reach.edits. The worked
-examples refuse those of definitions.edits, in which a definition is emptied or weakened: the example that an entry
-names is not proved then, and nothing else is refused except its answers. The code does not follow such an edit, because
-an example is tried without the code.
+"""Checks edits that only examples or the language refuse. The language refuses the edits of out_of_reach.edits. The
+worked examples refuse the edits of definitions.edits, which empty or weaken a definition: the example that an entry
+names must not be proved, and nothing else may be refused except the answers of that example. The code does not follow
+the edit, because examples are tried without the code.
 
-Usage: tests/bodies/definition_mutants.py [TREE [PATTERN]]: all of them, or those in whose name the pattern is found,
-over the libraries that this tree, or another, has of the crates below, as `make demo` keeps them. Each takes some
-seconds.
+Usage: tests/bodies/definition_mutants.py [TREE [PATTERN]]: tries all edits, or those whose names contain the pattern,
+with the libraries of the crates below in this tree, or another, as `make demo` keeps them. Each takes some seconds.
 """
 import re
 import sys
@@ -37,7 +36,9 @@ def fault_of(over, pairs, how, by):
     answers = f"./proofs/examples/{example}/Answers.antt"
     places = {line.startswith(answers) for line in re.findall(r"(?m)^(\S+): error", said)}
     if example == by:
-        is_so = f"fn {crate}::examples::{by}: not proved" in said and places == {True}
+        # an example without answers of its own was proved by search alone
+        told = "not proved" if places else "no proof: expected answers"
+        is_so = f"fn {crate}::examples::{by}: {told}" in said and places <= {True}
     else:
         is_so = {*re.findall(r"error\[([\w-]+)\]", said)} == {*by.split()}
     return "" if is_so else f"it is not refused by {by} alone: {said[-600:]}"

@@ -1,7 +1,7 @@
-"""What a mutant is: a file NAME.edit in crates/CRATE/must-fail, with lines as `rt must-fail` reads them, or an
-entry of crates/CRATE/mutants/FILE.edits, which holds those of src/FILE.rt: a line `[NAME]` and the lines below it.
-CONTRIBUTING.md (A mutant) says what the lines `file:`, `in:`, `old:`, `new:`, `body:`, `clause:`, `goal:`, `control:`,
-`at:`, `by:` and `survivor:` are, and what is tried in its function's place, or beside it.
+"""Reads mutants. A mutant is a file NAME.edit in crates/CRATE/must-fail, with lines as `rt must-fail` reads them, or an
+entry of crates/CRATE/mutants/FILE.edits, which has those of src/FILE.rt: a line `[NAME]` and the lines below it.
+CONTRIBUTING.md (A mutant) explains the lines `file:`, `in:`, `old:`, `new:`, `body:`, `clause:`, `goal:`, `control:`,
+`at:`, `by:` and `survivor:`, and what is tried instead of the function, or with it.
 """
 import collections
 import functools
@@ -18,8 +18,8 @@ HEAD = re.compile(r"( *)(?:pub(?:\([^)]*\))? )?(?:const |unsafe )*fn (\w+)")
 IMPL = re.compile(r"impl(?:<.*?>)? (?:(?:\w+::)*(\w+)(<.*>)? for )?(?:\w+::)*(\w+)")
 CLAUSE = re.compile(r" *(requires|ensures)\*?(?: (\w+))? \{")
 ANSWERS = ("Proof.antt", "Invariants.antt", "Answers.antt")
-LEMMAS = re.compile(r"(?m)^ *#\[tactic\(.*\b(?:using|unfolding)\(")  # which the searches of a `goal:` lack
-INVARIANT = "invariant"  # in a line `clause:`, what refuses a body where no clause does
+LEMMAS = re.compile(r"(?m)^ *#\[tactic\(.*\b(?:using|unfolding)\(")  # which the searches of a `goal:` do not have
+INVARIANT = "invariant"  # in a line `clause:`: the body is refused by no clause but by this
 
 
 class Function(typing.NamedTuple):
@@ -30,19 +30,19 @@ class Function(typing.NamedTuple):
     last: int
     name: str
     shown: str  # NAME or TYPE::NAME
-    checked: str  # the same as a check writes it
+    checked: str  # the same, as a check writes it
     symbols: re.Pattern  # what a check calls it
-    in_cycle: bool  # it is called by what it calls
-    behind: int  # the line after which a copy of it is put; 0: nowhere
+    in_cycle: bool  # a function that it calls calls it
+    behind: int  # the line after which a copy of the function is put; 0: nowhere
     impl: str  # the head of an `impl` that the copy needs, or ""
-    trait: str  # whose method it is, as a check names that, or ""
-    head: list  # the lines in front of its body, its remarks and attributes among them
-    text: str  # what stands between the brackets of its body
+    trait: str  # the trait of the method, as a check names it, or ""
+    head: list  # the lines before the body, with comments and attributes
+    text: str  # the text between the brackets of the body
 
 
 @functools.cache
 def functions_of(crate, path, source):
-    """The functions of a file of a crate. By its layout each ends at the first line of its indent and a bracket."""
+    """The functions of a file of a crate. It ends at the first line that is a bracket with its indent."""
     lines, found, block, ghosts, in_cycle = source.split("\n"), [], "", [], False
     for first, line in enumerate(lines):
         block, ghosts = (line, []) if re.match(r"\S", line) else (block, ghosts)
@@ -59,7 +59,7 @@ def functions_of(crate, path, source):
         trait, given, kind = owner.groups() if owner else ("", "", "")
         behind, impl = 0 if indent and (trait or not owner) else last, ""
         above = [*lines[start:body], *gives(ghosts, line)]
-        is_copied = trait and block.endswith("{") and file_of(crate, kind)  # no `impl` of a type of another crate
+        is_copied = trait and block.endswith("{") and file_of(crate, kind)  # not an `impl` of a type of another crate
         if is_copied and any(re.match(" *ensures", it) for it in above):
             behind, uses = lines.index("}", last), [it for it in ghosts if it.startswith("    ghost use ")]
             impl = "\n".join([block.replace(f"{trait}{given or ''} for ", "", 1), *uses])
@@ -83,7 +83,7 @@ def applied(crate, kind, block):
 
 
 def gives(ghosts, head):
-    """The head of a `from` with one line, in whose `impl` these lines stand, with a clause of what it gives."""
+    """The head of a `from` with one line, in an `impl` with these lines, with a clause for its result."""
     found = re.search(r"(?m)^    ghost from_gives = \{ λ (\w+) (\w+)\. (.*) \};$", "\n".join(ghosts))
     given = re.match(r"    fn from\((\w\w+): .*\{$", head)
     if not (found and given):
@@ -102,17 +102,17 @@ def symbol_of(path, owner, name):
 
 
 def words_of(given):
-    """How a check names what a trait is given."""
+    """How a check names the arguments of a trait."""
     return "".join(it[0].upper() + it[1:] for it in re.findall(r"(?<!')\b\w+", given or ""))
 
 
 def module_of(path):
-    """The parts of the module's name that a file of src/ holds."""
+    """The parts of the module's name of a file of src/."""
     return [it for it in path[len("src/") : -len(".rt")].split("/") if it not in ("lib", "main")]
 
 
 def home_of(crate, path, kind):
-    """Returns the place that a check gives to this file, in parts: its module, or that of the type of a method."""
+    """Returns the place of this file in the names of a check, in parts: its module, or that of the type of a method."""
     return [*module_of(file_of(crate, kind) or path), kind] if kind else module_of(path)
 
 
@@ -130,13 +130,13 @@ def sources_of(crate):
 
 
 def body_of(crate, path, name):
-    """What stands between the brackets of the first function of this name, or "" where there is none."""
+    """The text between the brackets of the first function with this name, or "" if there is none."""
     found = functions_of(crate, path, sources_of(crate).get(path, ""))
     return next((it.text for it in found if it.name == name), "")
 
 
 def law_of(crate, by):
-    """The lines of `FILE::NAME` where that is a function of this crate with an empty body, else none."""
+    """The lines of `FILE::NAME` if that is a function of this crate with an empty body, otherwise none."""
     place, _, name = by.rpartition("::")
     found = re.search(rf"(?m)^pub fn {name}\b.*(\n .*)*\n{{}}$", sources_of(crate).get(f"src/{place}.rt", ""))
     return found[0].split("\n") if found else []
@@ -144,21 +144,21 @@ def law_of(crate, by):
 
 @functools.cache
 def answered(crate):
-    """What of a crate has answers, by the name that a check has for it."""
+    """The parts of a crate that have answers, by the names that a check has for them."""
     home = f"{ROOT}/crates/{crate}/proofs"
     found = (it for it in tree.files(f"{home}/**/*.antt") if os.path.basename(it) in ANSWERS)
     return sorted({"::".join([crate, *os.path.relpath(os.path.dirname(it), home).split("/")]) for it in found})
 
 
 def names_in(text):
-    """Returns the words of this text, each with the two before it, also those in quotes and remarks."""
+    """Returns the words of this text, each with the two before it, with those in quotes and comments."""
     said = ["", "", *re.findall(r"\w+|::|\S", text)]
     return {(said[at - 2] * (said[at - 1] in (".", "::")), *said[at - 1 : at + 1]) for at in range(2, len(said))}
 
 
 @functools.cache
 def calls_in(crate):
-    """The names of a crate's functions, each with those that stand in the bodies of such functions."""
+    """The names of a crate's functions, each with those in the bodies of functions with that name."""
     found = collections.defaultdict(set)
     for path, text in sources_of(crate).items():
         for it in functions_of(crate, path, text):
@@ -167,7 +167,7 @@ def calls_in(crate):
 
 
 def reached(crate, name):
-    """The names that a call of this name may lead to."""
+    """The names that a call of this name may reach."""
     found, rest = set(), {name}
     while rest:
         found |= rest
@@ -180,10 +180,11 @@ Copy = collections.namedtuple("Copy", "path behind text name")
 
 
 class Pair(collections.namedtuple("Pair", "path within old new")):
-    """What an edit replaces in a file, and by what: the first after the head of the named function, else the only."""
+    """The old and the new text of an edit in a file: the first place after the head of the named function, or the only
+    one."""
 
     def place(self, text):
-        """Returns the place of the old text in this text, or -1 if that is not there once."""
+        """Returns the place of the old text in this text, or -1 if it is not there exactly once."""
         head = re.search(rf"\bfn {self.within}\b", text)
         if not self.old or (self.within and not head):
             return -1
@@ -192,7 +193,7 @@ class Pair(collections.namedtuple("Pair", "path within old new")):
         return text.find(self.old) if text.count(self.old) == 1 else -1
 
     def applied(self, text):
-        """This text with the pair in it, or None where it can't be."""
+        """This text with the pair in it, or None if it cannot be."""
         at = self.place(text)
         return text[:at] + self.new + text[at + len(self.old) :] if at >= 0 else None
 
@@ -201,7 +202,7 @@ Entry = collections.namedtuple("Entry", "file name text")  # where it stands, it
 
 
 def entries_in(file, source):
-    """The entries of a file of mutants/, which is of this source."""
+    """The entries of a file of mutants/, for this source."""
     head, *rest = re.split(r"(?m)^\[(\w+)\]$", text_of(file))
     named = zip(rest[::2], rest[1::2])
     return [Entry(file, "", head)] * bool(head.strip()) + [Entry(file, it, f"{source}\n{text}") for it, text in named]
@@ -217,17 +218,17 @@ def entries_of(crate):
         yield from entries_in(file, f"file: src/{os.path.relpath(file, f'{home}/mutants')[: -len('.edits')]}.rt")
 
 
-# An entry is tried so: the mutant; its control; the control with nothing in one of its branches, by their numbers;
-# the control of an `impl` with the wrong one's ghost clauses; the mutant, and the right one, under a contract that
-# says that the clause is false; and the wrong one, and the right one's call, under one that says that there are no such
-# arguments.
+# The parts of an entry that are tried: the mutant; its control; the control with one of its branches emptied, by their
+# numbers; the control of an `impl` with the mutant's ghost clauses; the mutant, and the original, with a contract which
+# says that the clause is false; and the mutant, and the original's call, with a contract which says that no such
+# arguments exist.
 WRONG, CONTROL, EMPTIED, GHOST = "", "control", "emptied control", "ghost clause alone"
 REFUTED, RIGHT_REFUTED, NEVER, UNMET = "refuted", "right one refuted", "never called", "right one never called"
 GHOSTS = re.compile(r"ghost .*?; (?=fn )")  # of an `impl`
 
 
 class Edit:
-    """A mutant, or what is tried beside it."""
+    """A mutant, or another part of its entry."""
 
     def __init__(self, crate, entry, part=WRONG):
         self.crate, self.entry, self.file, self.part = crate, entry, entry.file, part
@@ -261,14 +262,14 @@ class Edit:
             self.pairs = [Pair(path, within, of.text, own + call)]
         if part.startswith(EMPTIED):
             self.pairs = [self.pairs[0]._replace(new=self.emptied()[int(part.removeprefix(EMPTIED))])]
-        # only ever tried beside its function, and without the answers that this has
+        # only ever tried as a copy, and without the answers of its function
         self.is_apart = self.calls_right or part in (REFUTED, RIGHT_REFUTED, NEVER, UNMET) or part.startswith(EMPTIED)
         names = (it.strip("`,.") for it in self.survivor.split())
         self.test = next((it for it in names if "/" in it and os.path.isfile(f"{ROOT}/{it}")), "")
         self.is_unfit = next(self.faults(), "")
 
     def faults(self):
-        """Why this edit can't be tried on the code as it stands. Notes the functions that it touches."""
+        """Why this edit cannot be tried with the present code. Notes the functions that it touches."""
         if not self.entry.name:
             yield "it begins with no line `[NAME]`"
         texts = sources_of(self.crate)
@@ -292,7 +293,7 @@ class Edit:
         yield from self.faults_of_lines()
 
     def faults_of_lines(self):
-        """What the lines of this edit have, and may not have."""
+        """What is missing in the lines of this edit, or must not be there."""
         if not self.pairs:
             yield "it has no `new:`"
         if self.bare:
@@ -318,13 +319,13 @@ class Edit:
             yield "its `clause:` names what is not ensured"
 
     def emptied(self):
-        """What stands in a control, once for each of its own branches, with nothing in that."""
+        """The text of a control, once for each of its own branches, with that branch emptied."""
         known = [self.wrong, "" if self.calls_right else self.pairs[0].old]
         return controls.emptied(known, self.pairs[0].new)
 
     @functools.cached_property
     def way_back(self):
-        """Returns the names of all functions by which its new words may call the function that it changes."""
+        """Returns the names of all functions through which its new words may call the changed function."""
         if self.is_wide or self.is_apart or not self.functions:
             return set()
         of, pair = self.functions[0][1], self.pairs[0]
@@ -332,7 +333,7 @@ class Edit:
         return set().union(*(it for it in (reached(self.crate, name) for name in more) if of.name in it))
 
     def applied(self, texts):
-        """These texts with the edit in them, or None where another edit stands in the way."""
+        """These texts with the edit in them, or None if another edit is in the way."""
         for it in self.pairs:
             text = it.applied(texts.get(it.path) or sources_of(self.crate)[it.path])
             if text is None:
@@ -341,8 +342,8 @@ class Edit:
         return texts
 
     def head(self):
-        """The lines in front of the body of its function, or the law that refuses it, in parts: those before the
-        clauses, then each clause, with its kind and its name."""
+        """The lines before the body of its function, or of the law that refuses it, in parts: those before the clauses,
+        then each clause, with its kind and its name."""
         parts = [("", "", [])]
         for line in law_of(self.crate, self.by) if self.is_wide else self.functions[0][1].head:
             if begins := CLAUSE.match(line):
@@ -351,27 +352,27 @@ class Edit:
         return parts
 
     def clauses(self):
-        """The names of what its function ensures, or the law that refuses it, in order."""
+        """The names of the `ensures` clauses of its function, or of the law that refuses it, in order."""
         return [name for kind, name, _ in self.head() if kind == "ensures"]
 
     def is_beside(self):
-        """Whether it is tried beside its function."""
+        """Whether this edit is tried as a copy next to its function."""
         return bool(self.functions[0][1].behind) and (self.is_apart or not self.way_back)
 
     def answers(self):
-        """Returns the name of the answers of its function, in parts, if it is tried with them; else nothing."""
+        """Returns the name of the function's answers, in parts, if this edit is tried with them; otherwise nothing."""
         found = () if self.is_apart else filter(self.functions[0][1].symbols.match, answered(self.crate))
         return next((it.split("::")[1:] for it in found), [])
 
     def place(self):
-        """Returns the place, in parts, of the law, or else of the copy, by which this edit is judged."""
+        """Returns the place, in parts, of the law, or of the copy, by which this edit is judged."""
         if self.is_wide:
             return self.by.split("::")
         path, of = self.functions[0]
         return [*home_of(self.crate, path, of.shown.rpartition("::")[0]), self.copy.name]
 
     def promises(self, promised):
-        """The head of its function with no clauses of what that ensures but those with these names."""
+        """The head of its function with only these of its `ensures` clauses."""
         parts = [lines for kind, name, lines in self.head() if kind != "ensures" or name in promised]
         return [line for lines in parts for line in lines]
 
@@ -382,25 +383,25 @@ class Edit:
         return [it[it.index("{") + 1 : it.rindex("}")].strip() for it in texts]
 
     def refutation(self):
-        """The head of its function, with this condition, and with the clause or all that there is said to be false."""
+        """The head of its function with this condition, and with a clause, or all clauses, stated to be false."""
         kept = [re.sub(r"^( *requires) \{", r"\1 given {", line) for line in self.promises([])]
         more = [] if self.condition == "always" else [f"    requires at_which {{ {self.condition} }}"]
         false = "⊥" if self.part in (NEVER, UNMET) else f"({self.refuting()[0]}) → ⊥"
         return [*kept, *more, f"    ensures {{ {false} }}"]
 
     def stand_beside(self, number):
-        """Puts this edit into a copy of its function, named by this number, if it is tried in one."""
+        """Puts this edit into a copy of its function, with this number in its name, if it is tried in a copy."""
         if self.is_unfit or self.is_wide or not self.is_beside():
             return
         path, of = self.functions[0]
         if self.part in (REFUTED, RIGHT_REFUTED, NEVER, UNMET):
             head = self.refutation()
-        elif self.part.startswith(EMPTIED):  # the branch in which nothing stands is taken, whatever is ensured
+        elif self.part.startswith(EMPTIED):  # the empty branch is taken, whatever is ensured
             head = self.promises([])
         else:
             head = self.promises(self.promised or self.clauses())
         name, lines = f"{of.name}_again_{number}", self.applied({})[path].split("\n")
-        fewer = self.pairs[0].old.count("\n")  # what stands in a body is one line
+        fewer = self.pairs[0].old.count("\n")  # the text of a body is one line
         begin, *rest = lines[of.body : of.last + 1 - fewer]
         begin = f"    {begin[begin.index('{') :]}" if of.impl and HEAD.match(begin) else begin  # after its clause
         text = "\n".join(it for it in [*head, begin, *rest] if "#[cycle(" not in it)

@@ -1,14 +1,14 @@
 #!/usr/bin/env python3
-"""Tries mutants of functions, many in one check, and says of each by what the prover refuses it.
+"""Tries mutants of functions, many in one check, and reports how the prover refuses each.
 
-CONTRIBUTING.md (A mutant) says how one is written, and what shows it to be wrong. Many bodies of a crate stand
-together in one copy of it, where other functions have stubs for bodies (stubs.py), over the libraries of the crates
-below. A body is put beside its function, as one more function with the same contract, and the same answers where it
-needs them; that of a `from` has what its `impl` gives for its contract. What can't stand so is tried in its function's
-place, once for each function in a round: a body of another method with a trait's contract, or one that may call back.
-Those of them that are wrong have a round of their own, since their callers would be refused too, and so have edits of
-constants and types, which a law refuses, but not their controls. A body that only a callee refuses is tried again
-alone. What no edit touches must be proved. A body is refused by a
+CONTRIBUTING.md (A mutant) says how a mutant is written, and what shows that it is wrong. Many bodies of a crate are
+checked together in one copy of the crate, over the libraries of the crates below. In the copy, other functions have
+stubs for bodies (stubs.py). A body is put beside its function, as one more function with the same contract, and with
+the same answers if it needs them; a body of a `from` also gets what its `impl` gives for its contract. A body that
+can't be put there is tried in place of its function, one for each function in a round: a body of another method with
+the contract of a trait, or one that may call back. The wrong ones have a round of their own, because their callers
+would be refused too. So have edits of constants and types, which a law refuses, but not their controls. A body that
+only a callee refuses is tried again alone. All that no edit touches must be proved. A body is refused by a
 
     clause  of the function, or its type's invariant; false: there are values at which it does not hold; open: no proof
             is found; limit: none in time
@@ -38,15 +38,15 @@ from stubs import FAULTS, LINKED, PLACE, put_answers, put_searches, put_stubs
 from tree import all_crates, copy_crate, crates_below, end_by_signals, files, free_memory, processors, ran
 
 KINDS = ["clause", "safety", "step", "PROVED", "bad"]
-CHECK_MEMORY = 3000000000  # what a check takes of the machine's memory, in octets
+CHECK_MEMORY = 3000000000  # octets of memory that a check takes
 SAMPLE = 5
 LARGEST = 320  # bodies of a round
 BY_VALUES, BY_PROOF, BY_CONTROL = SHOWN = ["by values", "by a proof", "by a control"]
 SURVIVOR, REFUSED_ONLY = "survivors", "refused and not shown"
-METHOD = re.compile(r"\bimpl(?:<[^<>]*>)? (\w+) for (\w+).*?\bfn (\w+)")  # that an edit of types brings
-# Of what these do, the prover knows no more than an invariant or a contract says, if there is one.
+METHOD = re.compile(r"\bimpl(?:<[^<>]*>)? (\w+) for (\w+).*?\bfn (\w+)")  # added by types
+# About the effects of these, the prover knows only what an invariant or a contract says, if there is one.
 BRINGS = re.compile(r"\b(for|while|loop|fn|impl)\b|(?:[(,={]|\bmove|\breturn)\s*\|[\w\s,&*()_:]*\|")
-# What a check prints of a goal, of an answer, of a function, and of a text that it does not take as a program.
+# What a check prints about a goal, an answer, a function, and a text that is not a program.
 NOTE = re.compile(r"note: src/\S+ .*not proved.*?\(`(\S+)`\)(.*)")
 ANSWER = re.compile(r"(?:\./)?proofs/(\S+)/\w+\.antt:\d+:\d+: error: (?:`(\S+)`: )?(.*)")
 VERDICT = re.compile(r"fn (\S+): (proved|not proved|no proof|could not tell)(.*)")
@@ -54,11 +54,11 @@ REFUSED = re.compile(r"(?m)^(?:\./)?(src/\S+?):(\d+):\d+: error.*")
 
 
 class Body(Edit):
-    """A mutant, or what is tried beside it, and what came of it."""
+    """A mutant, or another part of its entry, and the result of trying it."""
 
     def __init__(self, crate, entry, part=WRONG):
         super().__init__(crate, entry, part)
-        self.beside, self.kind, self.why, self.tries = {}, "", [], int(bool(self.way_back))  # such a one is tried alone
+        self.beside, self.kind, self.why, self.tries = {}, "", [], int(bool(self.way_back))  # it is tried alone
 
     def touches(self, symbol):
         if self.part == GHOST:
@@ -70,12 +70,12 @@ class Body(Edit):
         return bool(re.search(own, symbol))
 
     def stands_in(self, path, of):
-        """Whether this function of a file is what it is tried in, or is on a way back to that."""
+        """Whether the edit is tried in this function of a file, or the function is on a way back to that one."""
         own = [(file, it.symbols) for file, it in self.functions]
         return of.name == self.copy.name if self.copy else (path, of.symbols) in own or of.name in self.way_back
 
     def asked(self):
-        """What a check of it is asked for: a copy; a law, with methods that it brings; a function, or a module."""
+        """What a check is to judge: a copy; a law, with methods that the edit adds; a function, or a module."""
         if self.copy:
             return [self.copy.name]
         if self.is_wide:
@@ -91,20 +91,21 @@ class Body(Edit):
         return [of.checked if "::" in of.checked else "::".join([*module_of(path), of.name])]
 
     def may_be_spoilt(self):
-        """Whether a fault may be its answer: once, if it must be refused, and not by an invariant, which the fault
-        hides. What the fault alone refuses is tried again without it."""
+        """Whether a fault may be added as the body's answer: once, if the body must be refused, and not by an
+        invariant, which the fault hides. An edit that only the fault refuses is tried again without it."""
         is_right = self.part in (CONTROL, REFUTED, GHOST) or self.survivor or INVARIANT in self.promised
         return not (self.tries or is_right) and bool(self.copy or self.is_wide)
 
     def opens(self, goal):
-        """Whether this edit may leave open such a goal of what it touches: of a law, of the clauses that it names."""
+        """Whether this edit may leave this goal of a function open; if a law judges it, only goals of the clauses that
+        it names."""
         clause = re.search(r"-clause-(\w+)", goal)
         if not (self.is_wide and self.promised) or self.part == GHOST:
             return True
         return clause[1] in self.promised if clause else len(self.clauses()) == 1
 
     def judge(self, rows):
-        """Says by what the functions of this edit are refused. If only a callee refuses it, it stays without a kind."""
+        """Judges how the functions of this edit are refused. If only a callee refuses it, it stays without a kind."""
         mine = [row for symbol, row in rows.items() if self.touches(symbol)]
         found = [it for row in mine for it in row["found"] if self.opens(it[1])]
         self.why, self.tries = sorted({told for _, told in found}), self.tries + 1
@@ -112,7 +113,7 @@ class Body(Edit):
         if found:
             self.kind = min((kind for kind, _ in found), key=KINDS.index)
         elif mine and (all(map(is_proved, mine)) or (self.is_wide and all(row["found"] for row in mine))):
-            self.kind = "PROVED"  # of a law other edits may leave open other clauses
+            self.kind = "PROVED"  # other edits may leave open other clauses of a law
         elif self.tries > 1:
             self.kind, self.why = "bad", ["no contract was tried: " + "; ".join(row["verdict"] for row in mine)]
         names = lambda goals: {it.split(" ")[0] for it in goals}
@@ -124,7 +125,7 @@ class Body(Edit):
         return self.part.startswith(EMPTIED) or (self.kind != "bad" and is_right == (self.kind == "PROVED"))
 
     def shown(self):
-        """By what this body is shown to be wrong, if it is."""
+        """How this body is shown to be wrong, if it is."""
         if self.kind == "PROVED":
             return SURVIVOR
         proved = [part for part, it in self.beside.items() if it.kind == "PROVED"]
@@ -145,11 +146,11 @@ class Body(Edit):
         return controls.fault(*self.three())
 
     def right(self):
-        """What stood there, or the call of the right one."""
+        """The old text, or the call of the original."""
         return controls.call_of(self.functions[0][1].head) if self.calls_right else self.pairs[0].old
 
     def three(self):
-        """What stood there, or the call of the right one, the wrong text and its control's."""
+        """The old text or the call of the original, the mutant, and its control."""
         return self.right(), self.wrong, self.beside[CONTROL].pairs[0].new
 
     def doubt(self):
@@ -162,17 +163,17 @@ class Body(Edit):
         return called and f"the tool can't tell whether the clauses of {called} say enough"
 
     def told(self):
-        """By what it is shown, and the doubt."""
+        """How this body is shown to be wrong, and any doubt about that."""
         doubt = self.doubt()
         return f"{self.shown()}{doubt and f' ({doubt})'}"
 
     def brings(self):
-        """Returns whether it brings a loop or a closure that the old text lacks."""
+        """Returns whether this body adds a loop or a closure that the old text does not have."""
         count = lambda text: len(BRINGS.findall(text))
         return any(count(it.new) > (0 if self.calls_right else count(it.old)) for it in self.pairs)
 
     def opened(self):
-        """The clauses that this body leaves open, as in clauses_of. A goal that names none is of each of them."""
+        """The clauses that this body leaves open, as in clauses_of. A goal without a name counts for each of them."""
         named = [re.search(r"-clause-(\w+)", goal) for goal in self.why if kind_of(goal) == "clause"]
         names = {name for it in named for name in ([it[1]] if it else self.promised or self.clauses())}
         return {(path, of.shown, name or "") for path, of in self.functions for name in names}
@@ -183,7 +184,7 @@ def kind_of(goal):
 
 
 def rows_of(said, crate):
-    """What the check says of each function: its verdict, by what it is refused, and whether a callee is not proved."""
+    """The result of a check for each function: its verdict, how it is refused, and whether a callee is not proved."""
     rows, found, answers = {}, [], []
     for line in said.split("\n"):
         note, answer, verdict = NOTE.match(line), ANSWER.match(line), VERDICT.match(line)
@@ -213,7 +214,7 @@ def library(tree, crate):
 
 
 def command(crate, tree):
-    """The words of a check, as `rt check` has them, over the libraries of the crates below that this tree has."""
+    """The words of a check, as `rt check` has them, with the libraries of the crates below in this tree."""
     kit = os.path.realpath(shutil.which("rt")).removesuffix("/bin/rt")
     ours = {it: library(tree, it) for it in crates_below()[crate] - {crate}}
     root = "main" if os.path.isfile(f"{ROOT}/crates/{crate}/src/main.rt") else "lib"
@@ -225,20 +226,20 @@ def command(crate, tree):
 
 
 class Round:
-    """A check of bodies of a crate together, in a copy of it with stubs."""
+    """A check of many bodies of a crate, in a copy of the crate with stubs."""
 
     def __init__(self, crate, edit):
         self.crate, self.texts, self.keys, self.edits = crate, {}, set(), []
         self.takes(edit)
 
     def takes(self, edit):
-        """Takes this edit too, if it may: any copy, and what stands in the place of another function; among edits of
-        constants and types, what changes another text and leaves open another clause."""
+        """Adds this edit to the round if possible: any copy, and an edit that replaces another function; among edits of
+        constants and types, one that changes another text and leaves open another clause."""
         keys = {of.symbols for _, of in edit.functions} if not edit.copy else set()
         if edit.is_wide:
             keys = {(edit.by, it) for it in edit.promised or edit.clauses()} | {(it.path, it.old) for it in edit.pairs}
         texts = self.texts if edit.copy else edit.applied(self.texts)
-        # no law refuses a right text, nor a ghost clause alone; a wrong one in its place spoils its callers
+        # no law refuses a correct text, nor a ghost clause alone; a wrong one in its place spoils its callers
         spoils = lambda it: not (it.copy or it.is_wide or it.part or it.survivor)
         kind = lambda it: (it.is_wide and it.part not in (CONTROL, GHOST), it.part == GHOST or spoils(it))
         is_like = all(kind(it) == kind(edit) for it in self.edits)
@@ -249,7 +250,7 @@ class Round:
         return True
 
     def check(self, over):
-        """What a check over the libraries of this tree says, and the text of each file that has copies."""
+        """The output of a check with the libraries of this tree, and the text of each file that has copies."""
         texts = dict(self.texts)
         for it in sorted((it.copy for it in self.edits if it.copy), key=lambda copy: -copy.behind):
             lines = (texts.get(it.path) or sources_of(self.crate)[it.path]).split("\n")
@@ -267,7 +268,7 @@ class Round:
             return ran(*words, cwd=here).stdout, texts
 
     def judge(self, said, texts):
-        """Judges the edits by what the check said. Returns what is refused with no edit in it."""
+        """Judges the edits by the output of the check. Returns everything without an edit that is refused."""
         rows = rows_of(said, self.crate)
         misfits = {} if rows else self.misfits(said, texts)
         for it in self.edits:
@@ -282,7 +283,7 @@ class Round:
         return [f"{symbol}: no edit touches it, and it is refused: {goal}" for symbol, goal in strange]
 
     def misfits(self, said, texts):
-        """The edits that make no program, each with what the check says. The others are tried again."""
+        """The edits that do not make a program, each with the message of the check. The others are tried again."""
         found = {}
         for error in REFUSED.finditer(said):
             path, line = error[1], int(error[2]) - 1
@@ -292,7 +293,7 @@ class Round:
 
 
 def clauses_of(crate):
-    """The clauses of a crate's public functions, each by its file, its function and its name. A law has none."""
+    """The clauses of a crate's public functions, each with its file, its function and its name. A law has none."""
     found = []
     for path, text in sources_of(crate).items():
         for of in functions_of(crate, path, text):
@@ -303,7 +304,7 @@ def clauses_of(crate):
 
 
 def counted(edits):
-    """How many bodies there are, how many of them are shown wrong, by what, and how many controls are proved."""
+    """How many bodies there are, how many of them are shown to be wrong, how, and how many controls are proved."""
     bodies, right = [it for it in edits if it.part == WRONG], [it for it in edits if it.part == CONTROL]
     shown = collections.Counter(it.shown() for it in bodies)
     by = ", ".join(f"{shown[it]} {it}" for it in SHOWN)
@@ -313,7 +314,7 @@ def counted(edits):
 
 
 class Bodies:
-    """The bodies of a crate, and what came of them, over the libraries of this tree."""
+    """The bodies of a crate, and their results, with the libraries of this tree."""
 
     def __init__(self, crate, edits, over=ROOT):
         self.crate, self.edits, self.over, self.strange = crate, edits, over, []
@@ -324,7 +325,7 @@ class Bodies:
         return all(os.path.isdir(library(self.over, it)) for it in below)
 
     def rounds(self):
-        """Rounds of what is left to try."""
+        """Rounds of the bodies that are left to try."""
         rounds = []
         for edit in (it for it in self.edits if not it.kind):
             if not any(it.takes(edit) for it in rounds):
@@ -346,7 +347,8 @@ class Bodies:
 
 
 def try_all(crates, jobs):
-    """Tries the bodies of these crates, each once the libraries below are there, and prints a line a round."""
+    """Tries the bodies of these crates, each crate once the libraries below are there, and prints a line for each
+    round."""
     began, idle, working = time.monotonic(), list(crates), {}
     edits = [it for crate in crates for it in crate.edits]
     with concurrent.futures.ThreadPoolExecutor(jobs) as pool:
@@ -370,7 +372,7 @@ def try_all(crates, jobs):
 
 
 def edits_of(crate, only=""):
-    """The bodies of a crate whose names this pattern is found in, and what is tried beside them."""
+    """The bodies of a crate whose names contain this pattern, and the other parts of their entries."""
     edits = [it for it in (Body(crate, entry) for entry in entries_of(crate)) if re.search(only, it.name)]
     names = collections.Counter(it.name for it in edits)
     for it in edits:
@@ -379,7 +381,7 @@ def edits_of(crate, only=""):
 
 
 def with_controls(edits):
-    """These bodies and what is tried beside them, each of which has a place."""
+    """These bodies and the other parts of their entries that have a place."""
     for it in edits:
         parts = [CONTROL] * it.has_control + [REFUTED, RIGHT_REFUTED, NEVER, UNMET] * bool(it.condition)
         parts += [GHOST] * (it.has_control and bool(GHOSTS.search(it.entry.text)))
@@ -396,12 +398,13 @@ def with_controls(edits):
 
 
 def sample_of(edits):
-    """The first of these bodies that one check holds, and that values show wrong: nothing is tried beside them."""
+    """The first of these bodies, as many as one check has room for, that values show to be wrong; nothing else is
+    tried."""
     return [it for it in edits if it.copy and not (it.part or it.beside or it.survivor)][:SAMPLE]
 
 
 def build(crates):
-    """Has `rt` make anew what is not as the sources, of the libraries of these crates. Says which is not there."""
+    """Has `rt` build the outdated libraries of these crates. Reports which are missing."""
     for it in (it for it in all_crates() if it in crates):
         if not os.path.isdir(library(ROOT, it)):
             return f"no library of {it}: run `make program` first"
@@ -418,7 +421,7 @@ def strays():
 
 
 def unfit_of(edits):
-    """What of these edits, and in their folders, does not fit the code."""
+    """The edits, and files in their folders, that do not fit the code."""
     of_file = lambda it: f"{os.path.relpath(it.file, ROOT)}: {it.entry.name}"
     unfit = [f"{of_file(it)}: {it.is_unfit}" for it in edits if it.is_unfit]
     unfit += [f"{os.path.relpath(it, ROOT)}: no edit of a crate of crates.txt" for it in strays()]

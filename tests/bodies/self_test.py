@@ -1,9 +1,9 @@
 #!/usr/bin/env python3
-"""Sees that mutants.py counts a body as shown wrong only if something shows it. It tries the bodies of bac_wire
-of self_test.edits, most of them with a fault in body or control, and says which came out otherwise than their line
-`wanted:`. The status is 0 if all came out so. The checks take about four minutes of processor time.
+"""Checks that mutants.py counts a body as shown wrong only if something shows it. It tries the bodies of bac_wire in
+self_test.edits, most of them with a fault in body or control, and reports those with another result than in their line
+`wanted:`. The status is 0 if there are none. The checks take about four minutes of processor time.
 
-Usage: tests/bodies/self_test.py [PATTERN]: all of them, or those in whose name the pattern is found.
+Usage: tests/bodies/self_test.py [PATTERN]: all of them, or those whose names contain the pattern.
 """
 import re
 import sys
@@ -27,8 +27,8 @@ def outcome(body):
 
 
 def faults_of_proofs(body):
-    """Yields what is wrong with how a body with an `at:` is judged: a proof shows it wrong, but not beside a proof that
-    there are no such arguments. Such proofs mostly come together, so here each outcome is set by hand."""
+    """Yields faults in the judgement of a body with an `at:`: a proof shows it wrong, but not if there also is a proof
+    that no such arguments exist. Such proofs mostly come together, so here each outcome is set by hand."""
     for proved in ([REFUTED], [REFUTED, RIGHT_REFUTED], [REFUTED, NEVER], [REFUTED, UNMET], []):
         for part in (REFUTED, RIGHT_REFUTED, NEVER, UNMET):
             body.beside[part].kind = "PROVED" if part in proved else "clause"

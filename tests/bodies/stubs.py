@@ -1,8 +1,8 @@
-"""The functions of a crate that are not tried: each keeps its contract, and has a stub for its body.
+"""Replaces the functions of a crate that are not tried: each keeps its contract, and gets a stub as its body.
 
-A caller is proved from the contracts of what it calls. So beside a few functions that are tried no other needs its own
-body, and a stub costs next to nothing: it calls a function that can't be, and so never returns. That the bodies which
-it stands for meet their contracts is proved by `rt ci`, and by whoever builds the crate.
+A caller is proved from the contracts of the functions that it calls. So next to the few functions that are tried no
+other needs its own body, and a stub costs next to nothing: it calls a function that cannot exist, and so never returns.
+`rt ci`, and anyone who builds the crate, proves that the replaced bodies meet their contracts.
 """
 import os
 import re
@@ -11,11 +11,11 @@ import secrets
 from edits import ANSWERS, ROOT, functions_of, sources_of, text_of
 from tree import write
 
-# Another name in each run: no mutant, and no control, can call the functions that are only for stubs.
+# Another name in each run, so that no mutant and no control can call the functions that are only for stubs.
 PLACE = f"nowhere_{secrets.token_hex(8)}"
 STUB = f"crate::{PLACE}::never()"
-# No function meets the first contract, so nothing after a call of it is ever reached. It passes for one of the C
-# library, for which a check does not look.
+# No function can meet the first contract, so nothing after a call of it is ever reached. It is declared as a function
+# of the C library, which a check does not look for.
 NOWHERE = """ghost use Rattle.std.specs.Prelude.{◌≡◌, false, true};
 
 unsafe extern "C" {
@@ -28,9 +28,9 @@ pub(crate) fn never() -> ! {
     unreachable!()
 }
 """
-# An answer to a goal that does not exist. With it, `rattle` does not look for the beginning of an answer to what is
-# left open of a function, which takes up to a third of a check and more. And a hole for the invariant of a method's
-# type, whose search to the end may take as long, and which the fault hides.
+# An answer to a goal that does not exist: with such an answer `rattle` does not look for the beginning of an answer to
+# each goal that is left open, which takes a third of a check or more. And a hole for the invariant of a method's type,
+# because the search for its proof may take as long, and the fault hides it.
 FAULTS = ("fault", "invariant_of-self")
 FAULT = f"""
 pub fault : {PLACE}.{PLACE}
@@ -39,7 +39,7 @@ fault = ?
 pub invariant_of-self : {PLACE}.invariant_of-self
 invariant_of-self = ?
 """
-# An answer by the first two of the searches that `rattle` makes for one; six of them take twice as long and more.
+# An answer with the first two of the searches that `rattle` makes for one; six of them take twice as long and more.
 SEARCHED = f"""
 pub {{}} : {PLACE}.{{}}
 {{}} = first_of (search rules, grind (arith, common_steps) steps 2000000)
@@ -51,7 +51,7 @@ LINKED = "//bazel/native:glibc"
 
 
 def may_be_stub(lines, it):
-    """Returns whether a function may have a stub: it is not of a trait, not constant and in no cycle of calls."""
+    """Returns whether a function may have a stub: it is not of a trait, not constant and not in a cycle of calls."""
     head = lines[it.first]
     indent = head[: len(head) - len(head.lstrip())]
     is_of_trait = bool(indent) and "::" not in it.shown
@@ -60,14 +60,14 @@ def may_be_stub(lines, it):
 
 
 def put_stubs(crate, home, texts, is_tried):
-    """Writes a crate into this folder, with these texts, and stubs except for functions that are tried, as `is_tried`
-    says by file and function. Answers to goals of the bodies go with them."""
+    """Writes a crate into this folder, with these texts, and with stubs except for functions that are tried, as
+    `is_tried` says for file and function. Answers to goals of the replaced bodies are left out."""
     gone = []
     for path, text in {**sources_of(crate), **texts}.items():
         lines = text.split("\n")
         found = [it for it in functions_of(crate, path, text) if may_be_stub(lines, it) and not is_tried(path, it)]
         for it in reversed(found):
-            lines[it.body + 1 : it.last] = [STUB] + [""] * (it.last - it.body - 2)  # what stands below keeps its line
+            lines[it.body + 1 : it.last] = [STUB] + [""] * (it.last - it.body - 2)  # lines below keep their numbers
         if path in ("src/lib.rt", "src/main.rt"):
             lines.append(f"mod {PLACE};\n")
         write(f"{home}/{path}", "\n".join(lines))
@@ -80,8 +80,7 @@ def put_stubs(crate, home, texts, is_tried):
 
 
 def put_answers(crate, home, answers, place):
-    """Gives what a check has at this place of the crate in this folder the answers, which name their place, of what it
-    has at another."""
+    """Gives this place of the crate in this folder the answers of another place, whose name is in them."""
     named, own = (".".join([*parts, ""]) for parts in (answers, place))
     for it in ANSWERS:
         file = f"{ROOT}/crates/{crate}/proofs/{'/'.join(answers)}/{it}"
@@ -90,8 +89,8 @@ def put_answers(crate, home, answers, place):
 
 
 def put_searches(crate, home, place, goals, is_spoilt):
-    """Gives what a check has at this place of the crate in this folder, if it has no answers, two searches for each
-    of these goals, which stand with the names of what they are given; and a fault for one more answer."""
+    """Gives this place of the crate in this folder, if it has no answers, two searches for each of these goals, with
+    the names of their arguments; and a fault for one more answer."""
     file = f"{home}/proofs/{'/'.join(place)}/Answers.antt"
     if not os.path.exists(file):
         texts = [SEARCHED.format(*[it.split(" ")[0]] * 2, it) for it in goals]

@@ -1,10 +1,10 @@
 #!/usr/bin/env python3
-"""The public signatures of the program's crates: docs/API.txt, made from the sources by what sources.py tells. Of each
-crate it has the functions, types, traits and constants that src/lib.rt names, with the methods and the traits of the
-types; of another crate's names that it passes on only the names. What a call promises stands at the call.
+"""The public signatures of the program's crates: docs/API.txt, made from the sources with sources.py. For each crate it
+has the functions, types, traits and constants that src/lib.rt names, with the methods and the traits of the types;
+names from another crate are only listed. The promise of a call is in the source at the call.
 
-Usage: tests/documents/api.py [--write]: compares docs/API.txt with the tree, and exits with status 1 if they
-differ. With --write it writes the file anew (make reading). A change of a signature is named in CHANGELOG.md.
+Usage: tests/documents/api.py [--write]: compares docs/API.txt with the tree, and exits with status 1 if they differ.
+With --write it writes the file anew (make reading). CHANGELOG.md must name a changed signature.
 """
 import os
 import re
@@ -23,19 +23,19 @@ What a call promises stands at the call.
 
 
 def one_line(text):
-    """A signature as one line, without what rt fmt breaks lines for."""
+    """A signature on one line, without the line breaks of rt fmt."""
     text = re.sub(r"([(<\[]) ", r"\1", re.sub(r"\s+", " ", text).strip())
     text = re.sub(r",? ([)>\]])", r"\1", text)
     return re.sub(r",? *\}", " }", re.sub(r"\{ *", "{ ", text))
 
 
 def signature(code, start):
-    """From here to where the signature ends: at its clauses, its body, or only a semicolon."""
+    """From here to the end of the signature: its clauses, its body, or only a semicolon."""
     return one_line(re.split(r"\n *(?:requires|ensures)\b|\s*\{|;\s*\n", code[start:], maxsplit=1)[0])
 
 
 def type_lines(item):
-    """A type with what of it is public: the cases of an enum, the fields of a struct, the methods of a trait."""
+    """A type with its public parts: the cases of an enum, the fields of a struct, the methods of a trait."""
     start, end = next(iter(item.file.blocks(0, item.place, len(item.file.code))))
     block = item.file.code[start:end]
     if item.kind in ("const", "static", "type"):
@@ -72,7 +72,7 @@ def impls(crate, types):
 
 
 def passed_on(crate, top):
-    """The names of other crates that a crate passes on, a line for each crate."""
+    """The names of other crates that a crate passes on, one line for each crate."""
     others = {}
     for parts in (top.uses[name] for name in top.passed):
         if parts[0] in CRATES and parts[0] != crate:
@@ -100,14 +100,14 @@ def lines_of(crate):
 
 
 def set_in(line):
-    """A line of a crate, cut to 120 columns."""
+    """A line for a crate, cut to 120 columns."""
     margin = " " * (len(line) - len(line.lstrip()) + 4)
     how = {"initial_indent": margin, "subsequent_indent": margin + " " * 8, "break_on_hyphens": False}
     return textwrap.fill(line.strip(), 120, **how)
 
 
 def made():
-    """The whole list."""
+    """The whole text of docs/API.txt."""
     parts = [HEAD]
     for crate in (it for it in CRATES if it in OF_PROGRAM and f"crates/{it}/src/lib.rt" in SOURCES):
         lines = (re.sub(r"\bpub (?:const )?(?=\w)", "", line) for line in lines_of(crate))

@@ -1,11 +1,13 @@
 #!/usr/bin/env python3
-"""Compares the documents with the tree and with one another, as the head of each look says. Usage:
-tests/documents/documents.py; it exits with status 1 if they differ, and says in what.
+"""Compares the documents with the tree and with one another, as the docstring of each check says. Usage:
+tests/documents/documents.py; it exits with status 1 if they differ, and reports the differences.
 """
 import ast
 import contextlib
+import functools
 import glob
 import os
+import pathlib
 import re
 import sys
 import textwrap
@@ -18,7 +20,7 @@ from tree import TOP, all_crates, crates_below, files, ran, sections_of, text_of
 
 SOURCES = ["crates/*/src/**/*.rt", "crates/*/specs/**/*.antt", "crates/*/proofs/**/*.antt"]
 OF_STD = {"arrayvec", "byteorder", "clap", "hex", "thiserror", "std", "fault_of", "map", "filter", "flat_map"}
-# What defines a name: of a type or a member, of a variant, of antt, and of a mutant.
+# How a name is defined: that of a type or a member, of a variant, in antt, and of a mutant.
 DEFINES = {
     SOURCES[0]: r"\b(?:struct|enum|trait|const|type|mod|ghost|fn|ensures) +(\w+)|^ +([A-Z]\w*)(?=[,({])",
     **dict.fromkeys(SOURCES[1:], r"^ *(?:(?:abbrev|record|data|pub|unfoldable) +)*(\w+)(?: [^:\n]*)? :"),
@@ -27,8 +29,13 @@ DEFINES = {
 WHOLE = ["docs/", "bench/", "tests/", "tests/[a-z]*/"]  # folders whose row names each file
 WELL_KNOWN = set("README.md CONTRIBUTING.md SECURITY.md CHANGELOG.md LICENSE .gitignore .git crates out".split())
 WIDTH = 120
-NUMBERS_AND_CODES = re.compile(r"`[^`]*`|\d[\d,]*\b")  # of a row of the rules
-# What a test in Rattle asks or goes over, and is known: a constant, a thing beside itself, no rows.
+FOLDERS = "bench|completions|crates|docs|examples|man|packaging|site|tests"
+ENDINGS = "antt|c|edits|js|md|out|py|rows|rt|sh|trace|txt"
+PATHS = re.compile(rf"(?<![\w/.])(?:\.\./)*((?:{FOLDERS})/(?!CRATE)[\w/.-]+\.(?:{ENDINGS}))\b")
+# Files with paths that are to be missing.
+MADE_UP = ["tests/planted_faults.txt", "tests/stand_in_tools.py", "tests/stand_in_tools.txt"]
+NUMBERS_AND_CODES = re.compile(r"`[^`]*`|\d[\d,]*\b")  # in a row of the rules
+# A test in Rattle with a known result, or none: it compares constants, a thing with itself, or goes over no rows.
 VACUOUS = re.compile(
     r"assert!\([^;]*;\s*true\b|\|\| true\b|\btrue \|\|"
     r"|(?<![\w.])([\w.]+) == \1(?![\w.(\[])|\bin (?:&?\[\]|.*\(&\[\]\)) \{"
@@ -37,7 +44,7 @@ UNSEEN = {
     "a `Drop` by hand": (SOURCES[0], r"(?m)^ *impl\b[^{;]*?\bDrop\s+for\s+\w+"),
     "a loop, whose work is not counted": ("crates/bac_pdu/src/**/*.rt", r"(?m)^ *((?:while|for|loop)\b.*)$"),
 }
-# What tries nothing where nothing calls it: functions beside the tests of bacsite, and of the crates.
+# Functions that test nothing unless they are called: those next to the tests of bacsite, and of the crates.
 BESIDE_TESTS = {
     "tests/site/*.py": r"(?m)^    def (?!test_|setUp|tearDown|handle_|_)(\w+)\(self",
     "crates/*_trials/src/**/*.rt": r"(?m)(?<!#\[test\]\n)^(?:pub(?:\(\w+\))? )?fn (\w+)",
@@ -45,13 +52,13 @@ BESIDE_TESTS = {
 
 
 def sections(text):
-    """The text below each heading of a document, by the heading's words."""
+    """The text below each heading of a document, with the heading's words."""
     parts = re.split(r"^#+ (.*)$", text, flags=re.M)
     return dict(zip(parts[1::2], parts[2::2]))
 
 
 def tables(text):
-    """The rows of the tables of a text, each as its cells by the heads of their columns."""
+    """The rows of the tables of a text: the cells of each with the headings of their columns."""
     head = None
     for line in text.splitlines():
         cells = [cell.strip() for cell in re.split(r"(?<!\\)\|", line)[1:-1]] if line.startswith("|") else None
@@ -73,13 +80,13 @@ def on_one_line(text):
 
 
 def compare(what, said, there):
-    """Both are sets of names; `what` says of what."""
+    """Compares two sets of names; `what` says what they are."""
     yield from (f"{what}: {name} is not in docs/CODE.md" for name in sorted(there - said))
     yield from (f"{what}: docs/CODE.md names {name}, which is not there" for name in sorted(said - there))
 
 
 def map_of_crates(section):
-    """Each crate has a row, and stands in the drawing below the crates that it rests on."""
+    """Each crate has a row, and is in the drawing below the crates that it depends on."""
     below = all_crates()
     yield from compare("the table of crates", names_below(section, "Crate"), {*below})
     drawn = re.search(r"```\n(.*?)```", section, re.S)[1].splitlines()
@@ -103,7 +110,7 @@ def map_beside_the_crates(section):
 
 
 def scripts_are_run(section):
-    """Each script of tests/ that can be run is run by a target of make, or `by hand`, as the map says."""
+    """Each script of tests/ that can be run is run by a target of make, or is marked `by hand` in the map."""
     runs = text_of("tests/documents/targets.txt") + text_of("tests/suite.py")
     by_hand = {name for row in tables(section) for name in names(row["What it has"].partition("by hand")[2])}
     for file in files("tests/*/*"):
@@ -112,7 +119,7 @@ def scripts_are_run(section):
 
 
 def targets():
-    """A section of targets.txt has what a target runs, or a whole file. The program is made of all sources."""
+    """A section of targets.txt has the commands of a target, or a whole file. The program is made from all sources."""
     made = lambda *words: ran("make", "-rsB", "--old-file=kit", *words, env={"PATH": os.environ["PATH"]}).stdout
     for name, wanted in sections_of("tests/documents/targets.txt"):
         runs = (text_of(name) if os.path.isfile(name) else made("-n", name)).splitlines()
@@ -123,7 +130,7 @@ def targets():
 
 
 def what_tries_nothing():
-    """Functions beside tests are called; each fault of bacsite_faults.txt has a place; Python reads its files."""
+    """Functions next to tests are called; each fault of bacsite_faults.txt has a place; Python can read its files."""
     for place, pattern in BESIDE_TESTS.items():
         texts = "".join(map(text_of, files(place)))
         words = re.findall(r"\w+", texts)
@@ -140,8 +147,48 @@ def what_tries_nothing():
             yield f"{file}: {fault}"
 
 
+def what_is_not_there():
+    """Each path that a file of the tree names is there, and each name that a script brings in from one of its own."""
+    for file in {*files("*", "[!co]*/**/*.*", "completions/*", *SOURCES, "crates/*/mutants/*")} - {*MADE_UP}:
+        text = pathlib.Path(file).read_text("utf-8", "replace")
+        lost = sorted(it for it in {*PATHS.findall(text)} if not os.path.exists(it))
+        yield from (f"{file}: {path} is not there" for path in lost)
+        with contextlib.suppress(SyntaxError):  # what_tries_nothing reports it
+            for node in ast.walk(ast.parse(text)) if file.endswith(".py") else ():
+                if isinstance(node, ast.ImportFrom) and not node.level:
+                    path = node.module.replace(".", "/") + ".py"
+                    there = [it for it in files(f"{os.path.dirname(file)}/{path}", f"site/{path}", f"tests/{path}")]
+                    lost = [it.name for it in node.names if there and it.name not in names_of_python(there[0])]
+                    yield from (f"{file}:{node.lineno}: {node.module} has no {name}" for name in lost)
+
+
+@functools.lru_cache(maxsize=None)
+def names_of_python(file):
+    """The names that a file of Python gives to anything, and those that it brings in."""
+    nodes = [*ast.walk(ast.parse(text_of(file)))]
+    stored = {it.id for it in nodes if isinstance(it, ast.Name) and isinstance(it.ctx, ast.Store)}
+    return stored | {getattr(it, "asname", None) or it.name for it in nodes if hasattr(it, "name") and it.name}
+
+
+def counts_are_told(section):
+    """TESTS says of each script how much it compares, as counts.txt has it, which also counts the rows of tables that
+    are tried by hand."""
+    told, name = {}, ""
+    for row in tables(section):
+        for name in names(row["Script"]) or [name]:
+            told[name] = told.get(name, []) + re.findall(r"\d+", row["How many"].replace(",", ""))
+    for name, numbers in (row.split(": ") for _, rows in sections_of("tests/documents/counts.txt") for row in rows):
+        lost = {it for it in numbers.split() if name in told and it.isdigit()} - {"0", *told.get(name, [])}
+        yield from (f"docs/TESTS.md does not say that {name} counts {it}" for it in sorted(lost))
+    for name, number in (row.split(": ") for row in dict(sections_of("tests/documents/counts.txt"))["by hand"]):
+        rows = sum(len(rows) for _, rows in sections_of(name))
+        if str(rows) != number:
+            yield f"{name} has {rows} rows, and counts.txt {number}"
+
+
 def compared_with_itself():
-    """No test compares a thing with itself, asks whether a constant is true, or goes over nothing that it writes."""
+    """No test compares a thing with itself or with several others, tests a constant, loops over an empty list that it
+    writes, asserts nothing, or is always left out."""
     for file in files("tests/**/*.py", "bench/*.py"):
         with contextlib.suppress(SyntaxError):  # what_tries_nothing reports it
             for node in filter(is_vacuous, ast.walk(ast.parse(text_of(file)))):
@@ -153,12 +200,21 @@ def compared_with_itself():
 
 
 def is_vacuous(node):
-    """Whether what a node of Python asks is known, whatever the tests find."""
+    """Whether the result of a test in Python is known, whatever the code does."""
     name = getattr(getattr(node, "func", None), "attr", getattr(getattr(node, "func", None), "id", ""))
     sides = node.args[1:3] if name in ("same", "alike") else node.args[:2] if name[:6] == "assert" else []
     sides = [node.left, *node.comparators] if isinstance(node, ast.Compare) else sides
     if len(sides) == 2 and len({*map(ast.dump, sides)}) == 1:
         return True
+    if isinstance(node, ast.Attribute):
+        return node.attr in ("skip", "expectedFailure")
+    if name == "assertIn" and isinstance(sides[1], (ast.Tuple, ast.List, ast.Set)):  # several things would do
+        return True
+    if name in ("assertTrue", "assertFalse") and len(sides) == 2:  # the second is what is told, and no other thing
+        return not isinstance(sides[1], ast.Constant) and ast.dump(sides[1]) not in ast.dump(sides[0])
+    if isinstance(node, ast.FunctionDef) and node.name.startswith("test_"):
+        called = (getattr(getattr(it, "func", None), "attr", "") for it in ast.walk(node))
+        return not any(it == "rows" or it.startswith("assert") for it in called)
     if isinstance(node, (ast.For, ast.comprehension)):
         return isinstance(node.iter, (ast.List, ast.Tuple)) and not node.iter.elts
     if isinstance(node, ast.BoolOp):
@@ -168,8 +224,8 @@ def is_vacuous(node):
 
 
 def heads_of_sources():
-    """Each file of code says at its head what it has, except lists of modules and answers to single functions. What
-    the head of a library shows is in its examples, and the calls that it shows in bac_uses."""
+    """Each file of code says at its head what it has, except lists of modules and answers for single functions. The box
+    in the head of a library is in its examples, and the calls in it are in bac_uses."""
     for file in files(*SOURCES[:2], "crates/*/proofs/*.antt"):
         mark = "//!" if file.endswith(".rt") else "--"
         if not text_of(file).startswith(mark + " ") and not file.endswith(("/Lib.antt", "/Inner.antt")):
@@ -198,7 +254,8 @@ def names_of_sources():
 
 
 def names_of_proofs(document, text, known, clauses):
-    """A name in backquotes is one of the sources or of std, a law a function; in "`run`, `notes`" one is a clause."""
+    """A name in backquotes is one of the sources or of std, a law is a function; in "`run`, `notes`" a name may be a
+    clause."""
     laws = {name for laws in re.findall(r"laws? ((?:`\w+`(?:, | and )?)+)", text) for name in names(laws)}
     yield from (f"{document}: no law {name} stands in the code" for name in sorted(laws - {*clauses}))
     for name in sorted(set(re.findall(r"`((?:\w+::)*[A-Za-z_]\w+)`", text))):
@@ -211,7 +268,7 @@ def names_of_proofs(document, text, known, clauses):
 
 def what_stands_twice(readme, proofs):
     """README.md shows the rule as specs/ has it, and in its box what the guide does, whose commands are run. It names
-    each crate of the program, and the functions that PROOFS says are trusted. It is short."""
+    each crate of the program, and the functions that PROOFS lists as trusted. It is short."""
     boxes = re.findall(r"^```(\w*)\n(.*?)^```$", readme, re.M | re.S)
     cases = r"(?m)^  (?:due|end|sends_within|sends) [^:\n]*=.*\n(?: {6}.*\n)*"
     rule = "".join(re.findall(cases, text_of("crates/bac_tsm/specs/Lookahead.antt")))
@@ -232,7 +289,8 @@ def what_stands_twice(readme, proofs):
 
 
 def functions_without_a_contract(section):
-    """PROOFS names and counts them. A function of a trait's impl has the trait's contract."""
+    """PROOFS names and counts the functions without a contract. A function of a trait's impl has the trait's
+    contract."""
     every, bare, alone = 0, 0, set()
     for file in files(SOURCES[0]):
         crate, owner = file.split("/")[1], ""
@@ -254,7 +312,7 @@ def functions_without_a_contract(section):
 
 
 def texts_of_faults(section):
-    """The rules have those of the definitions, with N for a number."""
+    """The texts of faults in the rules are those of the definitions, with N for a number."""
     equation = re.compile(r"(?m)^(?:\w+_fault_text|usage_told|fault_told)\b.* = (.*codes .*)$")
     said = [it for file in files("crates/*/specs/*.antt") for it in equation.findall(text_of(file))]
     texts = {"".join(it or "N" for it in re.findall(r'codes "(.*?)"|decimal \w+', text)) for text in said}
@@ -263,8 +321,8 @@ def texts_of_faults(section):
 
 
 def what_no_clause_sees():
-    """A hand-written `Drop`, which could do anything; and work that no clause `walked_once` would
-    see: a loop in bac_pdu, or a count that is begun from there to bac_device."""
+    """Code that no clause sees: a hand-written `Drop`, which could do anything; and work that no clause `walked_once`
+    would count: a loop in bac_pdu, or a count that is begun in a crate from there to bac_device."""
     for what, (place, pattern) in UNSEEN.items():
         for file in files(place):
             yield from (f"{file}: {what}: {on_one_line(it)}" for it in re.findall(pattern, text_of(file)))
@@ -276,7 +334,7 @@ def what_no_clause_sees():
 
 
 def public_names_without_a_law():
-    """Each public constant, and the clone and the `==` of each public type, is said by a law."""
+    """Each public constant, and the clone and the `==` of each public type, has a law."""
     for crate in sorted(OF_PROGRAM):
         text = "\n".join(map(text_of, files(f"crates/{crate}/src/**/*.rt")))
         laws = "\n".join(re.findall(r"(?ms)^pub fn [^{]*?\bensures.*?^\{\}$", text))
@@ -291,7 +349,7 @@ def public_names_without_a_law():
 
 
 def pins():
-    """Each heading, the key below it, and the files and texts below the key."""
+    """Each heading of pins.txt, the key below it, and the files and texts below the key."""
     for heading, lines in sections_of("tests/documents/pins.txt"):
         for block in re.split(r"\n(?! )", "\n".join(lines)):
             key, *places = block.split("\n")
@@ -304,8 +362,8 @@ def rows_of_rules(parts):
 
 def rows_are_read_back(parts):
     """Each row of the rules is named in pins.txt, once, by its first cells, with a text of the worked row or example
-    that would fail were it wrong in a definition and in the code at once. A number of three digits or more, or one
-    beside it, is there too, in decimal or as octets."""
+    that would fail if the row were wrong in the definition and the code. The text also has each number of three digits
+    or more, or a number next to it, in decimal or as octets."""
     rows, named = rows_of_rules(parts), set()
     for heading, key, places in pins():
         key, arrow, said = key.partition(" => ")
@@ -345,7 +403,7 @@ def wide_lines():
 
 
 def links_and_lines():
-    """Links lead to what a package has. Documents have at most 120 columns, except tables and what is printed."""
+    """Links lead to files that a package has. Documents have at most 120 columns, except tables and output."""
     documents = files("*.md", "docs/**/*.md")
     there, anchors = {"LICENSE", *documents, *glob.glob("docs/*.png"), *glob.glob("examples/*")}, {}
     for file in documents:
@@ -373,6 +431,8 @@ def main():
         *scripts_are_run(code["Beside the crates"]),
         *targets(),
         *what_tries_nothing(),
+        *what_is_not_there(),
+        *counts_are_told(sections(text_of("docs/TESTS.md"))["What is tried"]),
         *compared_with_itself(),
         *heads_of_sources(),
         *names_of_proofs("docs/PROOFS.md", proofs, *known),

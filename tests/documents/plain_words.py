@@ -28,7 +28,7 @@ START = r"(?:(?<=[.:;!?] )|(?<=\n\n)|\A)"  # of a sentence
 
 
 def words():
-    """The pattern of each word, and a better one."""
+    """Yields the pattern of each word, and a better word."""
     for line in re.findall(r"(?m)^[^#\n].*", text_of("tests/documents/words.txt")):
         wrong, right, _ = line.rsplit(" | ", 2)
         start = wrong.startswith(r"\A")
@@ -37,7 +37,7 @@ def words():
 
 
 def prose(name, lines):
-    """The prose of each line, with CODE for code; empty if there is none."""
+    """Yields the prose of each line, with CODE for code; empty if there is none."""
     ending, box, quoted, is_docstring = re.sub(r"\.\d$", ".1", os.path.splitext(name)[1]), False, False, False
     for before, line in zip(["", *lines], lines):
         if ending == ".md":
@@ -69,7 +69,7 @@ def pieces_of_diff(diff):
 
 
 def found(pieces):
-    """Each word of the list in the prose of these pieces."""
+    """Yields each word of the list in the prose of these pieces."""
     known = [*words()]
     for name, first, lines in pieces:
         text = "\n".join(prose(name, lines))
@@ -82,7 +82,7 @@ def whole(paths):
 
 
 def counted():
-    """The status of the tree."""
+    """Counts the words in the tree, and returns the status."""
     wrong, tried = [], {}
     for what, places in FILES.items():
         paths = [os.path.relpath(it, TOP) for it in files(*(f"{TOP}/{place}" for place in places))]

@@ -1,13 +1,12 @@
 #!/usr/bin/env python3
-"""What has to be read to believe a promise: docs/reading/, made from the sources by what sources.py tells. pages.txt is
-its first page, in whose table a row has a page's file, its title, and the calls whose lists it has; `*` stands for each
-public call of the crate that no page before has.
+"""What to read to believe a promise: docs/reading/, made from the sources with sources.py. pages.txt is its first page,
+in whose table a row has a page's file, its title, and the calls whose lists it has; `*` stands for each public call of
+the crate that is on no page before.
 
-Usage: tests/documents/reading.py [--write]: compares docs/reading/, and the sizes that README.md tells, with the tree;
-says which public calls stand on no page, which definitions lie in the wrong room, which of those that laws and public
-clauses name no example holds, which of their fields (fields.txt) no example refuses, and which names a file brings in
-that aren't there, or that it doesn't say; exits with status 1 if there are any. With --write it writes docs/reading/
-anew (make reading).
+Usage: tests/documents/reading.py [--write]: compares docs/reading/, and the sizes in README.md, with the tree. It
+reports public calls that are on no page, definitions in the wrong folder, definitions of laws and public clauses
+without an example, fields of them (fields.txt) that no example refuses, and imported names that do not exist or are not
+used; it exits with status 1 if there are any. With --write it writes docs/reading/ anew (make reading).
 """
 import os
 import re
@@ -21,7 +20,7 @@ from sources import closed, code_of, defined, parts_of, public_calls, read_tree,
 from tree import TOP, files, sections_of, text_of, well_or, write
 
 FOLDER = "docs/reading"
-SIZE = r"\[([\d,]+) lines\]\(docs/reading/(\w+)\.md\)"  # as README.md tells it
+SIZE = r"\[([\d,]+) lines\]\(docs/reading/(\w+)\.md\)"  # as in README.md
 PROBLEMS = []
 
 
@@ -35,12 +34,13 @@ def size(items):
 
 
 def columns(text):
-    """Lines of at most 120 columns, the later ones set in."""
+    """Lines of at most 120 columns; the later ones are indented."""
     return textwrap.fill(text, 120, subsequent_indent="  ", break_long_words=False, break_on_hyphens=False)
 
 
 def listed(items):
-    """The lines of a list: each file, in the order in which they are first met, and what is read of it from its top."""
+    """The lines of a list: each file, in the order in which it is first needed, and the items of it from top to
+    bottom."""
     for file in dict.fromkeys(item.file for item in items):
         there = sorted((item for item in items if item.file is file), key=lambda item: item.place)
         names = ", ".join(f"`{item.name}`" for item in there)
@@ -116,7 +116,7 @@ def make(texts, sizes):
 
 
 def rooms():
-    """What lies in the wrong room: what no public clause needs belongs in Inner, and nothing else does."""
+    """Definitions in the wrong folder: those that no public clause needs belong in Inner, and no others."""
     public = [public_calls(crate) for crate in CRATES if crate in OF_PROGRAM]
     needed = closed([item for calls, types in public for item in (*calls.values(), *types)], kept=True)
     for specs in SPECS.values():
@@ -129,7 +129,8 @@ def rooms():
 
 
 def said_by(calls):
-    """The text of each clause of these calls, with the definitions that it says, also by what is made for examples."""
+    """The text of each clause of these calls, with the definitions that it names, and those made for examples that it
+    uses."""
     for call in calls:
         for clause in call.clauses:
             said = [it for it in call.file.said_in([clause]) if isinstance(it, Item)]
@@ -161,13 +162,13 @@ def is_relation(item):
 
 
 def as_premise(item):
-    """A clause that fits denies this relation, or concludes something from it."""
+    """A pattern of clauses that deny this relation, or conclude something from it."""
     return re.compile(rf"→ ⊥$|→ {item.name}\b[^→]*→")
 
 
 def unheld():
-    """The definitions that laws and public clauses name and that no example holds: of a relation one clause says that
-    it holds, and one that it does not; of a number one says it; anything else stands in what one computes."""
+    """The definitions that laws and public clauses name without an example. A relation needs one clause that states it,
+    and one that denies it; a number needs one clause; anything else must be in a clause that computes."""
     clauses = [*said_by(of_files("/examples.rt"))]
     holds = set().union(*(said for text, said in clauses if not text.endswith("→ ⊥")))
     computed = {*closed(holds)}
@@ -183,7 +184,8 @@ def unheld():
 
 
 def says(record, what):
-    """Whether this field of a record says something: by a sign, or a relation of std, of ours or of a parameter."""
+    """Whether this field of a record states something: with a sign, or a relation of std, of this repository or of a
+    parameter."""
     head, given = what.split()[0], " ".join([*record.around, record.head])
     item = record.file.meant(record.file.names, head)
     of_parameter = re.search(rf"(?<![\w']){re.escape(head)} : [^)}}]*→ Type 0", given)
@@ -192,14 +194,14 @@ def says(record, what):
 
 
 def fields_of(record):
-    """The names of what says something in a record of this relation."""
+    """The names of the fields that state something in a record of this relation."""
     found = (re.match(r"\s*(?:pub )?(\S+) :\s(.*)", part, re.S).groups() for part in record.parts)
     return [name for name, what in found if says(record, what)]
 
 
 def examples_of_fields():
-    """Returns the rows of fields.txt by crate, record and field: an example, or why there is none; and those that it
-    has twice."""
+    """Returns the rows of fields.txt by crate, record and field: an example, or why there is none; and the rows that
+    are there twice."""
     found, twice = {}, []
     for crate, rows in sections_of("tests/documents/fields.txt"):
         for record, _, row in (line.partition(": ") for line in rows):
@@ -211,7 +213,7 @@ def examples_of_fields():
 
 
 def unrefused():
-    """The fields that have no example of their own, of the records that laws and public clauses name."""
+    """The fields without an example, of the records that laws and public clauses name."""
     examples, wrong = examples_of_fields()
     clauses = {}
     for call in of_files("/examples.rt"):
@@ -231,7 +233,7 @@ def unrefused():
 
 
 def unused_or_gone():
-    """The names that a file brings in, and that it does not say, or that are not there."""
+    """The imported names of a file that it does not use, or that do not exist."""
     for path in files("crates/*/src/**/*.rt", "crates/*/specs/**/*.antt", "crates/*/proofs/**/*.antt"):
         for uses, text in used_and_said(code_of(path), path.endswith(".rt")):
             said = names_in(text)
@@ -243,7 +245,7 @@ def unused_or_gone():
 
 
 def used_and_said(code, is_rust):
-    """Use lines of a file, and the text that has to say their names: in src/ the clauses of the same block."""
+    """The use lines of a file, and the text in which their names must be: in src/ the clauses of the same block."""
     if not is_rust:
         return [(code, USE.sub("", code))]
     uses = lambda margin, text: "\n".join(re.findall(rf"(?m)^{margin}ghost use [^;]*;", text))
@@ -253,7 +255,7 @@ def used_and_said(code, is_rust):
 
 
 def names_in(text):
-    """Each token of a text, and what stands before its dot."""
+    """Each token of a text, and the text before its dot."""
     tokens = {*TOKEN.findall(text)}
     tokens |= {part for token in tokens for part in (token.partition(".")[0], token.rstrip("."))}
     return tokens | {">>="} if "do" in tokens else tokens

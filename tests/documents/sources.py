@@ -14,9 +14,9 @@ from tree import all_crates, crates_below, files, text_of
 CRATES, OF_PROGRAM = all_crates(), crates_below()["bactool"]
 OUTSIDE = {"std", "core"}.union(*CRATES.values()) - {*CRATES}
 SPECS = {}  # the file of each module of specs/
-ROOMS = {}  # of specs/ and specs/Inner the modules that it passes on, and the names of src/ beside them
+ROOMS = {}  # the modules that specs/ and specs/Inner pass on, and the names of src/ with them
 SOURCES = {}  # the files of src/, by their paths
-RUST = {}  # what src/ defines, by crate and name
+RUST = {}  # the definitions of src/, by crate and name
 MEMBERS = {}  # the ghost members of impl blocks, by type, trait and name
 STD = set("""Option Result Vec String Box Drop Copy Clone Debug Default Iterator IntoIterator FnOnce
     FnMut Fn From Into Sized PartialEq Eq PartialOrd Ord Send Sync AsRef ToOwned TryFrom TryInto HostRuntime""".split())
@@ -29,10 +29,10 @@ NO_CODE = {
 }
 TOKEN = re.compile(r'"(?:\\.|[^"\\])*"|\[\]|λ|[(){}\[\],;]|[^\s(){}\[\],;λ"]+')
 LABEL = re.compile(r"(?<=[{;])\s*[^\s={;]+ =(?=\s)")  # a field, or an argument by its name
-# Where a term binds names: before a colon, after a λ or a `let`.
+# How a term binds names: before a colon, after a λ or a `let`.
 BINDER = re.compile(r"[({]\s*((?:[^\W\d][\w'-]*\s+)+):(?=\s)|λ ([^.]*)\.|\blet (\S+)\s+=")
 
-# A use line, which may take several; a group of it; how definitions and the items of src/ begin.
+# A use line, which may span several lines; a group in it; and how definitions and the items of src/ begin.
 USE = re.compile(
     r"(?ms)^ *(?:ghost |(?:unfoldable )?(pub )?)use (?:Rattle\.)?([^\s{;]+?)(?:\.(\{.*?\}))?(?: as (\S+?))?;?$"
 )
@@ -48,7 +48,7 @@ IMPL = re.compile(r"⟦<((\w+)[^⟧]*? as (\w+)[^⟧]*)>⟧\.(\w+)")
 
 
 def blank(pattern, text):
-    """The text with blanks in the place of what fits the pattern."""
+    """The text with blanks in place of each match of the pattern."""
     return pattern.sub(lambda found: re.sub(r"[^\n]", " ", found[0]), text)
 
 
@@ -77,12 +77,12 @@ def uses_in(code):
 
 
 def parts_of(name):
-    """The parts of an operator, as of `if◌then◌else◌`; or the name alone."""
+    """Returns the parts of an operator, such as `if◌then◌else◌`; of another name only the name."""
     return [part for part in name.split("◌") if part.strip()]
 
 
 def brought_in(code):
-    """Module and name there of each name that use lines bring in, and of each part of an operator."""
+    """The module and the name there of each imported name, and of each part of an operator."""
     names = {here: (module, name) for module, name, here, _ in uses_in(code)}
     return {**{part: names[here] for here in names for part in parts_of(here)}, **names}
 
@@ -97,12 +97,12 @@ class Item:
 
     @functools.cached_property
     def needs(self):
-        """The other items that it says, and the names outside, after their modules."""
+        """The other items that it uses, and the names from outside, with their modules."""
         return [it for it in dict.fromkeys(self.says()) if it is not self]
 
 
 class Definition(Item):
-    """A definition of specs/: the parameters round it, its head, and its cases, fields or constructors."""
+    """A definition of specs/: the parameters around it, its head, and its cases, fields or constructors."""
 
     def __init__(self, file, name, kind, start, end, around, head, parts):
         super().__init__(file, name, kind or "definition", start, end)
@@ -120,7 +120,8 @@ class Definition(Item):
 
 
 class Declared(Item):
-    """The declarations of src/. A clause, even of a model or invariant, is the names imported there, and its text."""
+    """The declarations of src/. Each clause, also of a model or an invariant, has its text and the names imported
+    there."""
 
     def __init__(self, file, name, kind, start, end, names, around=""):
         super().__init__(file, name, kind, start, end)
@@ -139,7 +140,7 @@ class Declared(Item):
 
 
 class File:
-    """A file of specs/ or src/, with what it defines, and the names that it brings in."""
+    """A file of specs/ or src/, with its definitions, and the names that it imports."""
 
     def __init__(self, crate, path):
         self.crate, self.path, self.code = crate, path, code_of(path)
@@ -149,7 +150,7 @@ class File:
         return sum(1 for line in self.code[start:end].split("\n") if line.strip())
 
     def blocks(self, depth, start, end):
-        """Start and end of each block of lines between two places whose first line is set in so far."""
+        """The start and the end of each block of lines between two places whose first line has this indent."""
         margin = " " * depth
         block = re.compile(rf"(?m)^{margin}[^\s)}}\]>].*\n(?:{margin}(?: .*|[)}}\]>{{].*|where)\n| *\n)*")
         return [found.span() for found in block.finditer(self.code, start, end)]
@@ -162,7 +163,7 @@ class File:
         return self.known.get(head)
 
     def said(self, names, text, pattern="", bound=()):
-        """Returns the items that a term names, after a pattern; and the names that are bound in it."""
+        """Returns the items that a term uses, after a pattern; and the names that are bound in it."""
         binders = TOKEN.findall(" ".join([pattern, *("".join(found) for found in BINDER.findall(text))]))
         bound = {*bound, *(it for it in binders if it[0].islower() and "." not in it and it not in CONSTRUCTORS)}
         tokens = [token.rstrip(".") or token for token in TOKEN.findall(f"{pattern} {LABEL.sub('', text)}")]
@@ -180,7 +181,7 @@ class Specs(File):
         self.read(0, 0, len(self.code), [])
 
     def read(self, depth, start, end, around):
-        """Reads the definitions between two places, which are set in so far, with the parameters round them."""
+        """Reads the definitions between two places with this indent, with the parameters around them."""
         item = None
         for first, last in self.blocks(depth, start, end):
             block = self.code[first:last]
@@ -251,7 +252,7 @@ class Source(File):
                 self.members.append((owner, trait, Declared(self, name, "member", first, last, names)))
 
     def link(self):
-        """Adds to each type what its `impl Model` shows, and apart its invariant; other members stand by themselves."""
+        """Adds to each type its `impl Model`, and separately its invariant; other members are items of their own."""
         for owner, trait, member in self.members:
             item = self.find(owner)
             if trait == "Model" and isinstance(item, Item):
@@ -263,7 +264,7 @@ class Source(File):
                 self.methods.append((owner, member))
 
     def find(self, path):
-        """Returns what a path stands for: an item, or a crate outside and the name there; None for a variable."""
+        """Returns the item of a path, or a crate outside and the name there; None for a variable."""
         head, *rest = path.split("::")
         parts = [*self.uses.get(head, [head]), *rest]
         if head in self.items:
@@ -277,7 +278,7 @@ class Source(File):
         return ("std", head) if head in STD else None
 
     def types(self, text):
-        """The types and constants that a signature, a field or a value says."""
+        """The types and constants in a signature, a field or a value."""
         return filter(None, map(self.find, re.findall(r"(?<![\w:.'])(?:\w+::)*[A-Z]\w*", text)))
 
     def meant(self, names, token):
@@ -339,7 +340,8 @@ def read_tree():
 
 
 def public_calls(crate):
-    """The public functions of a crate, and the methods and members of its public types, by name; of a program all."""
+    """The public functions of a crate, and the methods and members of its public types, by name; of a program all
+    functions."""
     of_crate = [source for source in SOURCES.values() if source.crate == crate]
     top = next(source for source in of_crate if source.path.endswith(("/src/lib.rt", "/src/main.rt")))
     shown = {name: item for name, item in top.items.items() if item.public or top.path.endswith("main.rt")}
@@ -359,7 +361,7 @@ def public_calls(crate):
 def closed(roots, kept=False):
     """Returns these items and all that they need, breadth first; with the invariants of types, if asked for."""
     found = dict.fromkeys(roots)
-    rest = list(found)  # which grows while it is walked
+    rest = list(found)  # which grows during the loop
     for item in rest:
         for need in [*item.needs, *(item.keeps if kept else ())]:
             if isinstance(need, Item) and need not in found:

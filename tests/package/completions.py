@@ -1,6 +1,6 @@
 #!/usr/bin/env python3
-"""Asks bash, zsh and fish what each line of completions.txt completes to, with the files of completions/make.py,
-and compares. It says which of them is not installed. Usage: tests/package/completions.py PROGRAM
+"""Asks bash, zsh and fish for the completions of each line of completions.txt, with the files of completions/make.py,
+and compares. It reports which shells are not installed. Usage: tests/package/completions.py PROGRAM
 """
 import os
 import re
@@ -35,7 +35,7 @@ SHELLS = {
 
 def options(*words):
     """The long options of the help."""
-    return sorted(re.findall(r"(?m)^ +(?:-[A-Za-z](?: [A-Z]+)?, )?(--[a-z-]+)\b", shown(*words, "--help")))
+    return re.findall(r"(?m)^ +(?:-[A-Za-z](?: [A-Z]+)?, )?(--[a-z-]+)\b", shown(*words, "--help"))
 
 
 def rows():
@@ -53,9 +53,9 @@ def rows():
 
 
 def completed(shell, folder, lines):
-    """Returns what the shell completes each of these lines to."""
+    """Returns the completions of each of these lines in the shell."""
     parts = re.split(r"(?m)^of (.*)\n", ran(*SHELLS[shell], folder, *lines, cwd=folder).stdout)
-    return {line: sorted({it.split("\t")[0].rstrip("/") for it in told.split("\n") if it})
+    return {line: [*dict.fromkeys(it.split("\t")[0].rstrip("/") for it in told.split("\n") if it)]
             for line, told in zip(parts[1::2], parts[2::2])}
 
 
@@ -64,12 +64,12 @@ def main():
     with tempfile.TemporaryDirectory() as folder:
         ran(TOP + "/completions/make.py", PROGRAM, folder)
         os.mkdir(f"{folder}/empty")
-        write(f"{folder}/emptied", "")  # which is no folder
+        write(f"{folder}/emptied", "")  # not a folder
         for shell in SHELLS:
             if not left_out(shell):
                 found = completed(shell, folder, wanted)
                 for line, words in wanted.items():
-                    same(f"{line} in {shell}", found.get(line), sorted(words))
+                    same(f"{line} in {shell}", found.get(line), words)
     return verdict("lines are completed as they are to be")
 
 

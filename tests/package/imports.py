@@ -1,6 +1,6 @@
 #!/usr/bin/env python3
-"""Compares the symbols that the built program takes from the C library with imports.txt, whose head explains it. Usage:
-tests/package/imports.py PROGRAM; it needs nm. If they differ it says in what, and exits with status 1.
+"""Compares the symbols that the built program uses from the C library with imports.txt, whose head explains it. Usage:
+tests/package/imports.py PROGRAM; it needs nm. It reports differences, and then exits with status 1.
 """
 import os
 import re

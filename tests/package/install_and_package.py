@@ -1,8 +1,8 @@
 #!/usr/bin/env python3
-"""Tries make install in a folder of its own: the files that it installs, replaces, keeps, and removes, even if
-PREFIX was copied or moved. Then packs the program, and looks at the package: it has what make install puts, and says of
-itself what the tree says, and lintian finds no error. Usage: tests/package/install_and_package.py PROGRAM; the package
-needs dpkg-deb, strip, objdump and gzip, and it says so.
+"""Tries make install in a folder of its own: the files that it installs, replaces, keeps, and removes, even if PREFIX
+was copied or moved. Then makes the package and checks it: it has the files of make install, its control file agrees
+with the tree, and lintian finds no error. Usage: tests/package/install_and_package.py PROGRAM; the package needs
+dpkg-deb, strip, objdump and gzip, and is skipped without them.
 """
 import filecmp
 import gzip
@@ -14,13 +14,14 @@ import sys
 import tempfile
 
 sys.path.insert(0, os.path.dirname(__file__) + "/..")
-from tree import TOOLS, TOP, WRONG, left_out, ran, same, says, shown, text_of, verdict
+from tree import TOOLS, TOP, WRONG, files, left_out, ran, same, says, shown, text_of, verdict
 
 PROGRAM = os.path.realpath(sys.argv[1])
 VERSION = re.match(r"bactool ([\d.]+\d)", shown(PROGRAM, "--help"))[1]
 DAY = re.search(rf"(?m)^## {re.escape(VERSION)} \((.*)\)$", text_of("CHANGELOG.md"))[1]
 DOC, LIST = "share/doc/bactool", "share/bactool/installed"
-# The installed files besides documents and examples, of each tool, of each program, and once: mode, or where it leads.
+# The installed files other than documents and examples, for each tool, for each program, and once: mode, or target of
+# the link.
 PUT = """bin/TOOL bactool, share/man/man1/TOOL.1 644, share/bash-completion/completions/TOOL bactool,
     share/fish/vendor_completions.d/TOOL.fish bactool.fish, bin/PROGRAM 755, share/man/man1/PROGRAM.1 644,
     share/bash-completion/completions/PROGRAM 644, share/fish/vendor_completions.d/PROGRAM.fish 644,
@@ -36,7 +37,7 @@ def told(*words, status=0, **settings):
 
 
 def tree_of(root):
-    """Each file and link below a folder, by its path: its mode, or where it leads."""
+    """Each file and link below a folder, by its path: its mode, or the target of the link."""
     paths = (os.path.join(place, name) for place, _, names in os.walk(root) for name in names)
     mode = lambda path: os.readlink(path) if os.path.islink(path) else f"{os.stat(path).st_mode & 0o7777:o}"
     return {os.path.relpath(path, root): mode(path) for path in paths}
@@ -96,7 +97,8 @@ def what_is_put(room):
 
 
 def what_is_replaced(room, count):
-    """Files of others are not replaced; nothing is installed then. Files of an earlier version are removed."""
+    """Existing files of others are not replaced, and then nothing is installed. Files of an earlier version are
+    removed."""
     tool, other = room.put / "bin/bacrp", room.put / "bin/bacwi"
     room.tries("files and links")
     tool.unlink()
@@ -119,7 +121,7 @@ def what_is_replaced(room, count):
 
 
 def what_is_taken_away(room, count):
-    """Changed files are left there; of a copy only the copy is removed, and moved files are removed where they are."""
+    """Changed files stay; removing a copy removes only the copy, and moved files are removed at their new place."""
     page = room.put / "share/man/man1/bacwp.1"
     page.write_text("changed")
     room.tries(f"left there, since it is not as it was put: /opt/tools/{page.relative_to(room.put)}", "--remove")
@@ -150,10 +152,13 @@ def outside(room, _):
 
 
 def places(room):
-    """Without a PREFIX, everything is below /usr/local, as README.md says."""
+    """Without a PREFIX, everything is below /usr/local, as README.md says; and each path that a text names there."""
     room.tries("below /usr/local", PREFIX="")
     there = [(room.top / "usr/local" / path).exists() for path in (f"{DOC}/README.md", "bin/bacrp")]
     same("README.md and bacrp are there", there, [True, True])
+    for file in files("*.md", "docs/*.md", "man/*.[17]", "examples/*.service"):
+        for path in re.findall(r"/usr/local/(?:bin|share)(?:/[\w.-]*\w)*", text_of(file)):
+            same(f"{file}: {path} is there", (room.top / path[1:]).exists(), True)
     says("README.md", "into /usr/local/bin, documents into /usr/local/share/doc/bactool")
     room.tries("taken away from /usr/local", "--remove", PREFIX="")
     same("PREFIX of make help", "make install PREFIX=/usr/local " in told("make", "help"), True)
@@ -162,7 +167,7 @@ def places(room):
 
 
 def files_of_the_package(room, package):
-    """The files of make install, except that pages are compressed, and that a package has its list elsewhere."""
+    """The files of make install, except that pages are compressed, and that the list of a package is elsewhere."""
     room.tries("below /usr", PREFIX="/usr", ZSH_COMPLETIONS="/usr/share/zsh/vendor-completions")
     wanted = {f"{path}.gz" if "/man/" in path else path: mode for path, mode in tree_of(room.top / "usr").items()}
     del wanted[LIST]
@@ -174,7 +179,7 @@ def files_of_the_package(room, package):
 
 
 def what_a_package_says(room, package):
-    """The control file, the sums and the changelog, against the tree and what was unpacked."""
+    """The control file, the sums and the changelog, compared with the tree and the unpacked files."""
     told("dpkg-deb", "-e", package, f"{room.top}/control")
     read = lambda path: (room.top / path).read_text(encoding="utf-8")
     fields = dict(re.findall(r"(?m)^([A-Z][\w-]*): (.*)$", read("control/control")))
@@ -187,8 +192,8 @@ def what_a_package_says(room, package):
     readme, name = text_of("README.md"), f"bactool_{VERSION}_{machine}.deb"
     same("the C library of README.md", re.search(r"GNU C library (\d[\d.]*)", readme)[1], libc)
     says("README.md", f"# {os.path.dirname(os.path.relpath(PROGRAM, TOP))}/{name}", f"./{name}")
-    files = [it for it in (room.top / "there").glob("**/*") if it.is_file() and not it.is_symlink()]
-    sums = told("md5sum", *sorted(map(str, files))).replace(f"{room.top}/there/", "")
+    there = [it for it in (room.top / "there").glob("**/*") if it.is_file() and not it.is_symlink()]
+    sums = told("md5sum", *sorted(map(str, there))).replace(f"{room.top}/there/", "")
     same("sums of the files", read("control/md5sums"), sums)
     changes = gzip.decompress((room.top / f"there/usr/{DOC}/changelog.gz").read_bytes()).decode()
     wanted = f"bactool ({VERSION}) unstable; urgency=medium", told("date", "-uRd", DAY).strip()
@@ -198,7 +203,7 @@ def what_a_package_says(room, package):
 
 
 def the_least_library(room):
-    """A program that needs the C libraries 2.4 and 2.34 needs 2.34, which letters would put first."""
+    """A program that needs the C libraries 2.4 and 2.34 needs 2.34, which would come first by letters."""
     objdump = room.top / "three/objdump"
     objdump.parent.mkdir()
     objdump.write_text("#!/bin/sh\nprintf 'GLIBC_2.34\\nGLIBC_2.4\\n'\n")

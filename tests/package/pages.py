@@ -1,9 +1,9 @@
 #!/usr/bin/env python3
-"""Compares what manual pages and documents say with the programs: words and options with what man/tables.py makes from
-the help, faults with the code's texts, and with help and documents what has to be said twice. What they say in numbers
-is measured, and read back there by the rows of facts.txt. Then mandoc reads the pages, and Wireshark, which has the
-standard's numbers from another hand, is asked what it calls those of site/bacsite/numbers.txt.
-Usage: tests/package/pages.py PROGRAM [PART ..], of which a PART is a function that `main` names.
+"""Compares manual pages and documents with the programs: words and options with the output of man/tables.py, faults
+with the code's texts, and repeated texts with the help and other documents. Numbers in them are measured, and compared
+by the rows of facts.txt. Then mandoc reads the pages, and Wireshark, which has its own list of the standard's numbers,
+is asked for the names of those in site/bacsite/numbers.txt. Usage: tests/package/pages.py PROGRAM [PART ..]; a PART is
+a function that `main` names.
 """
 import datetime
 import os
@@ -22,18 +22,25 @@ import tables
 PROGRAM = os.path.realpath(sys.argv[1])
 ROOM = tempfile.TemporaryDirectory()
 SETTINGS = {
-    **os.environ,  # and DEV, the address of the small device
+    **os.environ,  # with DEV, the address of the small device
     "PATH": f"{ROOM.name}:{os.environ['PATH']}",
     "SILENT": "--mac 127.0.0.1:9 --apdu-timeout 20 --apdu-retries 0",
 }
 SECTIONS = {title: rows[1:] for title, _, _, rows in tables.sections()}
-# The fields of Wireshark that have the numbers of a section, and what it spells in a way of its own.
+# The fields of Wireshark that have the numbers of a section, and the names that it spells in its own way.
 FIELDS = {"Object types": "objectType", "Properties": "property_identifier", "Error classes": "error_class"}
 FIELDS.update({"Error codes": "error_code", "Reject reasons": "reject_reason", "Abort reasons": "abort_reason"})
 SPELLED = [(r"(acked-transition|event-time-stamp)$", r"\1s"), ("datelist", "date-list"), ("daylights", "daylight")]
 SPELLED += [(r"bacnet-(ip-subnet)", r"\1"), (" - ", "-"), (" ", "-"), (r"\bsq-", "square-"), (r"\bfeed\b", "feet")]
 SPELLED += [(r"\bkgs?\b", "kilograms"), (r"\bwatt$", "watts"), (r"\blux$", "luxes"), ("^relative", "percent-relative")]
 SPELLED += [("per-min$", "per-minute"), (r"\bkilograms-dry", "kilogram-dry")]
+# What the help says of numbers, and no page or document.
+ONLY_HELP = """
+analog input (0) 5, a Real (4), to analog output (1) 1 at priority 8; the devices 1000 to 1999; a port past 65535;
+B'1010' D; {1,2} null; the request, 9 unknown service; 20000000 is octets too; relinquishes priority 8 prints;
+like 4 20.0 or; segmentation (3: neither way); as the device 1234 prints; 192.0.2.1/5 the router; only port 47808 wait;
+a window above 1 end; a window above 1, a device; is the device 1234 at UDP port 47808
+"""
 DOUBT = r"[^.]*\.[^.]*read the property back"  # after a write: two sentences
 
 
@@ -51,7 +58,7 @@ def section(name, title):
 
 
 def words_and_options():
-    """Pages are as they are made from the help, and what the help says of numbers is so."""
+    """Pages agree with those made from the help, and numbers in the help are correct."""
     for path, text in tables.made(PROGRAM):
         same(f"{path} is as man/tables.py makes it", text_of(path) == text, True)
     texts = {it.value: it.text for it in tables.words_of_tool(PROGRAM, "bacrp")}
@@ -63,13 +70,17 @@ def words_and_options():
     in_help = re.findall(r"(?m)^ *([0-9]+)  ([A-Z][A-Za-z ]*[a-z])  ", help_of(PROGRAM, "bacwp"))
     alike("tags", in_help, re.findall(r"(?m)^\.It ([0-9]+)  ([A-Z].*)", section("bacwp", "DESCRIPTION")))
     alike("tags of the numbers", in_help, [(row[0], row[1]) for row in SECTIONS["Types of a value"]])
-    first_words = re.search(r"(?ms)^Lines of a script.*?^A line", help_of(PROGRAM, "bactrace"))[0]
-    on_page = re.findall(r"(?m)^\.It Li ([a-z]*) Ar", section("bactrace", "DESCRIPTION"))
-    alike("lines of a script", sorted(re.findall(r"(?m)^  ([a-z]*) [A-Z]", first_words)), sorted(on_page))
+    words = lambda rows: {it: re.findall("[a-z]+", re.sub("object-|Op |Ar ", "", rest).lower()) for it, rest in rows}
+    on_page = words(re.findall(r"(?m)^\.It Li ([a-z]+) (Ar .*)", section("bactrace", "DESCRIPTION")))
+    on_page["tick"] = ["milliseconds"] * (on_page.get("tick") == ["n"])
+    in_help = lambda tool: words(re.findall(r"(?m)^  ([a-z]+)((?: \[?[A-Z]+\]?)+)", help_of(PROGRAM, tool)))
+    alike("lines of a script", sorted(in_help("bactrace").items()), sorted(on_page.items()))
+    for line in ("read", "write"):
+        alike(f"a line {line} of bacrun", in_help("bacrun").get(line), on_page.get(line))
 
 
 def statuses():
-    """Statuses are those of the help, also of each tool, whose page refers to bactool(1), and of docs/PROTOCOL.md."""
+    """Statuses are those of the help, also for each tool, whose page refers to bactool(1), and of docs/PROTOCOL.md."""
     found = r"(?m)(?:^|: |; |Status )([0-9])[ :]"
     in_help = lambda *tool: sorted({*re.findall(found, "".join(help_of(PROGRAM, *tool).partition("Status")[1:]))})
     alike("statuses", in_help(), re.findall(r"(?m)^\.It ([0-9])$", section("bactool", "EXIT STATUS")))
@@ -92,8 +103,21 @@ def what_is_said_twice():
     says("SECURITY.md", section("bactool", "BUGS"))
 
 
+def numbers_of_help():
+    """Each number of the tools' help stands with two words beside it in a page or a document, or in ONLY_HELP."""
+    words = lambda text: re.findall(r"\w+(?:[.:]\w+)*|--?\w[\w-]*", plain(text.replace("\\", "")).lower())
+    threes = lambda it: set(zip(it, it[1:], it[2:]))
+    places = [ONLY_HELP, *map(text_of, files(*(f"{TOP}/{it}" for it in ("man/*.[17]", "docs/*.md", "*.md"))))]
+    known = {it for text in places for it in threes(words(re.sub(r"\b(Li|Ar|Ns|Ql|Pq) |\|", "", text)))}
+    for tool in ("", *TOOLS):
+        told = words(re.sub(r"(?m)^  bactool .*|Status:? \d|; \d(?= )", "", help_of(PROGRAM, *tool.split())))
+        for at in (at for at, word in enumerate(told) if word.isdigit()):
+            near = told[max(0, at - 2) : at + 3]
+            same(f"the help of {tool or 'bactool'}: {' '.join(near)}", bool(threes(near) & known), True)
+
+
 def faults():
-    """Each text of a fault is in the page: those that docs/PROTOCOL.md has, which are those of the definitions."""
+    """Each text of a fault in docs/PROTOCOL.md, which has those of the definitions, is in the page."""
     lines = re.findall(r"(?m)^\.It Li (.*)", section("bactool", "DIAGNOSTICS").partition("\n.Ss ")[0])
     on_page = (text for line in lines for text in re.split(" , (?:Li )?", re.sub(r"Ar n( Ns( Li \\&)?)?", "N", line)))
     on_page = {text.replace("N Ns-th", "").replace("N :", "N:").strip() for text in on_page}
@@ -102,7 +126,7 @@ def faults():
 
 
 def versions():
-    """The program has the version of CHANGELOG.md, whose day is that of the page which changed last."""
+    """The program has the version of CHANGELOG.md; the version's day is that of the page that changed last."""
     changes, day = re.search(r"(?m)^## ([0-9][0-9.]*) \((.*)\)$", text_of("CHANGELOG.md")).groups()
     days = re.findall(r"(?m)^\.Dd (.*)$", "".join(map(text_of, files(f"{TOP}/man/*.[17]"))))
     last = max(datetime.datetime.strptime(it, "%B %d, %Y") for it in days)
@@ -119,7 +143,7 @@ def mandoc():
 
 
 def wireshark():
-    """The names of numbers. Units have no field: Wireshark is shown a property 117 that has each number."""
+    """The names of numbers. Units have no field, so Wireshark gets a property 117 with each number."""
     if left_out("tshark", "text2pcap"):
         return
     fields = shown("sh", "-c", "tshark -G values 2>/dev/null | grep -a bacapp")
@@ -137,13 +161,13 @@ def wireshark():
 
 
 def run(line):
-    """The status of a line of the shell, and what it prints."""
+    """The status of a line of the shell, and its output."""
     done = ran("sh", "-c", line, env=SETTINGS, timeout=60, stderr=subprocess.DEVNULL)
     return done.returncode, done.stdout
 
 
 def below(document, heading):
-    """The text below a heading of a document or a page, up to the next one; of a command all that it prints."""
+    """The text below a heading of a document or a page, up to the next one; for a command its whole output."""
     if " " in document:
         return run(document)[1]
     found = re.search(rf"(?ms)^(?:#+|\.S[hs]) {re.escape(heading)}\n(.*?)(?=^#+ |^\.S[hs] |\Z)", text_of(document))
@@ -151,7 +175,7 @@ def below(document, heading):
 
 
 def known(rows):
-    """What a pattern finds in a file or in what a command prints, by its name, and what follows from that."""
+    """The matches of a pattern in a file or in the output of a command, by name, and values that follow from them."""
     found = {}
     for name, place, pattern in (row.split(" | ") for row in rows):
         text = run(place)[1] if " " in place else text_of(place)
@@ -163,12 +187,13 @@ def known(rows):
     titles = [*FIELDS, "Types of a value"]
     found.update((f"{title.split()[0]} {row[1]}", row[0]) for title in titles for row in SECTIONS[title])
     found["others"] = 256 - found["most"]
+    found["page"] = "no one two three four five six seven eight nine ten".split()[found["page every"]]
     times = ["once", "twice", "three times", "four times"][found["site retries"]]
     return {**found, "site tries": times, "tries": times.split()[0], "ports of Linux": round(60999 - 32768, -3)}
 
 
 def seen(rows):
-    """The status by what happened, of the tools and of bacsite."""
+    """The status of each case, for the tools and for bacsite."""
     found = {}
     for what, line in (row.split(": ", 1) for row in rows):
         status = run(line)[0]
@@ -213,7 +238,7 @@ def tools_of_readme():
 
 
 def properties():
-    """The rules name each property that the device and its points have, and no other, with the numbers that it has."""
+    """The rules name exactly the properties of the device and its points, with their numbers."""
     rules = text_of("docs/PROTOCOL.md").partition("\nEvery point has")[2].partition("\n## ")[0]
     printed = [run(f"bacsite properties $DEV {it} --last 160")[1] for it in ("8 1234", "0 5", "3 3", "14 1")]
     there = {(name, number) for number, name in re.findall(r"(?m)^(\d+) ([a-z-]+) ", "".join(printed))}
@@ -225,7 +250,7 @@ def properties():
 
 
 def examples():
-    """What the pages show is run, and prints what they show; and the pages that they refer to are there."""
+    """The commands in the pages are run, and print what the pages show; and the pages that they refer to exist."""
     pages = files(f"{TOP}/man/*.[17]")
     same("tools without a page", {*TOOLS, "bacsite"} - {os.path.basename(it)[:-2] for it in pages}, set())
     for path in pages:
@@ -246,6 +271,7 @@ def facts():
     """The measured numbers are in the documents, by the rows of facts.txt."""
     put_tools(PROGRAM, ROOM.name)
     rows = dict(sections_of("tests/package/facts.txt"))
+    same("sections of facts.txt", len(rows), len([*sections_of("tests/package/facts.txt")]))
     with device(program=[PROGRAM]) as (_, port):
         SETTINGS["DEV"] = f"127.0.0.1:{port}"
         measured = {"points": points(), **known(rows.pop("Numbers"))}
@@ -266,7 +292,7 @@ def facts():
 
 
 def main(names):
-    every = words_and_options, statuses, what_is_said_twice, faults, versions, facts, mandoc, wireshark
+    every = words_and_options, statuses, what_is_said_twice, numbers_of_help, faults, versions, facts, mandoc, wireshark
     parts = {it.__name__: it for it in every}
     for name in names or parts:
         parts[name]()

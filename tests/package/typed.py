@@ -1,8 +1,9 @@
 #!/usr/bin/env python3
-"""Runs what people type from the help of the tools and from the documents, so that order and role of each word are
-tried, and not only that they are there: the examples of the help, the filter of tcpdump, umask, the names and numbers
-beside each other, the parts of a date. Usage: tests/package/typed.py PROGRAM
+"""Runs commands from the help of the tools and from the documents, so that the order and the meaning of each word are
+tested: the examples of the help, the filter of tcpdump, umask, names with numbers beside them, the parts of a date.
+Usage: tests/package/typed.py PROGRAM
 """
+import contextlib
 import os
 import re
 import shlex
@@ -15,11 +16,13 @@ from tree import TOOLS, TOP, device, files, free_port, plain, put_tools, ran, sa
 
 sys.path.append(TOP + "/man")
 import tables
+from bacsite import addresses
+from bacsite.output import Failure
 
 PROGRAM = os.path.realpath(sys.argv[1])
 NAMES = {(row[0], row[1].replace("-", " ").lower()) for *_, rows in tables.sections() for row in rows}
 READ, REAL = "read 192.0.2.7 0 5 85", r"\b(?=\d*[a-f])[0-9a-f]{8}\b"
-# What an example prints, by how it begins.
+# The output of an example, by its first words.
 PRINTS = {
     "bacrp 1234 0 5 85 ": "4290999a\n",
     "bacwp 1234 1 1 85 8 -1 4 41a00000 ": "ok\n",
@@ -29,7 +32,7 @@ PRINTS = {
     "bacrun < requests": r"client 3000 3 0\n(?:.*\n)*# done 0 value 4290999a\n",
     "bactrace < session.trace": "send 0 192.0.2.7:47808 810a001101040005010c0c000000051955\n",
 }
-# What help says of a word or an option is about this; two of them in each other's place would be wrong.
+# The help of each word or option contains this; two helps in each other's place would be noticed.
 ABOUT = {
     "bacwi": {"min": "lowest instance", "max": "highest instance", "--apdu-timeout": "answers", "--port": "broadcast"},
     "bacrp": {"device-instance": "device", "object-type": "type", "object-instance": "instance", "index": "element"},
@@ -38,6 +41,7 @@ ABOUT = {
     "bacdev": {"--port": "listen", "--count": "datagrams"},
 }
 DATES = {"10": ["year", "month", "day", "day of the week"], "11": ["hour", "minute", "second", "hundredth"]}
+NO_ADDRESSES = ["0.0.0.0", "192.0.2.1/5"]  # which every tool refuses, and which a line `who` alone may have
 TIMES = "no one two three four five six seven eight nine ten".split()
 LATE = int(re.search(r"(?m)^LATE = (\d+)", text_of("site/bacsite/survey.py"))[1])
 PARTS = r"day of the week|year|month|day|hour|minute|second|hundredth"
@@ -52,7 +56,7 @@ def numbers_beside_names(what, text):
 
 
 def example(what, command, said, folder, mac):
-    """An example runs; what is said of it are its own words: priority, least and greatest, and the number of a Real."""
+    """An example runs; its description names its own words: priority, least and greatest, and the number of a Real."""
     words = command.split()[1:]
     numbers_beside_names(what, said)
     reals = [round(struct.unpack(">f", bytes.fromhex(it))[0], 4) for it in re.findall(REAL, f"{command} {said}")]
@@ -72,7 +76,7 @@ def example(what, command, said, folder, mac):
 
 
 def examples(folder):
-    """Those of the help of bactool and of each tool."""
+    """The examples of the help of bactool and of each tool."""
     with device(program=[PROGRAM]) as (_, port):
         mac = f"127.0.0.1:{port}"
         write(f"{folder}/requests", READ.replace("192.0.2.7", mac) + "\n")
@@ -88,7 +92,8 @@ def examples(folder):
 
 
 def words_of_help():
-    """The help of a word is about it; the parts of a date are in the order of the standard, here and on the page."""
+    """The help of a word describes that word; the parts of a date are in the order of the standard, here and on the
+    page."""
     for tool, words in ABOUT.items():
         text = shown(PROGRAM, tool, "--help")
         for word, about in words.items():
@@ -99,15 +104,37 @@ def words_of_help():
     for tag, parts in DATES.items():
         for told in rows, page:
             same(f"the parts of tag {tag}", re.findall(PARTS, plain(told.get(tag, "")))[:4], parts)
+    numbers = lambda text: {*re.findall(r"\b[0-9a-f]*[0-9][0-9a-f]*(?:[.:]\d+)*\b", plain(re.sub('".*?"', "", text)))}
+    rows = dict(re.findall(r"(?m)^ *(\d+)  [A-Z][\w ]*?  +(.*)$", shown(PROGRAM, "bacwp", "--help")))
+    page = dict(re.findall(r"(?ms)^\.It (\d+)  [A-Z][\w ]*\n(.*?)(?=^\.(?:It|El))", text_of("man/bacwp.1")))
+    same("the tags of the help", sorted(rows), sorted(page))
+    for tag, told in rows.items():
+        same(f"the numbers of tag {tag} that the page lacks", numbers(told) - numbers(page.get(tag, "")), set())
     whole = plain(text_of("man/bacrp.1"))
     there = re.findall(PARTS, whole[whole.index("year minus") :])[:8]
     same("the parts of both in bacrp(1)", there, sum(DATES.values(), []))
 
 
+def is_address(word):
+    """Whether bacsite accepts this address, range or network."""
+    with contextlib.suppress(Failure):
+        return bool(addresses.targets([word]))
+    return False
+
+
 def sentences(folder):
-    """What pages say once more: which priority is the most urgent, how requests are numbered, umask, and tcpdump."""
+    """Repeated facts in the pages: which priority is the most urgent, how requests are numbered, umask, and tcpdump."""
     texts = {page: plain(text_of(page)) for page in PAGES}
     texts.update((f"the help of {tool}", plain(shown(PROGRAM, tool, "--help"))) for tool in TOOLS)
+    words = [word for _, tools in tables.programs(PROGRAM) for *_, words in tools for word in words if word.choices]
+    choices = {name: word.choices for word in words for name in word.names}
+    for page in PAGES:
+        text = re.sub(r"(?ms)^```.*?^```$", "", text_of(page)).replace("\\", "")
+        for word in sorted({*re.findall(r"(?<![\w.])(?:\d+\.){3}\d+(?:/\d+/(?:\*|[0-9a-f]+)|/\*|[-/:]\d+)?", text)}):
+            same(f"{page}: {word} is an address, or several", is_address(word), word not in NO_ADDRESSES)
+    for page in PAGES[:5]:
+        for option, value in re.findall(r"`(--[a-z-]+) ([a-z]+)`", text_of(page)):
+            same(f"{page}: {option} {value}", value in choices.get(option, [value]), True)
     for page, text in texts.items():
         for number in re.findall(r"(\d+)(?:,| is)? \(?(?:the )?most urgent", text):
             same(f"{page}: the most urgent priority", number, "1")

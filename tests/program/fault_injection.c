@@ -1,11 +1,13 @@
 /* Loaded in front of the C library, it says on the descriptor 3 each call of a program that has to do with sockets,
-   copies a descriptor, reads, writes or reads the clock, and of a wait that is set its microseconds. The call with the
-   number FAILED, from 1, fails by the error ERRNO. Where SHORT is set, a send that fails sends all, and says that it
-   sent an octet less. Where ONE_OCTET is set, a read gives at most one octet. The request for memory with the number
-   REFUSED fails, and is said. By the clock only waits take time: each receive that does not fail takes what was set.
-   A call of the system that is not on the list ALLOWED is said with its number, and ends the program: the kernel itself
+   copies a descriptor, reads, writes or reads the clock, of a wait that is set its microseconds, and whether
+   receives are set to answer at once (1) or not (0). The call with the number FAILED, from 1, fails by the error
+   ERRNO. Where SHORT is set, a send that fails sends all, and says that it sent an octet less. Where ONE_OCTET is
+   set, a read gives at most one octet. The request for memory with the number REFUSED fails, and is said. By the
+   clock only waits take time: each receive that does not fail takes what was set, unless it answers at once. A call
+   of the system that is not on the list ALLOWED is said with its number, and ends the program: the kernel itself
    looks for them, so none is made past this library. */
 #define _GNU_SOURCE
+#include <asm/ioctls.h>
 #include <dlfcn.h>
 #include <errno.h>
 #include <linux/filter.h>
@@ -24,6 +26,7 @@
 #include <unistd.h>
 
 static int sees_clock;
+static int at_once;
 static long wait_set, waited; /* in microseconds */
 
 static long setting(const char *name)
@@ -62,6 +65,15 @@ static int fails_to_set(int level, int name, const struct timeval *wait)
     return 0;
 }
 
+static int fails_to_switch(unsigned long request, const int *on)
+{
+    if (fails("ioctl"))
+        return 1;
+    if (request == FIONBIO)
+        say((at_once = *on) ? "1" : "0");
+    return 0;
+}
+
 static int is_refused(void)
 {
     static long requests;
@@ -86,7 +98,7 @@ CALL(int, socket, (int domain, int type, int protocol), (sees_clock = 1, fails("
 CALL(int, bind, (int fd, const struct sockaddr *at, socklen_t length), fails("bind"), -1, (fd, at, length))
 CALL(int, connect, (int fd, const struct sockaddr *to, socklen_t length), fails("connect"), -1, (fd, to, length))
 CALL(int, fcntl, (int fd, int command, long with), fails("fcntl"), -1, (fd, command, with))
-CALL(int, ioctl, (int fd, unsigned long request, void *with), fails("ioctl"), -1, (fd, request, with))
+CALL(int, ioctl, (int fd, unsigned long request, void *with), fails_to_switch(request, with), -1, (fd, request, with))
 CALL(int, poll, (struct pollfd *files, nfds_t count, int wait), fails("poll"), -1, (files, count, wait))
 CALL(int, getsockname, (int fd, struct sockaddr *at, socklen_t *length), fails("getsockname"), -1, (fd, at, length))
 CALL(int, getpeername, (int fd, struct sockaddr *to, socklen_t *length), fails("getpeername"), -1, (fd, to, length))
@@ -99,7 +111,7 @@ CALL(ssize_t, sendto,
      fails("sendto"), getenv("SHORT") ? next(fd, octets, count, flags, to, length) - 1 : -1,
      (fd, octets, count, flags, to, length))
 CALL(ssize_t, recvfrom, (int fd, void *octets, size_t count, int flags, struct sockaddr *from, socklen_t *length),
-     fails("recvfrom") || (waited += wait_set, 0), -1, (fd, octets, count, flags, from, length))
+     fails("recvfrom") || (waited += at_once ? 0 : wait_set, 0), -1, (fd, octets, count, flags, from, length))
 CALL(ssize_t, send, (int fd, const void *octets, size_t count, int flags), fails("send"), -1,
      (fd, octets, count, flags))
 CALL(ssize_t, recv, (int fd, void *octets, size_t count, int flags), fails("recv"), -1, (fd, octets, count, flags))
@@ -115,9 +127,9 @@ CALL(void *, aligned_alloc, (size_t alignment, size_t size), is_refused(), NULL,
 /* What a program may ask of the system once it has begun: the calls that are said above, to let a descriptor go,
    memory, how a signal is taken, and the end. */
 static const int ALLOWED[] = {
-    SYS_read, SYS_write, SYS_socket, SYS_bind, SYS_fcntl, SYS_setsockopt, SYS_sendto, SYS_recvfrom, SYS_clock_gettime,
-    SYS_close, SYS_brk, SYS_mmap, SYS_munmap, SYS_mremap, SYS_mprotect, SYS_madvise, SYS_getrandom, SYS_rt_sigaction,
-    SYS_rt_sigprocmask, SYS_rt_sigreturn, SYS_exit_group,
+    SYS_read, SYS_write, SYS_socket, SYS_bind, SYS_fcntl, SYS_setsockopt, SYS_ioctl, SYS_sendto, SYS_recvfrom,
+    SYS_clock_gettime, SYS_close, SYS_brk, SYS_mmap, SYS_munmap, SYS_mremap, SYS_mprotect, SYS_madvise, SYS_getrandom,
+    SYS_rt_sigaction, SYS_rt_sigprocmask, SYS_rt_sigreturn, SYS_exit_group,
 };
 
 enum { COUNT = sizeof ALLOWED / sizeof *ALLOWED };

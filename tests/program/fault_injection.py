@@ -1,15 +1,14 @@
 #!/usr/bin/env python3
-"""Refuses each request for memory that the program makes, one in each run: it has to end with `out of memory` and
-status 4. And has each call of the program to the system fail so, by each of the errors below: the run has to end with
-status 3 and the line of its fault, after a front of what it prints otherwise. But where a receive fails by what is
-silence, it goes on as if nothing had come, and where the clock fails later, as if no time had passed; a device goes on
-where it can't send a reply, too. Each run makes the calls that are wanted (RUNS, SERVED), and no others:
-fault_injection.c has the kernel end it at any call that it does not note, except those for memory, signals and the end.
+"""Makes each allocation of the program fail, one in each run: the run must end with `out of memory` and status 4. Then
+makes each system call of the program fail, with each of the errors below: the run must end with status 3 and the line
+of its fault, after the beginning of its usual output. But if a receive fails with an error that counts as silence, the
+run goes on as if nothing had come, and if the clock fails later, as if no time had passed; a device also goes on if it
+cannot send a reply. Each run makes the expected calls (RUNS, SERVED), and no others: with fault_injection.c the kernel
+ends it at any call that is not noted, except those for memory, signals and the end.
 
-Usage: tests/program/fault_injection.py PROGRAM [tried|calls]; it needs cc. By `calls` only calls of the system fail,
-and so they do of a program that `rt try` has made (`tried`), which has its memory from elsewhere. But there it shows
-whether what was searched of a line is searched again at each read: one that LLVM makes searches so fast that reads hide
-it.
+Usage: tests/program/fault_injection.py PROGRAM [tried|calls]; it needs cc. With `calls` only system calls fail, and
+also with `tried`, for a program that `rt try` has made, which allocates memory in another way. That program shows
+whether the searched part of a line is searched again at each read: code from LLVM searches so fast that reads hide it.
 """
 import errno
 import itertools
@@ -23,15 +22,15 @@ from collections import namedtuple
 sys.path.insert(0, os.path.dirname(__file__) + "/..")
 from tree import TOP, failing_library, files, free_port, text_of
 
-# The errors, by what a receive that fails so is: a fault; a fault to the tool that sent, since its peer refuses, or no
-# way leads there, while a device has its peers from strangers; and silence to both.
+# The errors, by the meaning of a receive that fails with them: a fault; a fault for the tool that sent, since its peer
+# refuses or cannot be reached, while the peers of a device are strangers; and silence for both.
 FAULTS = ["EIO", "EPERM", "ENOBUFS"]
 REFUSALS = ["ECONNREFUSED", "ECONNRESET", "ENETUNREACH", "EHOSTUNREACH"]
 SILENCE = ["EINTR", "EAGAIN", "ETIMEDOUT"]
 ERRORS = FAULTS + REFUSALS + SILENCE
-# The text of standard error after `bactool: `, once a call of this kind has failed.
+# The text on standard error after `bactool: `, if a call of this kind has failed.
 LINES = {it: "bind failed" for it in ("socket", "bind", "fcntl", "clock_gettime")}
-LINES.update(memory="out of memory", setsockopt="receiving failed", recvfrom="receiving failed")
+LINES.update(memory="out of memory", **{it: "receiving failed" for it in ("setsockopt", "ioctl", "recvfrom")})
 LINES.update(sendto="sending failed", read="reading failed", write="writing failed")
 SCRIPT = "read 127.0.0.1:47808 0 5 85\ntick 3000\ntick 6000\ntick 9000\ntick 12000\n"
 NO_LINE_FEED = "read 127.0.0.1:47808 0 5 85\ntick 3000"
@@ -41,10 +40,12 @@ READ, WRITE = ["bacrp", "1234", "0", "5", "85"], ["bacwp", "1234", "1", "1", "85
 BATCH, LINE = ["bacrun", "--apdu-timeout", "7"], f"read 127.0.0.1:{PORT} 0 5 85\n"
 BOUND = "socket bind fcntl clock_gettime"
 OPENED = f"{BOUND} clock_gettime sendto setsockopt 7000 recvfrom clock_gettime"
-# A time that was read before a wait is printed after it: the first is that of the send.
-BATCHED = f"{BOUND} write read clock_gettime sendto write clock_gettime setsockopt 7000 recvfrom clock_gettime recvfrom"
-# The runs: the status if nothing fails, the calls that are made then, words, and what is read. What the lines of
-# one read print goes out at once.
+# After a wait the time is read anew, and a look follows, before the client gets the time.
+BATCHED = f"{BOUND} write read clock_gettime sendto write clock_gettime setsockopt 7000 recvfrom clock_gettime ioctl 1"
+BATCHED += " recvfrom"
+AGAIN = "sendto write clock_gettime ioctl 0 recvfrom clock_gettime ioctl 1 recvfrom"
+# The runs: the status if nothing fails, the calls then, the words, and the input. The output for the lines of one read
+# is written at once.
 RUNS = [
     (0, "write", ["bacrun", "--help"], ""),
     (0, "read", ["bactrace"], ""),
@@ -57,11 +58,11 @@ RUNS = [
     (1, OPENED, ["bacwi", *SILENT], ""),
     (0, f"{BOUND} write read", ["bacrun"], ""),
     (0, f"{BATCHED} write read", [*BATCH, "--apdu-retries", "0"], LINE),
-    (0, f"{BATCHED} sendto write clock_gettime recvfrom write read", [*BATCH, "--apdu-retries", "1"], LINE),
+    (0, f"{BATCHED} {AGAIN} write read", [*BATCH, "--apdu-retries", "1"], LINE),
     (2, f"{BOUND} write read tell", ["bacrun"], "no line\n"),
     (2, "tell", [*READ, "--mac", "1.2.3"], ""),
 ]
-# A device that waits for a second at a time, and its calls until it hears something.
+# A device that waits for a second at a time, and its calls until it receives something.
 DEVICE = ["bacdev", "1234", "--port", PORT, "--count"]
 SERVED = f"{BOUND} setsockopt 1000000 recvfrom"
 NAME = "tests/program/fault_injection.py"
@@ -70,7 +71,8 @@ Ended = namedtuple("Ended", "status output error said words")
 
 
 def run(words, given="", error="EIO", **settings):
-    """Returns how a run by these settings ends, and what fault_injection.c says; a call that fails gives this error."""
+    """Returns the end of a run with these settings, and the output of fault_injection.c; a call that fails has this
+    error."""
     settings["ERRNO"] = getattr(errno, error)
     settings.update({"TRIED": 1} if sys.argv[2:] else {})
     environment = {**os.environ, **{name: str(number) for name, number in settings.items()}}
@@ -78,7 +80,7 @@ def run(words, given="", error="EIO", **settings):
     command = ["sh", "-c", preloaded, PROGRAM, *words]
     how = {"input": given, "capture_output": True, "text": True, "timeout": 200}
     it = subprocess.run(command, check=False, env=environment, **how)
-    output = re.sub(r"tick \d+\n", "", it.stdout)  # when a run of many requests was told the time
+    output = re.sub(r"tick \d+\n", "", it.stdout)  # the times in a run of many requests
     return Ended(it.returncode, output, it.stderr, text_of(f"{ROOM.name}/said").split(), words)
 
 
@@ -89,8 +91,8 @@ def expect(is_so, what, ended):
 
 
 def is_fault(ended, call, whole="", status=3):
-    """The last calls are this one and the report, except the clock after `fcntl` and what bacrun still writes. The
-    fault is its, and what was printed is a front of the whole."""
+    """The last calls are this one and the report, except the clock after `fcntl` and the last output of bacrun. The
+    fault is that of the call, and the output is the beginning of the whole."""
     is_told = ended.error == f"bactool: {LINES[call]}\n"
     more = ["clock_gettime"] * (call == "fcntl"), ["write"] * (ended.words[:1] == ["bacrun"])
     is_last = any(ended.said[-2 - len(it):] == [call, *it, "tell"] for it in more)
@@ -98,7 +100,7 @@ def is_fault(ended, call, whole="", status=3):
 
 
 def memory_refused(status, words, given=""):
-    """Each request for memory is refused in turn; with none refused the status is this one."""
+    """Each allocation fails in turn; if none fails, the status is this one."""
     for number in itertools.count(1):
         ended = run(words, given, REFUSED=number)
         if "memory" not in ended.said:
@@ -117,12 +119,12 @@ def memory():
 
 
 def errors_of(call):
-    """The errors by which a call is tried: one, where what it does by each is the same code of the system's library."""
+    """The errors with which a call is tried: only one, if the system's library handles all of them in the same way."""
     return ERRORS[:1] if call in ("fcntl", "clock_gettime") else ERRORS
 
 
 def in_turn(status, calls, words, given):
-    """The words make these calls and no others, with this status; then each of them fails, by each error."""
+    """The words make these calls and no others, with this status; then each of them fails, with each error."""
     whole, tried = run(words, given), 0
     expect((whole.status, " ".join(whole.said)) == (status, calls), words, whole)
     names = [it for it in calls.split() if it != "tell" and not it.isdigit()]
@@ -139,7 +141,7 @@ def in_turn(status, calls, words, given):
 
 
 def devices():
-    """Each call of a device fails once; if the device goes on, it answers a later request, by the right calls."""
+    """Each call of a device fails once; if the device goes on, it answers a later request, with the right calls."""
     client = [PROGRAM, *READ, "--mac", "127.0.0.1:" + PORT, "--apdu-timeout", "300", "--apdu-retries", "9"]
     names, tried = [it for it in f"{SERVED} sendto".split() if not it.isdigit()], 0
     for number, call in enumerate(["", *names]):
@@ -166,14 +168,15 @@ def calls_of_the_system():
     front = run(["bactrace"], NO_LINE_FEED).output.splitlines(keepends=True)[0]
     ended = run(["bactrace"], NO_LINE_FEED, FAILED=3)
     expect(is_fault(ended, "read", front) and ended.output, "a last line without its line feed", ended)
-    # A send of fewer octets than there are has failed. It is the sixth call.
+    # A send of fewer octets than given has failed. It is the sixth call.
     ended = run([*READ, *SILENT], FAILED=6, SHORT=1)
     expect(is_fault(ended, "sendto"), "a short send", ended)
     print(f"{NAME}: {calls} calls failed in turn, each told as it is to be, or taken for silence")
 
 
 def searching():
-    """With one octet a read, the longest lines may take three times as long as short lines of as many octets."""
+    """With one octet for each read, the longest lines may take three times as long as short lines with as many
+    octets."""
     took = []
     for length in (32, 4096):
         begun = os.times().children_user

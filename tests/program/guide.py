@@ -1,11 +1,11 @@
 #!/usr/bin/env python3
-"""Runs every command of docs/GUIDE.md in one shell, against the demonstration device, and compares what comes out with
-what the guide shows. Usage: tests/program/guide.py PROGRAM
+"""Runs every command of docs/GUIDE.md in one shell, against the demonstration device, and compares the output with the
+guide. Usage: tests/program/guide.py PROGRAM
 
-A block that begins with ```console has commands behind `$ `, whose further lines begin with `> `; a program's name
-after that says which one it needs. A command that ends in `&` runs on, until all others have ended; the next waits
-until its port is taken. If port 47808 or 48000 is taken, another one is put in its place. After all others come the
-lines of crontab, with each of its points in the file, and the command for Nagios, as Nagios would run it.
+A block that begins with ```console has commands after `$ `, whose further lines begin with `> `; the name of a program
+after ```console is one that the block needs. A command that ends in `&` runs on, until all others have ended; the next
+waits until its port is taken. If port 47808 or 48000 is taken, another one is used instead. Last come the lines of
+crontab, with each of its points in the file, and the command for Nagios, as Nagios would run it.
 """
 import difflib
 import os
@@ -50,7 +50,7 @@ def scheduled(line, address):
 
 
 def commands(first, second):
-    """Each command, and what it is to print."""
+    """Each command, and its expected output."""
     text, later = with_ports(text_of("docs/GUIDE.md"), first, second), []
     for kind, needed, body in re.findall(r"(?ms)^```(\S*) ?(\S*)\n(.*?)^```$", text):
         if kind != "console":
@@ -63,7 +63,7 @@ def commands(first, second):
 
 
 def script(rows, first, second):
-    """A script of the commands, each of which finds the status of the one before; and all that it is to print."""
+    """A script of the commands, each with the status of the one before; and its whole expected output."""
     text, shown = "status=0\n", ""
     for command, printed in rows:
         text += f"echo {shlex.quote('$ ' + command)}\n(exit $status)\n{command}\nstatus=$?\n"
@@ -74,7 +74,7 @@ def script(rows, first, second):
 
 
 def run(text, program, room):
-    """What the script prints, in a folder with the examples, and with the tools in its PATH."""
+    """The output of the script, in a folder with the examples, and with the tools in its PATH."""
     put_tools(program, f"{room}/bin")
     shutil.copytree(f"{TOP}/examples", f"{room}/work/examples")
     outer = {**os.environ, "LC_ALL": "C", "PATH": f"{room}/bin:{os.environ['PATH']}"}

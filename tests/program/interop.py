@@ -1,10 +1,9 @@
 #!/usr/bin/env python3
-"""Runs the tools and nmap against bacdev, and has tshark record every datagram that goes over the loopback interface,
-and read it.
+"""Runs the tools and nmap against bacdev, while tshark records and reads every datagram on the loopback interface.
 
-Usage: tests/program/interop.py, once the program is built; interop.txt has what is asked and what has to be found. It
-needs root, nmap and tshark. It exits with status 1 if something is wrong, and says what: a tool or nmap that
-prints something else, a datagram that tshark finds malformed or reads as something else than it is.
+Usage: tests/program/interop.py, once the program is built; interop.txt has the requests and the expected results. It
+needs root, nmap and tshark. It exits with status 1 and reports each difference: another output of a tool or nmap, or a
+datagram that tshark finds malformed or reads in another way.
 """
 import re
 import subprocess
@@ -19,7 +18,7 @@ IS_BAD = "_ws.malformed or _ws.expert.severity >= 0x600000 or not bacapp"
 
 
 def asked(port, words, printed, *wanted):
-    """Runs a tool at the device. Returns what tshark must find in each datagram of the two."""
+    """Runs a tool with the device. Returns what tshark must find in each of the two datagrams."""
     mac = f"127.0.0.1:{port}"
     done = ran(PROGRAM, *words.split(), "--mac", mac)
     same(words, (done.returncode in (0, 1), done.stdout.rstrip("\n").replace(mac, "PEER")), (True, printed))
@@ -36,7 +35,8 @@ def sent(port, octets, _, reply, name):
 
 
 def read_by_tshark(file, port):
-    """Returns what tshark says of each datagram, with sender's port and octets, and the places of unreadable ones."""
+    """Returns tshark's reading of each datagram, with the sender's port and the octets, and the places of unreadable
+    ones."""
     words = ["tshark", "-r", file, "-d", f"udp.port=={port},bvlc"]
     whole, fields, bad = (
         ran(*words, *more, stderr=subprocess.DEVNULL).stdout

@@ -1,7 +1,7 @@
 #!/usr/bin/env python3
-"""Runs the scripts of examples/ and the scripts and command lines of rows/ by the built program, each script also with
-one octet at each read, and compares output, errors and status. Usage: tests/program/rows.py PROGRAM [FILE..]: all that
-there is, or the rows of these files alone. CONTRIBUTING.md (A row) says what a row has.
+"""Runs the scripts of examples/ and the scripts and command lines of rows/ with the built program, each script also
+with one octet for each read, and compares output, errors and status. Usage: tests/program/rows.py PROGRAM [FILE..]: all
+rows, or only those of these files. CONTRIBUTING.md (A row) explains the rows.
 """
 import os
 import pathlib
@@ -26,8 +26,8 @@ LETTERS = {
 LETTERS["S"] = f"--mac {LETTERS['Z']} --apdu-timeout 20"
 SCRIPT = ["bactool", "bactrace"]
 
-# A case: what is run, and the expected result. An `error` may end with two full stops, as in a row; if there are
-# `parts`, `output` is not looked at.
+# A case: what is run, and the expected result. An `error` may end with two full stops, as in a row; with `parts`,
+# `output` is ignored.
 Case = namedtuple("Case", "place words script status output error parts redirection", defaults=[(), ""])
 
 
@@ -88,7 +88,8 @@ def filled(row):
 
 
 def with_numbers(line, row):
-    """The line with its number at both ends, and one past them, with the fault. clap sees one below 0 marked."""
+    """The line with the least and the greatest number, and with the numbers just outside the range and their faults. A
+    negative number has a mark in the message."""
     if "N" not in row:
         return [(line, None)]
     least, most = map(int, row["N"][0].split())
@@ -175,7 +176,8 @@ def main(program, given):
             if not is_right(case, ending) or not is_same:
                 wrong.add((case.place, case.script, *case.words))
                 tell(case, ending, how)
-    told = f"{len(scripts)} scripts and {len(cases) - len(scripts)} command lines"
+    loose = sum(bool(it.parts) or it.error.endswith("..") for it in cases)
+    told = f"{len(scripts)} scripts and {len(cases) - len(scripts)} command lines, {loose} by parts of a text"
     print(f"tests/program/rows.py: {told}, {len(wrong)} not as they are to be")
     return 1 if wrong or not cases else 0
 

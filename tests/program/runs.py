@@ -1,7 +1,7 @@
 #!/usr/bin/env python3
 """Runs bacrun against two peers of this machine, A and B, which answer by the plans of runs.txt: datagrams that are
-lost, doubled, late or of somebody else, stations behind routers, one who is dead beside one who is busy, a run that is
-held up, values of many lines; and as many requests at once as there may be. `check` says what holds of each run.
+lost, doubled, late or from another sender, stations behind routers, a dead peer with a busy one, a run that is held up,
+values of many lines; and as many requests at once as possible. `check` has the conditions on each run.
 
 Usage: tests/program/runs.py PROGRAM
 """
@@ -31,8 +31,8 @@ Run = namedtuple("Run", "status fault journal heard seconds")
 
 
 def answer_to(octets, has_route):
-    """The answer: of a read the object's instance, or so many bits of an analog value; a binary input is not there. To
-    a Who-Is the I-Am of the device 7; if it has a network, from station 07 of network 5."""
+    """The answer: to a read of an analog object its instance, or this many bits; a binary input does not exist. To a
+    Who-Is the I-Am of the device 7, or of station 07 of network 5 if it has a network."""
     route = octets[6 : 9 + octets[8]] if octets[5] & 32 else b""
     apdu = octets[6 + len(route) + bool(route) :]
     if apdu.startswith(WHO_IS):
@@ -41,7 +41,7 @@ def answer_to(octets, has_route):
     kind, instance = divmod(int.from_bytes(apdu[5:9], "big"), 1 << 22)
     value = b"\x24" + instance.to_bytes(4, "big")
     if kind == 2:
-        instance %= 17000  # no datagram would have room for the most of them
+        instance %= 17000  # no datagram would have room for more bits
         bits = bytes([-instance % 8]) + bytes(-(-instance // 8))
         value = b"\x85\xfe" + len(bits).to_bytes(2, "big") + bits
     reply = b"\x30" + apdu[2:] + b"\x3e" + value + b"\x3f"
@@ -52,7 +52,7 @@ def answer_to(octets, has_route):
 
 
 def act(words, heard, peers, process):
-    """Does what a plan has for the last datagram that was heard, and answers whom it floods."""
+    """Does what a plan has for the last received datagram, and returns the peer that it floods."""
     place, _, desk = heard[-1]
     for how, rest in (word.rpartition(":")[::2] for word in words):
         if how == "octets":
@@ -70,11 +70,12 @@ def act(words, heard, peers, process):
 
 
 def play(process, peers, plan):
-    """What the peers hear until the process ends, each with its peer and its sender; they do what the plan says."""
+    """The datagrams that the peers receive until the process ends, each with its peer and its sender; they act by the
+    plan."""
     heard, flooded, has_ended = [], [], False
     while True:
         ready = select.select(peers, [], [], 0 if has_ended or flooded else 0.02)[0]
-        for peer in ready:  # what came to A came before what is still to come to B
+        for peer in ready:  # the datagrams of A came before those still to come to B
             with contextlib.suppress(BlockingIOError):
                 while True:
                     heard.append((peer, *peer.recvfrom(2048, socket.MSG_DONTWAIT)))
@@ -87,7 +88,7 @@ def play(process, peers, plan):
 
 
 def run(program, options, text, plan):
-    """A run of this input, in which A and B stand for two peers that act by the plan."""
+    """A run of this input, in which A and B are two peers that act by the plan."""
     with contextlib.ExitStack() as stack:
         peers = [stack.enter_context(local_socket()) for _ in "AB"]
         files = [stack.enter_context(tempfile.TemporaryFile()) for _ in range(3)]
@@ -125,7 +126,7 @@ def in_journal(line):
 
 
 def check(name, program, options, text, it):
-    """What holds of every run. Answers its remarks, whole, without their marks."""
+    """Checks a run. Returns its remarks, whole, without their marks."""
     lines = it.journal.split("\n")
     remarks = [line[2:] for line in it.journal.replace("\n#+", "").split("\n") if line.startswith("# ")]
     replay = subprocess.run([program, "bactrace"], input=it.journal.encode(), capture_output=True, check=False)
@@ -163,13 +164,14 @@ def tried(program, place, row):
     status, _, fault = row.get("!", ["0"])[0].partition(" ")
     same(f"{place}: the end", (it.status, it.fault), (int(status), f"bactool: {fault}\n" if fault else ""))
     timeout, retries = map(int, re.findall(r"--apdu-\w+ (\d+)", options))
-    shared = 1 + os.getloadavg()[0] / processors()  # by how many others each processor has
+    shared = 1 + os.getloadavg()[0] / processors()  # how many other processes share each processor
     most = (len(text.splitlines()) * (timeout / 1000 + 1) * (retries + 1) + 1) * shared
     same(f"{place}: {it.seconds:.1f} seconds", it.seconds < most, True)
 
 
 def typed(program):
-    """Lines are typed into a pipe that stays open: each is answered before the next one, and a bad one ends the run."""
+    """Lines are written into a pipe that stays open: each is answered before the next one, and a bad one ends the
+    run."""
     with local_socket() as peer, subprocess.Popen([program, "bacrun", "--apdu-timeout", "2000"], stdin=subprocess.PIPE,
                                                   stdout=subprocess.PIPE, stderr=subprocess.PIPE) as process:
         patience = threading.Timer(20, process.kill)
@@ -190,11 +192,33 @@ def typed(program):
         patience.cancel()
 
 
+def punctual(program):
+    """Nobody answers. By the clock each request comes again no earlier than nine tenths of the timeout after its last
+    send, and on a quiet network not more than 60 ms late."""
+    options = ["--apdu-timeout", "430", "--apdu-retries", "3", "--window", "2"]
+    with local_socket() as peer, subprocess.Popen([program, "bacrun", *options], stdin=subprocess.PIPE,
+                                                  stdout=subprocess.DEVNULL) as process:
+        peer.settimeout(20)
+        times = {}
+        for instance in (7, 8):
+            process.stdin.write(b"read 127.0.0.1:%d 0 %d 85\n" % (peer.getsockname()[1], instance))
+            process.stdin.flush()
+            times[peer.recvfrom(2048)[0]] = [time.monotonic()]
+            time.sleep(0.13)
+        process.stdin.close()
+        for _ in range(6):
+            times[peer.recvfrom(2048)[0]].append(time.monotonic())
+    gaps = [after - before for sends in times.values() for before, after in zip(sends, sends[1:])]
+    latest = 0.43 + 0.06 * (1 + os.getloadavg()[0] / processors())
+    same(f"punctual: {gaps}", [0.387 <= gap <= latest for gap in gaps], [True] * 6)
+
+
 def main(program):
     signal.alarm(900)
     with ThreadPoolExecutor(4) as pool:
         list(pool.map(lambda row: tried(program, *row), blocks(f"{TOP}/tests/program/runs.txt")))
     typed(program)
+    punctual(program)
     return verdict("ends, replays and lines of runs are as they are to be")
 
 

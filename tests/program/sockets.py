@@ -1,7 +1,7 @@
 #!/usr/bin/env python3
-"""Runs the built program over sockets of this machine: a device beside streams that are closed, at each address, to
-the end of its count, and at a port that is taken; and datagrams of each length from 1,000 octets to 2,047, which are
-heard whole, as a longer one is not at all. Usage: tests/program/sockets.py PROGRAM
+"""Runs the built program over sockets of this machine: a device with closed streams, at each address, to the end of its
+count, and at a port that is taken; and datagrams of each length from 1,000 octets to 2,047, which are received whole,
+while longer ones are ignored. Usage: tests/program/sockets.py PROGRAM
 """
 import contextlib
 import os
@@ -17,7 +17,7 @@ PROGRAM = os.path.realpath(sys.argv[1])
 LONGEST = 2047
 POINT = bytes.fromhex("0c004000011955")  # analog-output 1, its present value
 READ = ["bacrp", "1234", "1", "1", "85", "--mac"]
-# The lengths about which a room of the system's, or one of the code's, may end.
+# The lengths near which a buffer of the system, or of the code, may end.
 SOME = [1000, 1023, 1024, 1025, 1472, 1473, 1476, 1477, 1496, 1497, 1498, 1500, 1501, 1535, 1536, 2046, 2047]
 
 
@@ -41,7 +41,7 @@ def has_ended(process):
 
 
 def devices():
-    """No socket takes the place of a stream that is closed; and each device ends by its count."""
+    """No socket replaces a closed stream; and each device ends after its count."""
     closed = ["sh", "-c", 'exec "$0" "$@" <&- >&- 2>&-', PROGRAM]
     with device("--count", "1", program=closed) as (process, port):
         same("sockets for streams", {"0", "1", "2"}.intersection(os.listdir(f"/proc/{process.pid}/fd")), set())
@@ -57,14 +57,14 @@ def devices():
 
 
 def datagram(length, head):
-    """A datagram of so many octets, with those of its string: this head of an APDU, and the string between brackets."""
+    """A datagram of this length: this head of an APDU, and a string between brackets."""
     octets = bytes(place % 251 for place in range(length - 12 - len(head)))
     body = head + b"\x3e\x65\xfe" + len(octets).to_bytes(2, "big") + octets + b"\x3f"
     return b"\x81\x0a" + length.to_bytes(2, "big") + b"\x01\x00" + body, octets
 
 
 def heard_by_a_device():
-    """Written a string, a point refuses it (2, 9). What lost an octet is not as long as it says, and is ignored."""
+    """A point refuses a write of a string (2, 9). A datagram that lost an octet has a wrong length, and is ignored."""
     with device(program=[PROGRAM]) as (_, port), local_socket() as desk:
         desk.settimeout(10)
         desk.connect(("127.0.0.1", port))
@@ -92,7 +92,7 @@ def heard_by_tools():
 
 
 def found_by_a_search():
-    """A vendor is printed as an I-Am has it, also past 65,535, the last that the standard gives."""
+    """A vendor is printed as the I-Am has it, even above 65,535, the last number of the standard."""
     for vendor in (65535, 65536, 2**32 - 1):
         number = vendor.to_bytes((vendor.bit_length() + 7) // 8, "big")
         body = bytes.fromhex("1000c4020004d22205c49103") + bytes([0x20 + len(number)]) + number
@@ -108,7 +108,7 @@ def found_by_a_search():
 
 
 def ports():
-    """No command is given the port of one that runs, though no socket has it yet; a port of IPv6 alone is taken."""
+    """No command gets the port of a running one, though no socket has it yet; a port that only IPv6 uses is taken."""
     tree = f"python3 {TOP}/tests/tree.py"
     given = ran("sh", "-c", f"{tree} sh -c '{tree} echo; echo $0'").stdout.split()
     same("different ports", len({*given}), 2)

@@ -1,8 +1,9 @@
 #!/usr/bin/env python3
-"""Plants the faults of bacsite_faults.txt in bacsite, one at a time, and prints which of them the tests see; by hand.
+"""Plants the faults of bacsite_faults.txt in bacsite, one at a time, and prints which of them the tests notice; by
+hand.
 
-Usage: tests/site/bacsite_faults.py PROGRAM [NUMBER ..]. A NUMBER is that of a fault, from 1. The tests that have to
-notice a fault run in a copy of the tree, as run.py runs them. `make documents` says which faults no longer fit.
+Usage: tests/site/bacsite_faults.py PROGRAM [NUMBER ..]. A NUMBER is that of a fault, from 1. The tests that must notice
+a fault run in a copy of the tree, as run.py runs them. `make documents` reports faults that no longer fit.
 """
 
 import os

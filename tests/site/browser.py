@@ -3,9 +3,8 @@
 
 Usage: browser.py [FOLDER for pictures]
 
-Of the survey: filter, sort, without a script, no error, nothing asked for from outside; of a page
-of 10 devices with 600 objects, some of them hostile, and 3 silent ones. The page of a watch is
-tried by charts_page.py.
+For a survey: filter, sort, the page without a script, no error, nothing loaded from outside; with a page of 10 devices
+and 600 objects, some of them hostile, and 3 silent ones. The page of a watch is tested by charts_page.py.
 """
 
 import base64
@@ -18,7 +17,7 @@ import subprocess
 import sys
 import tempfile
 
-import harness  # noqa: F401  it makes bacsite known
+import harness  # noqa: F401  this sets the path to bacsite
 import charts_page
 from bacsite.device import Device, SiteObject
 from bacsite.page import page_of
@@ -73,7 +72,7 @@ def devices_of(dice):
 
 
 class Browser:
-    """Chromium at the other end of two pipes, one page of it."""
+    """One page in Chromium, controlled through two pipes."""
 
     def __init__(self, program, folder):
         down, self.out = os.pipe()
@@ -140,12 +139,12 @@ class Browser:
         self.call("Emulation.setDeviceMetricsOverride", width=width, height=height, **more)
 
     def keep(self, method, path, **params):
-        """What a method makes, in a file."""
+        """Saves the result of a method in a file."""
         with open(path, "wb") as file:
             file.write(base64.b64decode(self.call(method, **params)["data"]))
 
     def close(self):
-        """Ends it and its processes at once: each of them writes into the profile."""
+        """Ends the browser and its processes at once: each of them writes into the profile."""
         os.killpg(self.process.pid, signal.SIGKILL)
         self.process.wait()
 
@@ -171,7 +170,7 @@ def number(text):
 
 
 def filtered(browser, total):
-    """What holds, and whether it does, of the filter."""
+    """Tests of the filter: what must be true, and whether it is."""
     shown = lambda words: browser.value(TYPE % json.dumps(words)) or browser.value(SHOWN)
     yield "all rows shown", browser.value(SHOWN) == total
     yield "bar shown", browser.value("!document.querySelector('.bar').hidden")
@@ -192,7 +191,7 @@ def numbers(browser):
 
 
 def sorted_by_a_click(browser):
-    """The same of the order of the rows."""
+    """Tests of the order of the rows."""
     browser.value(CLICK % 3)
     values = numbers(browser)
     yield "sorted by value", values == sorted(values) and len(set(values)) > 5
@@ -209,7 +208,7 @@ def sorted_by_a_click(browser):
 
 
 def looks(browser):
-    """The same of what a page is made of, and of how wide it is."""
+    """Tests of the parts of the page, and of its width."""
     scripts = browser.value("document.querySelectorAll('script').length")
     yield "no script ran from a name", scripts == 1
     for width in 1280, 390, 320:
@@ -218,7 +217,7 @@ def looks(browser):
 
 
 def alone(browser, url, total):
-    """The same without the script; and what was asked for, and went wrong, all the while."""
+    """Tests of the page without the script; and of requests and errors during all tests."""
     browser.call("Emulation.setScriptExecutionDisabled", value=True)
     browser.open(url)
     yield "readable without the script", browser.value(SHOWN) == total
@@ -231,7 +230,7 @@ def alone(browser, url, total):
 
 
 def pictures(browser, folder):
-    """How it looks, for people."""
+    """Pictures of the page, for people."""
     for name, width, height in ("desktop", 1280, 900), ("phone", 390, 844):
         browser.size(width, height)
         for scheme in "light", "dark":
@@ -246,7 +245,7 @@ def pictures(browser, folder):
 
 
 def tried(browser, url, folder):
-    """What holds, and whether it does."""
+    """All tests: what must be true, and whether it is."""
     browser.open(url)
     total = browser.value("Number(document.getElementById('told').dataset.all)")
     yield from filtered(browser, total)
@@ -258,7 +257,7 @@ def tried(browser, url, folder):
 
 
 def survey(browser, room, folder):
-    """What holds of the page of a survey, and whether it does."""
+    """Tests of the page of a survey."""
     with open(room + "/page.html", "w", encoding="utf-8") as file:
         file.writelines(page_of(list(devices_of(random.Random(5))), "2026-11-27T08:11:00Z"))
     yield from tried(browser, "file://%s/page.html" % room, folder)

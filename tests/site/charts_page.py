@@ -1,4 +1,4 @@
-"""The page of a watch, as a browser draws it: what it has to show, and whether it does."""
+"""Tests of the page of a watch as a browser draws it."""
 
 import json
 import re
@@ -22,14 +22,14 @@ def line_of(name, what, samples, label="", unit=""):
 
 
 def room(at):
-    """Degrees, from 20.0 on up by 0.01 each second; nobody answers from second 300 to 339."""
+    """Degrees, from 20.0 on, 0.01 more each second; no answer from second 300 to 339."""
     if 300 <= at < 340:
         return "", "timeout"
     return "%.2f" % (20 + at / 100), "", "in-alarm, fault" if at >= 500 else "normal"
 
 
 def lines():
-    """Ten minutes of points: numbers, states, texts, a big counter, and one without any value."""
+    """Ten minutes of points: numbers, states, texts, a large counter, and one without any value."""
     seconds = range(600)
     made = [
         line_of("room", (0, 1), map(room, seconds), "Room temperature", "degrees-celsius"),
@@ -69,19 +69,19 @@ class Page:
         self.browser = browser
 
     def texts(self, at, which, what="textContent"):
-        """Of the parts of a chart."""
+        """The texts of parts of a chart."""
         return self.browser.value(ALL % (SECTION % at, which, what))
 
     def heads(self, at):
         return [it.strip() for it in self.texts(at, "h2")]
 
     def path(self, at, which):
-        """The places of a line, as numbers after each letter."""
+        """The coordinates of a line, as numbers after each letter."""
         line = self.texts(at, "path", "getAttribute('d')")[which]
         return re.findall("([MLHVh])([-.0-9]+)(?: ([-.0-9]+))?", line)
 
     def point(self, at, part):
-        """Puts the pointer to this part of the width of a chart."""
+        """Moves the pointer to this fraction of the width of a chart."""
         self.browser.value(POINT % (SECTION % at, part))
 
     def styled(self, which, name):
@@ -97,7 +97,7 @@ class Page:
 
 
 def several(page):
-    """What holds of three points in one chart, and whether it does."""
+    """Tests of three points in one chart."""
     heads = page.heads(0)
     yield "a chart for each group", page.browser.value("document.querySelectorAll('svg').length") == 5
     room_head = "room Room temperature %s degrees-celsius, "
@@ -122,7 +122,7 @@ def several(page):
 
 
 def alone(page):
-    """The same of states, texts and numbers past 2^53, each in its own chart."""
+    """Tests of states, texts and numbers above 2^53, each in its own chart."""
     yield "states by their texts", page.texts(1, ".mark") == ["0 Stopped", "1 Running"]
     yield "states in steps", {it[0] for it in page.path(1, 0)} == {"M", "h", "H", "V"}
     yield "a text is a text", page.texts(2, ".mark") == ["Day", ODD[:18]]
@@ -134,7 +134,7 @@ def alone(page):
 
 
 def chosen(page):
-    """The same of a part of the time."""
+    """Tests of a part of the time."""
     page.browser.value(CHOOSE % 60)
     yield "a minute alone", all(re.fullmatch(r"\d\d:\d\d:\d\d", it) for it in page.texts(1, ".time"))
     yield "no gap in it", not page.texts(0, ".gap")
@@ -144,7 +144,7 @@ def chosen(page):
 
 
 def looks(page, folder):
-    """The same of widths, both schemes, and paper."""
+    """Tests of widths, both color schemes, and paper."""
     for width in 1280, 390, 320:
         page.browser.size(width, 1100)
         yield "nothing past the edge at %d" % width, not page.browser.value(WIDER)
@@ -166,7 +166,7 @@ def looks(page, folder):
 
 
 def quiet(browser, url):
-    """The same of what was asked for, and went wrong, all the while."""
+    """Tests of requests and errors during all tests."""
     scripts = browser.value("document.querySelectorAll('script').length")
     yield "no script ran from a value", scripts == 2
     sent = [it["params"] for it in browser.events if it.get("method") == "Network.requestWillBeSent"]
@@ -182,7 +182,7 @@ def quiet(browser, url):
 
 
 def old(browser, room_of):
-    """The same of a page that is not made any more, and of one that was ended."""
+    """Tests of a page that is no longer updated, and of one that was ended."""
     for is_over, wanted in (True, "Ended at "), (False, "As of "):
         text = "".join(page_of(lines(), CHARTS, 1.0, is_over))
         made = json.dumps({"made": FIRST})[1:-1].replace(" ", "")
@@ -195,7 +195,7 @@ def old(browser, room_of):
 
 
 def tried(browser, room_of, folder):
-    """What holds, and whether it does."""
+    """All tests: what must be true, and whether it is."""
     path = room_of + "/charts.html"
     with open(path, "w", encoding="utf-8") as file:
         file.writelines(page_of(lines(), CHARTS, 1.0, True))

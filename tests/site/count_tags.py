@@ -1,7 +1,7 @@
-"""Counts the tags, values and regions at the front of the octets that tests/reading.rt of bac_trials goes over.
+"""Counts the tags, values and regions at the front of the octets that crates/bac_trials/src/tests/reading.rt goes over.
 
-It reads them by bacsite's reader of the grammar of ANSI/ASHRAE 135, clause 20.2, which shares nothing
-with the crates: the counts that it prints are the ones that the tests expect. By hand.
+It reads them with bacsite's reader of the grammar of ANSI/ASHRAE 135, clause 20.2, which shares nothing with the
+crates: the counts that it prints are the expected ones of the tests. By hand.
 """
 import pathlib
 import re
@@ -9,7 +9,7 @@ import sys
 
 HERE = pathlib.Path(__file__).resolve().parent
 sys.path.insert(0, str(HERE.parent.parent / "site"))
-from bacsite.bodies import elements_of, region_end, tag_at
+from bacsite.bodies import _items, elements_of, tag_at
 
 CHANGES = [0x00, 0x05, 0x0E, 0x3F, 0x65, 0xFD, 0xFE, 0xFF]
 
@@ -29,14 +29,14 @@ def of_value(octets):
 
 def of_region(octets):
     """Returns whether whole items come before a closing tag 3, and their octets."""
-    end = region_end(octets, 0)
-    closing = tag_at(octets, end) if end is not None else None
+    end = _items(octets, 0)[1]
+    closing = tag_at(octets, end) if end >= 0 else None
     return (1, end) if closing and closing.number == 3 else (0, 0)
 
 
 def tally(parts):
-    """How many parts there are; their tags, with the sums of numbers, counts and octets; their values and regions, with
-    their octets."""
+    """The number of parts; of their tags, with the sums of numbers, counts and octets; of their values and regions,
+    with their octets."""
     return [sum(column) for column in zip(*((1, *of_tag(it), *of_value(it), *of_region(it)) for it in parts))]
 
 

@@ -3,7 +3,7 @@ import socket
 import struct
 from typing import Dict, Iterable, List, Optional, Tuple
 
-import harness  # noqa: F401  it makes bacsite known
+import harness  # noqa: F401  this sets the path to bacsite
 from bacsite.messages import Datagram
 
 DEVICE, CLIENT = "127.0.0.1:47808", "127.0.0.1:50000"
@@ -95,6 +95,6 @@ def exchange(
     to: str = DEVICE,
     of: str = CLIENT,
 ) -> List[Step]:
-    """A read and its answer."""
+    """A read, and its answer."""
     steps = [(at, of, to, wrapped(read_apdu(invoke), "0104"))]
     return steps + ([(answer, to, of, wrapped(apdu or ack(invoke)))] if answer is not None else [])

@@ -1,6 +1,6 @@
-"""A clock for long tests that runs faster than that of the machine, and can be put on, as where a machine sleeps.
+"""A clock for long tests that runs faster than the machine's, and can be set forward, as if the machine had slept.
 
-Run as a program, it runs bacsite by this clock: fast_clock.py FILE BACSITE WORD .., where FILE has the clock.
+Run as a program, it runs bacsite with this clock: fast_clock.py FILE BACSITE WORD .., where FILE has the clock.
 """
 
 import mmap
@@ -11,11 +11,11 @@ import threading
 import time
 from contextlib import contextmanager
 
-FORM = struct.Struct("<dqq")  # how fast it is; when it began, in nanoseconds; how far it was put on
+FORM = struct.Struct("<dqq")  # its speed; when it began, in nanoseconds; how far it was set forward
 
 
 class Clock:
-    """The clock of a file, which several programs read."""
+    """The clock in a file, which several programs read."""
 
     def __init__(self, path, speed=0.0):
         if speed:
@@ -26,12 +26,12 @@ class Clock:
         self.speed, self.begun, _ = FORM.unpack(self._shared[:])
 
     def put_on(self, seconds):
-        """Has a machine sleep for so long, by its clock: time goes on, and nothing else does."""
+        """Lets a machine sleep for this long, by its clock: only the time goes on."""
         on = FORM.unpack(self._shared[:])[2] + int(seconds * 1e9)
         self._shared[:] = FORM.pack(self.speed, self.begun, on)
 
     def monotonic(self):
-        """The seconds since it began, without those of a machine that slept."""
+        """The seconds since the clock began, without those in which the machine slept."""
         return (time.time_ns() - self.begun) / 1e9 * self.speed
 
     def time_ns(self):
@@ -46,7 +46,7 @@ class Clock:
 
 @contextmanager
 def running_by(clock, *modules):
-    """These modules of bacsite run by the clock, and events are waited for as shortly."""
+    """These modules of bacsite run with the clock, and wait for events no longer than it says."""
     wait = threading.Event.wait
     threading.Event.wait = lambda self, timeout=None: wait(self, timeout and timeout / clock.speed)
     for module in modules:

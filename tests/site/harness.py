@@ -1,10 +1,9 @@
-"""What the tests of bacsite share: the program as it is installed, devices to ask, and rows.
+"""Shared parts of the tests of bacsite: the program as it is installed, devices, and rows.
 
-BACTOOL names the program that bacsite runs, and PYTHON another Python to run bacsite. A row has
-words, `=>`, the status and standard output; `;` ends a line. If there is a `!`, standard output is
-empty and standard error begins with the text after it. In a row DEV is the address of a bacdev
-(1000), `ODD` that of a stand-in (77), HERE that of the latest stand-in, DEAD that of nobody; IN is
-a folder, and '' is an empty word.
+BACTOOL names the program that bacsite runs, and PYTHON another Python to run bacsite. A row has words, `=>`, the status
+and standard output; `;` ends a line. If there is a `!`, standard output is empty and standard error begins with the
+text after it. In a row DEV is the address of a bacdev (1000), `ODD` that of a stand-in (77), HERE that of the latest
+stand-in, DEAD one where nobody is; IN is a folder, and '' is an empty word.
 """
 
 import atexit
@@ -26,12 +25,12 @@ TOP = os.path.realpath(os.path.dirname(os.path.abspath(__file__)) + "/../..")
 TOOL = os.path.realpath(os.environ.get("BACTOOL", TOP + "/crates/bactool/out/bactool"))
 sys.path.insert(0, TOP + "/site")
 SIGNALS = (signal.SIGINT, signal.SIGHUP, signal.SIGTERM)
-ROWS = []  # those that were run, which run.py counts
+ROWS = []  # the rows that were run, which run.py counts
 atexit.register(lambda: ROWS and print(len(ROWS), "rows"))
 
 
 def at_load(seconds):
-    """So many seconds, or more where each processor has more than one process to run."""
+    """This many seconds, or more if each processor has more than one process to run."""
     return seconds * max(1.0, os.getloadavg()[0] / (os.cpu_count() or 1))
 
 
@@ -39,7 +38,7 @@ PATIENCE = ["--apdu-timeout", str(min(900, round(at_load(300))))]
 
 
 class World:
-    """The devices that all tests ask; it is made once."""
+    """The devices that all tests use; they are made once."""
 
     made = None
 
@@ -47,7 +46,7 @@ class World:
         self.folder = tempfile.mkdtemp()
         os.symlink(TOOL, self.folder + "/bactool")
         subprocess.run(
-            [sys.executable, TOP + "/packaging/onefile.py", self.folder + "/bacsite"], check=True
+            [sys.executable, TOP + "/packaging/onefile.py", "--compiled", self.folder + "/bacsite"], check=True
         )
         self.command = [os.environ.get("PYTHON", sys.executable), self.folder + "/bacsite"]
         self.odd, self.dead = StandIn(77, ODD_VALUES), local_socket()
@@ -58,7 +57,7 @@ class World:
             raise
 
     def begin(self):
-        """Begins the device at a free port, and returns that; another program may take it first."""
+        """Begins the device at a free port, and returns the port; another program may take it first."""
         for _ in range(5):
             with local_socket() as found:
                 port = str(found.getsockname()[1])
@@ -107,7 +106,7 @@ class World:
 
 
 def world():
-    """The devices; what is left of them is taken away when Python ends."""
+    """The devices; those that are left are ended when Python ends."""
     if World.made is None:
         World.made = World()
         atexit.register(World.made.close)
@@ -127,7 +126,7 @@ class SiteTest(unittest.TestCase):
         return self.world.run(*map(self.spelled, words), **more)
 
     def begun(self, *words, **more):
-        """The program, as it runs: its streams are pipes, and signals end it."""
+        """The running program: its streams are pipes, and signals end it."""
         return subprocess.Popen(
             [*self.world.command, *map(self.spelled, words)],
             stdout=subprocess.PIPE,

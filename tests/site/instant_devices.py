@@ -1,8 +1,8 @@
-"""Controllers that answer at once and in one process, so that the order of many is a test of milliseconds."""
+"""Controllers that answer at once and in one process, so that a test of the order of many takes milliseconds."""
 
 import threading
 
-import harness  # noqa: F401  it makes bacsite known
+import harness  # noqa: F401  this sets the path to bacsite
 from bacsite.messages import apdu_of, outcome_of
 from bacsite.tools import Outcome, Tools
 from datagram_builders import wrapped
@@ -10,11 +10,11 @@ from stand_ins import an_object, answer
 
 
 class QuickCalls(Tools):
-    """Calls to devices: by their addresses, the values that each has, as those of a StandIn.
+    """Calls to devices: the values of each by its address, like those of a StandIn.
 
-    `gates` has events by addresses: those there answer once that is set. `over` has those that are
-    set when somebody is asked no more. The first `taken` bacruns find that somebody has their port.
-    What `lost` has is sent twice. `heard` has the lines of a bacwi.
+    `gates` has events by addresses: devices there answer once the event is set. `over` has events that are set when a
+    device is no longer asked. The first `taken` bacruns find that their port is taken. Requests in `lost` are sent
+    twice. `heard` has the lines of a bacwi.
     """
 
     def __init__(
@@ -39,7 +39,7 @@ class QuickCalls(Tools):
 
 
 class QuickWhoIs:
-    """A bacwi that has heard these lines, or a tool that says why it ends at once."""
+    """A bacwi that has received these lines, or a tool that ends at once with a reason."""
 
     def __init__(self, told="", lines=()):
         self.told, self.lines = told, list(lines)
@@ -61,7 +61,8 @@ class QuickWhoIs:
 
 
 class QuickRun:
-    """A bacrun: it answers in order, and waits for its input as long as fewer than may be are open."""
+    """A bacrun that answers in order. It waits for input as long as fewer requests are open than the window, and
+    otherwise for an answer."""
 
     def __init__(self, calls, window):
         self.calls, self.window, self.lines = calls, window, []
@@ -94,7 +95,7 @@ class QuickRun:
             value = self.calls.devices[self.address].get(what, ("error", 2, 32))
             if isinstance(value, list):
                 value = value.pop(0) if len(value) > 1 else value[0]
-            number = what[2].to_bytes(1 + (what[2] > 255), "big")
+            number = what[2].to_bytes(max(1, -(-what[2].bit_length() // 8)), "big")
             body = b"\x0c" + an_object(*what[:2])[1:] + bytes([0x18 + len(number)]) + number
             body += bytes([0x29, what[3]]) if what[3:] else b""
             apdu = answer(value, b"\x01", body)
@@ -107,6 +108,8 @@ class QuickRun:
     def line(self):
         if self.address in self.calls.gates:
             self.calls.gates[self.address].wait(60)
+        if not self.lines and len(self.open) == self.window:
+            self.end(self.window - 1)
         if not self.lines:
             raise AssertionError("it waits for its input, and nobody hands it any")
         return self.lines.pop(0)

@@ -1,4 +1,4 @@
-"""Polls devices that answer late, twice at once, while few ports are free: whose values come?
+"""Polls devices that answer late, twice at once, while few ports are free, and checks whose values come.
 
 Usage: late_answers.py BACSITE [OPTION ..], in a network of its own (network_namespace.py), since it sets the range of
 ports that the system gives. Each of 60 devices has 25 points, whose values are their instances. A device answers 350 ms

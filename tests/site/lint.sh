@@ -1,6 +1,6 @@
 #!/usr/bin/env bash
-# Usage: tests/site/lint.sh [TOOL [FILE ..]]: looks at the types of bacsite by mypy, at its style by pylint, and at its
-# pages in Chromium; or by one of these tools, over the package or over some files of it. It says what is not installed.
+# Usage: tests/site/lint.sh [TOOL [FILE ..]]: checks the types of bacsite with mypy, its style with pylint, and its
+# pages in Chromium; or uses only one of these tools, on the package or on some files. It says what is not installed.
 set -euo pipefail
 cd "$(dirname "$0")/../../site"
 only=${1-}

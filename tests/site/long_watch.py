@@ -1,17 +1,17 @@
 #!/usr/bin/env python3
-"""Watches that go on for long, by hand: is a value ever older than it says, or another point's; is one ever lost?
+"""Long watches, by hand: is a value ever older than it says, or another point's; is one ever lost?
 
 Usage: tests/site/long_watch.py PROGRAM late [ROUNDS [SEED]]
        tests/site/long_watch.py PROGRAM hours [HOURS [SPEED [SEED]]], in a network and with mounts of its own
 
 The value of each point is the time, in microseconds, when its device read it, and the number of the point. So each row
-shows whether that is the point that was asked for, and whether it was read after the time that the row has.
+shows whether it is about the right point, and whether the value was read after the time of the row.
 
-`late` asks devices which answer late, twice, never, or when the number of the request comes again, as the dice say, by
-default in 1000 rounds, which take some minutes, and end after twenty. `hours` asks one device by a clock that runs
-SPEED times as fast (60), eight hours by default. In the first half things happen: losses, restarts of the device, a
-machine that sleeps, a full disk, kill -9, a program that is stopped for a while; in the second half one process goes
-on, and its memory is looked at.
+`late` watches devices which answer late, twice, never, or when the number of the request comes again, at random, by
+default in 1000 rounds, which take some minutes, and end after twenty. `hours` watches one device with a clock that runs
+SPEED times as fast (60), eight hours by default. In the first half disturbances happen: losses, restarts of the device,
+a machine that sleeps, a full disk, kill -9, a program that is stopped for a while; in the second half one process goes
+on, and its memory is checked.
 """
 
 import csv
@@ -36,14 +36,14 @@ SITE = os.path.realpath(HERE + "/../../site")
 sys.path.insert(0, SITE)
 from bacsite.watch import LONGEST  # noqa: E402
 
-KIND, POINTS = 48, (1, 16, 64, 128)  # the type of the points; how many each device of `late` has
+KIND, POINTS = 48, (1, 16, 64, 128)  # the type of the points; how many points each device of `late` has
 MOST_SECONDS = 1200
 LATE_TIMES = 8  # times --apdu-timeout
 HOWS = ("lost", "late", "twice", "held", "twice, held")  # a bad answer is sent
 
 
 class Telling(StandIn):
-    """A device whose values say when they were read, and of which point. `dice` has it answer badly."""
+    """A device whose values say when they were read, and for which point. `dice` has it answer badly."""
 
     def __init__(self, count, clock, dice=None, rate=0.0, patience=0.1, at=None):
         self.clock, self.dice, self.rate, self.patience = clock, dice, rate, patience
@@ -70,7 +70,7 @@ class Telling(StandIn):
     def reply(self, apdu):
         instance = int.from_bytes(apdu[5:9], "big") & 4194303
         self.values[(KIND, instance, 85)] = unsigned(self.clock.time_ns() // 1000 * 1000 + instance)
-        self.asked.clear()  # it forgets the requests
+        self.asked.clear()  # the device forgets the requests
         return super().reply(apdu)
 
     def send(self, reply, client):
@@ -98,7 +98,7 @@ class Checked:
         self.counts, self.wrong = Counter(), []
 
     def see(self, row, instance):
-        """Looks at a row."""
+        """Checks a row."""
         if not row["value"]:
             self.counts[row["missing"]] += 1
             return
@@ -118,7 +118,7 @@ class Checked:
 
 
 def millis_of(stamp):
-    """The milliseconds since 1970 of a time as rows have it."""
+    """The milliseconds since 1970 of a time in a row."""
     return round(datetime.fromisoformat(stamp.replace("Z", "+00:00")).timestamp() * 1000)
 
 
@@ -187,11 +187,11 @@ class Hours:
 
     def read(self, stream):
         for line in stream:
-            if line.endswith("\n"):  # a part of one may come of a process that is killed
+            if line.endswith("\n"):  # a killed process may leave part of a line
                 self.printed.append(line)
 
     def sleep(self, seconds):
-        """Waits by the clock of the machine, and looks at the memory."""
+        """Waits by the clock of the machine, and checks the memory."""
         until = time.monotonic() + seconds
         while time.monotonic() < until:
             time.sleep(0.2)
@@ -314,12 +314,8 @@ def hours(folder, tools, count="8", speed="60", seed=None):
 
 
 def main(tool, which, *words):
-    if which == "hours" and not os.environ.get("LONG_WATCH_IS_ALONE"):
-        os.environ["LONG_WATCH_IS_ALONE"] = "yes"
-        way = network_namespace.way()
-        os.execvp(way[0], [*way, "--mount", sys.executable, os.path.abspath(__file__), tool, which, *words])
     if which == "hours":
-        network_namespace.bring_up()
+        network_namespace.enter("--mount")
     with tempfile.TemporaryDirectory() as folder:
         os.symlink(os.path.realpath(tool), folder + "/bactool")
         status = {"late": late, "hours": hours}[which](folder, folder, *words)

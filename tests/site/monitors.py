@@ -1,9 +1,9 @@
 #!/usr/bin/env python3
-"""Has real monitoring read what bacsite writes: promtool, node_exporter and Nagios, each if it is installed.
+"""Lets real monitoring read the output of bacsite: promtool, node_exporter and Nagios, each if it is installed.
 
-Usage: tests/site/monitors.py, once the program is built; monitors.txt has what is asked and what has to be shown.
-promtool checks a file of `bacsite prometheus`, and node_exporter serves it: each sample that it serves is compared.
-Nagios runs `bacsite check` by the command that docs/GUIDE.md defines, and what its status file says is compared.
+Usage: tests/site/monitors.py, once the program is built; monitors.txt has the requests and the expected results.
+promtool checks a file of `bacsite prometheus`, and node_exporter serves it: each served sample is compared. Nagios runs
+`bacsite check` with the command that docs/GUIDE.md defines, and its status file is compared.
 """
 import getpass
 import grp
@@ -84,14 +84,14 @@ define service {{
 
 
 def other_device():
-    """A device whose text of a state has marks that monitoring gives a meaning, and a letter past ASCII."""
+    """A device whose text of a state has characters with a meaning in monitoring, and a letter that is not ASCII."""
     values = {(0, 1, 85): real("42290000"), (0, 1, 111): bits("0100"), (0, 2, 85): real("c1a40000")}
     values.update({(0, 2, 111): bits("1001"), (13, 1, 85): unsigned(2), (13, 1, 111): bits("0010")})
     return StandIn(77, {**values, (13, 1, 110, 2): string('Büro | "Nacht"')})
 
 
 def comes(found):
-    """What a function gives, once it gives something; None after a minute without anything."""
+    """The result of a function once it has one; None after a minute without a result."""
     until = time.monotonic() + MOST_SECONDS
     while time.monotonic() < until:
         if result := found():
@@ -101,7 +101,7 @@ def comes(found):
 
 
 def served(room):
-    """What node_exporter serves of the files in a folder."""
+    """The samples that node_exporter serves from the files in a folder."""
     words = ["prometheus-node-exporter", "--collector.disable-defaults", "--collector.textfile"]
     words += [f"--collector.textfile.directory={room}", "--web.listen-address=127.0.0.1:0"]
     exporter = Job(words, f"{room}/exporter.log")
@@ -119,7 +119,8 @@ def unquoted(label):
 
 
 def samples_in(text):
-    """The samples of bacsite, and what node_exporter says of the file: the name, the labels and the number of each."""
+    """The samples of bacsite, and those of node_exporter about the file: the name, the labels and the number of
+    each."""
     for name, labels, number in re.findall(r"(?m)^(bacnet_\w+|node_textfile_scrape_error)(?:\{(.*)\})? (\S+)$", text):
         pairs = sorted(re.findall(r'(\w+)="((?:[^"\\]|\\.)*)"', labels))
         told = " ".join(f"{label}={unquoted(it)}" for label, it in pairs if it)  # it adds empty ones
@@ -127,7 +128,7 @@ def samples_in(text):
 
 
 def prometheus(room, points, wanted):
-    """Has the points written to a file, which promtool checks and node_exporter serves."""
+    """Writes the points to a file, which promtool checks and node_exporter serves."""
     os.mkdir(f"{room}/files")
     path = f"{room}/files/bacnet.prom"
     done = ran(f"{room}/bacsite", "prometheus", "-", path, input="\n".join(points), stdin=None)
@@ -147,7 +148,7 @@ def prometheus(room, points, wanted):
 
 
 def services_in(path):
-    """What the status file says of each service that was checked, by its name. It may not be there yet."""
+    """The status file's entry for each checked service, by name. The file may not exist yet."""
     text = text_of(path) if os.path.exists(path) else ""
     for block in re.findall(r"(?ms)^servicestatus \{$(.*?)^\t\}$", text):
         found = dict(re.findall(r"(?m)^\t(\w+)=(.*)$", block))
@@ -156,13 +157,13 @@ def services_in(path):
 
 
 def all_of(count, pairs):
-    """The pairs as a dictionary, once there are so many."""
+    """The pairs as a dictionary, once there are this many."""
     found = dict(pairs)
     return found if len(found) == count else None
 
 
 def nagios(room, rows):
-    """Has Nagios run `bacsite check` for each row."""
+    """Lets Nagios run `bacsite check` for each row."""
     command = re.search(r"(?m)^define command \{\n(?:    .*\n)+\}$", text_of("docs/GUIDE.md"))[0]
     text = command.replace("/usr/local/bin/", f"{room}/")
     same("paths in the command of the guide", text.count(f" {room}/bacsite check "), 1)

@@ -1,16 +1,19 @@
-"""A network of its own for a process, if the system lets one be made: only loopback, and no other programs."""
+"""A network of its own for a process, if the system allows one: only loopback, and no other programs."""
 
 import fcntl
+import os
 import socket
 import struct
 import subprocess
+import sys
 
 WAYS = (["unshare", "--user", "--map-root-user", "--net"], ["unshare", "--net"])
 SET_FLAGS, UP_AND_RUNNING = 0x8914, 0x41
+MARK = "IS_IN_A_NETWORK_OF_ITS_OWN"
 
 
 def way():
-    """Returns the words in front of a command that give it such a network; none if none can be made."""
+    """Returns the words before a command that give it such a network; none if none can be made."""
     for words in WAYS:
         try:
             done = subprocess.run([*words, "true"], stderr=subprocess.DEVNULL, check=False)
@@ -19,6 +22,16 @@ def way():
         if done.returncode == 0:
             return words
     return []
+
+
+def enter(*more):
+    """Begins this script anew in such a network, once. The words in front of it may have more with them."""
+    words = [] if os.environ.get(MARK) else way()
+    if words:
+        os.environ[MARK] = "yes"
+        os.execvp(words[0], [*words, *more, sys.executable, *sys.argv])
+    if os.environ.get(MARK):
+        bring_up()
 
 
 def bring_up():

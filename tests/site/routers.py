@@ -1,4 +1,4 @@
-"""Stand-ins for routers that pass a Who-Is on as most do: only to the network that the header names."""
+"""Stand-ins for routers that pass a Who-Is on as most routers do: only to the network that the header names."""
 
 import queue
 import random
@@ -13,11 +13,11 @@ I_AM = b"\x10\x00"
 
 
 class StrictRouter(RouterStandIn):
-    """A router that answers a network message, if `says` is one, in place of passing anything on."""
+    """A router that answers a network message, if `says` is one, instead of passing anything on."""
 
     says = None
     pause = 0.0  # between the answers to a Who-Is, as on a slow bus
-    answers_from = None  # another socket, from which stations are heard
+    answers_from = None  # another socket, from which stations answer
 
     def serve(self):
         while True:
@@ -34,7 +34,7 @@ class StrictRouter(RouterStandIn):
                 self.passes(name, device.reply(apdu) if device else b"", client)
 
     def who_is(self, network, limits, client):
-        """Has each device say who it is that is asked."""
+        """Lets each device that is asked for introduce itself."""
         self.asked.append((network, limits.hex()))
         is_for_all = network == EVERY_NETWORK
         named = {"": self} if is_for_all or not network else {}
@@ -45,7 +45,7 @@ class StrictRouter(RouterStandIn):
                 self.introduce(name, device, client)
 
     def introduce(self, name, device, client):
-        """Passes on the I-Am of a station, each a pause after the one before."""
+        """Passes on the I-Am of a station, each after a pause."""
         wait = self.pause * (1 + list(self.stations).index(name)) if name else 0
         threading.Timer(wait, self.passes, [name, device.reply(WHO_IS), client]).start()
 
@@ -94,7 +94,7 @@ class Trunk(StrictRouter):
 
 
 def instances_of(limits):
-    """The instances that a Who-Is with these limits is for."""
+    """The instances within the limits of a Who-Is."""
     if not limits:
         return ALL
     size = limits[0] & 7

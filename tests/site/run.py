@@ -1,41 +1,70 @@
 #!/usr/bin/env python3
 """Runs the tests of bacsite, each file in a process of its own, several at the same time.
 
-Usage: tests/site/run.py PROGRAM [NAME ..]. They run in a network of their own if one can be made.
-PROGRAM is the one that bacsite runs; PYTHON names another Python to run bacsite. A NAME is that of
-a file, like test_page, or of a test in it. The script shows what a file has printed that fails.
-With FAILFAST=1 each file ends at its first fault.
+Usage: tests/site/run.py PROGRAM [NAME ..]. They run in a network of their own if one can be made. PROGRAM is the one
+that bacsite runs; PYTHON names another Python to run bacsite. A NAME is that of a file, like test_page, or of a test in
+it. The output of a file that fails is shown. With FAILFAST=1 each file ends at its first failure. Each assertion of a
+file must be made by one of its tests.
 """
 
+import ast
 import glob
 import os
 import re
 import subprocess
 import sys
 import time
+import unittest
 from concurrent.futures import ThreadPoolExecutor
 
 import network_namespace
 
 HERE = os.path.dirname(os.path.abspath(__file__))
-LONGEST = "survey write monitoring ranges stations networks watch calls program order"  # they begin first
-IS_ALONE = "BACSITE_TESTS_ARE_ALONE"
+LONGEST = "survey write monitoring ranges stations networks watch calls program order"  # the files that begin first
 
 
 def ran(name):
     """Runs a file. Returns its name, its status, what it printed, and the seconds that it took."""
     start = time.monotonic()
-    options = ["-v", "-f"] if os.environ.get("FAILFAST") else ["-v"]
-    command = [sys.executable, "-m", "unittest", *options, name]
+    command = [sys.executable, HERE + "/run.py", "-v", *["-f"] * bool(os.environ.get("FAILFAST")), name]
     done = subprocess.run(
         command, cwd=HERE, stdout=subprocess.PIPE, stderr=subprocess.STDOUT, encoding="utf-8"
     )
     return name, done.returncode, done.stdout, time.monotonic() - start
 
 
+def run_here(words):
+    """Runs the tests of a file, or some of them. Returns whether one failed, or an assertion of a whole file was not
+    made: it stands in a loop over nothing, or behind a return."""
+    made, path = set(), "%s/%s.py" % (HERE, words[-1])
+
+    def noted(method):
+        def call(*given, **more):
+            frame = sys._getframe(1)
+            made.update([frame.f_lineno] if frame.f_code.co_filename == path else [])
+            return method(*given, **more)
+
+        return call
+
+    for name in (it for it in dir(unittest.TestCase) if it.startswith("assert")):
+        setattr(unittest.TestCase, name, noted(getattr(unittest.TestCase, name)))
+    result = unittest.main(None, argv=["run.py", *words], exit=False).result
+    if not result.wasSuccessful() or result.skipped or not os.path.isfile(path):
+        return not result.wasSuccessful()
+    with open(path, encoding="utf-8") as file:
+        calls = (it for it in ast.walk(ast.parse(file.read())) if isinstance(it, ast.Call))
+    found = [(it.func.attr, it.lineno) for it in calls if getattr(it.func, "attr", "").startswith("assert")]
+    left = sorted({line for _, line in found} - made)
+    print(len(found), "assertions, of equality", sum(name == "assertEqual" for name, _ in found))
+    print("".join("FAIL: %s, line %d: nobody made this assertion\n" % (words[-1], it) for it in left), end="")
+    return bool(left)
+
+
 def counts(status, said):
-    """Returns how many tests and rows a file has, and how many tests failed: 1 if it ran none."""
-    found = [re.search(pattern, said, re.M) for pattern in (r"^Ran (\d+) test", r"^(\d+) rows$")]
+    """Returns how many tests, rows and assertions a file has, how many of these are of equality, and how many tests
+    failed: 1 if it ran none."""
+    patterns = r"^Ran (\d+) test", r"^(\d+) rows$", r"^(\d+) assertions", r"^\d+ assertions, of equality (\d+)$"
+    found = [re.search(it, said, re.M) for it in patterns]
     failed = set(re.findall(r"(?m)^(?:FAIL|ERROR): (\w+)", said))
     return *(int(it[1]) if it else 0 for it in found), len(failed) or int(status != 0 or not found[0])
 
@@ -44,28 +73,25 @@ def main(names):
     files = sorted(os.path.basename(it)[:-3] for it in glob.glob(HERE + "/test_*.py"))
     first = ["test_" + it for it in LONGEST.split()]
     names = names or [*first, *(it for it in files if it not in first)]
-    tests, rows, failed = 0, 0, 0
-    with ThreadPoolExecutor(2 * (os.cpu_count() or 1)) as pool:  # they wait more than they work
+    counted = (0, 0, 0, 0, 0)
+    with ThreadPoolExecutor(2 * (os.cpu_count() or 1)) as pool:  # tests wait more than they work
         for name, status, said, seconds in pool.map(ran, names):
             print("%-16s %5.1f s" % (name, seconds), flush=True)
             for test, why in re.findall(r"(?m)^(\w+) .* skipped '(.*)'$", said):
                 print("tests/site/run.py: %s of %s is left out, since %s" % (test, name, why))
             if status:
                 print(said)
-            some, more, lost = counts(status, said)
-            tests, rows, failed = tests + some, rows + more, failed + lost
-    print("tests/site/run.py: %d tests with %d rows, %d not as they are to be" % (tests, rows, failed))
-    return bool(failed or not tests)
+            counted = tuple(map(sum, zip(counted, counts(status, said))))
+    told = "%d tests with %d rows and %d assertions, %d of them of equality, %d not as they are to be"
+    print("tests/site/run.py:", told % counted)
+    return bool(counted[-1] or not counted[0])
 
 
 if __name__ == "__main__":
     if len(sys.argv) < 2:
         sys.exit(__doc__)
+    if sys.argv[1] == "-v":
+        sys.exit(run_here(sys.argv[1:]))
     os.environ["BACTOOL"] = os.path.realpath(sys.argv[1])
-    way = [] if os.environ.get(IS_ALONE) else network_namespace.way()
-    if way:
-        os.environ[IS_ALONE] = "yes"
-        os.execvp(way[0], [*way, sys.executable, os.path.abspath(__file__), *sys.argv[1:]])
-    if os.environ.get(IS_ALONE):
-        network_namespace.bring_up()
+    network_namespace.enter()
     sys.exit(main(sys.argv[2:]))

@@ -1,4 +1,4 @@
-"""A client and unusual devices whose time is simulated: what is sent, and how the client's requests end."""
+"""A client and unusual devices whose time is simulated: the datagrams, and how the client's requests end."""
 import heapq
 import random
 from typing import Dict, List, Tuple

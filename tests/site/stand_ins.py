@@ -14,12 +14,12 @@ WHO_IS = b"\x10\x08"
 
 
 def local_socket():
-    """A UDP socket at a port of 127.0.0.1 that no other one of this machine has."""
+    """A UDP socket at a port of 127.0.0.1 that no other socket of this machine has."""
     return socket_at("127.0.0.1", 0)
 
 
 def socket_at(host, port):
-    """A UDP socket at this port of a host; 0 is any that is free."""
+    """A UDP socket at this port of a host; 0 is any free port."""
     found = socket.socket(socket.AF_INET, socket.SOCK_DGRAM)
     found.bind((host, port))
     return found
@@ -75,16 +75,16 @@ NULL = b"\x00"
 class StandIn:
     """A device with the values that it is given.
 
-    The keys of `values` are object type, instance, property and, for an element, its index. A value
-    is the octets in the tag 3, ("error", class, code), ("abort", reason), ("reject", reason) or
-    "silent"; or a list of these, one for each time that it is asked, and the last one from then on.
+    The keys of `values` are object type, instance, property and, for an element, its index. A value is the octets in
+    the tag 3, ("error", class, code), ("abort", reason), ("reject", reason) or "silent"; or a list of these, one for
+    each read, of which the last is repeated.
 
-    The device answers after `delay` seconds, and loses each `lose`-th datagram. It keeps what is
-    written, except if `writes` is "refuse", "reject", "abort", "lose" (nothing happens) or "silent"
-    (it keeps the value and does not answer).
+    The device answers after `delay` seconds, and loses each `lose`-th datagram. It keeps written values, except if
+    `writes` is "refuse", "reject", "abort", "lose" (nothing happens) or "silent" (it keeps the value and does not
+    answer).
 
-    `asked` has the keys of the reads, `written` the writes, `ports` those of the clients; `early`
-    counts requests that came while it had another.
+    `asked` has the keys of the reads, `written` the writes, `ports` those of the clients; `early` counts requests that
+    came while another was open.
     """
 
     def __init__(self, instance, values, delay=0.0, lose=0, writes="", knows_itself=True, at=None):
@@ -116,7 +116,7 @@ class StandIn:
             self.send(reply, client)
 
     def reply_to(self, datagram):
-        """The APDU that answers a datagram; nothing answers one for a network that is not its own."""
+        """Returns the APDU that answers a datagram; None for a network other than its own."""
         network, _, apdu = destination_of(datagram)
         return self.reply(apdu) if network in (0, EVERY_NETWORK) else b""
 
@@ -134,7 +134,7 @@ class StandIn:
         self.socket.setblocking(True)
 
     def reply(self, apdu):
-        """The APDU that answers."""
+        """Returns the APDU that answers."""
         if apdu[:2] == b"\x10\x08":
             self.asked.append("who-is")
             return (
@@ -196,7 +196,7 @@ def answer(value, invoke, body):
 
 
 class LateStandIn(StandIn):
-    """A device whose every answer comes `delay` seconds after the request, however many wait."""
+    """A device that answers each request `delay` seconds later, however many are waiting."""
 
     def serve(self):
         waiting = deque()
@@ -214,9 +214,9 @@ class LateStandIn(StandIn):
 
 
 class RouterStandIn(StandIn):
-    """A router, itself a device. Its `stations` are those at the other side, by routes like 5/01.
+    """A router, which is a device too. Its `stations` are those on the other side, by routes like 5/01.
 
-    It answers a Who-Is for all of them, and then for itself. A datagram to another station is lost.
+    It answers a Who-Is for all of its stations, and then for itself. A datagram to another station is lost.
     """
 
     stations = {}
@@ -235,7 +235,7 @@ class RouterStandIn(StandIn):
                 self.send_from(name, device.reply(apdu) if device else b"", client)
 
     def send_from(self, route, reply, client, at=None):
-        """Sends the reply of a station, which is named as the source, from the socket of the router or another."""
+        """Sends the reply of a station, named as the source, from the socket of the router or another."""
         network, _, station = route.partition("/")
         octets = bytes.fromhex(station)
         source = struct.pack(">HB", int(network), len(octets)) + octets if route else b""

@@ -58,7 +58,7 @@ class Reasons(unittest.TestCase):
 
 
 class Order(unittest.TestCase):
-    """Over controllers that answer at once."""
+    """Tests with controllers that answer at once."""
 
     def surveyed(self, many, words=(A, B), in_order=False, bounds=Bounds()):
         targets = addresses.targets(words)
@@ -78,7 +78,7 @@ class Order(unittest.TestCase):
             found = survey.surveyed(many, targets, Bounds(), Earlier(), in_order)
             if in_order:
                 threading.Thread(target=opened, daemon=True).start()
-            first = next(found)  # which is there before the other one may answer, if no order is kept
+            first = next(found)  # it is there before the other one may answer, if the order is not kept
             gate.set()
             self.assertEqual([it.address for it in [first, *found]], wanted)
 
@@ -126,7 +126,7 @@ class Order(unittest.TestCase):
     def test_requests_are_counted(self):
         many = QuickCalls({A: device(11, 60)})
         self.surveyed(many, [A])
-        # Which device, 3 texts, revision and list; 4 of each object; which device and count again.
+        # Identity, 3 texts, revision and list; 4 for each object; identity and count again.
         self.assertEqual((len(many.asked), many.count), (6 + 4 * 60 + 2, 6 + 4 * 60 + 2 + 1))
         begun = [words[:1] + words[3:] for words in many.begun]
         self.assertEqual([words[0] for words in many.begun], ["bacrun", "bacwi"])
@@ -154,7 +154,7 @@ class Order(unittest.TestCase):
         self.assertEqual(many.begun, [["bacwi", "--mac", A, "--apdu-timeout", "1000"]])
 
     def asked(self, values, numbers, **more):
-        """Which analog inputs are asked for in turn, and the reasons that come."""
+        """The analog inputs that are asked for in turn, and the reasons."""
         many = QuickCalls({A: {(0, at, 85): value for at, value in values.items()}}, **more)
         with Controller(many, A) as controller:
             found = controller.ask_all([PropertyRef(0, at, 85) for at in numbers])
@@ -167,10 +167,26 @@ class Order(unittest.TestCase):
         found = self.asked({**once, 9: good}, [9, 1, 2, 3, 4], **more)
         self.assertEqual(found, ([9, 1, 2, 3, 4, 1, 2], [""] * 5))
         found = self.asked({0: good, 1: [busy, good], 2: good}, range(3), timeout=1, retries=1)
-        self.assertEqual(found, ([0, 1, 1, 2], [""] * 3))
+        self.assertEqual(found, ([0, 1, 2, 1], [""] * 3), "the third waits in bacrun already")
         self.assertEqual(self.asked({1: good, 2: good}, [1, 2], taken=3), ([1, 2], ["", ""]))
         failed = ["bactool: bind failed"] * 2
         self.assertEqual(self.asked({}, [1, 2], taken=999), ([], failed))
+
+    def test_what_still_waits_in_bacrun_was_not_asked(self):
+        class Late(dict):
+            """Values of a device; the time is up once one of them is asked for."""
+
+            def get(self, *key):
+                controller.deadline = 0.0
+                return super().get(*key)
+
+        refs = [PropertyRef(0, at, 85) for at in range(3)]
+        many = QuickCalls({A: {(0, 9, 85): real("42290000")}})
+        with Controller(many, A) as controller:
+            self.assertEqual(controller.ask(PropertyRef(0, 9, 85)).reason, "")
+            many.devices[A] = Late.fromkeys([it[:3] for it in refs], real("42290000"))
+            found = [it.reason for it in controller.ask_all(refs)]
+        self.assertEqual((found, controller.late), (["", "not asked", "not asked"], True))
 
     def test_one_who_loses_has_half_as_many_each_time(self):
         values = {(0, at, 85): real("42290000") for at in range(99)}
@@ -251,7 +267,7 @@ class Changes(unittest.TestCase):
         return device.changes
 
     def test_what_both_surveys_have_is_compared(self):
-        """Each of a survey, and one of devices, of held objects, or of names alone."""
+        """Surveys of different kinds: of all, of devices, of held objects, and of names alone."""
         texts = {"name": "D", "vendor": "V", "model": "M"}
         objects = {ObjectId(0, 1): {"name": "S", "unit": "", "description": "old", "high-limit": "30"}}
         whole = Known(9, texts, "1", objects)
@@ -294,7 +310,7 @@ class PortNumbers(unittest.TestCase):
 
 
 class Window(harness.SiteTest):
-    """Over sockets."""
+    """Tests over sockets."""
 
     def polled(self, device, count, *options):
         path = self.path("window", "".join("p HERE 0 %d 85\n" % at for at in range(count)))

@@ -1,4 +1,4 @@
-"""Tries values, bodies and headers: by the rows of docs/PROTOCOL.md, and of the tools' own tests."""
+"""Tests of values, bodies and headers: by the rows of docs/PROTOCOL.md, and of the tools' own tests."""
 import unittest
 
 from datagram_builders import CLIENT, DEVICE, datagrams, wrapped

@@ -1,4 +1,4 @@
-"""Calls: late answers, those about other points, busy and slow controllers, tools that fail."""
+"""Calls: late answers, answers about other points, busy and slow controllers, tools that fail."""
 
 import io
 import os
@@ -18,7 +18,7 @@ from stand_ins import LateStandIn, StandIn, real, string, unsigned
 
 
 class OtherStandIn(StandIn):
-    """A device that answers so many times about the object whose instance is one more."""
+    """A device that answers this many times about the object with the next instance."""
 
     wrong = 1
 
@@ -217,7 +217,7 @@ class Calls(harness.SiteTest):
         self.rows("read HERE 0 1 85 --journal IN/none => 3 !no folder: IN/none")
 
     def test_a_journal_on_a_full_disk(self):
-        """The value is shown all the same; a status that alerts stays."""
+        """The value is shown anyway, and a status that alerts stays."""
         folder = self.world.folder + "/full"
         os.mkdir(folder)
         full = {"before": lambda: resource.setrlimit(resource.RLIMIT_FSIZE, (150, 150))}
@@ -231,7 +231,7 @@ class Calls(harness.SiteTest):
         ):
             with self.subTest(words=words):
                 found = self.run_site(*words.split(), "--journal", folder, **full)
-                # where somebody had the port of a bacrun there is an empty one of it, too
+                # a bacrun whose port was taken has an empty journal too
                 name = "%s/%s-%d.trace" % (folder, path, len(os.listdir(folder)))
                 told = "bacsite: cannot write %s: File too large\n" % name
                 out = shown or found[1]

@@ -61,7 +61,7 @@ class Samples(SiteTest):
 
 class Command(SiteTest):
     def told(self, steps, *words):
-        """The status, what is printed, and what is said on standard error."""
+        """The status, standard output, and standard error."""
         octets = steps if isinstance(steps, bytes) else file_of(sorted(steps))
         return self.run_site("capture", self.path("some.pcap", octets), *words)
 
@@ -127,7 +127,7 @@ device           requests  answered  refused  unanswered  sent again  slow  medi
         self.assertEqual(self.told(steps + exchange(9000, 9002, 4), "--summary")[1], summary)
 
     def test_summary_of_several(self):
-        """The device that failed most stands first; answers to nothing are counted."""
+        """The device with the most failures comes first; answers to nothing are counted."""
         steps = exchange(0, 1) + exchange(10, 11, 2, "600209", to="127.0.0.9:47808")
         steps += [(20, DEVICE, CLIENT, wrapped("20090f"))]
         text = self.told(steps, "--summary")[1]

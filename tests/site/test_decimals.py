@@ -1,4 +1,4 @@
-"""Reals and Doubles as text: the octets come back, and no shorter text would give them."""
+"""Reals and Doubles as text: the octets are recovered, and no shorter text would recover them."""
 
 import decimal
 import math
@@ -68,8 +68,8 @@ class Decimals(unittest.TestCase):
             found = decimal.Decimal(shortest(octets))
             step = decimal.Decimal(1).scaleb(found.adjusted() - digits_of(shortest(octets)) + 1)
             for other in (found - step, found + step):
-                if abs(other - exact) < abs(found - exact):
-                    self.assertNotEqual(single(other), octets)
+                is_nearer = abs(other - exact) < abs(found - exact)
+                self.assertFalse(is_nearer and single(other) == octets, msg=octets)
 
     def test_doubles_come_back(self):
         chosen = ["%016x" % CHANCE.getrandbits(64) for _ in range(5000)]

@@ -1,4 +1,4 @@
-"""Ends of ranges, and cases of two, that no other test has: addresses, routers, surveys, dates, cells, charts."""
+"""Ends of ranges, and pairs of cases, without a test elsewhere: addresses, routers, surveys, dates, cells, charts."""
 
 import contextlib
 import os
@@ -7,7 +7,7 @@ import unittest
 from types import SimpleNamespace
 from unittest import mock
 
-import harness  # noqa: F401  it makes bacsite known
+import harness  # noqa: F401  this sets the path to bacsite
 from bacsite import addresses, survey
 from bacsite.charts import Line, Sample
 from bacsite.device import Bounds, Device, SiteObject, _Reader
@@ -28,7 +28,7 @@ OLD, NEW = "192.0.2.7:47808", "192.0.2.9:47808"
 class Edges(unittest.TestCase):
     @contextlib.contextmanager
     def surveys(self, devices):
-        """Has a survey find these devices."""
+        """Lets a survey find these devices."""
         with mock.patch.object(survey, "_Survey"), mock.patch.object(survey, "side_by_side", lambda *_: [devices]):
             yield
 

@@ -1,4 +1,4 @@
-"""Each limit, chunk and modulus: at it, one past it, and at 0. Nothing here needs the program."""
+"""Each limit, chunk and modulus: at the limit, one above it, and at 0. Nothing here needs the program."""
 
 import argparse
 import errno
@@ -9,7 +9,7 @@ import unittest.mock
 from contextlib import nullcontext
 from types import SimpleNamespace
 
-import harness  # noqa: F401  it makes bacsite known
+import harness  # noqa: F401  this sets the path to bacsite
 from bacsite import addresses, files, search, standard, survey
 from bacsite.bodies import items_of
 from bacsite.capture import services
@@ -39,7 +39,7 @@ A = "192.0.2.1:47808"
 
 
 class Taken(QuickCalls):
-    """The second bacrun finds that somebody has its port."""
+    """The second bacrun finds that its port is taken."""
 
     def start(self, words, until=float("inf")):
         self.taken = int(len(self.begun) == 1)
@@ -62,7 +62,7 @@ class Lost(Tools):
 
 
 class Asked(unittest.TestCase):
-    """How many are asked at once, for how long, and in which order."""
+    """How many requests are open at once, for how long, and in which order."""
 
     def test_what_was_open_is_asked_for_in_its_order(self):
         values = {(0, at, 85): real("42290000") for at in range(9)}
@@ -111,10 +111,10 @@ class Asked(unittest.TestCase):
 
 
 class Written(unittest.TestCase):
-    """Which values are refused before they are sent, by what the object says itself."""
+    """Values that are refused before they are sent, by the object's own limits."""
 
     def refused(self, kind, limits, words):
-        """Those of these words that are refused."""
+        """Returns the words that are refused."""
         refused = []
         values = {(kind, 7, number): octets for number, octets in limits.items()}
         with Controller(QuickCalls({A: values}), A) as controller:
@@ -258,7 +258,7 @@ class Texts(unittest.TestCase):
 
 
 class Drawn(unittest.TestCase):
-    """What the page of a watch has of a point, and what it reads of the table."""
+    """What the page of a watch has of a point, and reads from the table."""
 
     def test_4000_samples_of_a_point_are_drawn(self):
         for count in 0, 1, 3999, 4000, 4001, 4004:
@@ -293,7 +293,7 @@ def size_of(sample):
 
 
 class Kept(unittest.TestCase):
-    """Files as they are when a machine stops."""
+    """Files as a machine leaves them that stops suddenly."""
 
     def test_all_of_a_file_is_handed_over_before_it_takes_its_place(self):
         sizes = []

@@ -26,7 +26,7 @@ def flagged(instance, flags):
 
 class Poll(harness.SiteTest):
     def poll(self, text, *options, **more):
-        """The status, and point, value and reason of each row of a list; flags and texts if there are any."""
+        """The status, and point, value and reason of each row of a list, with flags and texts if there are any."""
         status, out, err = self.run_site(
             "poll", self.path("list-%s" % self.id(), text), *options, **more
         )

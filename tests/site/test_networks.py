@@ -1,4 +1,4 @@
-"""Networks behind routers: a router broadcasts a Who-Is there, and what routers say is shown."""
+"""Networks behind routers: a router broadcasts a Who-Is there, and the messages of routers are shown."""
 
 import unittest
 
@@ -57,7 +57,7 @@ class Networks(harness.SiteTest):
         self.assertEqual(self.found("--devices", "HERE/*", counts=counts), wanted)
 
     def test_stations_of_each_way_to_name_a_router(self):
-        """An address, an instance in front of it, and a range find the same stations."""
+        """An address, an instance before it, and a range find the same stations."""
         port = self.names["HERE"].split(":")[1]
         for word in "HERE", "77@HERE", "127.0.0.1-1:" + port, "127.0.0.1/32:" + port:
             counts = "1 asked, 7 devices, 0 silent, 6 stations answered on 2 networks"
@@ -68,7 +68,7 @@ class Networks(harness.SiteTest):
         self.rows("survey --stations HERE/5/01 => 2 !" + refused)
 
     def test_stations_that_answer_one_after_another(self):
-        """As on a token bus: the last of seven I-Ams comes 2.8 s after the question."""
+        """Stations of a token bus: the last of seven I-Ams comes 2.8 s after the request."""
         self.router.pause = 0.4
         names = {number: string("S") for number in (70, 77, 121)}
         at = {"5/%02x" % it: it for it in range(1, 8)}
@@ -111,7 +111,7 @@ class Networks(harness.SiteTest):
         self.assertEqual(lines[-1][-1], "5 stations also behind " + self.names["HERE"])
 
     def test_another_router_answers(self):
-        """The stations of a network answer from another port: they are named, and not asked there."""
+        """The stations of a network answer from another port: they are listed, and not asked there."""
         with local_socket() as self.router.answers_from:
             other = "127.0.0.1:%d" % self.router.answers_from.getsockname()[1]
             told = "5 stations answered through %s; no station answers" % other
@@ -159,7 +159,7 @@ class Networks(harness.SiteTest):
 
 class Messages(unittest.TestCase):
     def test_words(self):
-        """By the message types of clause 6.2.4, and the reasons of clause 6.4.4."""
+        """The message types of clause 6.2.4, and the reasons of clause 6.4.4."""
         for octets, words in (
             ("00", "who-is-router-to-network"),
             ("000005", "who-is-router-to-network 5"),

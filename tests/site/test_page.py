@@ -1,10 +1,10 @@
-"""Tries the page of a survey; browser.py tries it in a browser."""
+"""Tests of the page of a survey; browser.py tests it in a browser."""
 import os
 import re
 import unittest
 from html.parser import HTMLParser
 
-import harness  # noqa: F401  it makes bacsite known
+import harness  # noqa: F401  this sets the path to bacsite
 from bacsite.page import SCRIPT, STYLE, hash_of, page_of, safe
 from bacsite.device import Device, SiteObject
 from bacsite.values import Kind, Value
@@ -64,7 +64,7 @@ def an_object(kind=0, text="1", **more):
 
 class Pages(unittest.TestCase):
     def test_hostile(self):
-        """No text of a device becomes markup, and each stays legible."""
+        """Text from a device never becomes markup, and stays legible."""
         found = SiteObject(300, 1, "b", Value(Kind.TEXT, "c"), "d", "e", ("f", "g"), reasons=["h"])
         _, wanted = read([Device(HERE, 1, "b", "c", "d", objects=[found], reasons=["e"], asked="f")])
         for text in HOSTILE:
@@ -80,7 +80,7 @@ class Pages(unittest.TestCase):
                 self.assertFalse([it for it in page if not it.isprintable() and it != "\n"])
 
     def test_policy(self):
-        """Nothing but the one style and the one script may be loaded or run."""
+        """Only the one style and the one script may be loaded or run."""
         page, _ = read([])
         policy = re.search('Content-Security-Policy" content="([^"]*)"', page)[1]
         hashes = "style-src %s; script-src %s" % (hash_of(STYLE), hash_of(SCRIPT))
@@ -119,7 +119,7 @@ class Pages(unittest.TestCase):
         self.assertEqual(safe("a<b\u202e"), "a&lt;b\\u202e")
 
     def test_what_was_asked_for_beside_that(self):
-        """A text of a device is not markup either."""
+        """Text of a device is not markup here either."""
         found = an_object(name="T", text="1", unit="", flags=None)
         found.priorities, found.description = (8,), "On <the> roof"
         found.settings = {"high-limit": "<30>"}
@@ -135,7 +135,7 @@ class Pages(unittest.TestCase):
             self.assertIn(part, page)
 
     def test_flags_of_a_device_stand_by_what_they_say(self):
-        """The worst states come first, and those that the standard does not have last."""
+        """The worst states come first; states that are not in the standard come last."""
         told = ("overridden", "out-of-service", "strange", "fault", "in-alarm", "beside")
         page, _ = read([Device(HERE, 9, objects=[an_object(flags=(it,)) for it in told])])
         row = page[page.index("<tbody>") : page.index("</tbody>")]

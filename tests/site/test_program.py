@@ -1,4 +1,4 @@
-"""The program as such: its streams, signals and surroundings, and the one file that is built."""
+"""The program as a whole: its streams, signals and environment, and the one file that is built."""
 
 import ast
 import glob
@@ -10,6 +10,7 @@ import signal
 import subprocess
 import sys
 import tempfile
+import threading
 import time
 import unittest
 from concurrent.futures import ThreadPoolExecutor
@@ -58,7 +59,7 @@ def still_running(word):
 
 
 def surroundings(folder):
-    """The environments that all has to be the same in."""
+    """The environments in which everything must be the same."""
     base = {"PATH": os.environ["PATH"]}
     comma = {**base, "LC_ALL": "de_DE.UTF-8", "LOCPATH": folder}
     plain = {
@@ -125,10 +126,13 @@ class Running(unittest.TestCase):
         process.kill()
         self.assertEqual(process.outcome().lines, ["c"])
 
-
     def test_a_line_is_waited_for_until_the_time_is_up(self):
-        process = Processes().start(["sh", "-c", "sleep 0.3; echo a; exec sleep 9"], time.monotonic() + 5)
+        processes, begun = Processes(), time.monotonic()
+        process = processes.start(["sh", "-c", "sleep 0.3; echo a; exec sleep 9"], begun + 5)
+        for seconds in 0.1, 5.1:
+            threading.Timer(seconds, processes.end_late).start()
         self.assertEqual((process.line(), process.line()), ("a", None))
+        self.assertGreater(time.monotonic() - begun, 5)
         self.assertIsNone(process.outcome().status)
 
     def test_none_begins_once_all_are_ended(self):
@@ -172,13 +176,12 @@ class Streams(harness.SiteTest):
 
     def test_a_terminal_is_told_how_far_it_is(self):
         terminal, side = pty.openpty()
-        slow = self.stand_in({(0, 1, 85): real("42290000")}, delay=0.7)
-        words = ["read", slow.address, "0", "1", "85"]
+        slow = self.stand_in({(0, 1, 85): real("42290000")}, delay=harness.at_load(0.7))
+        words = ["read", "--no-flags", slow.address, "0", "1", "85", "--apdu-timeout", "20000"]
         done = subprocess.run([*self.world.command, *words], stdout=subprocess.PIPE, stderr=side)
         os.close(side)
-        self.assertEqual(
-            (done.stdout, os.read(terminal, 99)[:22]), (b"42.25\n", b"\r0 of 1 done, 1 calls ")
-        )
+        self.assertEqual(done.stdout, b"42.25\n")
+        self.assertIn(b"\r0 of 1 done, 1 calls ", os.read(terminal, 9999))
         os.close(terminal)
 
 
@@ -214,7 +217,7 @@ class Signals(harness.SiteTest):
         self.assertEqual([name for name in os.listdir(folder) if "s.prom" in name], [])
 
     def test_they_end_a_write(self):
-        """bacwp, which prints nothing meanwhile, would not see that nobody hears it any more."""
+        """bacwp, which prints nothing meanwhile, would not notice that its reader is gone."""
         values = {(0, 1, 77): string("A"), (0, 1, 79): enumerated(0), (0, 1, 85): real("42290000")}
         device = self.stand_in(values, writes="silent")
         for number in harness.SIGNALS:
@@ -260,7 +263,7 @@ class OneFile(harness.SiteTest):
             shutil.copytree(harness.TOP + "/packaging", tree + "/packaging")
             os.makedirs(tree + "/site/bacsite/__pycache__", exist_ok=True)
             for top in (harness.TOP, tree):
-                time.sleep(2.1 * bool(found))  # an archive knows times of two seconds
+                time.sleep(2.1 * bool(found))  # an archive has times in steps of two seconds
                 words = [sys.executable, top + "/packaging/onefile.py", folder + "/made"]
                 subprocess.run(words, check=True)
                 with open(folder + "/made", "rb") as file:
@@ -308,7 +311,7 @@ class OneFile(harness.SiteTest):
         self.assertTrue(re.fullmatch(rb"bacsite [0-9.]+\n", done.stdout))
 
     def test_modules_rest_on_those_below(self):
-        """The package says its modules from below: each imports from those above it alone."""
+        """The package lists its modules from below: each imports only from those above it in the list."""
         below = []
         for name in MODULES:
             path = f"{harness.TOP}/site/bacsite/{name}.py"
@@ -325,7 +328,7 @@ class OneFile(harness.SiteTest):
 
 class Language(unittest.TestCase):
     def test_its_sources_are_python_3_8(self):
-        """By the grammar of that version; mypy knows by its own list which names came later."""
+        """Checked by the grammar of that version; mypy has its own list of later names."""
         paths = glob.glob(harness.TOP + "/site/bacsite/**/*.py", recursive=True)
         self.assertGreater(len(paths), 30)
         for path in paths:

@@ -1,4 +1,4 @@
-"""Surveys of ranges, and of who is known by a Who-Is alone: who is named, and who is silent."""
+"""Surveys of ranges, and of devices known only from a Who-Is: which are listed, and which are silent."""
 
 import time
 import unittest
@@ -10,7 +10,7 @@ HURRIED = ["--apdu-timeout", "300"]  # also on a busy machine
 
 
 class TwoStandIn(StandIn):
-    """An address from which another device says by a Who-Is that it is there too."""
+    """An address from which another device also answers a Who-Is."""
 
     def send(self, reply, client):
         super().send(reply, client)
@@ -70,7 +70,7 @@ class Ranges(harness.SiteTest):
         self.assertEqual((status, out), (1, self.spelled(told)))
 
     def test_one_who_answers_very_late_is_not_hidden(self):
-        """Its answer is awaited for longer than all the first requests."""
+        """The answer of a late device is awaited for longer than all the first requests."""
         for values, told in (
             ({}, "device 77 answers a read very late"),
             ({(8, 4194303, 75): ("error", 1, 31)}, "a read is answered very late: error 1 31"),
@@ -91,8 +91,8 @@ class Ranges(harness.SiteTest):
         self.assertIn("  device 1000  ", lines[2])
 
     def test_one_request_at_a_time(self):
-        """A device that serves one request after another has answered none of them before it was
-        given up; what is asked at last waits until the others are served."""
+        """A device that serves one request after another answers each only after the survey gave it up; the last read
+        waits until the others are served."""
         self.stand_in(NAMED, kind=SlowStandIn)
         found = self.run_site("survey", "127.0.0.1-1:" + self.names["HERE"].split(":")[1], *HURRIED)
         line = self.spelled("HERE  device -  timeout; a read is answered very late\n")

@@ -1,4 +1,4 @@
-"""Tries the requests and answers of other services, with the standard's examples of encoding and with cut bodies."""
+"""Tests of the requests and answers of other services, with the standard's examples of encoding and with cut bodies."""
 import unittest
 
 from datagram_builders import CLIENT, DEVICE, datagrams, wrapped

@@ -1,4 +1,4 @@
-"""Stations behind a router: each is read and written through its route, and a survey names them."""
+"""Stations behind a router: each is read and written through its route, and a survey lists them."""
 
 import csv
 import io
@@ -105,7 +105,7 @@ class Stations(harness.SiteTest):
             self.assertIn(self.spelled("HERE/5/01</a>"), file.read())
 
     def naming_both(self, *words):
-        """Surveys until both stations are named: if they are not asked for, nobody waits for their I-Am."""
+        """Surveys until both stations are listed: if they are not asked for, nobody waits for their I-Am."""
         for _ in range(9):
             out = self.run_site("survey", *words, "--json")[1]
             if out.count('/5/0') == 2:
@@ -127,7 +127,7 @@ class Stations(harness.SiteTest):
             self.assertEqual(out.count("since"), 1)
 
     def test_nobody_waits_for_stations_that_were_not_asked_for(self):
-        """A Who-Is waits for half a minute here; the stations that have answered at the end are named."""
+        """A Who-Is waits for half a minute here; the stations that have answered by the end are listed."""
         router = self.stand_in({}, kind=RouterStandIn)
         router.stations = {"5/07": StandIn(78, {})}
         begun = time.monotonic()

@@ -415,7 +415,7 @@ DEAD;device -;timeout
         self.assertEqual((status, re.sub("  +", ";", out)), (1, self.spelled(wanted)))
 
     def test_an_object_list_that_is_refused_is_read_element_by_element(self):
-        """Silence, reject 1, aborts 0 and 9, and errors: after each, the elements of the array are answered."""
+        """Silence, reject 1, aborts 0 and 9, and errors: after each, the elements of the array are read."""
         objects = [(8, 77), (0, 1), (0, 2), (0, 3)]
         errors = ("error", 2, 47), ("error", 5, 0), ("error", 2, 44)
         for refusal in ("silent", ("reject", 1), ("abort", 0), *errors):

@@ -1,4 +1,4 @@
-"""Tries the pairing of requests with their answers, and the lines of them."""
+"""Tests of the pairing of requests with their answers, and of their lines."""
 import unittest
 
 from datagram_builders import CLIENT, DEVICE, ack, datagrams, exchange, read_apdu, wrapped
@@ -8,7 +8,7 @@ from bacsite.capture.command import Group, marks_of
 from bacsite.capture.lines import json_of, line_of, millis
 
 OTHER = "127.0.0.2:47808"
-# Of the standard's examples of encoding: 65.0 of analog-input 10 of device 4, and status flags.
+# From the standard's examples of encoding: 65.0 of analog-input 10 of device 4, and status flags.
 CHANGE = "09121c020000042c0000000a39004e09552e44428200002f096f2e8204002f4f"
 READ = "2026-01-01T00:00:00.000Z  %s > %s  #1 read analog-input 5 present-value (0 5 85): " % (
     CLIENT,
@@ -98,7 +98,7 @@ class Pairs(unittest.TestCase):
                 self.assertEqual(lines(steps)[:1], [READ + end for end in ends])
 
     def test_front(self):
-        """How a line begins says whether one has to look at it."""
+        """The beginning of a line shows whether it needs attention."""
         second = [(5, DEVICE, CLIENT, wrapped(ack(1)))]
         rows = [
             (exchange(0, 1), " "),
@@ -114,7 +114,7 @@ class Pairs(unittest.TestCase):
             self.assertEqual(line_of(entries(steps)[0])[:2], mark + " ", steps)
 
     def test_a_clock_that_is_set_back(self):
-        """An answer may stand before its request in time."""
+        """By time, an answer may come before its request."""
         steps = exchange(1000, None) + resend(2000) + [(500, DEVICE, CLIENT, wrapped(ack(1)))]
         self.assertIn("72.3  -500.00 ms", lines(steps)[0])
 
@@ -130,7 +130,7 @@ class Pairs(unittest.TestCase):
             self.assertEqual(len(entries(exchange(0, None) + resend(gap))), count)
 
     def test_number_used_again(self):
-        """Another request under the number of an open one ends that; a late answer is that of the new one."""
+        """Another request with the number of an open one ends the open one; a late answer is that of the new one."""
         other = (10, CLIENT, DEVICE, wrapped(read_apdu(1, "0c000000061955"), "0104"))
         first, second = entries(exchange(0, None) + [other, (11, DEVICE, CLIENT, wrapped(ack(1)))])
         self.assertEqual((first.outcome, second.outcome), ("", "value 4290999a"))
@@ -148,7 +148,7 @@ class Pairs(unittest.TestCase):
         )
 
     def test_others(self):
-        """An answer to nothing, one from another address, of another service, to another client or route."""
+        """An answer to nothing, and answers from another address, for another service, to another client or route."""
         stray = (2, DEVICE, CLIENT, wrapped(ack(9)))
         away = (2, OTHER, CLIENT, wrapped(ack(1)))
         rows = [
@@ -189,7 +189,7 @@ class Pairs(unittest.TestCase):
                 )
 
     def test_parts(self):
-        """The parts of a long answer are no second answers."""
+        """The parts of a long answer are not second answers."""
         body = ack(1)[6:]
         first, second, last = body[:8], body[8:20], body[20:]
         whole, missing = "72.3, in 3 parts", "answered in parts, of which some are missing"
@@ -216,7 +216,7 @@ class Pairs(unittest.TestCase):
         self.assertIn("#1 acknowledgement of a part", lines(parted + server)[1])
 
     def test_what_a_capture_has_cut(self):
-        """The first octets of a datagram that is cut say what it is, and nothing else."""
+        """The first octets of a datagram that is cut show only what it is."""
         found = datagrams(exchange(0, 1))
         error = datagrams(exchange(0, 1, 1, "50010c91029120"))
         for asked, answer, lost, end in (
@@ -240,7 +240,7 @@ class Pairs(unittest.TestCase):
         self.assertEqual(message_of(cut).words, "an APDU that is cut: 000501")
 
     def test_routes(self):
-        """Stations behind a router are told apart."""
+        """Stations behind a router are different peers."""
         asked = [
             (0, CLIENT, DEVICE, wrapped(read_apdu(1), "01240005010%dff" % at)) for at in (7, 8)
         ]
@@ -281,7 +281,7 @@ class Pairs(unittest.TestCase):
                 self.assertEqual((talk.has_failed, "OTHER" in line_of(talk)), (is_other, is_other))
 
     def test_types(self):
-        """The octets tell the type of a value, also of a vendor's own property and where the property has another."""
+        """The octets show the type of a value, also for a vendor's property and if the property has another type."""
         rows = [
             ("0c000000051a0200", "444290999a", "72.3"),
             ("0c000000051975", "443f800000", "1"),
@@ -300,7 +300,7 @@ class Pairs(unittest.TestCase):
                 self.assertEqual(lines(steps)[0].split("): ")[1], shown + "  1.00 ms")
 
     def test_order(self):
-        """Entries come in the order in which they began, even if the first is answered last."""
+        """Entries come in the order of their beginnings, even if the first is answered last."""
         steps = (
             exchange(0, None, 1)
             + exchange(1, 2, 2)
@@ -328,7 +328,7 @@ class Pairs(unittest.TestCase):
         )
 
     def test_steering(self):
-        """A text of a device steers no terminal."""
+        """Text from a device does not control a terminal."""
         answer = "30010c0c00000005194d3e7508001b5b324a0aff413f"
         line = lines(exchange(0, 1, 1, answer))[0]
         self.assertTrue(line.isprintable(), line)

@@ -1,4 +1,5 @@
-"""Tries the scripts for bactrace, and that bactrace ends each request as the client did. BACTOOL names the program."""
+"""Tests of the scripts for bactrace, and that bactrace ends each request as the client did. BACTOOL names the
+program."""
 import os
 import subprocess
 import unittest
@@ -166,7 +167,7 @@ class Lines(unittest.TestCase):
 
 
 class Against(unittest.TestCase):
-    """Simulated clients against bactrace."""
+    """Comparison of simulated clients with bactrace."""
 
     def compare(self, world, settings):
         """Returns the number of requests, and those whose ends differ: the client's, the model's and bactrace's."""
@@ -211,7 +212,7 @@ class Against(unittest.TestCase):
         self.assertLess(counts["different"] * 200, counts["requests"])
 
     def test_more_than_places(self):
-        """Requests for which bactrace has no place are named, and the numbers go on as in bactrace."""
+        """Requests for which bactrace has no place are reported, and the numbers go on as in bactrace."""
         world = World(1, 400, 90, 3000, 3).run()
         heard = messages(sorted(world.steps, key=lambda it: it[0]))
         script = list(traced(heard, Choice("10.0.0.9"), 3000, 3))

@@ -1,4 +1,4 @@
-"""Octets of values in readable form, and which values a property may have."""
+"""Octets of values in readable form, and the values that a property may have."""
 
 import random
 import re
@@ -30,7 +30,7 @@ def time(octets):
     return tagged(11, bytes.fromhex(octets))
 
 
-# The property that is asked for, the octets that come, their kind, and how they are shown.
+# The requested property, the octets of the answer, their kind, and their text.
 ROWS = (
     (ANALOG, real("42290000"), NUMBER, "42.25"),
     (ANALOG, unsigned(72), FAULT, "no real: unsigned 72"),
@@ -151,7 +151,7 @@ class Values(unittest.TestCase):
             octets = bytes(dice.choice(some) for _ in range(1 + dice.randrange(9)))
             for what in ANALOG, VENDOR, (1, 1, 87), (44, 1, 85):
                 value = value_of(octets, form_of(PropertyRef(*what)))
-                self.assertTrue(value.shown().isprintable() and value.told(), octets)
+                self.assertTrue(value.shown().isprintable() and value.told(), msg=octets)
 
     def test_flags(self):
         for text, wanted in (
@@ -188,7 +188,7 @@ class Values(unittest.TestCase):
 
 
 class Refusing(dict):
-    """The values of a device that refuses each other one in this way, but has a name and a type."""
+    """The values of a device that refuses every other property in this way, but has a name and a type."""
 
     def __init__(self, values, refusal):
         super().__init__(values)
@@ -283,7 +283,7 @@ class Devices(harness.SiteTest):
         self.assertNotIn((0, 1, 0), asked, "what the list does not have is not asked for")
 
     def test_properties_of_a_device_that_refuses_unknown_numbers(self):
-        """Without a property list, by a reject, an abort or an error of its own."""
+        """The property list is missing because of a reject, an abort or an error."""
         for refusal in ("reject", 9), ("abort", 0), ("error", 0, 25):
             device = self.stand_in({(0, 1, 85): real("42290000"), (0, 1, 103): ("error", 2, 27)})
             device.values = Refusing(device.values, refusal)

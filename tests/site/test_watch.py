@@ -1,4 +1,4 @@
-"""Points that are watched: rows, gaps, the file, the page, and whose values they are."""
+"""Watched points: rows, gaps, the file, the page, and whose values they are."""
 
 import csv
 import errno
@@ -29,16 +29,16 @@ from bacsite.watch import Row, with_gaps
 from instant_devices import QuickCalls
 from stand_ins import StandIn, an_object, bits, enumerated, real, string, unsigned
 
-FIRST = b"\x0c\0\0\0\0\x19\x55"  # of what is about the present value of 0:0
+FIRST = b"\x0c\0\0\0\0\x19\x55"  # of an answer about the present value of 0:0
 HEAD = "time,point,value,unit,state,flags,missing\n"
-LAST = b"\x0c\0\0\0\xff"  # of what is about 0:255
+LAST = b"\x0c\0\0\0\xff"  # of an answer about 0:255
 ROW = r"\d{4}-\d\d-\d\dT\d\d:\d\d:\d\d\.\d{3}Z"
 NOTHING = "- - -"  # no unit, no state, no flags
 DEGREES = {(0, 1, 117): enumerated(62), (0, 1, 111): bits("0000"), (0, 1, 77): string("Room")}
 
 
 def data_of(page):
-    """What the page draws."""
+    """The data that the page draws."""
     return json.loads(re.search(r'id="data">(.*)</script>', page)[1])
 
 
@@ -85,7 +85,7 @@ class Watch(harness.SiteTest):
             return data_of(file.read())
 
     def lines_of(self, path, least):
-        """Waits until a file has so many lines, for a minute at most. Returns how many it has."""
+        """Waits until a file has this many lines, for at most a minute. Returns how many it has."""
         lines, until = 0, time.monotonic() + 60
         while lines < least and time.monotonic() < until:
             time.sleep(0.1)
@@ -171,7 +171,7 @@ class Watch(harness.SiteTest):
         self.assertEqual(len(set(device.ports)), 2)
 
     def test_an_old_answer_is_not_taken_for_a_new_one(self):
-        """One that comes a round later, when the number of its request has come round again."""
+        """An answer comes a round later, when the number of its request is used again."""
 
         class Late(StandIn):
             seen = 0
@@ -191,7 +191,7 @@ class Watch(harness.SiteTest):
         self.assertEqual([it for it in found if it.startswith("p0 ")], wanted)
 
     def test_a_second_answer_is_not_taken_for_one_to_the_next_question(self):
-        """One that comes when the number of its request comes round again, after 256 others."""
+        """A second answer comes when the number of its request is used again, after 256 others."""
 
         class Twice(StandIn):
             kept, seen = None, 0
@@ -214,7 +214,7 @@ class Watch(harness.SiteTest):
         self.assertEqual(device.seen, 4)
 
     def test_an_error_of_another_point_is_not_taken_in_the_same_round(self):
-        """An Error names no point. It was given up, and comes when its number comes round again."""
+        """An Error names no point. The request was given up, and the Error comes when its number is used again."""
 
         class Held(StandIn):
             kept = None
@@ -238,7 +238,7 @@ class Watch(harness.SiteTest):
 
     def test_no_more_controllers_at_once_than_it_says(self):
         class Slow(StandIn):
-            """Each waits until as many are asked as may be, and for one more that may not."""
+            """Each waits until as many are asked as may be, and for one more that must not come."""
 
             now, most, wanted, changed = 0, 0, 2, threading.Condition()
 
@@ -275,7 +275,7 @@ class Watch(harness.SiteTest):
         )
 
     def test_another_name_and_unit_after_a_silence(self):
-        """Another device may be there then; and what did not come is asked for again."""
+        """Another device may be there then; and what is missing is asked for again."""
         values = {(0, 1, 85): [real("42290000"), real("42290000"), "silent", real("42290000")]}
         values[(0, 1, 77)] = [("error", 0, 3), string("Room"), string("Hall")]
         values[(0, 1, 117)] = [enumerated(62), enumerated(64)]
@@ -289,7 +289,7 @@ class Watch(harness.SiteTest):
         self.assertEqual(self.drawn(page)["charts"][0][0]["label"], "Hall")
 
     def test_the_value_of_a_point_with_a_fault_is_no_good_value(self):
-        """As in a poll: the reason has the value, and the point is missing at the end."""
+        """The reason has the value, and the point counts as missing at the end, as in a poll."""
         self.stand_in({(0, 1, 85): real("42290000"), (0, 1, 111): bits("0100")})
         points, path = self.path("fault", "p HERE 0 1 85\n"), self.world.folder + "/fault.csv"
         status, out, _ = self.run_site("poll", points)
@@ -428,7 +428,7 @@ class File(unittest.TestCase):
         self.assertEqual((rows.fault, self.text()), ("", HEAD + "1,p,21.5,,,,\n" + "2,p,22.5,,,,\n" * 3))
 
     def test_a_part_of_a_line_that_stayed_is_taken_away_later(self):
-        """Also to cut it off may fail."""
+        """Cutting the line off may fail too."""
         rows, write = Rows(self.path, HEAD), os.write
         fault = OSError(errno.EIO, "Input/output error")
         half = lambda file, octets: write(file, octets[:5]) if len(octets) > 5 else self.fail_with(fault)
@@ -591,7 +591,7 @@ class Journal(unittest.TestCase):
 
 
 class Paces(unittest.TestCase):
-    """A window and a patience that were changed recover."""
+    """A changed window and a changed patience go back to their first values."""
 
     def pace(self, *ends, window=8):
         pace = Pace(100, window)

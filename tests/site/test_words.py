@@ -1,4 +1,4 @@
-"""The words that say what is asked: addresses, ranges of them, points, and lists of points."""
+"""The words for what is asked: addresses, ranges of addresses, points, and lists of points."""
 
 import io
 import subprocess
@@ -187,7 +187,7 @@ class Words(unittest.TestCase):
         self.assertEqual(len({command.function for command in found.values()}), len(found))
         for name, command in found.items():
             module, _, function = command.function.rpartition(".")
-            self.assertTrue(callable(getattr(import_module("bacsite." + module), function)), name)
+            self.assertTrue(callable(getattr(import_module("bacsite." + module), function)), msg=name)
             parser = parsing.parser_of([name])
             self.assertIn(command.summary[:20], parser.format_help())
         self.assertEqual(

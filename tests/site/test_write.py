@@ -1,4 +1,4 @@
-"""Writes: which are refused before anything is sent, what is sent, and what is printed."""
+"""Writes: which are refused before anything is sent, the datagrams, and the output."""
 
 import os
 import resource
@@ -59,7 +59,7 @@ NO_LIMITS = {
     (45, 1, 85): tagged(3, b"\x05"),
     (45, 1, 22): unsigned(1),
 }
-# States whose names are numbers of others, names that are those of the standard for another state.
+# States whose names are numbers of other states, or the standard's names for another state.
 CROSSED = {
     (14, 5, 77): string("Stage"),
     (14, 5, 85): unsigned(1),
@@ -166,7 +166,7 @@ class Write(harness.SiteTest):
         )
 
     def test_a_held_point(self):
-        """A higher priority that holds it is told, where something waits below."""
+        """A higher priority that holds the point is reported, if a value is waiting below."""
         self.stand_in(VALVE)
         for words, last in (
             ("20 --priority 8", "relinquish-default: 0"),
@@ -471,7 +471,7 @@ HERE 1 1 30 --priority 10
         self.assertEqual((found, device.written), ((2, "", told), []))
 
     def test_it_stops_at_the_first_that_is_not_sure(self):
-        """A limit that is another one only once the first lines were written."""
+        """A limit that changes only after the first lines were written."""
         limits = {(1, 1, 69): [real("c1200000"), real("c1200000"), real("c1200000"), real("41200000")]}
         device = self.stand_in({**ALL, **limits})
         lines = self.LINES.replace("-11", "9").replace("1 1 20", "1 1 20").splitlines()

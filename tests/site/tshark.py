@@ -1,16 +1,16 @@
 #!/usr/bin/env python3
-"""Compares each datagram of captures, as bacsite reads it, with what tshark says of it; by hand.
+"""Compares bacsite's reading of each datagram of captures with tshark's; by hand.
 
-Usage: tests/site/tshark.py [--keep] CAPTURE ..; a datagram that begins like BACnet/IP counts as it, at
-any port. Compared are the type of the APDU, invoke id, service, of a read or write the object and
-the property, of an Error class and code, and the reason of a Reject or an Abort. With --keep what
-tshark says is kept beside each capture, for the tests.
+Usage: tests/site/tshark.py [--keep] CAPTURE ..; a datagram that begins like BACnet/IP counts as BACnet/IP, at any port.
+It compares the type of the APDU, invoke id, service, for a read or write the object and the property, for an Error
+class and code, and the reason of a Reject or an Abort. With --keep tshark's output is kept beside each capture, for the
+tests.
 """
 
 import subprocess
 import sys
 
-import harness  # noqa: F401  it makes bacsite known
+import harness  # noqa: F401  this sets the path to bacsite
 from bacsite.bodies import error_body, read_ack, read_body, write_body
 from bacsite.messages import ABORT, COMPLEX, CONFIRMED, ERROR, READ, REJECT, SEGMENT, UNCONFIRMED, WRITE, message_of
 from bacsite.capture.pcap import Passed, datagram_of, packets_of
@@ -35,8 +35,8 @@ def asked_of_tshark(path):
 def told_by_tshark(lines):
     """For each packet whether tshark can't read it, and its fields; none if it is not BACnet/IP.
 
-    It can't read stations of seven octets, which BACnet has, and takes what an ICMP packet quotes
-    for a datagram of its own.
+    tshark can't read stations of seven octets, which BACnet has, and takes the quotation in an ICMP packet for a
+    datagram.
     """
     for line in lines.splitlines():
         malformed, source, target, icmp, link, *fields = line.split(";")
@@ -45,7 +45,7 @@ def told_by_tshark(lines):
 
 
 def told_by_bacsite(packet):
-    """Whether a body is to be read, and the same fields, as bacsite reads them."""
+    """Whether a body can be read, and the same fields, as bacsite reads them."""
     try:
         message = message_of(datagram_of(packet))
     except Passed:
@@ -72,7 +72,7 @@ def told_by_bacsite(packet):
 
 
 def compared(path, lines):
-    """How many datagrams agree, how many tshark can't read, and in words those that differ."""
+    """How many datagrams agree, how many tshark can't read, and the differences in words."""
     agree, lost, differ = 0, 0, []
     with open(path, "rb") as file:
         for at, (packet, told) in enumerate(zip(packets_of(file), told_by_tshark(lines)), 1):

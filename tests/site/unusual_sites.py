@@ -1,13 +1,15 @@
-"""Surveys sites of unusual devices, and compares each value, name, unit and state shown with what the device has.
+#!/usr/bin/env python3
+"""Surveys sites of unusual devices, and compares each value, name, unit and state shown with those of the device.
 
-Usage: unusual_sites.py BACSITE TOOLS [VALUES [SEED]], in a network of its own (network_namespace.py). It goes on until
-so many were shown, 10,000 by default; a value that the device does not have, or another object's, ends it with status
-1. A device answers about the next object, or one answer late; it has numbers of other types with eight digits, texts of
-states that are equal or crossed, names that are another's; it becomes another device meanwhile, answers late, or loses
-what is sent; it is behind a router.
+Usage: tests/site/unusual_sites.py PROGRAM [VALUES [SEED]], by hand. It goes on until this many values were shown,
+10,000 by default; a value that the device does not have, or another object's, ends it with status 1. A device answers
+about the next object, or one answer late; it has numbers of other types with eight digits, texts of states that are
+equal or crossed, names of another object; it becomes another device meanwhile, answers late, or loses requests; it is
+behind a router.
 """
 
 import json
+import os
 import random
 import struct
 import subprocess
@@ -18,6 +20,7 @@ from decimal import Decimal
 import network_namespace
 from stand_ins import RouterStandIn, StandIn, an_object, bits, enumerated, real, string, tagged, unsigned
 
+SITE = os.path.dirname(os.path.abspath(__file__)) + "/../../site/bacsite"
 OBJECTS, DEVICES = 24, 20
 WAYS = ("plain", "next", "behind", "becomes", "late", "loses", "routed", "routed next", "routed behind")
 UNITS = {62: "degrees-celsius", 98: "percent", 53: "pascals"}
@@ -26,7 +29,7 @@ PATIENCE = ["--apdu-timeout", "150", "--apdu-retries", "1"]
 
 
 def number_of(dice, kind):
-    """Octets of a present value, and how it is shown; nothing where it is of no type that belongs there."""
+    """Octets of a present value, and its text, which is empty if its type is wrong."""
     if dice.random() < 0.2 and kind < 3:
         count = dice.randrange(10**7, 10**8)
         octets = unsigned(count, dice.choice([2, 3, 9]))
@@ -41,7 +44,7 @@ def number_of(dice, kind):
 
 
 def values_of(dice, instance, count=OBJECTS):
-    """What a device has; and what is to be shown of each object: name, value, meaning and unit."""
+    """The values of a device; and what must be shown for each object: name, value, meaning and unit."""
     objects = [(dice.choice([0, 0, 1, 2, 4, 13, 19, 300]), at) for at in range(count)]
     own = {(8, instance, it): string("D%d" % instance) for it in (70, 77, 121)}
     own[8, instance, 76] = b"".join(an_object(*it) for it in objects)
@@ -86,7 +89,7 @@ class Odd(StandIn):
 
 
 def device_of(dice, way):
-    """A device, how it is asked, and what may be shown of it: by the instances that it has."""
+    """A device, how it is asked, and what may be shown for it: by the instances that it has."""
     instances = dice.sample(range(1, 4000000), 2)
     parts = [values_of(dice, it) for it in instances[: 1 + (way == "becomes")]]
     more = {"delay": dice.choice([0.02, 0.1])} if way == "late" else {"lose": 7} if way == "loses" else {}
@@ -103,7 +106,7 @@ def device_of(dice, way):
 
 
 def compared(line, shown, counts):
-    """Counts what is shown of a device; what is wrong of it."""
+    """Counts the values that are shown for a device; returns the wrong ones."""
     is_told = any("another device" in it for it in line["reasons"])
     for it in line["objects"]:
         known = [part[it["type"], it["instance"]] for part in shown if (it["type"], it["instance"]) in part]
@@ -114,19 +117,19 @@ def compared(line, shown, counts):
             counts[what] += 1
             places = [at for at, part in enumerate(known) if part[what] == it[what]]
             if what == "meaning" and it["type"] == 4 and it[what] == STANDARD.get(it["value"]):
-                continue  # an Error names no object: the one before may stand for that of its own text
+                continue  # an Error names no object: the one before may be taken for that of the object's own text
             if what == "meaning" and is_told:
-                continue  # a state of one device, by the text of the one that it has become
+                continue  # a state of one device, with the text of the device that it has become
             if not places or 0 not in places and not is_told:
                 yield "%s: %s of %s is shown, and not %s" % (line["address"], what, it, known)
 
 
-def main(bacsite, tools, values=10000, seed=None):
-    network_namespace.bring_up()
+def main(program, values=10000, seed=None):
     dice, counts = random.Random(seed), Counter()
     while sum(counts[it] for it in ("name", "value", "meaning", "unit")) < int(values):
         shown = dict(device_of(dice, dice.choice(WAYS)) for _ in range(DEVICES))
-        words = [sys.executable, bacsite, "survey", "--json", "--tools", tools, *PATIENCE, *shown]
+        tools = os.path.dirname(os.path.realpath(program))
+        words = [sys.executable, SITE, "survey", "--json", "--tools", tools, *PATIENCE, *shown]
         words += ["--window", str(dice.choice([1, 1, 4]))]
         done = subprocess.run(words, stdout=subprocess.PIPE, check=False)
         for line in map(json.loads, done.stdout.splitlines()):
@@ -134,9 +137,11 @@ def main(bacsite, tools, values=10000, seed=None):
             counts.update(it.split(":")[0] for it in line["reasons"])
             wrong = list(compared(line, shown.get(line["address"], []), counts))
             if wrong:
-                sys.exit("\n".join(wrong))
+                return "\n".join(wrong)
         print(dict(counts), flush=True)
+    return 0
 
 
 if __name__ == "__main__":
-    main(*sys.argv[1:])
+    network_namespace.enter()
+    sys.exit(main(*sys.argv[1:]) if sys.argv[1:] else __doc__)

@@ -1,4 +1,4 @@
-"""Values of a stand-in that are unusual: by object, the property, its octets, and how it is shown."""
+"""Unusual values of a stand-in: by object, the property, its octets, and its text."""
 
 import struct
 

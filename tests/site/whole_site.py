@@ -3,12 +3,12 @@
 
 Usage: tests/site/whole_site.py PROGRAM [SEED], by hand: some minutes, in a network of its own. At the addresses of a
 range are devices that answer at once, slowly, late, from another port, or no read; that lose requests, restart, become
-another device, refuse their object list, or answer about another object. Two routers lead to one network; one
-rejects, one is busy, the stations of one answer from another port, and one has 40 stations whose answers come 0.1 to
-0.4 seconds one after another. A second survey without these stations is compared with the first one, after devices
-were moved and taken away.
+another device, refuse their object list, or answer about another object. Two routers lead to one network; one rejects,
+one is busy, the stations of one answer from another port, and one has 40 stations whose answers come 0.1 to 0.4 seconds
+one after another. A second survey without these stations is compared with the first one, after devices were moved and
+removed.
 
-The status is 1 if somebody is hidden, a value is wrong or missing without a reason, or fewer than 10,000 were compared.
+The status is 1 if a device is hidden, a value is wrong or missing without a reason, or fewer than 10,000 were compared.
 """
 
 import json
@@ -44,7 +44,7 @@ class Absent(Odd):
 
 
 class Restarting(Odd):
-    """A device that restarts in the middle of the survey: it loses all that comes in two seconds."""
+    """A device that restarts in the middle of the survey: for two seconds it loses all requests."""
 
     back_at = None
 
@@ -65,13 +65,13 @@ class FromAnotherPort(StandIn):
 
 
 class Site:
-    """The devices; what has to be shown of each address; and what may be shown of its objects."""
+    """The devices; what must be shown for each address; and what may be shown for its objects."""
 
     def __init__(self, seed):
         self.dice, self.host = random.Random(seed), 0
         self.instances = iter(self.dice.sample(range(1, 4194302), 999))
         self.wanted = {}  # by address: the instance, a pattern of the reasons, and whether all values come
-        self.shown = {}  # by address: what each device has that may be there
+        self.shown = {}  # by address: the values of each device that may be there
         self.movers, self.goers, self.becoming, self.strange = [], [], [], []
 
     def place(self):
@@ -80,21 +80,21 @@ class Site:
         return socket_at(HOST % self.host, PORT)
 
     def made(self, kind, count=OBJECTS, at=None, **more):
-        """A device at the next address, and what is to be shown of its objects."""
+        """A device at the next address, and what must be shown for its objects."""
         instance = next(self.instances)
         values, shown = values_of(self.dice, instance, count)
         device = kind(instance, values, at=at or self.place(), **more)
         return device, shown
 
     def add(self, kind, count=OBJECTS, reasons="", is_whole=True, **more):
-        """Adds a device, and what has to be shown of it."""
+        """Adds a device, and what must be shown for it."""
         device, shown = self.made(kind, count, **more)
         self.wanted[device.address] = (device.instance, reasons, is_whole)
         self.shown[device.address] = [shown]
         return device
 
     def fill(self):
-        """Puts everything in its place."""
+        """Adds all devices and routers."""
         for _ in range(PLAIN):
             self.add(Odd)
         for _ in range(4):
@@ -114,13 +114,13 @@ class Site:
         self.add_routers()
 
     def add_strange(self, way):
-        """A device that answers about another object, or one answer late: what it has may be missing."""
+        """A device that answers about another object, or one answer late: its values may be missing."""
         device = self.add(Odd, reasons=".*", is_whole=False)
         device.way = way
         self.strange.append(device.address)
 
     def add_refusing(self, refusal):
-        """A device that refuses its object list, and has its elements."""
+        """A device that refuses its object list, but gives the elements."""
         device = self.add(Odd)
         listed = device.values[8, device.instance, 76]
         for at in range(OBJECTS):
@@ -128,7 +128,7 @@ class Site:
         device.values[8, device.instance, 76] = refusal
 
     def add_becoming(self):
-        """A device that is another one in the middle of the survey."""
+        """A device that becomes another one in the middle of the survey."""
         device = self.add(Odd, reasons=".*at the end another device: 8:[0-9]+", is_whole=False)
         device.other, shown = self.made(StandIn, at=socket_at("127.0.0.1", 0))
         device.way = "becomes"
@@ -136,7 +136,8 @@ class Site:
         self.becoming.append(device)
 
     def add_unheard(self):
-        """Devices that answer a Who-Is and no read, that answer from another port, and very late; and one twice."""
+        """Devices that answer a Who-Is and no read, that answer from another port, and very late; and one that answers
+        twice."""
         device = self.add(Odd, reasons="timeout; device %d answers a Who-Is, and no read")
         device.values[8, 4194303, 75] = device.values[8, device.instance, 75] = "silent"
         other = self.add(FromAnotherPort, reasons=r"timeout; device %d answers a Who-Is from 127\.0\.1\.[0-9]+:[0-9]+")
@@ -149,7 +150,7 @@ class Site:
             twin.instance = device.instance
 
     def add_moving(self):
-        """Devices that move to another address, or are taken away, before the second survey."""
+        """Devices that move to another address, or are removed, before the second survey."""
         for _ in range(3):
             device = self.add(Absent)
             there = Absent(device.instance, device.values, at=self.place())
@@ -174,7 +175,7 @@ class Site:
             self.shown[address] = self.shown[device]
 
     def add_routers(self):
-        """The routers, and what is behind them."""
+        """The routers, and the stations behind them."""
         both, own = self.stations(5, range(1, 11)), self.stations(6, range(1, 4))
         first, second = self.add(StrictRouter), self.add(StrictRouter)
         first.stations, second.stations = {**both, **own}, dict(both)
@@ -203,13 +204,13 @@ class Site:
             self.named.append("%s/%d/*" % (router.address, network))
 
     def words(self, *left_out):
-        """The words of a survey of all addresses, except these hosts; and of the networks that are named."""
+        """The words of a survey of all addresses, except these hosts; and of the named networks."""
         lows = [1, *(it + 1 for it in left_out)]
         highs = [*(it - 1 for it in left_out), self.host + 5]
         return ["127.0.1.%d-127.0.1.%d:%d" % (*it, PORT) for it in zip(lows, highs)] + self.named
 
     def change(self):
-        """Moves devices, and takes some away. Returns what has to be shown of that, by address."""
+        """Moves devices, and removes some. Returns what must be shown of that, by address."""
         self.wanted = {it: wanted for it, wanted in self.wanted.items() if not it.startswith(self.trunk.address)}
         changes = {}
         for device in self.becoming:
@@ -238,7 +239,7 @@ def surveyed(tools, words):
 
 
 def wrong_of(site, lines, counts):
-    """Finds who is hidden, and what is wrong in the lines."""
+    """Finds hidden devices, and wrong values in the lines."""
     by_address = {it["address"]: it for it in lines}
     yield from ("%s is twice" % it for it, count in Counter(it["address"] for it in lines).items() if count > 1)
     yield from ("hidden: %s" % it for it in site.wanted if it not in by_address)
@@ -254,7 +255,7 @@ def wrong_of(site, lines, counts):
 
 
 def lacking(line, shown, counts):
-    """What a device has that is not shown, and has no reason."""
+    """The values of a device that are not shown, and have no reason."""
     there = {(it["type"], it["instance"]): it for it in line["objects"]}
     yield from ("%s: no object %s" % (line["address"], it) for it in shown if it not in there)
     for which, it in there.items():
@@ -275,12 +276,11 @@ def report(name, site, found, counts, begun):
 
 
 def main(program, seed=None):
-    network_namespace.bring_up()
     seed = int(seed or random.randrange(1 << 32))
     site, counts, again = Site(seed), Counter(), Counter()
     site.fill()
     with tempfile.TemporaryDirectory() as room:
-        os.symlink(program, room + "/bactool")
+        os.symlink(os.path.realpath(program), room + "/bactool")
         begun = time.monotonic()
         first = surveyed(room, site.words())
         wrong = report("a survey, seed %d" % seed, site, first, counts, begun)
@@ -302,9 +302,5 @@ def main(program, seed=None):
 if __name__ == "__main__":
     if len(sys.argv) < 2:
         sys.exit(__doc__)
-    if not os.environ.get("WHOLE_SITE_IS_ALONE"):
-        os.environ["WHOLE_SITE_IS_ALONE"] = "yes"
-        tool = os.path.realpath(sys.argv[1])
-        way = network_namespace.way()
-        os.execvp(way[0], [*way, sys.executable, os.path.abspath(__file__), tool, *sys.argv[2:]])
+    network_namespace.enter()
     sys.exit(main(*sys.argv[1:]))

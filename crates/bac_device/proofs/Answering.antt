@@ -1,4 +1,4 @@
--- What a device replies to a datagram, and what it is then, by the writes that it holds.
+-- The reply of a device to a datagram, and its state after it, from the writes that it holds.
 use Rattle.std.proofs.Common.{ap, arith, Bool, Err, IfSome, if◌then◌else◌, List, Ok, ok_or, Option, refl, Result, subst}
 use Rattle.std.{proofs.{Common.{ℕ, ◌≡◌}, lemmas.Bool.cases_Bool}, specs.Result.result_ok}
 use Rattle.bac_pdu.{proofs.BodyLaws.write_is, specs.{IsPriority, Message, Order, Station, write_of, ◌>>=◌}}
@@ -7,14 +7,14 @@ use Rattle.bac_device.specs.{accepted_write, Description, device_after, DeviceSt
 use Rattle.bac_device.specs.{points_of, reply_of, reply_to, Standing, urgency, with_write, Write, write_in_datagram}
 use Rattle.bac_device.specs.{writes_after, Info.Info, Inner.IsUrgent}
 
--- ---- a write that a device accepts is at a priority that there is
+-- ---- an accepted write has a priority of 1 to 16
 
--- Two steps that went well.
+-- If two steps have a result, each of them has one.
 stepped : {A B E : Type 0} (x : Result A E) (f : A → Result B E) (y : B) → (x >>= f) ≡ Ok y
     → (a : A) × (x ≡ Ok a) × (f a ≡ Ok y)
 stepped = grind arith
 
--- A step that went well after a test, for what there is.
+-- If a step after a test and an option has a result, the test passed and the option has a value.
 passed : {A B E : Type 0} (b : Bool) (bad : E) (o : Option A) (none : E) (f : A → Result B E) (y : B)
     → (if b then Err bad else (ok_or o none >>= f)) ≡ Ok y → (a : A) × (f a ≡ Ok y)
 passed = grind arith
@@ -53,7 +53,7 @@ datagram_urgent device from datagram =
     each_ordered IsUrgent device from datagram (λ message o is.
     made_urgent device o (subst urgent is (order_urgent message)))
 
--- ---- what a device replies and writes, by the writes that it holds
+-- ---- the reply and the write of a device, from the writes that it holds
 
 pub reply_held : (device : DeviceState) (writes : List Write) (from : Station) (datagram : List ℕ) → Holds device writes
     → reply_of device from datagram ≡ reply_to device.info (points_of device) writes from datagram

@@ -1,4 +1,4 @@
--- The places of a point after writes, and a device whose places are those; and how long its replies are.
+-- The places of a point after writes, and a device with these places; and the lengths of its replies.
 use Rattle.std.proofs.Common.{[], ap, append-nil, arith, Bool, false, filter, find, IfSome, if◌then◌else◌, leb-true}
 use Rattle.std.proofs.Common.{length, List, map, None, Option, option_and_then, option_map, option_to_list, refl}
 use Rattle.std.proofs.Common.{slice_set, Some, subst, suc, sym, true, zero, ℕ, ◌++◌, ◌-◌, ◌<◌, ◌==◌, ◌∙◌, ◌∷◌, ◌≡◌, ◌≤◌}
@@ -24,7 +24,7 @@ map_same f g same (x ∷ xs) = cc (same x, map_same f g same xs)
 
 -- ---- the sixteen places
 
--- what holds at each number below a count
+-- a property holds of each number below a count
 abbrev Each : (ℕ → Type 0) → ℕ → Type 0
 Each P zero = Unit {0}
 Each P (suc count) = P 0 × Each (λ n. P (suc n)) count
@@ -34,13 +34,13 @@ at_each P zero n all below = absurd (omega arith)
 at_each P (suc count) zero (first, _) _ = first
 at_each P (suc count) (suc n) (_, others) below = at_each (λ n. P (suc n)) count n others (omega arith)
 
--- ---- one more write
+-- ---- the places after one more write
 
 last_more : {A : Type 0} (o : Option A) (xs : List A) (x : A) → last_or o (xs ++ x ∷ []) ≡ Some x
 last_more o [] x = refl
 last_more o (y ∷ ys) x = last_more (Some y) ys x
 
--- the place has the value of a write that is to it, and else what it had
+-- a place has the value of the last write to it, and otherwise its old value
 pub place_more : (writes : List Write) (write : Write) (object : Identifier) (priority : ℕ)
     → place (writes ++ write ∷ []) object priority
     ≡ (if is_to object priority write then write.value else place writes object priority)
@@ -63,7 +63,7 @@ set_place f (suc i) value most least =
       ),
     ) (omega arith)
 
--- a write to an object leaves a point as it is, or puts its value at its priority
+-- a write to an object puts its value in the place of its priority, and leaves other points as they are
 pub put_after : (writes : List Write) (write : Write) (point : Description) → 1 ≤ write.priority → write.priority ≤ 16
     → put write (standing_after writes point) ≡ standing_after (writes ++ write ∷ []) point
 unfolding standing_after
@@ -82,14 +82,14 @@ pub place_none : (writes : List Write) (object : Identifier) (priority : ℕ) �
 unfolding place
 place_none _ _ _ none = grind (arith, none_chosen)
 
--- ---- a device whose places are those after some writes
+-- ---- a device with the places after some writes
 
 find_map : {A B : Type 0} (f : A → B) (test : B → Bool) (xs : List A)
     → find test (map f xs) ≡ option_map f (find (λ x. test (f x)) xs)
 find_map f _ [] = refl
 find_map f test (x ∷ xs) = grind (arith, find_map f test xs)
 
--- the point that is an object is as the writes say
+-- the point that is an object has the places after the writes
 pub at_after : (device : DeviceState) (writes : List Write) (object : Identifier) → Holds device writes
     → standing_at device object ≡ option_map (standing_after writes) (point_at (points_of device) object)
 unfolding standing_after
@@ -113,7 +113,7 @@ unfolding standing_after
 points_after _ [] _ = refl
 points_after info (_ ∷ points) writes = grind (arith, points_after info points writes)
 
--- a device once a write is made, if there is one
+-- a device after a write, if there is one
 pub write_held : (device : DeviceState) (writes : List Write) (write : Option Write) → Holds device writes
     → IfSome write IsUrgent
     → with_write device write ≡ device_after device.info (points_of device) (writes ++ option_to_list write)
@@ -138,7 +138,7 @@ chained : {A B : Type 0} (P : B → Type 0) (o : Option A) (f : A → Option B)
 chained P None f each = tt
 chained P (Some a) f each = each a refl
 
--- what holds of the write that each order comes to holds of the write in a datagram
+-- a property of the write of each order is a property of the write in a datagram
 pub each_ordered : (P : Write → Type 0) (device : DeviceState) (from : Station) (datagram : List ℕ)
     → ((message : Message) (o : Order) → order_in message ≡ Some o → IfSome (result_ok (accepted_write device o)) P)
     → IfSome (write_in_datagram device from datagram) P
@@ -154,7 +154,7 @@ each_ordered P device from datagram each =
 
 -- ---- one more point
 
--- a point to which no write goes is as it was added
+-- a point to which no write goes stays as it was added
 untouched : (writes : List Write) (point : Description) → NoneTo point.object writes
     → standing_after writes point ≡ standing_after [] point
 unfolding standing_after
@@ -187,7 +187,7 @@ after_holds info points writes =
 
 -- ---- one call after another
 
--- what is present at such a device
+-- the present value of a device after some writes
 pub present_now : (info : Info) (points : List Description) (writes : List Write) {device : DeviceState}
     {asked object : Identifier} {found : Option ℕ} → device ≡ device_after info points writes
     → ((held : List Write) → Holds device held → found ≡ present_after (points_of device) held asked)
@@ -197,7 +197,7 @@ present_now info points writes {object} made answered is =
     now writes (after_holds info points writes)
     ∙ ap (λ (p : List Description). present_after p writes object) (points_after info points writes)
 
--- a call whose reply and device are those of the definition
+-- the reply and the state after a call are those of the definition
 pub answers : (device : DeviceState) (arrival : Arrival) (reply : Option (Station × List ℕ)) (after : DeviceState)
     → ((writes : List Write) → Holds device writes
     → reply ≡ reply_to device.info (points_of device) writes arrival.from arrival.datagram)
@@ -229,18 +229,18 @@ in_turn device (arrival ∷ arrivals) (_ ∷ replies) after writes (next, call, 
       written = rw (points_after device.info points more) at rest.written;
     }
 
--- ---- how long replies are
+-- ---- the lengths of replies
 
--- a route leads to whom a datagram is from
+-- the route of a datagram's sender can be used for the reply
 pub carried_routable : (from : Station) (datagram : List ℕ) (delivery : Delivery) → Carries from datagram delivery
     → IfSome delivery.peer.route IsRoutable
 carried_routable = grind arith
 
--- what is sent to the peer of a delivery if this is the reply
+-- the datagram that is sent to the peer of a delivery with this reply
 abbrev sent : Delivery → Option Message → Option (Station × List ℕ)
 sent d reply = reply >>= (λ m. Some (d.peer, wrapped d.peer.route false (laid_out m)))
 
--- A datagram to the sender of another one takes the APDU of the reply, if each such reply is short.
+-- A datagram to the sender of another one carries the APDU of the reply, if each reply is short.
 reply_takes : (device : DeviceState) (from to : Station) (datagram reply : List ℕ) (d : Delivery) (m : Message)
     (P : Message → Type 0) → Carries from datagram d → IsLaidOut d.apdu m
     → ((x : Message) → P x → length (laid_out x) ≤ 1476) → IfSome (reply_message device d.broadcast m) P
@@ -266,7 +266,7 @@ reply_takes device from to datagram reply d m P carries laid short all e =
 
 -- ---- a confirmed request
 
--- no more than announced, or the Abort
+-- the reply has at most the announced octets, or is the Abort
 abbrev Short : ℕ → ℕ → Message → Type 0
 Short code id m = (length (laid_out m) ≤ announced_size code) ⊎ (laid_out m ≡ 0x71 ∷ id ∷ 0x04 ∷ [])
 
@@ -315,7 +315,7 @@ reply_fits device from datagram = λ reply e delivery request carries laid.
 
 -- ---- the code's reply
 
--- what holds of each reply of the definition holds of the code's, which is that one
+-- a property of each reply of the definition is a property of the code's reply
 pub of_reply : (P : Station × List ℕ → Type 0) (result : Option Peer) (frame : List ℕ)
     (defined : Option (Station × List ℕ))
     → option_map (λ peer. (station peer, frame)) result ≡ defined → ForSome defined P

@@ -9,7 +9,7 @@ use Rattle.bac_device.specs.{Places.{Standing, Write, written_value}, Property.{
 
 -- ---- ReadProperty (clause 15.5)
 
--- The property of this number of the object, or why there is none: no such object, or no such property.
+-- The property of the object with this number, or why there is none: no such object, or no such property.
 unfoldable pub property_of : DeviceState → Identifier → ℕ → Result Property Failure
 property_of device object number =
     if is_device device.info object then ok_or (device_property device number) UnknownProperty
@@ -17,7 +17,7 @@ property_of device object number =
       standing ← ok_or (standing_at device object) UnknownObject
       ok_or (point_property standing number) UnknownProperty
 
--- The value that is asked for, of a property or an element of it; or why it cannot be read.
+-- The property or the element that is asked for, or why it cannot be read.
 unfoldable pub read_property : DeviceState → Reference → Result Property Failure
 read_property device r = do
   property ← property_of device r.object r.property

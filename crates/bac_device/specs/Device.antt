@@ -1,4 +1,4 @@
--- The device: what it keeps, its own properties, and what can be added to it (clause 12.11).
+-- The device: its state, its own properties, and the points that can be added to it (clause 12.11).
 use Rattle.std.specs.{List.list_any, Map.lookup, Option.{is_some, ok_or, option_and_then, option_map, option_or}}
 use Rattle.std.specs.Prelude.{[], Bool, codes, Err, false, find, if◌then◌else◌, length, List, map, nat_eq, Option}
 use Rattle.std.specs.{Prelude.{Result, ℕ, ◌&&◌, ◌++◌, ◌==◌, ◌||◌, ◌∷◌, ◌≡◌}, Str.bytes_eq}
@@ -10,7 +10,7 @@ use Rattle.bac_device.specs.Point.{Description, description_of, Given, same_obje
 use Rattle.bac_device.specs.Property.{array, point_objects, Property, single}
 use Rattle.bac_wire.specs.Datum as values
 
--- What a device keeps: what it is known by, and its points as they stand.
+-- The state of a device: its identity, and its points with their places.
 pub record DeviceState : Type 0 where
   pub info : Info
   pub standings : List Standing
@@ -23,15 +23,15 @@ points_of device = map (λ standing. standing.point) device.standings
 abbrev pub device_after : Info → List Description → List Write → DeviceState
 device_after info points writes = record { info = info; standings = map (standing_after writes) points }
 
--- The points of the device stand as these writes leave them.
+-- The places of the device's points are those after these writes.
 abbrev pub Holds : DeviceState → List Write → Type 0
 Holds device writes = device ≡ device_after device.info (points_of device) writes
 
--- The point that is this object, as it stands.
+-- The point that is this object, with its places.
 abbrev pub standing_at : DeviceState → Identifier → Option Standing
 standing_at device object = find (λ standing. same_object standing.point.object object) device.standings
 
--- ---- what a caller asks
+-- ---- the values that a caller asks for
 
 -- The point that is this object, among those that were added.
 abbrev pub point_at : List Description → Identifier → Option Description
@@ -42,7 +42,7 @@ abbrev pub present_after : List Description → List Write → Identifier → Op
 present_after points writes object =
     option_map (λ point. present (standing_after writes point)) (point_at points object)
 
--- What the place of this priority of the object holds after these writes. `None` if it has no such place.
+-- The value in the object's place of this priority after these writes. `None` if it has no such place.
 abbrev pub place_after : List Description → List Write → Identifier → ℕ → Option (Option ℕ)
 place_after points writes object priority =
     option_and_then (λ point. place_at (standing_after writes point) priority) (point_at points object)
@@ -63,7 +63,7 @@ abbrev pub with_point : DeviceState → Description → DeviceState
 with_point device point = record device { standings = device.standings ++ standing_after [] point ∷ [] }
 
 -- The device with this point, or the first fault that applies: there is no room left; a point is this object; a point
--- or the device has this name; no point can be as this one is given.
+-- or the device has this name; no device can have this point.
 unfoldable pub add_point : DeviceState → Given → Result DeviceState AddFault
 add_point device point =
     if length device.standings == device_room then Err TooMany
@@ -73,11 +73,11 @@ add_point device point =
 
 -- ---- the properties of the device
 
--- The object that the device itself is: type 8, and its instance.
+-- The object of the device itself: type 8, and its instance.
 abbrev pub device_object : Info → Identifier
 device_object info = record { kind = 8; instance = info.instance }
 
--- Whether the object is the device: its own, or the instance that stands for every device.
+-- Whether the object is the device: with its own instance, or the one that stands for every device.
 abbrev pub is_device : Info → Identifier → Bool
 is_device info object = (object.kind == 8) && ((object.instance == info.instance) || (object.instance == no_instance))
 
@@ -101,8 +101,8 @@ fixed_value number = lookup (nat_eq number) (
     ∷ (155, unsigned 1)  -- database-revision
     ∷ [])
 
--- The properties of the device by their numbers: those that follow from what it keeps, its list of address bindings,
--- which has no element, and those that each device of this kind has.
+-- The properties of the device by their numbers: those that follow from its state, its empty list of address bindings,
+-- and those that each device of this kind has.
 unfoldable pub device_property : DeviceState → ℕ → Option Property
 device_property device number = option_or (lookup (nat_eq number) (
     (75, single (values.object (device_object device.info)))  -- object-identifier

@@ -29,30 +29,30 @@ abbrev pub is_commandable : Role → Bool
 is_commandable roles.Input = false
 is_commandable _ = true
 
--- The value that the number of a present value stands for. The number of a Real is that of its four octets.
+-- The value with this number. The number of a Real is that of its four octets.
 abbrev pub value_of : Family → ℕ → Datum
 value_of Analog n = real (to_be_bytes w32 n)
 value_of Binary n = enumerated n
 value_of MultiState n = unsigned n
 
--- The value that what a place of a priority array holds stands for: NULL, or a value of the family.
+-- The value of a place of a priority array: NULL, or a value of the family.
 abbrev pub place_value : Family → Option ℕ → Datum
 place_value family None = null
 place_value family (Some n) = value_of family n
 
--- The number that a value stands for. `None` if it is of another family.
+-- The number of a value. `None` if it is of another family.
 abbrev pub number_in : Family → Datum → Option ℕ
 number_in Analog (real octets) = Some (from_be_bytes w32 octets)
 number_in Binary (enumerated n) = Some n
 number_in MultiState (unsigned n) = Some n
 number_in _ _ = None
 
--- What a value asks a place to hold: NULL, or the number of a value of the family. `None` if it is of another family.
+-- The number that a value puts in a place, or NULL. `None` if the value is of another family.
 abbrev pub place_in : Family → Datum → Option (Option ℕ)
 place_in family null = Some None
 place_in family value = option_map Some (number_in family value)
 
--- The value that these octets are. `None` if they are no value, or more than one.
+-- The value in these octets. `None` if they are not exactly one value.
 unfoldable pub one_value : List ℕ → Option Datum
 one_value octets = value_at octets >>= (λ (value, rest). whole_of value rest)
 

@@ -1,7 +1,7 @@
--- The limits of a device, and the numbers that it says of itself. The code has constants of the same numbers.
+-- The limits of a device, and the numbers in its own properties. The code has constants with the same numbers.
 use Rattle.std.specs.Prelude.{ℕ}
 
--- The points that a device has room for.
+-- The number of points that a device has room for.
 abbrev pub device_room : ℕ
 device_room = 32
 

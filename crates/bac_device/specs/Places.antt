@@ -1,4 +1,4 @@
--- What a point has after writes: the sixteen places of its priority array, and its present value (clause 19.2).
+-- The state of a point after writes: the sixteen places of its priority array, and its present value (clause 19.2).
 use Rattle.std.specs.{List.{AllByRecursion, last_or}, Option.{ok_or, option_and_then, option_flatten}}
 use Rattle.std.specs.Prelude.{[], Bool, Err, false, filter, find, if◌then◌else◌, is_some, List, map, None, not, Ok}
 use Rattle.std.specs.Prelude.{Option, Result, slice_get, slice_set, Some, unwrap_or, ℕ, ◌&&◌, ◌-◌, ◌==◌, ◌||◌, ◌∷◌, ◌≡◌}
@@ -7,7 +7,7 @@ use Rattle.bac_device.specs.declared.failure.Failure.{Failure, TheVariants.{OutO
 use Rattle.bac_device.specs.{Kind.{allows, is_commandable, one_value, place_in}, Point.{Description, same_object}}
 use Rattle.bac_pdu.specs.{◌>>=◌}
 
--- A write of a present value that was accepted. None is NULL.
+-- A write of a present value that was accepted; the value None is NULL.
 pub record Write : Type 0 where
   pub object : Identifier
   pub priority : ℕ
@@ -43,9 +43,9 @@ standing_after writes point = record { point = point; places = map (place writes
 abbrev pub present : Standing → ℕ
 present standing = unwrap_or (option_flatten (find is_some standing.places)) standing.point.start
 
--- ---- what is asked of a point, and one write
+-- ---- the value in a place, and one write
 
--- What the place of this priority holds. `None` if the point has no such place.
+-- The value in the place of this priority. `None` if the point has no such place.
 unfoldable pub place_at : Standing → ℕ → Option (Option ℕ)
 place_at standing priority =
     if not (is_commandable standing.point.kind.role) || priority == 0 then None
@@ -56,8 +56,8 @@ abbrev pub in_range : Description → Option ℕ → Result (Option ℕ) Failure
 in_range point None = Ok None
 in_range point (Some n) = if allows point.kind.family point.extra n then Ok (Some n) else Err OutOfRange
 
--- What the octets of a value ask a place of the point to hold. They have to be one value, of the type of the point and
--- in its range, or NULL.
+-- The number that the octets put in a place of the point, or NULL. The octets must be one value, which is NULL or of
+-- the point's type and in its range.
 unfoldable pub written_value : Description → List ℕ → Result (Option ℕ) Failure
 written_value point octets =
     ok_or (option_and_then (place_in point.kind.family) (one_value octets)) WrongType >>= in_range point

@@ -11,7 +11,7 @@ pub record Given : Type 0 where
   pub start : ℕ
   pub extra : ℕ
 
--- What a `Point` of the code gives, without where its name lies in memory.
+-- A `Point` of the code as a description.
 abbrev pub given : Point → Given
 given point = record { object = identifier point.id; name = point.name.now; start = point.start; extra = point.extra }
 
@@ -27,8 +27,8 @@ pub record Description : Type 0 where
 abbrev pub same_object : Identifier → Identifier → Bool
 same_object a b = (a.kind == b.kind) && (a.instance == b.instance)
 
--- Whether a point of this kind can be as it is given: its name has one to 64 octets, its instance is one that an object
--- can have, and its kind allows `extra` and `start`.
+-- Whether a point of this kind can have this description: its name has one to 64 octets, its instance is one that an
+-- object can have, and its kind allows `extra` and `start`.
 abbrev pub is_described : Kind → Given → Bool
 is_described kind point =
     nat_lt 0 (length point.name) && nat_le (length point.name) longest_name
@@ -40,7 +40,7 @@ abbrev pub described : Kind → Given → Description
 described kind point =
     record { kind = kind; object = point.object; name = point.name; start = point.start; extra = point.extra }
 
--- The point that is given, if its object type is one of a point, and a point of that kind can be so.
+-- The described point, if its object type is one of a point, and a point of that kind can have the description.
 unfoldable pub description_of : Given → Option Description
 description_of point = do
   kind ← kind_of point.object.kind

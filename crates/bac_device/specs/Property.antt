@@ -29,8 +29,8 @@ point_objects standings = map (λ standing. object standing.point.object) standi
 abbrev pub region_octets : Property → List ℕ
 region_octets property = flat_map plain property.values
 
--- What an index chooses. Without one it is the whole property. An array has at 0 the number of its elements, and then
--- these, from 1 on; a property that is not an array has none.
+-- The part of a property that an index selects: without an index the whole property. In an array, 0 selects the number
+-- of its elements, and from 1 on the elements; a property that is not an array has none.
 unfoldable pub element : Property → Option ℕ → Result Property Failure
 element property None = Ok property
 element property (Some index) =
@@ -40,8 +40,8 @@ element property (Some index) =
 
 -- ---- the properties of a point
 
--- What `extra` is of a point of this kind, as the property of this number: the units (117) of an analog point, the
--- polarity (84) of a binary input or output, the number of states (74) of a multi-state point. None as any other.
+-- `extra` as the property with this number: the units (117) of an analog point, the polarity (84) of a binary input or
+-- output, or the number of states (74) of a multi-state point. Otherwise None.
 abbrev pub extra_value : Family → Role → ℕ → ℕ → Option Datum
 extra_value Analog role extra number = if number == 117 then Some (enumerated extra) else None
 extra_value Binary roles.Value extra number = None

@@ -1,4 +1,4 @@
--- What the device replies to a datagram, and which write it makes then (clauses 5.4, 15.5, 15.9 and 16.10).
+-- The device's reply to a datagram, and the write that it makes (clauses 5.4, 15.5, 15.9 and 16.10).
 use Rattle.std.specs.{Option.{option_and_then, option_to_list}, Prelude.{Bool, Err, false, if◌then◌else◌, length, List}}
 use Rattle.std.specs.{Prelude.{map, nat_le, None, Ok, Option, Result, Some, true, ℕ, ◌++◌, ◌==◌}, Result.result_ok}
 use Rattle.bac_pdu.specs.{abort, apdu_of, carried, complex_ack, confirmed, error, laid_out, Message, Order, ReadAck}
@@ -23,11 +23,11 @@ abbrev pub unless_failed : {A : Type 0} → ℕ → ℕ → (A → Message) → 
 unless_failed id service made (Ok x) = made x
 unless_failed id service made (Err failure) = error id service (error_octets (error_class failure) (error_code failure))
 
--- The object that a reply names: the device under its own instance, and any other as it was asked for.
+-- The object in a reply: for the device its own instance, for any other the requested object.
 abbrev pub object_in_reply : Info → Identifier → Identifier
 object_in_reply info object = if is_device info object then device_object info else object
 
--- An acknowledgement: the object, the property and the index that were asked for, and the values.
+-- An acknowledgement: the requested object, property and index, and the values.
 abbrev pub acknowledged : DeviceState → Reference → Property → ReadAck
 acknowledged device r property =
     record { reference = record r { object = object_in_reply device.info r.object }; value = region_octets property }
@@ -50,8 +50,8 @@ write_reply device id body =
 abbrev pub refused : ℕ → Message
 refused id = abort true id 4
 
--- The reply, however long, to a request of ReadProperty (12), WriteProperty (15) or another service. One that comes in
--- parts is refused.
+-- The reply, however long, to a request of ReadProperty (12), WriteProperty (15) or another service. A request in parts
+-- is refused.
 unfoldable pub full_reply : DeviceState → Option Part → ℕ → ℕ → List ℕ → Message
 full_reply device (Some part) id service body = refused id
 full_reply device None id service body =
@@ -89,12 +89,12 @@ reply_message device broadcast (confirmed part code id service body) =
 reply_message device broadcast (unconfirmed service body) = if service == 8 then who_is_reply device.info body else None
 reply_message device broadcast _ = None
 
--- What a WriteProperty (15) that comes whole orders.
+-- The order in a WriteProperty (15) that is not in parts.
 abbrev pub order_in : Message → Option Order
 order_in (confirmed None code id service body) = if service == 15 then result_ok (write_of body) else None
 order_in _ = None
 
--- The reply of the device, as it stands, to a datagram from there: to whom it goes, and the unicast that takes it.
+-- The reply of the device to a datagram from this station: the receiver, and the unicast that carries it.
 unfoldable pub reply_of : DeviceState → Station → List ℕ → Option (Station × List ℕ)
 reply_of device from datagram = do
   delivery ← carried from datagram
@@ -102,7 +102,7 @@ reply_of device from datagram = do
   reply ← reply_message device delivery.broadcast message
   Some (delivery.peer, wrapped delivery.peer.route false (laid_out reply))
 
--- The write that a datagram from there orders and the device, as it stands, accepts; none of one that was sent to all.
+-- The write that a datagram from this station orders and the device accepts. A broadcast orders none.
 unfoldable pub write_in_datagram : DeviceState → Station → List ℕ → Option Write
 write_in_datagram device from datagram = do
   delivery ← carried from datagram
@@ -110,18 +110,18 @@ write_in_datagram device from datagram = do
   order ← if delivery.broadcast then None else order_in message
   result_ok (accepted_write device order)
 
--- The device once the write is made, if there is one.
+-- The device after the write, if there is one.
 abbrev pub with_write : DeviceState → Option Write → DeviceState
 with_write device None = device
 with_write device (Some write) = record device { standings = map (put write) device.standings }
 
 -- ---- after a list of writes
 
--- The reply of a device with these points, after these writes, to a datagram from there.
+-- The reply of a device with these points, after these writes, to a datagram from this station.
 abbrev pub reply_to : Info → List Description → List Write → Station → List ℕ → Option (Station × List ℕ)
 reply_to info points writes from datagram = reply_of (device_after info points writes) from datagram
 
--- These writes, and the one in a datagram from there that a device with these points then accepts, if there is one.
+-- These writes, and the one that a datagram from this station orders, if a device with these points then accepts it.
 abbrev pub writes_after : Info → List Description → List Write → Station → List ℕ → List Write
 writes_after info points writes from datagram =
     writes ++ option_to_list (write_in_datagram (device_after info points writes) from datagram)

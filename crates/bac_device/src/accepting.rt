@@ -18,7 +18,7 @@ const LEAST_URGENT: u8 = 16;
 const MINIMUM_TIMES: u8 = 6;
 
 impl Device {
-    /// Returns the write that a request orders, if the device accepts it; otherwise why it does not.
+    /// Returns the write that a request orders, if the device accepts it; otherwise the failure.
     #[tactic(auto, unfolding(crate::specs::accepted_write))]
     pub(crate) fn accepted_write(&self, request: &WriteRequest<'_>) -> Result<PlaceWrite, Failure>
         requires { IfSome request.now.priority IsPriority }

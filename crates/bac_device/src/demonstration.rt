@@ -45,7 +45,7 @@ pub fn demo(info: DeviceInfo) -> Device
     device
 }
 
-// One more point, which has to be one that a device can have.
+// Adds one more point, which must be one that a device can have.
 #[tactic(auto, unfolding(crate::specs::Inner::with_row))]
 fn append_row(device: &mut Device, kind: u16, instance: u32, name: &str, start: u32, extra: u32)
     requires kind { kind < 1024 }

@@ -1,4 +1,4 @@
-//! The device: its points, its own properties, and what is held after writes.
+//! The device: its points, its own properties, and its state after writes.
 
 ghost use Rattle.std.specs.{List.list_any, Option.{option_and_then, option_copied}};
 ghost use Rattle.std.specs.Prelude.{[], Err, IfErr, IfOk, IfSome, length, List, map, None, Ok, OnErr, OnOk, option_map};
@@ -26,10 +26,10 @@ use bac_pdu::DEVICE;
 use bac_wire::{ObjectId, Value};
 use std::marker::Model;
 
-/// The points that a device has room for.
+/// The number of points that a device has room for.
 pub const POINTS: usize = 32;
 
-/// Why a point was not added. The fault is the caller's: it is in the point, or in what was added before it.
+/// Why a point was not added: because of the point itself, or of earlier points. This is the caller's fault.
 #[derive(Clone, Copy, Debug, PartialEq, Eq)]
 pub enum AddFault {
     /// The device has [`POINTS`] points already.
@@ -38,13 +38,13 @@ pub enum AddFault {
     Twice,
     /// A point of the device, or the device itself, has this name.
     NameTwice,
-    /// No device can have such a point, for its object type, its instance, its name, `start` or `extra`.
+    /// No device can have a point with this object type, instance, name, `start` or `extra`.
     BadPoint,
 }
 
 /// A small BACnet device with points that can be commanded.
 ///
-/// It has a fixed size, needs no memory, and sends nothing itself.
+/// A device has a fixed size, allocates no memory, and sends nothing itself.
 #[derive(Drop)]
 pub struct Device {
     info: DeviceInfo,
@@ -70,7 +70,7 @@ impl Device {
         }
     }
 
-    /// Adds a point, with every place of its priority array NULL. The places of the others stay.
+    /// Adds a point, with every place of its priority array NULL. The places of the other points stay.
     ///
     /// # Errors
     ///
@@ -99,8 +99,8 @@ impl Device {
         Ok(())
     }
 
-    /// Returns the number of the present value of a point (clause 19.2), as in [`Point::start`]: what the most urgent
-    /// place that is not NULL holds, or `start`. `None` if the object is not a point.
+    /// Returns the number of the present value of a point (clause 19.2), as in [`Point::start`]: that of the most
+    /// urgent place that is not NULL, or `start`. `None` if the object is not a point.
     #[tactic(auto, using(crate::proofs::present_held))]
     pub fn present(&self, object: ObjectId) -> Option<u32>
         ensures standing { result ≡ option_map present (standing_at self.now (identifier object)) }
@@ -111,8 +111,8 @@ impl Device {
         Some(point.present())
     }
 
-    /// Returns what a commandable point has at a priority; `Some(None)` is NULL. `None` if the object is not a
-    /// commandable point, or the priority is not 1 to 16.
+    /// Returns the number in a commandable point's place of this priority; `Some(None)` is NULL. `None` if the object
+    /// is not a commandable point, or the priority is not 1 to 16.
     #[tactic(auto, using(crate::proofs::place_held))]
     pub fn place(&self, object: ObjectId, priority: u8) -> Option<Option<u32>>
         ensures standing { result ≡ option_and_then (λ standing. place_at standing priority)
@@ -123,7 +123,7 @@ impl Device {
         self.point(object)?.place(priority)
     }
 
-    /// Adds this point, for which there has to be room.
+    /// Adds this point; there must be room for it.
     pub(crate) fn append(&mut self, point: StandingPoint)
         requires { length self.old.standings < device_room }
         ensures { self.new ≡ record { info = self.old.info; standings = self.old.standings ++ point ∷ [] } }
@@ -131,7 +131,7 @@ impl Device {
         self.points.push(point);
     }
 
-    /// Returns what the device is known by.
+    /// Returns the instance and name of the device.
     pub(crate) fn info(&self) -> &DeviceInfo
         ensures { result.now ≡ self.now.info }
     {
@@ -169,7 +169,7 @@ impl Device {
         }
     }
 
-    /// Makes a write at each point that is its object.
+    /// Makes a write to the point that is its object.
     pub(crate) fn put(&mut self, write: &PlaceWrite)
         ensures { self.new ≡ with_write self.old (Some (write_seen write.now)) }
     {
@@ -206,7 +206,7 @@ fn has_name(points: &[StandingPoint], name: &str) -> bool
     points.iter().any(|point| point.has_name(name))
 }
 
-// Makes the write at the points that are its object.
+// Makes the write to the point that is its object.
 fn put_in(points: &mut [StandingPoint], write: &PlaceWrite)
     ensures { points.new ≡ map (put (write_seen write.now)) points.old }
 {

@@ -1,4 +1,4 @@
-//! Examples of what the device replies, worked out by computation. They show what the definitions mean.
+//! Examples of the device's replies, worked out by computation. They show what the definitions mean.
 
 ghost use Rattle.std.specs.Prelude.{[], ◌∷◌, ◌≡◌, codes, replicate};
 ghost use Rattle.bac_device.specs.{add_point, AreDefined, demo_points, device_room, Holds, IsInfo, longest_name};
@@ -12,7 +12,7 @@ ghost use Rattle.bac_device.specs.Inner.{long_named, makes, nothing, null, of, o
 ghost use Rattle.bac_device.specs.Inner.{read_for_50, real_72_3, refuses, release_at_8, season, small, thirty, twenty};
 ghost use Rattle.bac_device.specs.Inner.{twenty_at_8, unsigned, valve, valve_id, write, write_at, zero_real};
 
-// A property is read, whole or an element of it.
+// A read of a whole property, or of an element.
 #[tactic(none)]
 fn examples_of_reads()
     // A present value of each kind: 72.3 degrees, off, and the first of four seasons.
@@ -28,8 +28,9 @@ fn examples_of_reads()
         (has (of 84 fan) (enumerated 0) ∷ has (of 36 fan) (enumerated 0) ∷ has (of 81 fan) (0x10 ∷ [])
         ∷ has (of 111 fan) (0x82 ∷ 0x04 ∷ 0x00 ∷ []) ∷ []) }
 
-    // The device's own (12.11): its type (8), operational (0), vendor 260, protocol version 1 and revision 4, APDUs of
-    // up to 1476 octets, no segmentation (3), a timeout of 3000 milliseconds, 3 retries, and the database revision 1.
+    // The device's own properties (12.11): its type (8), operational (0), vendor 260, protocol version 1 and revision
+    // 4, APDUs of up to 1476 octets, no segmentation (3), a timeout of 3000 milliseconds, 3 retries, and the database
+    // revision 1.
     ensures fixed { Exchanges
         (has (of 79 own) (enumerated 8) ∷ has (of 112 own) (enumerated 0)
         ∷ has (of 120 own) (0x22 ∷ 0x01 ∷ 0x04 ∷ []) ∷ has (of 98 own) (unsigned 1) ∷ has (of 139 own) (unsigned 4)
@@ -37,7 +38,7 @@ fn examples_of_reads()
         ∷ has (of 11 own) (0x22 ∷ 0x0b ∷ 0xb8 ∷ []) ∷ has (of 73 own) (unsigned 3) ∷ has (of 155 own) (unsigned 1)
         ∷ []) }
 
-    // Asked as any device, it replies under its own instance.
+    // If the instance that stands for any device is asked for, the device replies with its own instance.
     ensures device { Exchanges
         ((read (of 75 any_device), is (of 75 own) (0xc4 ∷ 0x02 ∷ 0x00 ∷ 0x04 ∷ 0xd2 ∷ [])) ∷ []) }
 
@@ -50,7 +51,8 @@ fn examples_of_reads()
     ensures failures { Exchanges
         (has_no (of 85 nothing) 1 31 ∷ has_no (of 87 outdoor) 2 32 ∷ has_no (element_of 0 85 outdoor) 2 50 ∷ []) }
 
-    // Sixteen places are short enough for a requester that takes 50 octets, and a name of 36 octets is too long for it.
+    // Sixteen places are short enough for a requester that accepts 50 octets, and a name of 36 octets is too long for
+    // it.
     ensures size { Exchanges
         ((read_for_50 (of 87 valve), is (of 87 valve) (replicate 16 0x00)) ∷ (read_for_50 (of 77 long_named), aborted)
         ∷ []) }
@@ -67,12 +69,12 @@ fn examples_of_writes()
         ∷ makes (write_at 8 valve null) ∷ has (of 85 valve) twenty
         ∷ makes (write_at 16 valve null) ∷ has (of 85 valve) zero_real ∷ []) }
 
-    // On, and the third of four seasons.
+    // Binary and multi-state values: on, and the third of four seasons.
     ensures kinds { Exchanges
         (makes (write fan (enumerated 1)) ∷ has (of 85 fan) (enumerated 1)
         ∷ makes (write season (unsigned 3)) ∷ has (of 85 season) (unsigned 3) ∷ []) }
 
-    // Without a priority it is the last of the sixteen.
+    // A write without a priority goes to the last of the sixteen.
     ensures least_urgent { Exchanges
         (makes (write valve twenty) ∷ has (element_of 16 87 valve) twenty ∷ has (element_of 8 87 valve) null ∷ []) }
 
@@ -86,7 +88,7 @@ fn examples_of_writes()
 // Which replies fit a request, and which replies and writes the definitions allow.
 #[tactic(none)]
 fn examples_of_fitting()
-    // To a requester that takes 50 octets the reply has 50, or it is the Abort, and it goes back to the desk.
+    // A reply to a requester that accepts 50 octets has at most 50, or it is the Abort. It goes back to the desk.
     ensures fits { ReplyFits desk asked.datagram (desk, datagram 0x00 fifty) }
     ensures aborted { ReplyFits desk asked.datagram (desk, datagram 0x00 aborted) }
     ensures too_long { ReplyFits desk asked.datagram (desk, datagram 0x00 fifty_one) → ⊥ }
@@ -95,11 +97,11 @@ fn examples_of_fitting()
     ensures each_too_long { RepliesFit (asked ∷ []) (Some (desk, datagram 0x00 fifty_one) ∷ []) → ⊥ }
     ensures too_few { RepliesFit (asked ∷ []) [] → ⊥ }
 
-    // No write is to analog-output 1.
+    // Whether none of some writes is to analog-output 1.
     ensures none { NoneTo valve_id (twenty_at_8 other_id ∷ []) }
     ensures one { NoneTo valve_id (twenty_at_8 other_id ∷ twenty_at_8 valve_id ∷ []) → ⊥ }
 
-    // A device holds the writes that it has had, and no others.
+    // A device holds the writes that it has accepted, and no others. Without a datagram it neither replies nor changes.
     ensures held { Holds (after (twenty_at_8 valve_id ∷ [])) (twenty_at_8 valve_id ∷ []) }
     ensures not_held { Holds (after []) (twenty_at_8 valve_id ∷ []) → ⊥ }
     ensures in_turn { RepliesInTurn empty [] [] empty }
@@ -110,7 +112,7 @@ fn examples_of_fitting()
     ensures written { AreDefined empty [] [] [] (after []) → ⊥ }
 {}
 
-// What a device has and keeps, and what can be added to it.
+// The state of a device, and the points that can be added to it.
 #[tactic(none)]
 fn examples_of_devices()
     ensures points { points_of (after (twenty_at_8 valve_id ∷ [])) ≡ demo_points }
@@ -119,7 +121,7 @@ fn examples_of_devices()
     ensures room { device_room ≡ 32 }
     ensures longest { longest_name ≡ 64 }
 
-    // The most urgent value that is not NULL is present; if all are NULL, the one from the beginning.
+    // The most urgent value that is not NULL is present; if all are NULL, the starting value.
     ensures present { present_after demo_points (twenty_at_8 valve_id ∷ []) valve_id ≡ Some 0x41a00000 }
     ensures let_go { present_after demo_points (twenty_at_8 valve_id ∷ release_at_8 valve_id ∷ []) valve_id ≡ Some 0 }
     ensures no_point { present_after demo_points [] (record { kind = 1; instance = 99 }) ≡ None }

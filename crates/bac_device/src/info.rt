@@ -10,7 +10,7 @@ use bac_pdu::DEVICE;
 use bac_wire::ObjectId;
 use std::marker::Model;
 
-/// What a device is known by: the instance of its device object, and its name.
+/// The identity of a device: the instance of its device object, and its name.
 #[derive(Drop)]
 pub struct DeviceInfo {
     instance: u32,
@@ -29,8 +29,8 @@ impl Model for DeviceInfo {
 }
 
 impl DeviceInfo {
-    /// Returns the device of this instance and name. `None` if the instance is more than 4194302, or if the name has no
-    /// octet or more than 64.
+    /// Returns the identity with this instance and name. `None` if the instance is more than 4194302, or if the name
+    /// has no octet or more than 64.
     pub fn new(instance: u32, name: &str) -> Option<Self>
         ensures valid { IsSome result ↔ IsInfo (record { instance = instance; name = name.now }) }
         ensures value { IfSome result (λ info. info ≡ record { instance = instance; name = name.now }) }
@@ -49,7 +49,7 @@ impl DeviceInfo {
         ObjectId::new(DEVICE, self.instance).unwrap()
     }
 
-    /// Returns whether the object is the device: its own, or the one that stands for every device.
+    /// Returns whether the object is the device: with its own instance, or the one that stands for every device.
     pub(crate) fn is_object(&self, object: ObjectId) -> bool
         ensures { result ≡ is_device self.now (identifier object) }
     {

@@ -13,7 +13,7 @@ pub(crate) struct Kind {
     pub(crate) role: Role,
 }
 
-/// What the present value of a point is: a Real, one of two states, or one of several.
+/// The present value of a point: a Real, one of two states, or one of several.
 #[derive(Clone, Copy)]
 pub(crate) enum Family {
     Analog,
@@ -21,7 +21,7 @@ pub(crate) enum Family {
     MultiState,
 }
 
-/// What a point stands for: something measured, something driven, or a value that the device keeps.
+/// The purpose of a point: something measured, something driven, or a value that the device keeps.
 #[derive(Clone, Copy)]
 pub(crate) enum Role {
     Input,
@@ -30,7 +30,7 @@ pub(crate) enum Role {
 }
 
 impl Kind {
-    /// Returns the kind of this object type, if it is one of a point (clause 21, BACnetObjectType).
+    /// Returns the kind of this object type, if points can have it (clause 21, BACnetObjectType).
     #[tactic(auto, unfolding(crate::specs::kind_of))]
     pub(crate) fn from_number(number: u16) -> Option<Self>
         ensures { result ≡ spec.kind_of number }
@@ -50,7 +50,7 @@ impl Kind {
         Some(Kind { family, role })
     }
 
-    /// Returns whether `extra` is one that a point of this kind can have.
+    /// Returns whether a point of this kind can have this `extra`.
     pub(crate) fn allows_extra(self, extra: u32) -> bool
         ensures { result ≡ spec.allows_extra self.family self.role extra }
     {
@@ -64,7 +64,7 @@ impl Kind {
 }
 
 impl Family {
-    /// Returns the value that stands for what a place of a priority array holds.
+    /// Returns the value of a place of a priority array: NULL, or the value with this number.
     pub(crate) fn place_value(self, place: Option<u32>) -> Value<'static>
         ensures value { datum result ≡ spec.place_value self place }
         ensures sound { IsSound (datum result) }
@@ -75,7 +75,7 @@ impl Family {
         }
     }
 
-    /// Returns the value that stands for the number of a present value.
+    /// Returns the value with this number.
     pub(crate) fn value(self, number: u32) -> Value<'static>
         ensures value { datum result ≡ spec.value_of self number }
         ensures sound { IsSound (datum result) }
@@ -87,7 +87,7 @@ impl Family {
         }
     }
 
-    /// Returns what a value asks a place to hold. `None` if it is of another type.
+    /// Returns the number that a value puts in a place, or NULL. `None` if the value is of another type.
     pub(crate) fn place_in(self, value: &Value<'_>) -> Option<Option<u64>>
         ensures { result ≡ spec.place_in self (datum value.now) }
     {
@@ -97,7 +97,7 @@ impl Family {
         }
     }
 
-    /// Returns the number that a value stands for. `None` if it is of another type.
+    /// Returns the number of a value. `None` if it is of another type.
     pub(crate) fn number_in(self, value: &Value<'_>) -> Option<u64>
         ensures { result ≡ spec.number_in self (datum value.now) }
     {
@@ -131,7 +131,7 @@ impl Role {
     }
 }
 
-/// Returns the one value that the octets are.
+/// Returns the value in the octets, if they are exactly one value.
 #[tactic(auto, unfolding(crate::specs::one_value))]
 pub(crate) fn one_value(octets: &[u8]) -> Option<Value<'_>>
     ensures { option_map datum result ≡ spec.one_value octets.now }

@@ -10,8 +10,8 @@ ghost use Rattle.bac_device.specs.{Write, Info.Info};
 use crate::device::{AddFault, POINTS};
 use crate::point::{NAME_OCTETS, Point};
 
-/// Over any list of datagrams the replies of a device that replies to each in turn are those of the definition, and its
-/// places are those after the accepted writes.
+/// A device that replies to each datagram of a list in turn has the replies of the definition, and its places are those
+/// after the accepted writes.
 pub fn replies_in_turn()
     ensures { (device : DeviceState) (arrivals : List Arrival) (replies : List (Option (Station × List ℕ)))
         (after : DeviceState) (writes : List Write) → RepliesInTurn device arrivals replies after → Holds device writes
@@ -30,9 +30,9 @@ pub fn points_stay()
         → points_of (device_after info points writes) ≡ points }
 {}
 
-/// The APDU of each reply to a confirmed request has no more octets than its code announces, or is the Abort 71 id 04;
-/// that of an I-Am, to which no size is announced, has fifteen. So it is of all replies to any datagrams, one after the
-/// other: those of a server, and of a script.
+/// The APDU of each reply to a confirmed request has no more octets than the request's code announces, or is the Abort
+/// 71 id 04. An I-Am has fifteen octets; no size is announced for it. This holds for all replies to any list of
+/// datagrams, those of a server and of a script too.
 pub fn replies_fit()
     ensures fits { (device : DeviceState) (from : Station) (datagram : List ℕ)
         → ForSome (reply_of device from datagram) (ReplyFits from datagram) }
@@ -40,19 +40,19 @@ pub fn replies_fit()
         → RepliesFit arrivals (replies_to info points writes arrivals) }
 {}
 
-/// The limits that the code names are those of the definitions.
+/// The limits in the code are the limits in the definitions.
 pub fn limits()
     ensures points { POINTS ≡ device_room }
     ensures name { NAME_OCTETS ≡ longest_name }
 {}
 
-/// A clone is what it was cloned from, and needs no memory.
+/// A clone equals its original, and allocates no memory.
 pub fn clones<'a>()
     ensures fault { MakesCopies ⟦<AddFault as Clone>⟧.is_clone ⟦<AddFault as Clone>⟧.is_infallible }
     ensures point { MakesCopies ⟦<Point<'a> as Clone>⟧.is_clone ⟦<Point<'a> as Clone>⟧.is_infallible }
 {}
 
-/// `==` compares which of the four a fault is.
+/// `==` tells the four faults apart.
 pub fn equals()
     ensures fault { EqualsBy (λ fault. fault) ⟦<AddFault as PartialEq>⟧.eq }
 {}

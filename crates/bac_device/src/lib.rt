@@ -1,12 +1,12 @@
 //! A small BACnet device: commandable points, priority arrays and exact replies (ANSI/ASHRAE 135, clauses 12, 15 and
 //! 19.2).
 //!
-//! [`DeviceInfo::new`] says what the device is known by, [`Device::new`] makes it, and [`Device::add`] gives it points,
-//! each a [`Point`]; [`demo`] has eleven of them. [`Device::answer`] makes the reply to a datagram, if there is one,
-//! and makes the write that it accepts. [`Device::present`] and [`Device::place`] say what a point has.
-//! `specs/Reply.antt` says which reply comes: a function of the writes that were accepted before.
+//! [`DeviceInfo::new`] makes the identity of a device, [`Device::new`] makes the device, and [`Device::add`] adds
+//! points, each a [`Point`]; [`demo`] has eleven of them. [`Device::answer`] writes the reply to a datagram, if there
+//! is one, and makes the write that it accepts. [`Device::present`] and [`Device::place`] return values of a point.
+//! `specs/Reply.antt` defines each reply as a function of the writes that were accepted before.
 //!
-//! From `examples_of_writes` in `src/examples.rt`, which is proved: what is written to the demonstration device, and
+//! From `examples_of_writes` in `src/examples.rt`, which is proved: a value is written to the demonstration device, and
 //! read back.
 //!
 //! ```text
@@ -17,10 +17,10 @@
 //!     ∷ makes (write_at 16 valve null) ∷ has (of 85 valve) zero_real ∷ []) }
 //! ```
 //!
-//! The caller must keep to this: it sends what [`Device::answer`] leaves in the frame to the peer that it answers. No
-//! call has a condition.
+//! The caller must do one thing: send the datagram that [`Device::answer`] leaves in the frame to the peer that it
+//! returns. No call has a precondition.
 //!
-//! Calls, from `one_valve` of `bac_uses` (`src/device.rt`), which proves that none of them can fail:
+//! The calls of `one_valve` in `bac_uses` (`src/device.rt`), which proves that none of them can fail:
 //!
 //! ```rust
 //! let mut device = Device::new(DeviceInfo::new(1234, "Heating").unwrap());

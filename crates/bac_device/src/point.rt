@@ -18,18 +18,18 @@ use arrayvec::ArrayString;
 use bac_wire::{ObjectId, Value};
 use std::marker::Model;
 
-/// The octets that a name has at most.
+/// The octets of the longest name.
 pub const NAME_OCTETS: usize = 64;
 
-// The places of a priority array (clause 19.2).
+// The number of places of a priority array (clause 19.2).
 const PRIORITIES: usize = 16;
 
-/// A point that a device shall have: an object of type 0 to 5, 13, 14 or 19 (clause 12).
+/// A point to add to a device: an object of type 0 to 5, 13, 14 or 19 (clause 12).
 #[derive(Clone, Copy)]
 pub struct Point<'a> {
-    /// Its type and its instance; the instance is less than 4194303.
+    /// The object type and the instance, which is less than 4194303.
     pub id: ObjectId,
-    /// One to 64 octets.
+    /// The name, of one to 64 octets.
     pub name: &'a str,
     /// The present value of an input, and the relinquish default of an output or a value. For an analog point the four
     /// octets of a Real as a number; for a binary one 0 or 1; for a multi-state one a state, from 1.
@@ -132,7 +132,7 @@ impl StandingPoint {
         self.kind.role.is_commandable()
     }
 
-    /// Returns what the place of this priority holds. `None` if the point has no such place.
+    /// Returns the value in the place of this priority. `None` if the point has no such place.
     #[tactic(auto, unfolding(crate::specs::place_at))]
     pub(crate) fn place(&self, priority: u8) -> Option<Option<u32>>
         ensures { result ≡ place_at self.now priority }
@@ -143,8 +143,8 @@ impl StandingPoint {
         self.places.get(usize::from(priority) - 1).copied()
     }
 
-    /// Returns what the octets of a value ask a place to hold. They have to be one value, of the type of the point and
-    /// in its range, or NULL.
+    /// Returns the number that the octets put in a place of the point, or NULL. The octets must be one value, which is
+    /// NULL or of the point's type and in its range.
     #[tactic(auto, unfolding(crate::specs::written_value))]
     pub(crate) fn value_in(&self, octets: &[u8]) -> Result<Option<u32>, Failure>
         ensures { result ≡ written_value self.now.point octets.now }

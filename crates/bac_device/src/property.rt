@@ -1,4 +1,4 @@
-//! A property's values, one of them by its index, and their octets.
+//! The values of a property, their choice by an index, and their octets.
 
 ghost use Rattle.std.specs.Prelude.{IfOk, IfSome, length, map, OnErr, OnOk, option_map, slice_get, ◌++◌, ◌+◌, ◌<◌, ◌∷◌};
 ghost use Rattle.std.specs.Prelude.{◌≡◌};
@@ -25,7 +25,8 @@ pub(crate) enum Property<'a> {
 }
 
 impl<'a> Property<'a> {
-    /// Returns what an index chooses: without one all, with 0 the number of elements, else the element, counted from 1.
+    /// Returns the part of a property that an index selects: without an index all values, at 0 the number of elements,
+    /// otherwise the element, counted from 1.
     #[tactic(auto, unfolding(crate::specs::element))]
     pub(crate) fn element(self, index: Option<u32>) -> Result<Property<'a>, Failure>
         requires { IsSoundProperty self }
@@ -81,8 +82,8 @@ impl<'a> Property<'a> {
     }
 }
 
-/// Appends the octets of the values, one after the other. It is `Full` only if there is no room for them; some of them
-/// may then have been appended.
+/// Appends the octets of the values, one after the other. Returns `Full` only if there is no room for them; some of
+/// them may then have been appended.
 pub(crate) fn append_region(frame: &mut Frame, property: &Property<'_>) -> Result<(), Full>
     requires { IsSoundProperty property.now }
     ensures ok { OnOk result (frame.new ≡ frame.old ++ region_octets (property_seen property.now)) }

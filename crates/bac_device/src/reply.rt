@@ -21,12 +21,12 @@ use bac_pdu::{
 };
 use bac_wire::{Frame, Full, ObjectId, Work};
 
-// The abort reason of what would have to be sent or taken in segments (clause 18.10).
+// The abort reason if a message would need segments (clause 18.10).
 const SEGMENTATION_NOT_SUPPORTED: u8 = 4;
 
 // A confirmed request.
 #[derive(Clone, Copy)]
-struct Request<'a> {
+struct ConfirmedRequest<'a> {
     part: Option<Part>,
     code: u8,
     id: u8,
@@ -35,13 +35,13 @@ struct Request<'a> {
 }
 
 impl Device {
-    /// Replies to a datagram that came from this peer: writes the reply's datagram into the frame, and returns its
-    /// receiver. None, with an empty frame, if the device is silent. A write that the datagram orders is made if the
+    /// Replies to a datagram from this peer: writes the reply's datagram into the frame, and returns its receiver.
+    /// Returns None, and empties the frame, if the device is silent. A write that the datagram orders is made if the
     /// device accepts it.
     ///
-    /// There is a reply to a Who-Is that asks for the device, and to a confirmed request that was not sent to all. An
-    /// APDU of more octets than the requester announced becomes an Abort. That of an I-Am has fifteen octets. In walks
-    /// over regions at most two tags are read for each octet of the datagram.
+    /// There is a reply to a Who-Is that asks for the device, and to a confirmed request that was not sent to all. A
+    /// reply longer than the requester announced becomes an Abort. An I-Am has fifteen octets. At most two tags are
+    /// read for each octet of the datagram.
     #[tactic(auto, using(crate::proofs::reply_held, crate::proofs::after_held))]
     pub fn answer(
         &mut self,
@@ -119,7 +119,7 @@ impl Device {
                 service,
                 body,
             } if !broadcast => {
-                let request = Request {
+                let request = ConfirmedRequest {
                     part,
                     code,
                     id,
@@ -138,7 +138,7 @@ impl Device {
     }
 
     // Appends the reply to a request, of at most the octets that its code announces, to an empty frame.
-    fn fitting_reply(&mut self, request: &Request<'_>, frame: &mut Frame, work: &mut Work)
+    fn fitting_reply(&mut self, request: &ConfirmedRequest<'_>, frame: &mut Frame, work: &mut Work)
         requires { frame.old ≡ [] }
         ensures reply { frame.new
             ≡ laid_out (spec.fitting request.now.code request.now.id (whole_reply self.old request.now)) }
@@ -156,7 +156,7 @@ impl Device {
     #[tactic(auto, unfolding(crate::specs::full_reply, crate::specs::Inner::write_in_request))]
     fn full_reply(
         &mut self,
-        request: &Request<'_>,
+        request: &ConfirmedRequest<'_>,
         frame: &mut Frame,
         work: &mut Work,
     ) -> Result<(), Full>
@@ -166,7 +166,7 @@ impl Device {
         ensures after { self.new ≡ spec.with_write self.old (ordered_write self.old request.now) }
         ensures walked_once { work.new.tags ≤ work.old.tags + 2 * length request.now.body.now }
     {
-        let Request { id, body, .. } = *request;
+        let ConfirmedRequest { id, body, .. } = *request;
         if request.part.is_some() {
             make_abort(id, frame);
             return Ok(());
@@ -229,7 +229,7 @@ impl Device {
         }
     }
 
-    // Returns the property that a request asks for, or the element of it.
+    // Returns the property, or the element of it, that a request asks for.
     #[tactic(auto, unfolding(crate::specs::read_property))]
     fn read_property(&self, request: &ReadRequest) -> Result<Property<'_>, Failure>
         ensures value { result_seen property_seen result ≡ read_property self.now (reference request.now) }
@@ -260,7 +260,7 @@ impl Device {
             property: request.property,
             index: request.index,
         };
-        // The body is put after it.
+        // The body is written after it.
         write_apdu(
             frame,
             &Apdu::ComplexAck {
@@ -275,7 +275,7 @@ impl Device {
         end_ack(frame)
     }
 
-    // Returns the object that a reply names: the device under its own instance.
+    // Returns the object in a reply: for the device, its own instance.
     fn object_in_reply(&self, object: ObjectId) -> ObjectId
         ensures { identifier result ≡ spec.object_in_reply self.now.info (identifier object) }
     {
@@ -314,7 +314,7 @@ fn i_am(info: &DeviceInfo, frame: &mut Frame) -> Result<(), Full>
         segmentation: NO_SEGMENTATION,
         vendor: VENDOR,
     };
-    // The body is put after it.
+    // The body is written after it.
     write_apdu(
         frame,
         &Apdu::Unconfirmed {
@@ -348,7 +348,7 @@ fn append_error(id: u8, service: u8, failure: Failure, frame: &mut Frame) -> Res
     ensures full { OnErr result
         (frame_room < length (laid_out (error id service (error_octets (error_class failure) (error_code failure))))) }
 {
-    // The body is put after it.
+    // The body is written after it.
     write_apdu(
         frame,
         &Apdu::Error {
@@ -360,7 +360,7 @@ fn append_error(id: u8, service: u8, failure: Failure, frame: &mut Frame) -> Res
     write_error(frame, failure.class(), failure.code())
 }
 
-// Makes the frame the Abort of what would have to come in segments.
+// Clears the frame and writes the Abort for a message that would need segments.
 fn make_abort(id: u8, frame: &mut Frame)
     ensures { frame.new ≡ laid_out (spec.refused id) }
 {

@@ -8,9 +8,9 @@ use bac_wire::ObjectId;
 #[derive(Clone, Copy)]
 pub(crate) struct PlaceWrite {
     pub(crate) object: ObjectId,
-    /// 1 to 16, where 1 is the most urgent.
+    /// The priority, 1 to 16; 1 is the most urgent.
     pub(crate) priority: u8,
-    /// None is NULL.
+    /// The value; None is NULL.
     pub(crate) value: Option<u32>,
     ghost least: { 1 ≤ priority },
     ghost most: { priority ≤ 16 },

@@ -1,4 +1,4 @@
--- Whole calls: two that are answered alike, one whose waits are prompt, and one that heard nothing.
+-- Whole calls: two that are answered alike, one whose waits are prompt, and one that received nothing.
 use Rattle.std.proofs.Common.{[], ap, append-nil, arith, Err, inl, inr, length, List, max, None, Ok, Option, refl}
 use Rattle.std.proofs.Common.{Result, Some, subst, suc, sym, take_all, ℕ, ◌*◌, ◌++◌, ◌+◌, ◌<◌, ◌∙◌, ◌∷◌, ◌≡◌, ◌≢◌, ◌≤◌}
 use Rattle.std.{proofs.lemmas.{Bool.cases_lt, Grind.common_steps, List.take-append-le}, specs.List.last_or}
@@ -21,7 +21,7 @@ module _ (purpose : Purpose) (call : Call) where
   line_of (Ok ending) = ending_line purpose ending
   line_of (Err fault) = []
 
-  -- What a call comes to, what it answers, and what it prints.
+  -- The result of a call's moves, its answer, and its text.
   module _ {Origin W : Type 0} (contents : W → Option (List ℕ)) (before after : Checked W)
       (seen left : Account Origin) where
     pub record Went (result : Result Exit ToolFault) : Type 0 where
@@ -77,7 +77,7 @@ module _ (purpose : Purpose) (call : Call) where
 all_by : (events : List Event) (j : ℕ) → length events ≤ j → clock events j ≡ greatest_tick events
 all_by _ j le = ap greatest_tick (take_all j _ le)
 
--- If no event moves the clock by more than d, further events that do not are added.
+-- If no event moves the clock by more than d, events of this kind can be added.
 steady_more : (d : ℕ) (first next : List Event) → ((j : ℕ) → 1 < j → clock first (suc j) ≤ clock first j + d) →
     greatest_tick (first ++ next) ≤ greatest_tick first + d → (j : ℕ) → 1 < j
     → clock (first ++ next) (suc j) ≤ clock (first ++ next) j + d
@@ -101,9 +101,9 @@ greatest_tick-append [] _ = omega arith
 greatest_tick-append (Tick now ∷ first) next = grind (arith, greatest_tick-append first next)
 greatest_tick-append (_ ∷ first) next = greatest_tick-append first next
 
--- ---- a send and a wait are asked for while the request is open
+-- ---- sends and waits are made only while the request is open
 
--- After these entries the time was told since the last wait.
+-- After these entries the time was read since the last wait.
 abbrev IsTimely : Entry → Type 0
 IsTimely (Timed time) = Unit {0}
 IsTimely (Posted to octets) = Unit {0}
@@ -113,7 +113,7 @@ module _ (purpose : Purpose) (call : Call) where
   abbrev IsOpen : List Entry → Type 0
   IsOpen gained = end_in purpose call (events_of purpose call gained) ≡ None
 
-  -- Everything except the time is asked after the time, of a call whose request is open.
+  -- A call with its request open makes sends and waits only after the time was read.
   record IsReady (gained : List Entry) (last : Entry) : Type 0 where
     timely : IsTimely last
     unended : IsOpen gained
@@ -135,7 +135,7 @@ module _ (purpose : Purpose) (call : Call) where
     abbrev bound : ℕ
     bound = first + suc call.retries * (call.timeout + longest)
 
-    -- None of these events moves the clock by more than so much; and this time was given.
+    -- No event moves the clock by more than `longest`, and the clock has reached this time.
     record IsSteady (all : List Event) (now : ℕ) : Type 0 where
       steady : (j : ℕ) → 1 < j → clock all (suc j) ≤ clock all j + longest
       reached : now ≤ greatest_tick all
@@ -163,8 +163,7 @@ module _ (purpose : Purpose) (call : Call) where
         (never_due (rules_for call) all (asked purpose call) (grind (arith, still))) in
         omega (arith, is.reached, all_by all (length all) (omega arith), soon)
 
-    -- The facts about the clock after these entries, the last of which is this one, and n waits; `now` was the last
-    -- time.
+    -- The facts about the clock after these entries, the last of which is `last`, and n waits; `now` was the last time.
     record IsAt (before : List Entry) (last : Entry) (n now : ℕ) : Type 0 where
       came_last : last_or (Some (Timed first)) before ≡ Some last
       steady : IsSteady (events before) now
@@ -176,7 +175,7 @@ module _ (purpose : Purpose) (call : Call) where
     abbrev Goes : List Entry → List Entry → Type 0
     Goes before rest = Follows (move purpose call) (Timed first ∷ before) rest
 
-    -- After a send nothing else has changed.
+    -- A send changes nothing else.
     at_send : (before : List Entry) (last x : Entry) (n now : ℕ) → IsAt before last n now → handed_of x ≡ []
         → (question_of x ≡ ForTime → ⊥) → next_move (move purpose call) (Timed first ∷ before) ≡ Asks (question_of x)
         → IsAt (before ++ x ∷ []) x n now

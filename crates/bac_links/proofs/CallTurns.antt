@@ -1,4 +1,4 @@
--- Tools that ask by their moves, and are answered alike, ask alike; and a call, turn by turn.
+-- Tools that follow their moves, and are answered alike, ask alike; and a call, turn by turn.
 use Rattle.std.proofs.Common.{[], All, ap, append-nil, append_assoc, arith, Err, false, flat_map, IfErr, IfOk, inl, inr}
 use Rattle.std.proofs.Common.{length, List, nat_lt, None, Ok, Option, refl, Result, slice_get, Some, subst, suc, sym}
 use Rattle.std.proofs.{Common.{true, zero, ℕ, ◌++◌, ◌+◌, ◌<◌, ◌∙◌, ◌∷◌, ◌≡◌, ◌≢◌, ◌≤◌, ◌⊎◌}, lemmas.Bool.cases_Bool}
@@ -35,7 +35,7 @@ gains_both = grind (arith, append_assoc)
 pub gains_none : {Origin : Type 0} (a : Account Origin) → GainsAll [] a a
 gains_none a = sym (ap (with_history a) (append-nil a.history))
 
--- ---- tools that ask by their moves, and are answered alike, ask alike
+-- ---- tools that follow their moves, and are answered alike, ask alike
 
 pub last_push : {A : Type 0} (o : Option A) (xs : List A) (x : A) → last_or o (xs ++ x ∷ []) ≡ Some x
 last_push o [] x = refl
@@ -76,7 +76,7 @@ module _ {R : Type 0} (move : List Entry → Option Entry → Move R) where
   follows_push _ (y ∷ xs) x (asks, later) due =
       (asks, follows_push _ xs x later (ap (next_move move) (append_assoc _ _ xs) ∙ due))
 
-  -- What holds at first, and after each entry more that follows, holds after all that follow.
+  -- A property that holds at first, and is kept by each further entry, holds after all entries.
   pub followed : (P : List Entry → Type 0)
       → ((xs : List Entry) (x : Entry) → Follows move [] xs → next_move move xs ≡ Asks (question_of x) → P xs
       → P (xs ++ x ∷ [])) → P [] → (xs : List Entry) → Follows move [] xs → P xs
@@ -94,7 +94,7 @@ module _ {R : Type 0} (move : List Entry → Option Entry → Move R) where
   follows_behind before (x ∷ xs) ys (_, later) =
       grind (arith, append_assoc, follows_behind (before ++ x ∷ []) xs ys later)
 
-  -- As far as they were answered alike they asked alike.
+  -- As far as two tools were answered alike, they asked alike.
   pub same_so_far : (before first other rest other_rest : List Entry) → Follows move before (first ++ rest)
       → Follows move before (other ++ other_rest) → answers_of first ≡ answers_of other → first ≡ other
   same_so_far _ [] [] _ _ p q e = refl
@@ -103,7 +103,7 @@ module _ {R : Type 0} (move : List Entry → Option Entry → Move R) where
   same_so_far _ [] (y ∷ other) _ _ p q e = cc
   same_so_far _ (x ∷ first) [] _ _ p q e = cc
 
-  -- And so they go on.
+  -- Then they go on alike.
   module _ {A : Type 0} (IsCutOff : A → Type 0) (EndAlike PrintAlike : A → A → Type 0)
       (first rest other_rest : List Entry) (r s : A)
       (cut : rest ≡ [] → (x : Entry) → next_move move first ≡ Asks (question_of x) → IsCutOff r × PrintAlike r s)
@@ -118,13 +118,13 @@ module _ {R : Type 0} (move : List Entry → Option Entry → Move R) where
         → Follows move [] (other ++ other_rest) → GoOnAlike IsCutOff EndAlike PrintAlike r s rest other_rest
     so_far = grind (arith, go_on, follows_behind)
 
--- The entries that were gained, by the present history.
+-- The entries that were gained, from the present history.
 pub played : {Origin R : Type 0} {move : List Entry → Option Entry → Move R} {seen left : Account Origin} {result : R}
     {gained : List Entry} (plays : Plays move seen left result) → left.history ≡ seen.history ++ gained
     → plays.gained ≡ gained
 played = grind (arith, append_cancel_left)
 
--- So these entries were asked by the moves that were due, and after them it is over.
+-- These entries answer the moves that were due, and after them the tool is over.
 pub record PlaysAll {R : Type 0} (move : List Entry → Option Entry → Move R) (gained : List Entry) (result : R) : Type 0
   where
     pub follows : Follows move [] gained
@@ -135,7 +135,7 @@ pub plays_all : {Origin R : Type 0} {move : List Entry → Option Entry → Move
     → PlaysAll move gained result
 plays_all plays gains = rw (← played plays gains) (record { follows = plays.follows; over = plays.over })
 
--- Two that play to their ends: they stop together.
+-- Two tools that follow their moves to their ends stop together.
 module _ {Origin Other R A : Type 0} {move : List Entry → Option Entry → Move R} (EndAlike PrintAlike : A → A → Type 0)
     {seen left : Account Origin} {other_seen other_left : Account Other} {c d : R} (r s : A)
     (plays : Plays move seen left c) (others : Plays move other_seen other_left d)
@@ -163,7 +163,7 @@ slice_get-last (x ∷ events) event = slice_get-last events event
 
 module _ (rules : Rules) (by_invoke_id : AnswersByInvokeId rules) (small : rules.most_open ≤ 255) (events : List Event)
     (event : Event) where
-  -- The state before the last event does not rest on it.
+  -- The state before the last event does not depend on it.
   state_before : state_at rules 0 (events ++ event ∷ []) (length events) ≡ state_at rules 0 events (length events)
   state_before =
       let first = run_first rules 0 _ by_invoke_id small (length events)
@@ -173,7 +173,7 @@ module _ (rules : Rules) (by_invoke_id : AnswersByInvokeId rules) (small : rules
       ∙ ap (λ xs. (folded rules (initial 0) 0 xs).after) (take-append_seam events (event ∷ []))
       ∙ ap (λ r. r.after) whole
 
-  -- The step of the last event gives the notes that the look-ahead says, and leaves the state that it says.
+  -- The step of the last event gives the notes and the state of the look-ahead.
   last_step : step rules (state_at rules 0 events (length events)) event ≡ record {
     notes = output rules 0 (events ++ event ∷ []) (length events);
     after = state_at rules 0 (events ++ event ∷ []) (suc (length events));
@@ -200,7 +200,7 @@ module _ (purpose : Purpose) (call : Call) (time : ℕ) where
   fitting : length call.body.items ≤ longest_body → nat_lt longest_body (length call.body.items) ≡ false
   fitting = grind (arith, nat_tests)
 
-  -- The request is accepted, and no other is asked for.
+  -- The request is accepted, and no other is made.
   accepted_is : (later : List Event) → length call.body.items ≤ longest_body → All AsksNothing later → (j : ℕ) →
       accepted (rules_for call) 0 (begun_at purpose call time later) (suc (suc j)) ≡ asked purpose call ∷ []
   unfolding refusal_of next_invoke_id
@@ -230,17 +230,17 @@ ends_placed : (rules : Rules) (events : List Event) (i : ℕ) (a : Accepted)
     → endings (placed rules events i a) ≡ endings (end_notes i a.request (end rules events a))
 ends_placed _ _ i a = grind arith
 
--- The sends and the ends that are told at position i are those that are placed there.
+-- The sends and the ends in the notes at position i are those that the look-ahead places there.
 record TellsPlaced (rules : Rules) (events : List Event) (a : Accepted) (i : ℕ) : Type 0 where
   sends : posts (output rules 0 events i) ≡ posts (send_notes rules events i a)
   ends : endings (output rules 0 events i) ≡ endings (end_notes i a.request (end rules events a))
 
--- A reading of notes that reads nothing of a dropped datagram.
+-- A function of notes that ignores a dropped datagram.
 module _ {X : Type 0} (read : Note → List X) (silent : read Dropped ≡ []) where
   dropped : (notes : List Note) → flat_map read (or_dropped notes) ≡ flat_map read notes
   dropped = grind (arith, silent)
 
-  -- If one request was accepted before, the notes of a later event are those that are placed there.
+  -- If one request was accepted before, the notes on a later event are those of that request at its position.
   news_told : (rules : Rules) (events : List Event) (i : ℕ) (a : Accepted) → accepted rules 0 events i ≡ a ∷ []
       → (a.position ≡ i → ⊥) →
       (event : Event) → AsksNothing event → slice_get events i ≡ Some event
@@ -289,7 +289,7 @@ module _ (purpose : Purpose) (call : Call) (time : ℕ) (later : List Event)
         ends = told_at ending_in refl i event here ∙ ends_placed (rules_for call) all i (asked purpose call);
       }
 
-  -- The request ends among the events.
+  -- If the request has an end, the end is within the events.
   end_within : (x : End) → end_in purpose call all ≡ Some x → x.position < length all
   end_within x e = elim (cases_lt x.position (length all)) [
     | inl within ↦ within
@@ -298,7 +298,7 @@ module _ (purpose : Purpose) (call : Call) (time : ℕ) (later : List Event)
         absurd (not_silent (asked purpose call).request _ x e (ap endings none))
   ]
 
--- One more event.
+-- The facts about one more event.
 module _ (purpose : Purpose) (call : Call) (time : ℕ) (later : List Event)
     (short : length call.body.items ≤ longest_body)
     (quiet : All AsksNothing later) (event : Event) (news : AsksNothing event) where
@@ -326,7 +326,7 @@ module _ (purpose : Purpose) (call : Call) (time : ℕ) (later : List Event)
       sym (told purpose call time (later ++ event ∷ []) short quiet_after i (omega (arith, longer))).ends
       ∙ ap endings (same_output i within) ∙ (told purpose call time later short quiet i within).ends
 
-  -- The client's step makes of the event what the look-ahead says of it.
+  -- The client's step at the event is that of the look-ahead.
   step_is : step (rules_for call) (state_at (rules_for call) 0 before (length before)) event ≡ record {
     notes = output (rules_for call) 0 after (length before);
     after = state_at (rules_for call) 0 after (length after);
@@ -338,7 +338,7 @@ module _ (purpose : Purpose) (call : Call) (time : ℕ) (later : List Event)
   told_last : TellsPlaced (rules_for call) after (asked purpose call) (length before)
   told_last = told purpose call time (later ++ event ∷ []) short quiet_after (length before) (omega (arith, longer))
 
-  -- An end that comes with the event is placed there.
+  -- An end that comes with the event is at its position.
   end_is_last : end_in purpose call before ≡ None → (x : End) → end_in purpose call after ≡ Some x
       → x.position ≡ length before
   end_is_last unended x e = elim (cases_eq x.position (length before)) [
@@ -370,7 +370,7 @@ module _ {purpose : Purpose} {call : Call} {time : ℕ} {later : List Event} {cl
   told_next : TellsPlaced (rules_for call) next (asked purpose call) (length begun_so_far)
   told_next = search (arith, told_last)
 
-  -- What it sends is what is sent at the event.
+  -- The sends of the step are those of the request at the event.
   pub sends_next : sent_last purpose call next ≡ posts stepped_now.notes
   sends_next = grind (arith, length_push, handed_is, told_next)
 
@@ -390,7 +390,7 @@ module _ {purpose : Purpose} {call : Call} {time : ℕ} {later : List Event} {cl
     client_is = grind (arith, far.client_is, handed_is);
   }
 
-  -- An end is the request's.
+  -- An end in the notes is the end of the request.
   pub ends_next : (o : Option Outcome) → endings stepped_now.notes ≡ o ∷ []
       → end_in purpose call next ≡ Some (record { position = length begun_so_far; outcome = o })
   ends_next o one = grind (arith, nat_tests, sym ends_told ∙ one)
@@ -449,7 +449,7 @@ unsent_at_end : (rules : Rules) (state : State) (now : ℕ) → IsAlone state �
     endings (step rules state (Tick now)).notes ≡ None ∷ [] → posts (step rules state (Tick now)).notes ≡ []
 unsent_at_end = grind (arith, cases_Bool)
 
--- At most one thing is sent at a time.
+-- At most one send is made at a time.
 abbrev OneOrNone : List Entry → Type 0
 OneOrNone xs = (xs ≡ []) ⊎ ((to : Station) × (octets : List ℕ) × (xs ≡ Posted to octets ∷ []))
 
@@ -457,7 +457,7 @@ one_or_none : (rules : Rules) (events : List Event) (i : ℕ) (a : Accepted)
     → OneOrNone (posts (send_notes rules events i a))
 one_or_none = grind (arith, cases_Bool)
 
--- ---- what was handed
+-- ---- the events of the client
 
 pub handed_push : (more : List Entry) (x : Entry) → handed (more ++ x ∷ []) ≡ handed more ++ handed_of x
 handed_push = grind (arith, flat_map-append, append-nil)
@@ -471,7 +471,7 @@ quiet_handed (Timed time ∷ more) = All-cons AsksNothing _ _ tt (quiet_handed m
 quiet_handed (Posted to octets ∷ more) = quiet_handed more
 quiet_handed (Unposted to octets ∷ more) = quiet_handed more
 
--- ---- one more entry that the client is handed
+-- ---- one more entry that has an event
 
 module _ {purpose : Purpose} {call : Call} {time : ℕ} (more : List Entry) {client : Client}
     (far : CarriesOn purpose call time (handed more) client) where
@@ -498,7 +498,7 @@ module _ {purpose : Purpose} {call : Call} {time : ℕ} (more : List Entry) {cli
         subst (λ (later : List Event). CarriesOn purpose call time later left) pushed
         (carries_on far event news none left e)
 
-  -- And one that it is not handed.
+  -- An entry without an event changes nothing for the client.
   same_so : (x : Entry) → handed_of x ≡ [] → CarriesOn purpose call time (handed (more ++ x ∷ [])) client
   same_so = grind (arith, handed_push, append-nil)
 
@@ -524,7 +524,7 @@ module _ {purpose : Purpose} {call : Call} {time : ℕ} (more : List Entry) {cli
 -- ---- the next move
 
 module _ (purpose : Purpose) (call : Call) where
-  -- The move after one more entry.
+  -- The move after one more entry is `next`.
   abbrev Behind : List Entry → Entry → Move Comes → Type 0
   Behind gained x next = next_move (move purpose call) (gained ++ x ∷ []) ≡ next
 
@@ -537,14 +537,14 @@ module _ (purpose : Purpose) (call : Call) where
       ≡ or_ended (end_in purpose call (events_of purpose call (gained ++ Waited wait heard ∷ []))) (Asks ForTime)
   behind_wait = grind (arith, behind)
 
-  -- After a time the request is sent where it is due, if it has not ended.
+  -- After a time the request is sent if it is due, unless it has ended.
   behind_now : (gained : List Entry) (now : ℕ) → next_move (move purpose call) (gained ++ Timed now ∷ [])
       ≡ or_ended (end_in purpose call (events_of purpose call (gained ++ Timed now ∷ [])))
       (or_sent (sent_last purpose call (events_of purpose call (gained ++ Timed now ∷ [])))
       (turn_after (wait_of call) (waits_in (gained ++ Timed now ∷ []))))
   behind_now = grind (arith, behind)
 
-  -- If it stays open, a turn begins then.
+  -- If the request stays open, a turn begins after the time.
   behind_time : (gained : List Entry) (now : ℕ)
       → end_in purpose call (events_of purpose call (gained ++ Timed now ∷ [])) ≡ None →
       next_move (move purpose call) (gained ++ Timed now ∷ [])
@@ -632,7 +632,7 @@ module _ {Origin : Type 0} {purpose : Purpose} {call : Call} {seen mid next : Ac
       failure
       ∙ behind purpose call (Timed far.time ∷ far.more) (Waited (wait_of call) Failure))
 
--- The wait ends nothing.
+-- The wait does not end the request.
 module _ {Origin : Type 0} {purpose : Purpose} {call : Call} {seen mid next : Account Origin} {client middle : Client}
     {n : ℕ} (within : n < most_turns) (far : Underway purpose call seen mid client n)
     (hears : Hears (wait_of call) client middle None mid next) where
@@ -684,7 +684,7 @@ module _ {Origin : Type 0} {purpose : Purpose} {call : Call} {seen mid next : Ac
       goes_on (timed now) (carried_then now ticks.ends _ ticks.handed) (follows_timed now) _ (next_then now ticks.ends)
       (turned now) (grind (arith, due_is now, one_or_none)) (gains_timed now _ ticks.gains)
 
-  -- The time runs out.
+  -- The request ends by a timeout.
   pub timed_out : {last : Account Origin} {after : Client} → Ticks middle after true next last
       → Plays (move purpose call) seen last (Ok None)
   timed_out ticks = let now = ticks.time in record {
@@ -706,7 +706,7 @@ module _ {Origin : Type 0} {purpose : Purpose} {call : Call} {seen mid next : Ac
 
 -- ---- the beginning
 
--- A call begins with its request sent, or with one that could not be sent.
+-- A call begins with its request sent, or with a request that could not be sent.
 module _ (purpose : Purpose) (call : Call) (time : ℕ) (short : length call.body.items ≤ longest_body)
     {client : Client} (client_is : client ≡ record {
       timeout = call.timeout;
@@ -734,19 +734,19 @@ module _ (purpose : Purpose) (call : Call) (time : ℕ) (short : length call.bod
 
 -- ---- the end
 
--- All turns went by.
+-- All turns are spent.
 pub spent : {Origin : Type 0} {purpose : Purpose} {call : Call} {seen left : Account Origin} {client : Client} (n : ℕ)
     → n ≡ most_turns → Underway purpose call seen left client n → Plays (move purpose call) seen left (Err TurnsSpent)
 spent = grind (arith, turns_over)
 
 module _ {Origin W : Type 0} (purpose : Purpose) (call : Call) (contents : W → Option (List ℕ))
     (before after : Checked W) {seen left : Account Origin} where
-  -- A call that fails so tells it.
+  -- A call that meets this fault reports it.
   pub fails_so : (fault : ToolFault) → fault ≢ WriteFailed → after ≡ before
       → Plays (move purpose call) seen left (Err fault) → Tells purpose call contents before after seen left (Err fault)
   fails_so = grind arith
 
-  -- The text of an end is what the call prints.
+  -- The call prints the text of the request's end.
   pub shown_so : (ending : Option Outcome) (result : Result Exit ToolFault)
       → TookOrFailed contents before after (ending_line purpose ending) result →
       IfOk result (λ exit. exit ≡ exit_of purpose ending) → IfErr result (λ fault. fault ≡ WriteFailed) →

@@ -1,20 +1,22 @@
--- What a link is asked, over a socket and in memory.
+-- The calls of a link, over a socket and in memory.
 use Rattle.std.proofs.Common.{[], ap, append-nil, append_assoc, arith, Bool, drop, Err, false, is_err, is_ok, length}
-use Rattle.std.proofs.Common.{List, max, min, None, Ok, OnErr, OnOk, Option, option_to_list, refl, Result, slice_get}
+use Rattle.std.proofs.Common.{List, min, None, Ok, OnErr, OnOk, Option, option_to_list, refl, Result, slice_get}
 use Rattle.std.proofs.Common.{Some, subst, suc, sym, unwrap_or, zero, ℕ, ◌++◌, ◌+◌, ◌-◌, ◌<◌, ◌^◌, ◌∙◌, ◌∷◌, ◌≡◌, ◌≤◌}
 use Rattle.std.proofs.{lemmas.Option.{none-some, slice_get_within}, Math.{Logic.∥∥₁_elim, Seq.drop-nil}}
 use Rattle.std.specs.Coded.{code_by, Coded, Coded-set, coded_list, coded_option, coded_ℕ, coded×, Unit-prop, ×_prop}
 use Rattle.bac_pdu.specs.{NetworkAddress, Station}
-use Rattle.bac_links.specs.{AreCallsFor, ArePlayed, Arrived, at_first, behind, behind_all, behind_wait, CallsFor, Entry}
-use Rattle.bac_links.specs.{Failure, Heard, heard_next, IsPlayed, Logs, Posted, posted, Scene, Sending, sending_in}
-use Rattle.bac_links.specs.{sendings, Sends, Silence, time_behind, time_behind_all, Timed, Times, ToPlay, Unposted}
-use Rattle.bac_links.specs.{Waited, Waits, waits_behind, waits_behind_all, declared.udp.OnRefusal.OnRefusal}
+use Rattle.bac_links.specs.{AreCallsFor, ArePlayed, Arrived, at_first, behind, behind_all, behind_wait, CallsFor}
+use Rattle.bac_links.specs.{endless, Ends, Entry, Failure, Heard, heard_next, IsPlayed, Logs, Looks, patience_after}
+use Rattle.bac_links.specs.{patience_for, Posted, posted, Scene, Sending, sending_in, sendings, Sends, Silence}
+use Rattle.bac_links.specs.{time_behind, Timed, Times, ToPlay, Unposted, Waited, Waits}
+use Rattle.bac_links.specs.{Keeps.{patience_after_all, time_behind_all}, Inner.{HasLooked, ReceivesOnce}}
+use Rattle.bac_links.specs.{declared.udp.{OnRefusal.OnRefusal, Patience.Patience}}
 use Rattle.bac_links.specs.{HasPlayed.HasPlayed, Keeps.Keeps, SystemCall.SystemCall}
 
-waits_more : (waits : ℕ) (xs : List Entry) (x : Entry)
-    → waits_behind_all waits (xs ++ x ∷ []) ≡ waits_behind (waits_behind_all waits xs) x
-waits_more _ [] x = refl
-waits_more waits (y ∷ xs) x = waits_more (waits_behind waits y) xs x
+patience_more : (patience : Patience) (xs : List Entry) (x : Entry)
+    → patience_after_all patience (xs ++ x ∷ []) ≡ patience_after (patience_after_all patience xs) x
+patience_more _ [] x = refl
+patience_more patience (y ∷ xs) x = patience_more (patience_after patience y) xs x
 
 time_more : (time : ℕ) (xs : List Entry) (x : Entry)
     → time_behind_all time (xs ++ x ∷ []) ≡ time_behind (time_behind_all time xs) x
@@ -22,35 +24,36 @@ time_more _ [] x = refl
 time_more time (y ∷ xs) x = time_more (time_behind time y) xs x
 
 module _ (refused : OnRefusal) where
-  calls_more : (waits time : ℕ) (xs : List Entry) (x : Entry) (calls more : List SystemCall)
-      → AreCallsFor refused waits time xs calls
-      → CallsFor refused (waits_behind_all waits xs) (time_behind_all time xs) x more
-      → AreCallsFor refused waits time (xs ++ x ∷ []) (calls ++ more)
-  calls_more _ _ [] x _ more none last = grind (arith, append-nil)
-  calls_more waits time (y ∷ xs) x _ more (first, rest, split, is, others) last = (
+  calls_more : (patience : Patience) (time : ℕ) (xs : List Entry) (x : Entry) (calls more : List SystemCall)
+      → AreCallsFor refused patience time xs calls
+      → CallsFor refused (patience_after_all patience xs) (time_behind_all time xs) x more
+      → AreCallsFor refused patience time (xs ++ x ∷ []) (calls ++ more)
+  calls_more _ _ [] x _ more none last =
+      (more, [], ap (λ (before : List SystemCall). before ++ more) none ∙ sym (append-nil more), last, refl)
+  calls_more patience time (y ∷ xs) x _ more (first, rest, split, is, others) last = (
     first,
     rest ++ more,
     ap (λ (before : List SystemCall). before ++ more) split ∙ append_assoc first rest more,
     is,
-    calls_more (waits_behind waits y) (time_behind time y) xs x rest more others last,
+    calls_more (patience_after patience y) (time_behind time y) xs x rest more others last,
   )
 
-  module _ (before log : List SystemCall) (xs : List Entry) (waits time : ℕ) (failed : Bool)
-      (keeps : Keeps refused before log xs waits time failed) where
-    abbrev waits_now : ℕ
-    waits_now = waits_behind_all 0 xs
+  module _ (before log : List SystemCall) (xs : List Entry) (patience : Patience) (time : ℕ) (failed : Bool)
+      (keeps : Keeps refused before log xs patience time failed) where
+    abbrev patience_now : Patience
+    patience_now = patience_after_all endless xs
 
     abbrev time_now : ℕ
     time_now = time_behind_all 0 xs
 
-    keeps_more : (x : Entry) (log' : List SystemCall) (waits' time' : ℕ) (failed' : Bool)
-        → Logs (CallsFor refused waits_now time_now x) log log'
-        → (failed' ≡ false → waits' ≡ waits_behind waits_now x) → time' ≡ time_behind time_now x
-        → Keeps refused before log' (xs ++ x ∷ []) waits' time' failed'
-    keeps_more = grind (arith, append_assoc, calls_more, waits_more, time_more)
+    keeps_more : (x : Entry) (log' : List SystemCall) (patience' : Patience) (time' : ℕ) (failed' : Bool)
+        → Logs (CallsFor refused patience_now time_now x) log log'
+        → (failed' ≡ false → patience' ≡ patience_after patience_now x) → time' ≡ time_behind time_now x
+        → Keeps refused before log' (xs ++ x ∷ []) patience' time' failed'
+    keeps_more = grind (arith, append_assoc, calls_more, patience_more, time_more)
 
     pub keeps_timed : (log' : List SystemCall) (now : ℕ) → Logs (Times time now) log log'
-        → Keeps refused before log' (xs ++ Timed now ∷ []) waits now failed
+        → Keeps refused before log' (xs ++ Timed now ∷ []) patience now failed
     keeps_timed log' now asked =
         keeps_more _ _ _ _ _
         (subst (λ (t : ℕ). Logs (Times t now) log log') keeps.timed asked) keeps.limited refl
@@ -59,25 +62,80 @@ module _ (refused : OnRefusal) where
     module _ (sound : failed ≡ false) where
       pub keeps_sent : {A E : Type 0} (result : Result A E) (to : Station) (octets : List ℕ) (log' : List SystemCall)
           (failed' : Bool) → Logs (Sends refused to octets (is_ok result)) log log'
-          → Keeps refused before log' (xs ++ posted result to octets ∷ []) waits time failed'
+          → Keeps refused before log' (xs ++ posted result to octets ∷ []) patience time failed'
       keeps_sent (Ok x) to octets log' failed' asked =
           keeps_more _ _ _ _ _ asked (λ s. keeps.limited sound) keeps.timed
       keeps_sent (Err e) to octets log' failed' asked =
           keeps_more _ _ _ _ _ asked (λ s. keeps.limited sound) keeps.timed
 
       pub keeps_waited : {A E : Type 0} (result : Result A E) (wait : ℕ) (heard : Heard) (log' : List SystemCall)
-          (waits' : ℕ) (failed' : Bool) → Logs (Waits refused waits (max wait 1) heard) log log'
-          → OnOk result (waits' ≡ max wait 1) → failed' ≡ is_err result
-          → Keeps refused before log' (xs ++ Waited wait heard ∷ []) waits' time failed'
-      keeps_waited result wait heard log' waits' failed' asked limited marked =
+          (patience' : Patience) (failed' : Bool) → Logs (Waits refused patience wait heard) log log'
+          → OnOk result (patience' ≡ patience_for patience wait) → failed' ≡ is_err result
+          → Keeps refused before log' (xs ++ Waited wait heard ∷ []) patience' time failed'
+      keeps_waited result wait heard log' patience' failed' asked limited marked =
           keeps_more _ _ _ _ _
-          (subst (λ (w : ℕ). Logs (Waits refused w (max wait 1) heard) log log') (keeps.limited sound) asked)
-          (λ good. go result limited (sym marked ∙ good)) keeps.timed
+          (subst (λ (p : Patience). Logs (Waits refused p wait heard) log log') (keeps.limited sound) asked)
+          (λ good. go result limited (sym marked ∙ good)
+          ∙ ap (λ (p : Patience). patience_for p wait) (keeps.limited sound)) keeps.timed
         where
-          go : {A E : Type 0} (result : Result A E) → OnOk result (waits' ≡ max wait 1) → is_err result ≡ false
-              → waits' ≡ max wait 1
+          go : {A E : Type 0} (result : Result A E) → OnOk result (patience' ≡ patience_for patience wait)
+              → is_err result ≡ false → patience' ≡ patience_for patience wait
           go (Ok x) limited good = limited
           go (Err e) limited good = cc
+
+-- ---- a look
+
+-- If no receive is left, the result is silence.
+pub looks_end : (refused : OnRefusal) (times left : ℕ) {before after : List SystemCall} → left ≡ 0
+    → Logs (HasLooked refused times left) before after → Logs (Looks refused times Silence) before after
+looks_end refused times left none so_far = record {
+  calls = so_far.calls;
+  logged = so_far.logged;
+  are = subst (λ (calls : List SystemCall). Looks refused times Silence calls) (append-nil so_far.calls)
+      (so_far.are.goes Silence []
+      (subst (λ (n : ℕ). Looks refused n Silence []) (sym none) (refl, refl)));
+}
+
+module _ (refused : OnRefusal) (times : ℕ) {before mid after : List SystemCall} where
+  -- A receive with a result ends a look.
+  pub looked : (left : ℕ) (first : Heard) → 0 < left → Logs (HasLooked refused times left) before mid
+      → Logs (ReceivesOnce refused (Some first)) mid after → Logs (Looks refused times first) before after
+  looked (suc left) first some so_far one = record {
+    calls = so_far.calls ++ one.calls;
+    logged = one.logged ∙ ap (λ (calls : List SystemCall). calls ++ one.calls) so_far.logged
+        ∙ append_assoc before so_far.calls one.calls;
+    are = so_far.are.goes first one.calls (
+      one.are.came,
+      [],
+      one.are.asked,
+      subst (λ (o : Option Heard). Ends o (Looks refused left) first [])
+          one.are.brought_is (refl, refl),
+    );
+  }
+  looked zero first some so_far one = absurd (omega (arith, some))
+
+  -- After a datagram that is passed over, the look continues.
+  pub looks_on : (left : ℕ) → 0 < left → Logs (HasLooked refused times left) before mid
+      → Logs (ReceivesOnce refused None) mid after → Logs (HasLooked refused times (left - 1)) before after
+  looks_on (suc left) some so_far one =
+      let fewer : suc left - 1 ≡ left = omega arith in
+      rw fewer (record {
+        calls = so_far.calls ++ one.calls;
+        logged = one.logged ∙ ap (λ (calls : List SystemCall). calls ++ one.calls) so_far.logged
+            ∙ append_assoc before so_far.calls one.calls;
+        are = record {
+          goes = λ heard rest looks.
+              subst (λ (calls : List SystemCall). Looks refused times heard calls)
+              (sym (append_assoc so_far.calls one.calls rest))
+              (so_far.are.goes heard (one.calls ++ rest) (
+                one.are.came,
+                rest,
+                ap (λ (calls : List SystemCall). calls ++ rest) one.are.asked,
+                subst (λ (o : Option Heard). Ends o (Looks refused left) heard rest) one.are.brought_is looks,
+              ));
+        };
+      })
+  looks_on zero some so_far one = absurd (omega (arith, some))
 
 -- ---- one entry more
 
@@ -127,7 +185,7 @@ module _ (scenes : List Scene) (xs : List Entry) (next time : ℕ) (sent : List 
   stands_sent (Err e) to octets sent' _ same =
       goes_on _ _ _ _ tt refl (same ∙ sym (append-nil sent))
 
-  -- A wait, where this scene is next, or none.
+  -- A wait, if this scene is next, or none is left.
   pub stands_waited : (scene : Option Scene) (wait : ℕ) (heard : Heard) (next' time' : ℕ)
       → slice_get scenes next ≡ scene → heard ≡ heard_next (option_to_list scene)
       → time' ≡ (behind_wait wait (option_to_list scene) time).time → length scenes < 2 ^ 64 → next < 2 ^ 64

@@ -1,4 +1,4 @@
--- Searches and servers, turn by turn: two that are answered alike; and what a server, a search and a call sent.
+-- Searches and servers, turn by turn: two that are answered alike; and the sends of a server, a search and a call.
 use Rattle.std.proofs.Common.{[], ap, append-nil, append_assoc, arith, Bool, Err, false, flat_map, IfOk, if◌then◌else◌}
 use Rattle.std.proofs.Common.{inl, length, length-append, List, map, max, None, Ok, Option, option_to_list, refl}
 use Rattle.std.proofs.Common.{Result, Some, subst, suc, sym, true, zero, ℕ, ◌++◌, ◌+◌, ◌-◌, ◌<◌, ◌||◌, ◌∙◌, ◌∷◌, ◌≡◌}
@@ -24,7 +24,7 @@ use Rattle.bac_links.specs.{serve_wait, Serves, Silence, Tells, Timed, times_in,
 use Rattle.bac_links.specs.{TurnsSpent, Unposted, Waited, waits_in, who_is_to, WriteFailed, Inner.brought_by}
 use Rattle.bac_links.specs.Inner.{found_lines, has_found, LeavesDevice, Listens, search_wait, sends_of, ServesTurn}
 
--- What a search begins with, and then this.
+-- The first entries of a search, and then these.
 abbrev pub searched : Search → ℕ → List Entry → List Entry
 searched search first more = Timed first ∷ Posted (station search.to) (who_is_to search) ∷ more
 
@@ -68,7 +68,7 @@ behind_wait = grind (arith, behind)
 module _ {Origin W : Type 0} {search : Search} {contents : W → Option (List ℕ)} {before middle : Checked W}
     {seen mid : Account Origin} {first greatest : ℕ} {any : Bool} {n : ℕ}
     (goes : SearchGoes search contents before middle seen mid first greatest any n) (within : n < most_turns) where
-  -- One wait more.
+  -- The facts about one more wait.
   module _ {left : Account Origin} (heard : Heard) (hears : Gains (Waited (search_wait search) heard) mid left) where
     abbrev waited : List Entry
     waited = goes.more ++ Waited (search_wait search) heard ∷ []
@@ -79,7 +79,7 @@ module _ {Origin W : Type 0} {search : Search} {contents : W → Option (List �
     follows_waited : Follows (search_move search) [] (searched search first waited)
     follows_waited = grind (arith, follows_push, turn_begins)
 
-  -- A wait that goes well, and the time after it.
+  -- A wait without a fault, and the time after it.
   module _ {after : Checked W} {left : Account Origin} {some : Bool}
       (listens : Listens search.who (search_wait search) contents middle after mid left (Ok some))
       (now : ℕ) {last : Account Origin} (asks : Gains (Timed now) left last) where
@@ -195,7 +195,7 @@ pub search_begun : {Origin W : Type 0} (search : Search) {contents : W → Optio
     → SearchGoes search contents before before seen link first first false 0
 search_begun = grind (arith, common_steps, gains_both)
 
--- Or with one that could not be sent.
+-- A search begins with a Who-Is that could not be sent.
 pub search_unbegun : {Origin W : Type 0} (search : Search) {contents : W → Option (List ℕ)} {before : Checked W}
     {seen mid link : Account Origin} (first : ℕ) → Gains (Timed first) seen mid →
     Gains (Unposted (station search.to) (who_is_to search)) mid link
@@ -238,19 +238,19 @@ module _ (search : Search) where
     extended xs ys (taken, rest, e, took) =
         (taken, rest ++ ys, ap (λ (zs : List ℕ). zs ++ ys) e ∙ append_assoc _ rest ys, took)
 
-    -- It was cut off after a wait.
+    -- The search was cut off after a wait.
     pub record WasCut (result : Result Exit ToolFault) (gained : List Entry) : Type 0 where
       pub failed : result ≡ Err WriteFailed
       pub waited : 0 < waits_in gained
       pub asks : next_move (search_move search) gained ≡ Asks ForTime
 
-    -- After these entries it is over, or it was cut off; and their lines were printed.
+    -- After these entries the search is over, or it was cut off; and their lines were printed.
     pub record Stops (result : Result Exit ToolFault) (gained : List Entry) : Type 0 where
       pub follows : Follows (search_move search) [] gained
       pub over : (next_move (search_move search) gained ≡ Over result) ⊎ WasCut result gained
       pub printed : Printed contents before after (lines_in gained) result
 
-    -- If more could have been asked it was cut off, and it printed a front of any lines more.
+    -- If a search had another move, it was cut off, and printed the beginning of any longer text.
     cut_off : (result : Result Exit ToolFault) (first more : List Entry) (x : Entry) → Stops result first
         → next_move (search_move search) first ≡ Asks (question_of x)
         → (result ≡ Err WriteFailed) × Printed contents before after (lines_in (first ++ more)) result
@@ -325,11 +325,11 @@ replies-append device (x ∷ xs) ys =
 pub arrivals-push : (gained : List Entry) (x : Entry) → arrivals_in (gained ++ x ∷ []) ≡ arrivals_in gained ++ came_by x
 arrivals-push = grind (arith, flat_map-append, append-nil)
 
--- The line of one datagram.
+-- A datagram and its receiver, without a note.
 abbrev alone : List Entry → Station → List ℕ → Station × List ℕ
 alone before to octets = (to, octets)
 
--- One entry more, and how many were sent.
+-- The number of sends with one more entry.
 sent_more : (before gained : List Entry) (x : Entry) → length (sent_behind alone before (gained ++ x ∷ []))
     ≡ length (sent_behind alone before gained) + length (sent_in (x ∷ []))
 sent_more before [] x = grind arith
@@ -342,7 +342,7 @@ module _ (count : ℕ) (before : DeviceState) where
       → next_move (serve_move count before) (gained ++ x ∷ []) ≡ serve_move count before (gained ++ x ∷ []) (Some x)
   gained_more = grind (arith, last_push)
 
-  -- The replies after one wait more.
+  -- The replies after one more wait.
   replies-push : (gained : List Entry) (device : DeviceState) → device ≡ device_behind before (arrivals_in gained)
       → (x : Entry) → replies_of before (arrivals_in (gained ++ x ∷ []))
       ≡ replies_of before (arrivals_in gained) ++ replies_of device (came_by x)
@@ -379,7 +379,7 @@ serves_none = grind (arith, gains_none)
 
 module _ {Origin : Type 0} {before device : DeviceState} {seen mid : Account Origin} {count came sent n : ℕ}
     (goes : ServeGoes before device seen mid count came sent n) where
-  -- How it ends.
+  -- The end of a server.
   served : (result : Result ℕ ToolFault) → next_move (serve_move count before) goes.gained ≡ Over result
       → Serves count before device seen mid result
   served _ over = record {
@@ -396,7 +396,7 @@ module _ {Origin : Type 0} {before device : DeviceState} {seen mid : Account Ori
   pub serve_spent : n ≡ most_turns → came < count → Serves count before device seen mid (Err TurnsSpent)
   serve_spent = grind (arith, served, turn_so, turns_over)
 
-  -- One wait more.
+  -- The facts about one more wait.
   module _ (heard : Heard) where
     abbrev awaited : List Entry
     awaited = goes.gained ++ Waited serve_wait heard ∷ []
@@ -408,7 +408,7 @@ module _ {Origin : Type 0} {before device : DeviceState} {seen mid : Account Ori
     gains_one : {left : Account Origin} → GainsAll (Waited serve_wait heard ∷ []) mid left → GainsAll awaited seen left
     gains_one more = gains_both _ _ _ _ _ goes.gains more
 
-    -- What holds of these entries after the wait, if they are no further waits.
+    -- The facts about these entries after the wait, if they have no further wait.
     record IsBehind (gained : List Entry) : Type 0 where
       arrived : arrivals_in gained ≡ arrivals_in goes.gained ++ brought_by heard
       waits : waits_in gained ≡ suc n
@@ -522,7 +522,7 @@ pub defined : (device : DeviceState) (writes : List Write) (arrivals : List Arri
     → AreDefined device writes arrivals (replies_of device arrivals) (device_behind device arrivals)
 defined = grind (arith, replied_after, left_after)
 
--- ---- two servers that are answered alike, over devices in the same state, ask and send alike, and end alike
+-- ---- two servers that are answered alike, over devices in the same state, ask, send and end alike
 
 module _ (count : ℕ) (before after after' : DeviceState) where
   abbrev EndAlike : Result ℕ ToolFault → Result ℕ ToolFault → Type 0
@@ -534,7 +534,7 @@ module _ (count : ℕ) (before after after' : DeviceState) where
       to_the_end EndAlike (λ r r'. Unit {0}) result result' serves.plays serves'.plays
       (grind (arith, serves.device, serves'.device)) _ _ _ _ gains gains' same
 
--- ---- what was sent is what was due: by a server, by a search, and by a call
+-- ---- the sends are the due ones: of a server, of a search, and of a call
 
 module _ {D A : Type 0} (told : List Entry → Station → List ℕ → D)
     (move : List Entry → Option Entry → Move (Result A ToolFault)) (due : List Entry → List D) where
@@ -543,17 +543,17 @@ module _ {D A : Type 0} (told : List Entry → Station → List ℕ → D)
   sent_push before [] x = rw append-nil refl
   sent_push before (y ∷ xs) x = grind (arith, append_assoc, sent_push (before ++ y ∷ []) xs x)
 
-  -- What a move gives to be sent.
+  -- The send of a move, if it is one.
   abbrev pub sending : List Entry → Move (Result A ToolFault) → List D
   sending before (Asks (ToSend to octets)) = told before to octets ∷ []
   sending before _ = []
 
-  -- The due requests were sent, or are to be sent next; if a send failed, all except that one.
+  -- The due sends were made, or come next; if a send failed, all but that one were made.
   abbrev IsSent : List Entry → Move (Result A ToolFault) → Type 0
   IsSent xs (Over result) = AllSent (due xs) (sent_behind told [] xs) result
   IsSent xs (Asks question) = due xs ≡ sent_behind told [] xs ++ sending xs (Asks question)
 
-  -- After a send that failed it is over with that fault, and after nothing else.
+  -- After a send that failed the tool is over with that fault, and after no other entry.
   abbrev FailsThere : Entry → Move (Result A ToolFault) → Type 0
   FailsThere (Unposted to octets) next = next ≡ Over (Err SendFailed)
   FailsThere _ next = next ≢ Over (Err SendFailed)
@@ -599,7 +599,8 @@ module _ (count : ℕ) (device : DeviceState) where
     pub server_sent : AllSent (replies_due gained) (sent_in gained) result
     server_sent = all_sent alone (serve_move count device) replies_due server_dues plays
 
-    -- A server hears no more datagrams than it is to, and that many where it answers, with the number of its replies.
+    -- A server receives at most as many datagrams as its count, and exactly as many if it answers, with the number of
+    -- its replies.
     pub as_many : (length (arrivals_in gained) ≤ count)
         × IfOk result (λ replies. (length (arrivals_in gained) ≡ count) × (replies ≡ length (sent_in gained)))
     as_many =
@@ -615,7 +616,7 @@ module _ (search : Search) where
   who_is_due [] = []
   who_is_due (_ ∷ _) = (station search.to, who_is_to search) ∷ []
 
-  -- A search asks for the time first, and after a wait.
+  -- A search reads the time first, and after a wait.
   at_times : (xs : List Entry) → Follows (search_move search) [] xs → next_move (search_move search) xs ≡ Asks ForTime
       → (xs ≡ []) ⊎ (0 < waits_in xs)
   at_times = followed (search_move search)
@@ -639,7 +640,7 @@ module _ (search : Search) where
         let so = sent_so_far alone (search_move search) who_is_due search_dues gained it.follows in
         grind (arith, append-nil, it, so)
 
--- ---- what a call sent is what the look-ahead sends of its request
+-- ---- the sends of a call are those of its request by the look-ahead
 
 module _ (purpose : Purpose) (call : Call) where
   abbrev a : Accepted
@@ -661,7 +662,7 @@ module _ (purpose : Purpose) (call : Call) where
       → evs (Timed time ∷ (more ++ x ∷ [])) ≡ evs (Timed time ∷ more) ++ handed_of x
   evs_push = grind (arith, handed_push)
 
-  -- One entry more, of which the client is handed this event.
+  -- One more entry, with this event for the client.
   module _ (time : ℕ) (more : List Entry) (x : Entry) (event : Event) (one : handed_of x ≡ event ∷ []) where
     abbrev before : List Event
     before = evs (Timed time ∷ more)

@@ -1,10 +1,10 @@
--- What a link answered to what it was asked, and that who is answered alike asks alike.
+-- The answers of a link; and tools that are answered alike ask alike.
 use Rattle.std.specs.Prelude.{[], Err, List, map, Option, Result, ℕ, ◌++◌, ◌∷◌, ◌≡◌}
 use Rattle.bac_print.specs.{Took, Checked.TakesFront, declared.checked.Checked.Checked}
 use Rattle.bac_links.specs.{Asking.question_of, declared.fault.ToolFault.{ToolFault, TheVariants.WriteFailed}}
 use Rattle.bac_links.specs.History.{Account, Entry, Heard, Posted, Timed, Unposted, Waited}
 
--- What a link answered: what a wait brought, the time, that a datagram was sent, or that it could not be.
+-- An answer of a link: what a wait received, the time, that a datagram was sent, or that it could not be sent.
 pub data LinkAnswer : Type 0 where
   Brings : (heard : Heard) → LinkAnswer
   Shows : (time : ℕ) → LinkAnswer
@@ -22,8 +22,8 @@ answer_of (Unposted to octets) = Loses
 abbrev pub answers_of : List Entry → List LinkAnswer
 answers_of = map answer_of
 
--- Two runs, of which these entries are left, go on alike: both ask the same next; or both are over, and ended alike and
--- printed alike; or one was cut off, and they printed alike.
+-- Two runs with these entries left go on alike: both ask the same next; or both are over, and ended and printed alike;
+-- or one was cut off, and they printed alike.
 abbrev pub GoOnAlike : {A : Type 0} → (IsCutOff : A → Type 0) → (EndAlike PrintAlike : A → A → Type 0)
     → (result other : A) → (rest other_rest : List Entry) → Type 0
 GoOnAlike IsCutOff EndAlike PrintAlike result other [] [] = EndAlike result other × PrintAlike result other
@@ -35,7 +35,7 @@ GoOnAlike IsCutOff EndAlike PrintAlike result other rest [] = IsCutOff other × 
 module _ (Origin Other : Type 0) {A : Type 0} (Runs : Account Origin → Account Origin → A → Type 0)
     (Others : Account Other → Account Other → A → Type 0) (IsCutOff : A → Type 0)
     (EndAlike PrintAlike : A → A → Type 0) where
-  -- Two runs, over any two links: as far as they were answered alike they asked alike, and so they go on.
+  -- Two runs, over any two links. As far as they were answered alike, they asked alike, and then they go on alike.
   abbrev pub AskAlike : Type 0
   AskAlike = (seen left : Account Origin) (other_seen other_left : Account Other) (result other : A)
       (first rest other_first other_rest : List Entry) → Runs seen left result → Others other_seen other_left other
@@ -44,9 +44,9 @@ module _ (Origin Other : Type 0) {A : Type 0} (Runs : Account Origin → Account
       → answers_of first ≡ answers_of other_first
       → (first ≡ other_first) × GoOnAlike IsCutOff EndAlike PrintAlike result other rest other_rest
 
--- ---- what was printed
+-- ---- the printed text
 
--- With this result a writer took the text; if it failed, a front of it.
+-- With this result a writer took the text, or the beginning of it if it failed.
 abbrev pub Printed : {W A : Type 0} → (W → Option (List ℕ)) → (before after : Checked W) → (text : List ℕ)
     → Result A ToolFault → Type 0
 Printed contents before after text (Err WriteFailed) = TakesFront contents before after text
@@ -54,8 +54,8 @@ Printed contents before after text result = Took contents before after text
 
 module _ {V W A : Type 0} (contents : V → Option (List ℕ)) (before after : Checked V)
     (other_contents : W → Option (List ℕ)) (other_before other_after : Checked W) where
-  -- Two runs with these results printed one text, each to its writer. So where one writer failed and the other did not,
-  -- it took a front of what the other took.
+  -- Two runs with these results printed one text, each to its writer. So if only one writer failed, it took the
+  -- beginning of the other's text.
   abbrev pub OneText : (result other : Result A ToolFault) → Type 0
   OneText result other = (text : List ℕ) × Printed contents before after text result
       × Printed other_contents other_before other_after text other

@@ -1,4 +1,4 @@
--- A call: one request, what it asks of its link, and how it ends.
+-- A call: one request, its moves, and its end.
 use Rattle.std.specs.{List.list_any, Prelude.{[], Bool, Err, if◌then◌else◌, length, List, nat_eq, None, Ok, Option}}
 use Rattle.std.specs.Prelude.{Result, Some, ℕ, ◌-◌, ◌∷◌, ◌≡◌}
 use Rattle.{bac_pdu.specs.station, bac_tsm.specs.{Accepted, Ask, client_rules, end, Event, Outcome, Rules}}
@@ -15,11 +15,11 @@ abbrev pub service_of : Purpose → ℕ
 service_of Reading = 12
 service_of Writing = 15
 
--- What the client of a call goes by: its timeout, and its retries.
+-- The rules of a call's client: its timeout, and its retries.
 abbrev pub rules_for : Call → Rules
 rules_for call = client_rules call.timeout call.retries
 
--- What a call comes to: how its request ended, by an outcome or by a timeout; or what failed.
+-- The result of a call's moves: the end of its request, by an outcome or a timeout; or a fault.
 abbrev pub Comes : Type 0
 Comes = Result (Option Outcome) ToolFault
 
@@ -29,7 +29,7 @@ or_ended (Some x) other = Over (Ok x.outcome)
 or_ended None other = other
 
 module _ (purpose : Purpose) (call : Call) where
-  -- The request of a call. It is asked for after one event, by a client that has none open, so it has the first ticket
+  -- The request of a call. It comes after one event, from a client without open requests, so it has the first ticket
   -- and the invoke id 1.
   abbrev pub asked : Accepted
   asked = record {
@@ -37,7 +37,7 @@ module _ (purpose : Purpose) (call : Call) where
     request = request_of (rules_for call) 0 (station call.to) (service_of purpose) call.body.items 1;
   }
 
-  -- Among these events one request is accepted, that of the call.
+  -- Among these events only the request of the call is accepted.
   abbrev pub IsAccepted : List Event → Type 0
   IsAccepted events = accepted (rules_for call) 0 events (length events) ≡ asked ∷ []
 
@@ -45,21 +45,21 @@ module _ (purpose : Purpose) (call : Call) where
   abbrev pub end_in : List Event → Option End
   end_in events = end (rules_for call) events asked
 
-  -- The request is sent at the last of these events, as the look-ahead says.
+  -- The request is sent at the last of these events, by the look-ahead.
   abbrev pub is_sent_last : List Event → Bool
   is_sent_last events = list_any (nat_eq (length events - 1)) (sends (rules_for call) events asked)
 
-  -- The request is asked for after the first event.
+  -- The events, with the request after the first one.
   abbrev pub with_request : List Event → List Event
   with_request [] = []
   with_request (first ∷ later) = first ∷ Ask (station call.to) (service_of purpose) call.body.items ∷ later
 
-  -- What the client is handed: the first time, the request, and then each datagram that is heard and each time.
+  -- The events of the client: the first time, the request, and then each received datagram and each time.
   abbrev pub events_of : List Entry → List Event
   events_of gained = with_request (handed gained)
 
-  -- The next move of a call, after what came last: the time comes first, and after each wait but one that brings the
-  -- end; after a time the request is sent where it is due; and then the next turn begins.
+  -- The next move of a call, from the last entry: the time comes first, and after each wait, except a wait that brings
+  -- the end; after a time the request is sent if it is due; and then the next turn begins.
   abbrev pub move : List Entry → Option Entry → Move Comes
   move gained None = Asks ForTime
   move gained (Some (Timed time)) =
@@ -73,14 +73,14 @@ module _ (purpose : Purpose) (call : Call) where
 
   module _ {Origin W : Type 0} (contents : W → Option (List ℕ)) (before after : Checked W)
       (seen left : Account Origin) where
-    -- The request ended so, and the line of that was printed.
+    -- The request ended in this way, and the line of its end was printed.
     pub record TellsEnd (exit : Exit) : Type 0 where
       pub ending : Option Outcome
       pub exit_is : exit ≡ exit_of purpose ending
       pub printed : Took contents before after (ending_line purpose ending)
       pub plays : Plays move seen left (Ok ending)
 
-    -- The request ended so, and a front of the line of that was printed.
+    -- The request ended in some way, and the beginning of the line was printed.
     pub record TellsFront : Type 0 where
       pub ending : Option Outcome
       pub printed : TakesFront contents before after (ending_line purpose ending)
@@ -91,8 +91,8 @@ module _ (purpose : Purpose) (call : Call) where
       pub unprinted : after ≡ before
       pub plays : Plays move seen left (Err fault)
 
-    -- What a call prints, answers, and asks of its link: the line of how the request ended, or a front of it where the
-    -- writer failed; after any other fault nothing.
+    -- The text, the answer and the moves of a call: it printed the line of the request's end, or the beginning of it if
+    -- the writer failed; after any other fault it printed nothing.
     abbrev pub Tells : Result Exit ToolFault → Type 0
     Tells (Ok exit) = TellsEnd exit
     Tells (Err WriteFailed) = TellsFront

@@ -1,4 +1,4 @@
--- What only private clauses say. No promise of this crate rests on it.
+-- Definitions that only private contracts use. No promise of this crate rests on them.
 pub mod Note
 pub mod Ending
 pub mod CallSteps
@@ -6,6 +6,7 @@ pub mod Search
 pub mod SearchSteps
 pub mod ServeSteps
 pub mod Examples
+pub mod Receive
 unfoldable pub use Note.*
 unfoldable pub use Ending.*
 unfoldable pub use CallSteps.*
@@ -13,3 +14,4 @@ unfoldable pub use Search.*
 unfoldable pub use SearchSteps.*
 unfoldable pub use ServeSteps.*
 unfoldable pub use Examples.*
+unfoldable pub use Receive.*

@@ -1,11 +1,11 @@
--- The limits of links and tools. The code has constants of the same numbers.
+-- The limits of links and tools. The code has constants with the same numbers.
 use Rattle.std.specs.Prelude.{ℕ, min}
 
 -- The octets of the longest datagram that a link receives.
 abbrev pub longest_datagram : ℕ
 longest_datagram = 2047
 
--- How long a turn of a call or a search with this timeout waits, in milliseconds: 50 at most.
+-- How long a turn of a call or a search with this timeout waits, in milliseconds: at most 50.
 abbrev pub turn_wait : ℕ → ℕ
 turn_wait timeout = min timeout 50
 
@@ -13,6 +13,6 @@ turn_wait timeout = min timeout 50
 abbrev pub serve_wait : ℕ
 serve_wait = 1000
 
--- The turns after which a tool gives up.
+-- The number of turns after which a tool gives up.
 abbrev pub most_turns : ℕ
 most_turns = 65536

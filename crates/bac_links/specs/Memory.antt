@@ -1,4 +1,4 @@
--- The scenes that the steps of a link in memory are, and what contracts see of such a link.
+-- The steps of a link in memory as scenes, and such a link as contracts see it.
 use Rattle.std.specs.Prelude.{if◌then◌else◌, length, List, map, nat_le, None, Some, ℕ}
 use Rattle.bac_pdu.specs.{Station, station}
 use Rattle.bac_links.specs.declared.memory.{Kept.Kept, Record.Record, Step.{Step, TheVariants.{Broken, Packet, Quiet}}}
@@ -10,7 +10,7 @@ use Rattle.bac_links.specs.declared.memory.Kept.TheVariants as kept
 abbrev pub unrouted : Station → Station
 unrouted peer = record peer { route = None }
 
--- A datagram comes from an address and a port, and is not heard where no receive can hold it.
+-- A datagram that comes from an address and a port. It is ignored if no receive can hold it.
 abbrev pub coming : Station → List ℕ → Heard
 coming from octets = if nat_le (length octets) longest_datagram then Arrived (unrouted from) octets else Silence
 
@@ -24,19 +24,19 @@ scene_of_kept (kept.Quiet time) = record { heard = Silence; time = Some time }
 scene_of_kept (kept.Packet time from octets) = record { heard = coming (station from) octets.items; time = Some time }
 scene_of_kept kept.Broken = record { heard = Failure; time = None }
 
--- The account of a link that was made of these scenes.
+-- The account of a link that was made with these scenes.
 abbrev pub account_of : List Scene → List Entry → Account (List Scene)
 account_of scenes history = record { made = scenes; history = history }
 
--- The account of a link in memory with these steps, which was asked and answered this.
+-- The account of a link in memory with these steps and this history.
 abbrev pub account_with : {A : Type 0} → List (Kept A) → List Entry → Account (List Scene)
 account_with steps = account_of (map scene_of_kept steps)
 
--- What a link in memory was asked was answered as its scenes say.
+-- All answers of a link in memory are those of its scenes.
 abbrev pub PlaysItsScenes : Account (List Scene) → Type 0
 PlaysItsScenes account = ArePlayed (at_first account.made) account.history
 
--- What a link in memory has sent, one thing after another.
+-- The sends of a link in memory, in order.
 abbrev pub sent_by : Account (List Scene) → List Sending
 sent_by account = sendings (at_first account.made) account.history
 

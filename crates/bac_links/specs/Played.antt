@@ -1,27 +1,27 @@
--- What a link in memory answers and sends, by the scenes that it was made of and what it was asked so far.
+-- The answers and the sends of a link in memory, from its scenes and its history.
 use Rattle.std.specs.Prelude.{[], List, min, Option, unwrap_or, ℕ, ⊤, ◌++◌, ◌+◌, ◌-◌, ◌^◌, ◌∷◌, ◌≡◌}
 use Rattle.{bac_pdu.specs.Station, bac_links.specs.History.{Entry, Heard, Posted, Silence, Timed, Waited}}
 
--- What one receive of a link in memory hears, and the time then. A receive that fails leaves the time as it was.
+-- One receive of a link in memory, and the time after it. A receive that fails does not change the time.
 pub record Scene : Type 0 where
   pub heard : Heard
   pub time : Option ℕ
 
--- The state of a link in memory: the scenes that are to come, and its time.
+-- The state of a link in memory: the scenes that are left, and its time.
 pub record ToPlay : Type 0 where
   pub scenes : List Scene
   pub time : ℕ
 
--- At first all scenes are to come, and the time is 0.
+-- At first all scenes are left, and the time is 0.
 abbrev pub at_first : List Scene → ToPlay
 at_first scenes = record { scenes = scenes; time = 0 }
 
--- What the next wait hears: the next scene; once there is none, nothing.
+-- The next wait plays the next scene, or is silent once there is none.
 abbrev pub heard_next : List Scene → Heard
 heard_next [] = Silence
 heard_next (scene ∷ later) = scene.heard
 
--- A wait takes one scene. Once there is none, the time goes on by the wait, and stops at the greatest.
+-- A wait takes one scene. Once there is none, the wait is added to the time, up to the greatest time.
 abbrev pub behind_wait : (wait : ℕ) → List Scene → (time : ℕ) → ToPlay
 behind_wait wait [] time = record { scenes = []; time = min (time + wait) (2 ^ 64 - 1) }
 behind_wait wait (scene ∷ later) time = record { scenes = later; time = unwrap_or scene.time time }
@@ -31,13 +31,13 @@ abbrev pub behind : ToPlay → Entry → ToPlay
 behind stage (Waited wait heard) = behind_wait wait stage.scenes stage.time
 behind stage _ = stage
 
--- A wait hears the next scene, and the time is that of the stage.
+-- A wait plays the next scene, and a time is that of the state.
 abbrev pub IsPlayed : ToPlay → Entry → Type 0
 IsPlayed stage (Waited wait heard) = heard ≡ heard_next stage.scenes
 IsPlayed stage (Timed time) = time ≡ stage.time
 IsPlayed stage _ = ⊤
 
--- So is each of these entries, one after another.
+-- Each of these entries agrees with the scenes, one after another.
 abbrev pub ArePlayed : ToPlay → List Entry → Type 0
 ArePlayed stage [] = ⊤
 ArePlayed stage (entry ∷ later) = IsPlayed stage entry × ArePlayed (behind stage entry) later
@@ -48,12 +48,12 @@ pub record Sending : Type 0 where
   pub to : Station
   pub octets : List ℕ
 
--- The datagram that was sent in an entry at this time.
+-- The send in an entry, at this time.
 abbrev pub sending_in : (time : ℕ) → Entry → List Sending
 sending_in time (Posted to octets) = record { time = time; to = to; octets = octets } ∷ []
 sending_in time _ = []
 
--- The datagrams that were sent in these entries, one after another.
+-- The sends in these entries, in order.
 abbrev pub sendings : ToPlay → List Entry → List Sending
 sendings stage [] = []
 sendings stage (entry ∷ later) = sending_in stage.time entry ++ sendings (behind stage entry) later

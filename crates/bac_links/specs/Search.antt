@@ -1,4 +1,4 @@
--- A search for devices: what it asks of its link, which devices it finds, what it prints, and when it ends.
+-- A search for devices: its moves, the devices that it finds, its text, and its end.
 use Rattle.std.specs.{List.flat_map, Option.option_to_list}
 use Rattle.std.specs.Prelude.{[], decimal, Err, false, if◌then◌else◌, length, List, max, nat_le, nat_lt, None, Ok}
 use Rattle.std.specs.Prelude.{Option, Result, Some, suc, zero, ℕ, ◌++◌, ◌-◌, ◌∷◌, ◌≡◌}
@@ -12,12 +12,12 @@ use Rattle.bac_links.specs.declared.fault.ToolFault.{ToolFault, TheVariants.{Rec
 use Rattle.bac_links.specs.History.{Account, Arrived, Entry, Failure, GainsAll, Heard, Posted, Timed, Unposted, Waited}
 use Rattle.bac_links.specs.Limits.{turn_wait}
 
--- The device that is found by an entry, if one is.
+-- The device that an entry finds, if there is one.
 abbrev pub found_by : WhoIs → Entry → List Found
 found_by who (Waited wait (Arrived from octets)) = option_to_list (found_of who from octets)
 found_by who _ = []
 
--- The line that is printed of a device.
+-- The line that is printed for a device.
 abbrev pub found_line : Found → List ℕ
 found_line found =
     decimal found.device.device.instance
@@ -26,12 +26,12 @@ found_line found =
     ++ 32 ∷ (decimal found.device.segmentation
     ++ 32 ∷ (decimal found.device.vendor ++ 10 ∷ []))))
 
--- The greatest of this time and these.
+-- The greatest of these times.
 abbrev pub greatest_of : ℕ → List ℕ → ℕ
 greatest_of greatest [] = greatest
 greatest_of greatest (time ∷ later) = greatest_of (max greatest time) later
 
--- How much has passed by these times: how much greater than the first is the greatest.
+-- The time that has passed: the greatest of these times minus the first.
 abbrev pub passed_in : List ℕ → ℕ
 passed_in [] = 0
 passed_in (first ∷ later) = greatest_of first later - first
@@ -45,8 +45,8 @@ module _ (search : Search) where
   abbrev pub found_in : List Entry → List Found
   found_in = flat_map (found_by search.who)
 
-  -- After a time and so many waits: after none the Who-Is is due; else the search is over once the timeout has passed.
-  -- It is good to have found a device.
+  -- The move after a time and this many waits. Without a wait the Who-Is is due; otherwise the search is over once the
+  -- timeout has passed, and its exit is good if a device was found.
   abbrev pub behind_time : List Entry → (waits : ℕ) → Move (Result Exit ToolFault)
   behind_time gained zero = Asks (ToSend (station search.to) who_is_to)
   behind_time gained (suc n) =
@@ -54,7 +54,7 @@ module _ (search : Search) where
       then Over (Ok (if nat_lt 0 (length (found_in gained)) then Good else Bad))
       else turn_after (turn_wait search.timeout) (suc n)
 
-  -- The next move of a search, after what came last: the time comes first, and after each wait.
+  -- The next move of a search, from the last entry: the time comes first, and after each wait.
   abbrev pub search_move : List Entry → Option Entry → Move (Result Exit ToolFault)
   search_move gained None = Asks ForTime
   search_move gained (Some (Timed time)) = behind_time gained (waits_in gained)
@@ -65,12 +65,12 @@ module _ (search : Search) where
 
   module _ {Origin W : Type 0} (contents : W → Option (List ℕ)) (before after : Checked W)
       (seen left : Account Origin) where
-    -- A search that comes to its end, or meets a fault of its link: the lines of the devices that were found.
+    -- A search that ended, or met a fault of its link: it printed the lines of the found devices.
     pub record IsWhole (result : Result Exit ToolFault) : Type 0 where
       pub plays : Plays search_move seen left result
       pub printed : Took contents before after (flat_map found_line (found_in plays.gained))
 
-    -- A search that was cut off: the line of the device that the last wait found could not be written whole.
+    -- A search that was cut off: the line of the device of the last wait could not be written whole.
     pub record IsCutOff : Type 0 where
       pub earlier : List Entry
       pub wait : ℕ
@@ -84,8 +84,8 @@ module _ (search : Search) where
       pub line : found_line last ≡ taken ++ rest
       pub printed : Took contents before after (flat_map found_line (found_in earlier) ++ taken)
 
-    -- What a search prints, answers, and asks of its link: the lines of the devices that were found, each whole before
-    -- the next wait; of the last one a front, where the writer failed.
+    -- The text, the answer and the moves of a search: it printed the lines of the found devices, each whole before the
+    -- next wait; if the writer failed, only the beginning of the last line.
     abbrev pub Searched : Result Exit ToolFault → Type 0
     Searched (Err WriteFailed) = IsCutOff
     Searched result = IsWhole result

@@ -19,15 +19,15 @@ use bac_text::Call;
 use bac_tsm::{Client, Config, DueEntry, Outcome};
 use std::io::Write;
 
-/// Reads a property (clause 15.5): sends the request, waits for how it ends, and prints that in a line, such as
-/// `4290999a`, `error 2 32` or `timeout`. It is good to have read a value. What the answer says of the object and the
-/// property is not compared with what was asked.
+/// Reads a property (clause 15.5): sends the request, waits for its end, and prints the end in a line, such as
+/// `4290999a`, `error 2 32` or `timeout`. A value that was read is a good end. The object and the property in the
+/// answer are not compared with the requested ones.
 ///
 /// # Errors
 ///
-/// `SendFailed` and `ReceiveFailed` where the link failed so, and `TurnsSpent` where the request is open after 65,536
-/// turns; nothing was printed then. `WriteFailed` where the writer failed or took no octet; a front of the line was
-/// printed then.
+/// `SendFailed` and `ReceiveFailed` if the link failed, and `TurnsSpent` if the request is open after 65,536 turns;
+/// then nothing was printed. `WriteFailed` if the writer failed or took no octet; then the beginning of the line was
+/// printed.
 pub fn run_read<L: Link, W: Write>(
     call: &Call,
     link: &mut L,
@@ -43,12 +43,12 @@ pub fn run_read<L: Link, W: Write>(
     run(Purpose::Reading, call, link, writer)
 }
 
-/// Writes a property (clause 15.9): sends the request, waits for how it ends, and prints that in a line, such as `ok`,
-/// `error 2 40` or `timeout`. `ok` is good: the property was written.
+/// Writes a property (clause 15.9): sends the request, waits for its end, and prints the end in a line, such as `ok`,
+/// `error 2 40` or `timeout`. `ok` is a good end: the property was written.
 ///
 /// # Errors
 ///
-/// Those of `run_read`.
+/// The errors of `run_read`.
 pub fn run_write<L: Link, W: Write>(
     call: &Call,
     link: &mut L,
@@ -64,7 +64,7 @@ pub fn run_write<L: Link, W: Write>(
     run(Purpose::Writing, call, link, writer)
 }
 
-// Makes the call's request, waits for its end, and prints how it ended.
+// Makes the call's request, waits for its end, and prints the end.
 fn run<L: Link, W: Write>(
     purpose: Purpose,
     call: &Call,
@@ -89,7 +89,7 @@ fn run<L: Link, W: Write>(
     Err(ToolFault::TurnsSpent)
 }
 
-// Asks for what the call is for.
+// Reads the time, and makes and sends the request of the call.
 fn begin<L: Link>(purpose: Purpose, call: &Call, link: &mut L) -> Result<Client, ToolFault>
     requires sound { L.has_failed link.old ≡ false }
     requires timeout { 0 < call.now.timeout }
@@ -113,7 +113,7 @@ fn begin<L: Link>(purpose: Purpose, call: &Call, link: &mut L) -> Result<Client,
     Ok(client)
 }
 
-// The service of the request.
+// Returns the service of the request.
 fn service_of(purpose: Purpose) -> u8
     ensures { result ≡ service_of purpose }
 {
@@ -123,7 +123,7 @@ fn service_of(purpose: Purpose) -> u8
     }
 }
 
-// One turn of a call: how the request ended, if it did. After an answer the time is not asked for.
+// Takes one turn of a call, and returns the end of the request if it has ended. After an answer the time is not read.
 fn turn<'d, L: Link>(
     client: &mut Client,
     link: &mut L,
@@ -154,7 +154,7 @@ fn turn<'d, L: Link>(
     }
 }
 
-// Hands the client what the link hears. What an answer ends the request with lends octets of the datagram.
+// Passes the client the datagram that the link receives. The outcome of an answer borrows octets of the datagram.
 fn hear<'d, L: Link>(
     client: &mut Client,
     link: &mut L,
@@ -179,7 +179,7 @@ fn hear<'d, L: Link>(
     }
 }
 
-// Tells the client the time, and sends the request again where that is due. True where it has ended instead.
+// Passes the client the time, and sends the request again if it is due. Returns true if the request has ended instead.
 fn pass_time<L: Link>(client: &mut Client, link: &mut L) -> Result<bool, ToolFault>
     requires { L.has_failed link.old ≡ false }
     ensures fault { L.has_failed link.new ≡ is_link_fault result }

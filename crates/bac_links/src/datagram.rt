@@ -8,7 +8,7 @@ use std::marker::Model;
 /// The octets of the longest datagram that a link receives.
 pub const DATAGRAM_OCTETS: usize = 2_047;
 
-/// The octets of one datagram that came.
+/// The octets of one received datagram.
 #[derive(Drop)]
 pub struct Datagram {
     octets: ArrayVec<u8, DATAGRAM_OCTETS>,
@@ -23,7 +23,7 @@ impl Model for Datagram {
 }
 
 impl Datagram {
-    /// A datagram without octets.
+    /// Returns a datagram without octets.
     pub fn new() -> Self
         ensures { result ≡ [] }
     {
@@ -32,7 +32,7 @@ impl Datagram {
         }
     }
 
-    /// The octets.
+    /// Returns the octets.
     pub fn as_slice(&self) -> &[u8]
         ensures value { result.now ≡ self.now }
         ensures few { length self.now ≤ longest_datagram }
@@ -40,8 +40,7 @@ impl Datagram {
         self.octets.as_slice()
     }
 
-    /// Puts these octets in place of those that are there. False, with nothing changed, only where there are more than
-    /// 2,047.
+    /// Replaces the octets. Returns false, with nothing changed, only if there are more than 2,047.
     pub fn set(&mut self, octets: &[u8]) -> bool
         ensures fits { IsTrue result ↔ (length octets.now ≤ longest_datagram) }
         ensures held { result ≡ true → self.new ≡ octets.now }

@@ -1,4 +1,4 @@
-//! How a call ends, and what is printed of that.
+//! The end of a call, and its text.
 ghost use Rattle.std.specs.Option.{option_map_or};
 ghost use Rattle.std.specs.Prelude.{codes, false, IfErr, IfOk, if◌then◌else◌, is_err, is_some, ◌≡◌};
 ghost use Rattle.bac_pdu.specs.{ack_of, ReadAck};
@@ -13,23 +13,23 @@ use bac_tsm::Outcome;
 use bac_work::begin;
 use std::io::Write;
 
-/// What a call is for.
+/// The purpose of a call.
 #[derive(Clone, Copy)]
 pub enum Purpose {
     /// To read a property.
     Reading,
-    /// To write one.
+    /// To write a property.
     Writing,
 }
 
-/// How a request ended.
+/// The end of a request.
 #[derive(Clone, Copy)]
 pub(crate) enum Ending<'d> {
     Answered(Outcome<'d>),
     TimedOut,
 }
 
-/// Prints the line of how the request ended.
+/// Prints the line of the end of a request.
 pub(crate) fn show_ending<W: Write>(
     purpose: Purpose,
     ending: Ending<'_>,
@@ -49,7 +49,7 @@ pub(crate) fn show_ending<W: Write>(
     Ok(exit)
 }
 
-// Prints how the request ended, and tells whether that is good.
+// Prints the end of a request, and returns whether it is good.
 fn print_ending<W: Write>(page: &mut Page<'_, W>, purpose: Purpose, ending: Ending<'_>) -> Exit
     ensures text { Prints W.contents page.old page.new (ending_text purpose (ending_seen ending.entry)) }
     ensures exit { result ≡ exit_of purpose (ending_seen ending.entry) }
@@ -69,7 +69,7 @@ fn print_ending<W: Write>(page: &mut Page<'_, W>, purpose: Purpose, ending: Endi
     Exit::Bad
 }
 
-// Prints the value of an acknowledgement, or that there is none to read.
+// Prints the value of an acknowledgement, or that it cannot be read.
 fn print_value<W: Write>(page: &mut Page<'_, W>, body: &[u8]) -> Exit
     ensures text { Prints W.contents page.old page.new
         (option_map_or (λ (ack : ReadAck). region_text ack.value) (ack_of body.now) (codes "bad-ack")) }

@@ -1,17 +1,18 @@
 //! Examples of links and tools, worked out by computation. They show what the definitions mean.
 
-ghost use Rattle.std.specs.declared.io.ErrorKind.TheVariants.{TimedOut};
+ghost use Rattle.std.specs.declared.io.ErrorKind.TheVariants.{TimedOut, WouldBlock};
 ghost use Rattle.std.specs.Prelude.{[], codes, Err, false, None, Ok, Some, true, ℕ, ◌∷◌, ◌≡◌};
 ghost use Rattle.bac_print.specs.Inner.Examples.{having, unasked, unknown};
 ghost use Rattle.bac_links.specs.{account_over, account_with, AllSent, ArePrompt, AreTold, arrivals_in, Arrived};
-ghost use Rattle.bac_links.specs.{AskAlike, Bind, Binds, BindsAtMost, Elapsed, Fails, Failure, Gains, heard_by};
-ghost use Rattle.bac_links.specs.{is_link_fault, is_write_fault, IsAccepted, Limit, link_fault_text, Logs, LogsHistory};
-ghost use Rattle.bac_links.specs.{longest_datagram, most_turns, OneText, PlaysItsScenes, Posted, posted, Receive};
-ghost use Rattle.bac_links.specs.{ReceiveFailed, Searched, SendFailed, Sends, sends_of_call, SendTo, sent_at, sent_by};
-ghost use Rattle.bac_links.specs.{sent_in, Serves, Silence, Tells, Timed, Times, tool_fault_text, turn_wait};
-ghost use Rattle.bac_links.specs.{TurnsSpent, Unposted, Waited, Waits, waits_in, who_is_to, WriteFailed, Writing};
-ghost use Rattle.bac_links.specs.{declared.udp.OnRefusal.TheVariants.IsLost, Inner.{answered, asked_so, AsksInVain}};
-ghost use Rattle.bac_links.specs.Inner.{AsksTime, bad, broken, call, deaf, desk, device, good, IsNothing, local, lost};
+ghost use Rattle.bac_links.specs.{AskAlike, AtOnce, Bind, Binds, BindsAtMost, Elapsed, endless, Fails, Failure, Gains};
+ghost use Rattle.bac_links.specs.{heard_by, is_link_fault, is_write_fault, IsAccepted, Limit, link_fault_text, Logs};
+ghost use Rattle.bac_links.specs.{LogsHistory, longest_datagram, most_looks, most_turns, OneText, PlaysItsScenes};
+ghost use Rattle.bac_links.specs.{Posted, posted, Receive, ReceiveFailed, Searched, SendFailed, Sends, sends_of_call};
+ghost use Rattle.bac_links.specs.{SendTo, sent_at, sent_by, sent_in, Serves, Silence, Tells, Timed, Times};
+ghost use Rattle.bac_links.specs.{tool_fault_text, turn_wait, TurnsSpent, Unposted, Waited, Waits, waits_in, who_is_to};
+ghost use Rattle.bac_links.specs.{WriteFailed, Writing, declared.udp.OnRefusal.TheVariants.IsLost, Inner.answered};
+ghost use Rattle.bac_links.specs.Inner.{asked_so, AsksInVain, AsksTime, bad, broken, call, deaf, desk, device, good};
+ghost use Rattle.bac_links.specs.Inner.{IsNothing, local, long_came, looking, lost, waiting};
 ghost use Rattle.bac_tsm.specs.{Ask, Tick};
 ghost use Rattle.bac_links.specs.Inner.{nobody, NoCut, once_asked, one_step, quiet_link, Same, search, SendsOnly};
 ghost use Rattle.bac_links.specs.Inner.{steady, to_desk, twice_asked, unsearched, unsent, unwritten, write};
@@ -27,14 +28,14 @@ fn examples_of_time()
     ensures unasked { ArePrompt steady 49 0 }
     ensures waits { waits_in (Timed 0 ∷ Waited 50 Silence ∷ Timed 50 ∷ Waited 50 Silence ∷ []) ≡ 2 }
 
-    // The limits.
+    // The limits of tools.
     ensures wait { turn_wait 3000 ≡ 50 }
     ensures short_wait { turn_wait 20 ≡ 20 }
     ensures turns { most_turns ≡ 65536 }
     ensures longest { longest_datagram ≡ 2047 }
 {}
 
-// The datagrams that the entries of a history heard and sent.
+// The received and sent datagrams in the entries of a history.
 #[tactic(none)]
 fn examples_of_entries()
     // A send that failed is not counted.
@@ -59,7 +60,7 @@ fn examples_of_entries()
     ensures other_gained { Gains (Timed 5) (quiet_link []) (quiet_link (Timed 6 ∷ [])) → ⊥ }
     ensures not_gained { Gains (Timed 5) (quiet_link []) (quiet_link []) → ⊥ }
 
-    // The first wait hears the first scene, whose time the clock then shows; the send has that time too.
+    // The first wait plays the first scene, and the clock then shows its time; the send has that time too.
     ensures played { PlaysItsScenes (quiet_link (Waited 50 Silence ∷ Timed 5 ∷ [])) }
     ensures other_time { PlaysItsScenes (quiet_link (Waited 50 Silence ∷ Timed 6 ∷ [])) → ⊥ }
     ensures other_heard { PlaysItsScenes (quiet_link (Waited 50 Failure ∷ [])) → ⊥ }
@@ -69,7 +70,7 @@ fn examples_of_entries()
     // A scene is a step of the link.
     ensures step { account_with one_step [] ≡ quiet_link [] }
 
-    // A log has the calls that were made, and no others. If the clock fails, the time stays as it was.
+    // A log has the calls that were made, and no others. If the clock fails, the time does not change.
     ensures nothing { Logs IsNothing [] [] }
     ensures something { Logs IsNothing [] (Elapsed None ∷ []) → ⊥ }
     ensures log_changed { Logs IsNothing (Elapsed None ∷ []) (Limit 5 false ∷ []) → ⊥ }
@@ -78,7 +79,7 @@ fn examples_of_entries()
     ensures unread { Times 5 5 [] → ⊥ }
 {}
 
-// Whose fault ends a tool, and the message of each fault.
+// Which faults are of the link, and the message of each fault.
 #[tactic(none)]
 fn examples_of_ends()
     ensures of_link { is_link_fault unsent ≡ true }
@@ -92,7 +93,7 @@ fn examples_of_ends()
     ensures bind { link_fault_text ≡ codes "bind failed" }
 {}
 
-// A call: its questions, its sends, its line and its answer.
+// A call: its moves, its sends, its line and its answer.
 #[tactic(none)]
 fn examples_of_calls()
     // Its request is accepted after the first time, and at no other event.
@@ -103,7 +104,7 @@ fn examples_of_calls()
     ensures other_body { IsAccepted Writing call (Tick 0 ∷ Ask desk 15 (1 ∷ []) ∷ []) → ⊥ }
     ensures other_peer { IsAccepted Writing call (Tick 0 ∷ Ask (record desk { port = 47809 }) 15 [] ∷ []) → ⊥ }
 
-    // It is sent at the second event.
+    // The request is sent at the second event.
     ensures sent { sent_at Writing call answered ≡ (1, desk, write) ∷ [] }
     ensures unsent { sent_at Writing call lost ≡ [] }
     ensures due { sends_of_call Writing call answered ≡ (1, desk, write) ∷ [] }
@@ -120,7 +121,7 @@ fn examples_of_calls()
     ensures unwritten { Tells Writing call unknown unasked unasked (asked_so []) (asked_so lost) unwritten → ⊥ }
 {}
 
-// A search: its questions, its lines and its answer; and how a server ends.
+// A search: its moves, its lines and its answer; and the end of a server.
 #[tactic(none)]
 fn examples_of_searches_and_servers()
     ensures who_is { who_is_to search ≡ 0x81 ∷ 0x0a ∷ 0x00 ∷ 0x08 ∷ 0x01 ∷ 0x00 ∷ 0x10 ∷ 0x08 ∷ [] }
@@ -149,7 +150,7 @@ fn examples_of_sockets()
     ensures unbound { BindsAtMost to_desk [] }
     ensures bound_twice { BindsAtMost to_desk (Bind (local 47808) ∷ Bind (local 47808) ∷ []) → ⊥ }
 
-    // A send is good if all octets went, or if a refused datagram counts as lost.
+    // A send is good if all octets were sent, or if a refused datagram counts as lost.
     ensures sent { Sends Fails desk (1 ∷ 2 ∷ []) true (SendTo (1 ∷ 2 ∷ []) (local 47808) (Some 2) ∷ []) }
     ensures sent_half { Sends Fails desk (1 ∷ 2 ∷ []) true (SendTo (1 ∷ 2 ∷ []) (local 47808) (Some 1) ∷ []) → ⊥ }
     ensures lost { Sends IsLost desk (1 ∷ 2 ∷ []) true (SendTo (1 ∷ 2 ∷ []) (local 47808) None ∷ []) }
@@ -157,32 +158,54 @@ fn examples_of_sockets()
     ensures sent_other { Sends Fails desk [] true (SendTo (1 ∷ []) (local 47808) (Some 1) ∷ []) → ⊥ }
     ensures not_sent { Sends Fails desk [] true [] → ⊥ }
 
-    // A wait of 50 milliseconds sets the limit if it was another, and receives once.
-    ensures waited { Waits Fails 0 50 (Arrived desk (7 ∷ []))
+    // A wait of 50 milliseconds sets the limit if it was another, and receives.
+    ensures waited { Waits Fails endless 50 (Arrived desk (7 ∷ []))
         (Limit 50000000 true ∷ Receive 2048 (Ok (7 ∷ [], local 47808)) ∷ []) }
-    ensures waited_again { Waits Fails 50 50 Silence (Receive 2048 (Err TimedOut) ∷ []) }
-    ensures unlimited { Waits Fails 0 50 Failure (Limit 50000000 false ∷ []) }
-    ensures unset { Waits Fails 0 50 Silence (Receive 2048 (Err TimedOut) ∷ []) → ⊥ }
-    ensures not_heard { Waits Fails 50 50 Silence [] → ⊥ }
-    ensures other_heard { Waits Fails 50 50 Failure (Receive 2048 (Err TimedOut) ∷ []) → ⊥ }
+    ensures waited_again { Waits Fails waiting 50 Silence (Receive 2048 (Err TimedOut) ∷ []) }
+    ensures unlimited { Waits Fails endless 50 Failure (Limit 50000000 false ∷ []) }
+    ensures unset { Waits Fails endless 50 Silence (Receive 2048 (Err TimedOut) ∷ []) → ⊥ }
+    ensures not_heard { Waits Fails waiting 50 Silence [] → ⊥ }
+    ensures other_heard { Waits Fails waiting 50 Failure (Receive 2048 (Err TimedOut) ∷ []) → ⊥ }
+    ensures unset_heard { Waits Fails endless 50 Silence (Limit 50000000 false ∷ []) → ⊥ }
+    ensures half_set { Waits Fails endless 50 Failure [] → ⊥ }
+
+    // A wait of 0 ms only looks: receives return at once. A longer wait afterwards makes them wait again.
+    ensures looked { Waits Fails waiting 0 Silence (AtOnce true true ∷ Receive 2048 (Err WouldBlock) ∷ []) }
+    ensures looked_again { Waits Fails looking 0 Silence (Receive 2048 (Err WouldBlock) ∷ []) }
+    ensures waits_again { Waits Fails looking 50 Silence (AtOnce false true ∷ Receive 2048 (Err TimedOut) ∷ []) }
+    ensures refused { Waits Fails waiting 0 Failure (AtOnce true false ∷ []) }
+    ensures still_waiting { Waits Fails waiting 0 Silence (Receive 2048 (Err TimedOut) ∷ []) → ⊥ }
+    ensures still_looking { Waits Fails looking 50 Silence (Receive 2048 (Err WouldBlock) ∷ []) → ⊥ }
+
+    // After a datagram that is too long, the next one is received: at most four in a wait, and 256 in a look.
+    ensures passed_over { Waits Fails waiting 50 (Arrived desk (7 ∷ []))
+        (long_came ∷ Receive 2048 (Ok (7 ∷ [], local 47808)) ∷ []) }
+    ensures not_silence { Waits Fails waiting 50 Silence (long_came ∷ []) → ⊥ }
+    ensures four { Waits Fails waiting 50 Silence (long_came ∷ long_came ∷ long_came ∷ long_came ∷ []) }
+    ensures five { Waits Fails waiting 50 Silence (long_came ∷ long_came ∷ long_came ∷ long_came ∷ long_came ∷ []) → ⊥ }
+    ensures heard_once { Waits Fails waiting 50 (Arrived desk (7 ∷ []))
+        (Receive 2048 (Ok (7 ∷ [], local 47808)) ∷ Receive 2048 (Ok (8 ∷ [], local 47808)) ∷ []) → ⊥ }
+    ensures most { most_looks 0 ≡ 256 }
 
     // The log of a socket has the calls for its history, after those that it made before.
     ensures logged { LogsHistory (account_over Fails (Elapsed None ∷ []) (Timed 0 ∷ []))
         (Elapsed None ∷ Elapsed None ∷ []) }
+    ensures two_waits { LogsHistory (account_over Fails [] (Waited 50 Silence ∷ Waited 50 Silence ∷ []))
+        (Limit 50000000 true ∷ Receive 2048 (Err TimedOut) ∷ Receive 2048 (Err TimedOut) ∷ []) }
     ensures not_logged { LogsHistory (account_over Fails [] (Timed 0 ∷ [])) [] → ⊥ }
     ensures more_logged { LogsHistory (account_over Fails [] []) (Elapsed None ∷ []) → ⊥ }
     ensures other_time { LogsHistory (account_over Fails [] (Timed 5 ∷ [])) (Elapsed None ∷ []) → ⊥ }
 {}
 
-// Two tools that are alike.
+// Two tools that do the same.
 #[tactic(none)]
 fn examples_of_tools()
-    // Both ask the time, and end with it.
+    // Both tools read the time, and end with it.
     ensures alike { AskAlike ℕ ℕ AsksTime AsksTime NoCut Same Same }
     ensures other_question { AskAlike ℕ ℕ AsksTime SendsOnly NoCut Same Same → ⊥ }
     ensures other_end { AskAlike ℕ ℕ AsksTime AsksInVain NoCut Same Same → ⊥ }
 
-    // Both printed one text; or one writer failed, and took a front of it.
+    // Both printed one text; or one writer failed, and took the beginning of it.
     ensures one_text { OneText unknown unasked (having (1 ∷ 2 ∷ [])) unknown unasked (having (1 ∷ 2 ∷ [])) good
         bad }
     ensures front { OneText unknown unasked (having (1 ∷ 2 ∷ [])) unknown unasked (having (1 ∷ [])) good unwritten }

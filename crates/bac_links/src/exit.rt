@@ -1,9 +1,9 @@
-//! How a tool ends.
-/// How a tool ends that has met no fault.
+//! The end of a tool.
+/// The end of a tool that met no fault.
 #[derive(Clone, Copy, Debug, PartialEq, Eq)]
 pub enum Exit {
-    /// A value was read, a write was made, or a device was heard.
+    /// A value was read, a write was made, or a device was found.
     Good,
-    /// The request ended otherwise, or no device was heard.
+    /// The request ended in another way, or no device was found.
     Bad,
 }

@@ -2,7 +2,7 @@
 ghost use Rattle.std.specs.Prelude.{◌≡◌};
 ghost use Rattle.{bac_print.specs.message_text, bac_links.specs.{tool_fault_text, WriteFailed}};
 
-use bac_print::{Message, WriteFailed as NotWritten};
+use bac_print::{FaultMessage, WriteFailed as NotWritten};
 use thiserror::Error;
 
 /// Why a tool could not go on.
@@ -20,11 +20,11 @@ pub enum ToolFault {
 }
 
 impl ToolFault {
-    /// Its message.
-    pub fn message(&self) -> Message
+    /// Returns the message.
+    pub fn message(&self) -> FaultMessage
         ensures { message_text result ≡ tool_fault_text self.now }
     {
-        Message::Text(match self {
+        FaultMessage::Text(match self {
             ToolFault::SendFailed => "sending failed",
             ToolFault::ReceiveFailed => "receiving failed",
             ToolFault::TurnsSpent => "turns spent",

@@ -1,4 +1,4 @@
-//! The notes on a link and its socket, in proofs alone.
+//! The notes on a link and its socket, which exist only in proofs.
 ghost use Rattle.std.specs.Borrow.{ftrue};
 ghost use Rattle.bac_links.specs.{Entry, SystemCall.SystemCall};
 
@@ -11,10 +11,10 @@ use std::marker::Model;
 use std::net::SocketAddr;
 use std::time::Duration;
 
-/// All that a link was asked and answered so far.
+/// All calls of a link so far, with their answers.
 pub(crate) type History = GhostList<EntryMade>;
 
-/// One thing that a link was asked, with its answer, as clauses see it. No code makes one.
+/// One call of a link, with its answer, as clauses see it. No code makes one.
 #[derive(Drop)]
 pub(crate) struct EntryMade {
     ghost entry: { Entry },
@@ -28,7 +28,7 @@ impl Model for EntryMade {
     ghost also_owns = { λ _. ftrue };
 }
 
-/// One call of a link, with its answer: a wait of so many milliseconds, and the datagram then; the time; a send.
+/// One call of a link, with its answer: a wait of this many milliseconds and its datagram; the time; a send.
 #[derive(Clone, Copy, Drop)]
 pub(crate) enum EntryNote<'a> {
     Waited(u32, &'a Result<Option<Peer>, LinkFault>, &'a Datagram),
@@ -42,7 +42,7 @@ impl NoteOf<EntryMade> for EntryNote<'_> {
     ghost tells = { entry_of };
 }
 
-/// All calls of the system that a socket made so far, with the answers.
+/// All calls of the system that a socket made so far, with their answers.
 pub type Log = GhostList<SystemCallMade>;
 
 /// One call of the system, with its answer, as clauses see it. No code makes one.
@@ -64,6 +64,7 @@ impl Model for SystemCallMade {
 pub enum CallNote<'a> {
     Bind(SocketAddr),
     Limit(Duration, &'a io::Result<()>),
+    AtOnce(bool, &'a io::Result<()>),
     SendTo(&'a [u8], SocketAddr, &'a io::Result<usize>),
     Receive(&'a [u8], &'a io::Result<(usize, SocketAddr)>),
     Elapsed(&'a io::Result<Duration>),

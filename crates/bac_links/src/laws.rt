@@ -1,5 +1,5 @@
-//! What holds of the definitions that the contracts cite, and of the public types. Each function has an empty body, and
-//! its clauses are the laws.
+//! Laws of the definitions that the contracts cite, and of the public types. Each function has an empty body, and its
+//! clauses are the laws.
 
 ghost use Rattle.std.specs.{List.flat_map, Option.option_to_list, Prelude.[]};
 ghost use Rattle.std.specs.Prelude.{Err, IfOk, length, List, Ok, Result, suc, ℕ, ⊤, ◌*◌, ◌++◌, ◌+◌, ◌∷◌, ◌≡◌, ◌≢◌, ◌≤◌};
@@ -23,15 +23,15 @@ use crate::udp::{OnRefusal, UdpLink};
 use std::alloc::Allocator;
 use std::io::Write;
 
-/// However a server ends, and whatever its link is, the device has its info and its points as before.
+/// However a server ends, and whatever its link is, the device keeps its identity and its points.
 pub fn a_server_keeps_its_points<L: Link>()
     ensures { (count : ℕ) (before after : DeviceState) (seen left : Account L.Origin) (result : Result ℕ Fault)
         → Serves count before after seen left result
         → (after.info ≡ before.info) × (points_of after ≡ points_of before) }
 {}
 
-/// For any writes that leave the points as they stand in the device before, the replies of a server are those of the
-/// definition; and however it ends, the points stand afterwards as the writes that it accepted leave them.
+/// The replies of a server are those of the definition, after any writes that the device held before. However the
+/// server ends, the device then holds these writes and those that it accepted.
 pub fn a_server_replies_as_defined<L: Link>()
     ensures { (count : ℕ) (before after : DeviceState) (seen left : Account L.Origin) (result : Result ℕ Fault)
         (gained : List Entry) (writes : List Change)
@@ -39,8 +39,8 @@ pub fn a_server_replies_as_defined<L: Link>()
         → AreDefined before writes (arrivals_in gained) (replies_of before (arrivals_in gained)) after }
 {}
 
-/// What a server sent, in its order, are the replies of the definition to the datagrams that it heard, after any writes
-/// that leave the points as they stand in the device before; if a send failed, all but that one.
+/// The sends of a server are, in order, the replies of the definition to the datagrams that it received, after any
+/// writes that the device held before. If a send failed, the last reply is missing.
 pub fn a_server_sends_its_replies<L: Link>()
     ensures { (count : ℕ) (before after : DeviceState) (seen left : Account L.Origin) (result : Result ℕ Fault)
         (gained : List Entry) (writes : List Change)
@@ -49,9 +49,9 @@ pub fn a_server_sends_its_replies<L: Link>()
         (sent_in gained) result }
 {}
 
-/// No server hears more datagrams than it is to answer, and one that is over with an answer heard that many. (One that
-/// heard as many ends with a fault if its last reply could not be sent.) Its answer is the number of replies that it
-/// sent.
+/// No server receives more datagrams than its count, and a server that ends with an answer received that many. (A
+/// server that received as many ends with a fault if its last reply could not be sent.) The answer is the number of
+/// replies that were sent.
 pub fn a_server_hears_as_many<L: Link>()
     ensures { (count : ℕ) (before after : DeviceState) (seen left : Account L.Origin) (result : Result ℕ Fault)
         (gained : List Entry) → Serves count before after seen left result → left.history ≡ seen.history ++ gained
@@ -59,9 +59,9 @@ pub fn a_server_hears_as_many<L: Link>()
         × (replies ≡ length (sent_in gained))) }
 {}
 
-/// No call waits for ever. Take any clock whose times are those that the link told, as the link's own: where by it no
-/// turn takes longer than so long, the call ends, its last wait with it, within the timeout and so long, for each time
-/// that the request is sent (clause 5.4.4). For a clock that stands still this says nothing: then the turns run out.
+/// No call waits for ever. Take any clock that shows the link's times. If by this clock no turn takes longer than
+/// `longest`, the call ends, its last wait included, within the timeout and `longest` for each time that the request is
+/// sent (clause 5.4.4). This says nothing of a clock that stands still: then the turns are spent.
 pub fn a_call_ends_in_time<L: Link, W: Write>()
     ensures { (purpose : Purpose) (call : Call) (before after : Checked W) (seen left : Account L.Origin)
         (result : Result ExitValue Fault) (gained : List Entry) (time_behind : ℕ → ℕ) (longest : ℕ)
@@ -70,9 +70,8 @@ pub fn a_call_ends_in_time<L: Link, W: Write>()
         → time_behind (waits_in gained) ≤ time_behind 0 + suc call.retries * (call.timeout + longest) }
 {}
 
-/// Among the events of a call, whatever it comes to, the look-ahead accepts one request, that of the call. So what is
-/// proved of a request that is accepted holds of it. Its body is short enough: `as_slice` says so of each that the code
-/// has.
+/// The look-ahead accepts exactly one request among the events of a call, the one of the call. So the laws of accepted
+/// requests hold for it. Its body is short enough: `as_slice` says so for each body in the code.
 pub fn a_call_is_accepted<L: Link, W: Write>()
     ensures { (purpose : Purpose) (call : Call) (before after : Checked W) (seen left : Account L.Origin)
         (result : Result ExitValue Fault) (gained : List Entry) → length call.body.items ≤ longest_body
@@ -80,8 +79,8 @@ pub fn a_call_is_accepted<L: Link, W: Write>()
         → IsAccepted purpose call (events_of purpose call gained) }
 {}
 
-/// What a call sent, and at which events, is what the look-ahead says of its one request among the events of its whole
-/// history, and no more; if a send failed, all but that one.
+/// The sends of a call, and their events, are those of its one request by the look-ahead, among the events of its whole
+/// history. If a send failed, the last one is missing.
 pub fn a_call_sends_as_the_look_ahead_says<L: Link, W: Write>()
     ensures { (purpose : Purpose) (call : Call) (before after : Checked W) (seen left : Account L.Origin)
         (result : Result ExitValue Fault) (gained : List Entry)
@@ -89,7 +88,7 @@ pub fn a_call_sends_as_the_look_ahead_says<L: Link, W: Write>()
         → AllSent (sends_of_call purpose call gained) (sent_at purpose call gained) result }
 {}
 
-/// What a search sent is its Who-Is, once; if that failed, nothing.
+/// A search sends its Who-Is, once, and nothing else; if that failed, nothing.
 pub fn a_search_sends_one_who_is<L: Link, W: Write>()
     ensures { (search : Search) (before after : Checked W) (seen left : Account L.Origin)
         (result : Result ExitValue Fault) (gained : List Entry)
@@ -97,16 +96,16 @@ pub fn a_search_sends_one_who_is<L: Link, W: Write>()
         → AllSent ((station search.to, who_is_to search) ∷ []) (sent_in gained) result }
 {}
 
-/// No call ends with an exit over a link, a socket or another, that it asked nothing: the history gained something.
+/// No call ends with an exit over a link that it did not use: the history gained something.
 pub fn no_call_ends_unasked<L: Link, W: Write>()
     ensures { (purpose : Purpose) (call : Call) (before after : Checked W) (seen : Account L.Origin) (exit : ExitValue)
         → Tells purpose call W.contents before after seen seen (Ok exit) → ⊥ }
 {}
 
-/// A call is a function of what it is for and of what its link answers. Take two calls for the same, over any two links
-/// and into any two writers. As far as they were answered alike, they asked alike; then they ask the same next, or both
-/// are over. If neither writer failed they ended alike, and both printed the same line; if one failed, it took a front
-/// of that line.
+/// A call is a function of its purpose and of the answers of its link. Take two calls with one purpose, over any two
+/// links and with any two writers. As far as they were answered alike, they asked alike; then their next questions are
+/// the same, or both are over. If neither writer failed, they ended alike and printed the same line; a writer that
+/// failed took the beginning of that line.
 pub fn a_call_is_a_function<K: Link, L: Link, V: Write, W: Write>()
     ensures { (purpose : Purpose) (call : Call) (before after : Checked V) (other_before other_after : Checked W)
         → AskAlike K.Origin L.Origin (Tells purpose call V.contents before after)
@@ -115,8 +114,8 @@ pub fn a_call_is_a_function<K: Link, L: Link, V: Write, W: Write>()
         (OneText V.contents before after W.contents other_before other_after) }
 {}
 
-/// A search is a function of what it is for and of what its link answers, in the same sense as a call; it stops before
-/// the other only where its writer failed, and then it printed a front of what the other printed.
+/// A search is a function of its settings and of the answers of its link, in the same sense as a call. It stops before
+/// the other only if its writer failed, and then it printed the beginning of the other's text.
 pub fn a_search_is_a_function<K: Link, L: Link, V: Write, W: Write>()
     ensures { (search : Search) (before after : Checked V) (other_before other_after : Checked W)
         → AskAlike K.Origin L.Origin (Searched search V.contents before after)
@@ -125,34 +124,34 @@ pub fn a_search_is_a_function<K: Link, L: Link, V: Write, W: Write>()
         (OneText V.contents before after W.contents other_before other_after) }
 {}
 
-/// A server is a function of how many datagrams it is to answer, of the device before, and of what its link answers.
-/// Take two servers of as many, over any two links and over devices in the same state. As far as they were answered
-/// alike, they asked and sent alike; then they do the same next, or both are over with the same answer, and afterwards
-/// the devices are in the same state.
+/// A server is a function of its count, of the device before, and of the answers of its link. Take two servers with one
+/// count, over any two links and over devices in the same state. As far as they were answered alike, they asked and
+/// sent alike; then their next moves are the same, or both are over with the same answer, and the devices are in the
+/// same state.
 pub fn a_server_is_a_function<K: Link, L: Link>()
     ensures { (count : ℕ) (before after other_after : DeviceState)
         → AskAlike K.Origin L.Origin (Serves count before after) (Serves count before other_after) (λ result. ⊥)
         (λ result other. (result ≡ other) × (after ≡ other_after)) (λ result other. ⊤) }
 {}
 
-/// However a link in memory was used, it answered as the steps say that it was made of: each wait heard the next one,
-/// once there was none nothing, and each time was the time then.
+/// A link in memory always answers as its steps say: each wait plays the next step, or is silent once there is none,
+/// and each time is that of the last step.
 pub fn a_memory_link_plays_its_steps<A: Allocator + Copy>(link: &MemoryLink<A>)
     ensures { PlaysItsScenes (⟦<MemoryLink<A> as Link>⟧.seen link.now) }
 {}
 
-/// However a link over a socket was used, the log has, after the calls that the socket had made before, those for the
-/// entries of the history, one after another, and no others. (`∥ ∥₁`: there is a way to part the log so.)
+/// After the calls that the socket had made before, the log of a link over a socket has the calls for the entries of
+/// the history, one after another, and no others. (`∥ ∥₁`: the log can be divided in this way.)
 pub fn a_socket_logs_the_history<S: Socket + Drop>(link: &UdpLink<S>)
     ensures { ∥ LogsHistory (⟦<UdpLink<S> as Link>⟧.seen link.now) (S.log link.now.socket) ∥₁ }
 {}
 
-/// The limit that the code names is that of the definitions.
+/// The limit in the code is the limit in the definitions.
 pub fn limits()
     ensures datagram { DATAGRAM_OCTETS ≡ longest_datagram }
 {}
 
-/// A clone is what it was cloned from, and takes no memory.
+/// A clone equals its original, and allocates no memory.
 pub fn clones<'a>()
     ensures purpose { MakesCopies ⟦<Aim as Clone>⟧.is_clone ⟦<Aim as Clone>⟧.is_infallible }
     ensures exit { MakesCopies ⟦<Exit as Clone>⟧.is_clone ⟦<Exit as Clone>⟧.is_infallible }
@@ -163,7 +162,7 @@ pub fn clones<'a>()
     ensures note { MakesCopies ⟦<CallNote<'a> as Clone>⟧.is_clone ⟦<CallNote<'a> as Clone>⟧.is_infallible }
 {}
 
-/// What `==` compares: which exit, which fault and which of the two for a refused datagram it is.
+/// `==` compares exits, faults, and the two treatments of a refused datagram.
 pub fn equals()
     ensures exit { EqualsBy (λ exit. exit) ⟦<Exit as PartialEq>⟧.eq }
     ensures fault { EqualsBy (λ fault. fault) ⟦<ToolFault as PartialEq>⟧.eq }

@@ -1,14 +1,14 @@
-//! The tools over a link: what they send, print and answer is a function of what the link answers.
+//! The tools over a link: their sends, text and answer are a function of the answers of the link.
 //!
 //! A [`Link`] sends and receives datagrams and knows the time: [`UdpLink`] over a socket, [`MemoryLink`] in memory.
-//! [`run_read`] and [`run_write`] make one request and print how it ended, [`run_whois`] prints the devices that it
-//! finds, and [`serve`] answers for a device. `specs/Call.antt`, `specs/Search.antt` and `specs/Serve.antt` say by
-//! their moves (`specs/Asking.antt`) what each asks of its link.
+//! [`run_read`] and [`run_write`] make one request and print its end, [`run_whois`] prints the devices that it finds,
+//! and [`serve`] runs a device. `specs/Call.antt`, `specs/Search.antt` and `specs/Serve.antt` define the moves of each
+//! (`specs/Asking.antt`): what it asks of its link.
 //!
-//! Whole runs over links in memory, with what they send and print, are tests of `tool_trials` (`src/tests/links`).
+//! Tests of whole runs over links in memory, with their sends and their text, are in `tool_trials` (`src/tests/links`).
 //!
-//! A call, from `bac_uses` (`src/links.rt`). There it is proved that the read was made and nothing else, and that if it
-//! met no fault, the writer took the line of how it ended, and the exit is that of this end:
+//! A call, from `bac_uses` (`src/links.rt`). There it is proved that only the read was made, and that if it met no
+//! fault, the writer took the line of its end, and the exit is that of this end:
 //!
 //! ```rust
 //! let mut link = UdpLink::bind_with(sockets, anywhere, OnRefusal::Fails)?;

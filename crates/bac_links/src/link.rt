@@ -1,4 +1,4 @@
-//! What the tools send and receive datagrams through.
+//! The link through which the tools send and receive datagrams.
 ghost use Rattle.std.specs.{Option.option_flatten, Prelude.{Bool, false, IfNone, IfOk, IfSome, is_err, None, ◌≡◌}};
 ghost use Rattle.std.specs.Result.{result_ok};
 ghost use Rattle.{bac_pdu.specs.station, bac_print.specs.message_text};
@@ -6,7 +6,7 @@ ghost use Rattle.bac_links.specs.{Account, Gains, heard_by, link_fault_text, pos
 
 use crate::datagram::Datagram;
 use bac_pdu::Peer;
-use bac_print::Message;
+use bac_print::FaultMessage;
 use thiserror::Error;
 
 /// A send or a receive failed, or a link could not be made.
@@ -16,19 +16,20 @@ pub struct LinkFault;
 
 impl LinkFault {
     /// The message if no link is available. A send or a receive that failed is reported as a `ToolFault`.
-    pub fn message(&self) -> Message
+    pub fn message(&self) -> FaultMessage
         ensures { message_text result ≡ link_fault_text }
     {
-        Message::Text("bind failed")
+        FaultMessage::Text("bind failed")
     }
 }
 
-/// What sends and receives datagrams, and knows the time. Once a send or a receive has failed, neither is called again.
+/// A link sends and receives datagrams, and knows the time. Once a send or a receive has failed, neither is called
+/// again.
 pub trait Link {
-    // What a link of this kind is made of.
+    // The parts from which a link of this kind is made.
     ghost Origin: { Type 0 } = { Unit {0} };
 
-    // What the link was made of, which never changes, and what it was asked and answered so far.
+    // The parts from which the link was made, which never change, and all its calls and answers so far.
     ghost seen: { Self → Account Origin };
 
     // A send or a receive has failed.
@@ -40,8 +41,8 @@ pub trait Link {
         ensures fault { has_failed self.new ≡ is_err result }
         ensures told { Gains (posted result (station to) octets.now) (seen self.old) (seen self.new) };
 
-    /// Waits so many milliseconds for a datagram, and tells from where it came. None where none came; then, and after a
-    /// fault, the datagram is as it was.
+    /// Waits this many milliseconds for a datagram, and returns its sender. Returns None if none came; then, and after
+    /// a fault, the datagram is unchanged.
     fn receive(&mut self, wait_ms: u32, datagram: &mut Datagram) -> Result<Option<Peer>, LinkFault>
         requires { has_failed self.old ≡ false }
         ensures fault { has_failed self.new ≡ is_err result }
@@ -49,7 +50,7 @@ pub trait Link {
         ensures kept { IfNone (option_flatten (result_ok result)) (datagram.new ≡ datagram.old) }
         ensures told { Gains (Waited wait_ms (heard_by result datagram.new)) (seen self.old) (seen self.new) };
 
-    /// The time in milliseconds.
+    /// Returns the time in milliseconds.
     fn now(&mut self) -> u64
         ensures fault { has_failed self.new ≡ has_failed self.old }
         ensures told { Gains (Timed result) (seen self.old) (seen self.new) };

@@ -12,14 +12,15 @@ use crate::link::{Link, LinkFault};
 use bac_pdu::Peer;
 use std::alloc::{AllocError, Allocator, Global};
 
-/// What one receive of a link in memory hears.
+/// One receive of a link in memory.
 #[derive(Clone, Copy, Debug)]
 pub enum Step<'a> {
     /// Nothing comes, and this is the time then.
     Quiet(u64),
-    /// A datagram comes at this time. One of more than 2,047 octets is not heard, and a route of its peer is dropped.
+    /// A datagram comes at this time. A datagram of more than 2,047 octets is ignored, and a route of its peer is
+    /// dropped.
     Packet(u64, Peer, &'a [u8]),
-    /// The receive fails, and the time stays.
+    /// The receive fails, and the time does not change.
     Broken,
 }
 
@@ -39,30 +40,30 @@ struct Record<A: Allocator> {
     octets: Vec<u8, A>,
 }
 
-/// A link that hears the steps that it was made of, and records what it sends. Its time is 0 at first. Once all steps
-/// are heard, each wait passes in silence.
+/// A link that plays the steps from which it was made, and records its sends. Its time is 0 at first. Once all steps
+/// are played, each wait passes in silence.
 #[derive(Drop)]
 pub struct MemoryLink<A: Allocator = Global> {
     alloc: A,
-    // The steps, and the number of the next one, which is past the end once there is none.
+    // The steps, and the number of the next one, which is past the end once all are played.
     steps: Vec<Kept<A>, A>,
     next: usize,
     time: u64,
     sent: Vec<Record<A>, A>,
     fail_send: Option<u32>,
     failed: bool,
-    // What it was asked and answered.
+    // The calls of the link, with their answers.
     history: History,
     ghost stands: { ∥ HasPlayed (map scene_of_kept steps.items) history.items next time
         (map sending_of sent.items) ∥₁ },
 }
 
 impl<A: Allocator + Copy> MemoryLink<A> {
-    /// A link of these steps. The send with the number `fail_send`, from 0, fails.
+    /// Returns a link with these steps. The send with the number `fail_send`, from 0, fails.
     ///
     /// # Errors
     ///
-    /// `LinkFault` where there is no memory for the steps.
+    /// `LinkFault` if there is no memory for the steps.
     pub fn new(alloc: A, steps: &[Step<'_>], fail_send: Option<u32>) -> Result<Self, LinkFault>
         ensures made { IfOk result (λ link. ⟦<MemoryLink<A> as Link>⟧.seen link
             ≡ account_of (map scene_of_step steps.now) []) }
@@ -83,7 +84,7 @@ impl<A: Allocator + Copy> MemoryLink<A> {
 }
 
 impl<A: Allocator> MemoryLink<A> {
-    /// The send with this number among those that succeeded, from 0, with its time.
+    /// Returns the send with this number among those that succeeded, from 0, with its time.
     pub fn sent(&self, n: usize) -> Option<(u64, Peer, &[u8])>
         ensures { MatchOption result
             (slice_get (sent_by (account_with self.now.steps.items self.now.history.items)) n ≡ None)
@@ -93,7 +94,7 @@ impl<A: Allocator> MemoryLink<A> {
         sending(&self.sent, n)
     }
 
-    /// Lets the link go. What it was asked, and answered, is kept.
+    /// Ends the link, and returns its calls and answers.
     pub(crate) fn into_history(self) -> History
         ensures { result ≡ self.history }
     {
@@ -108,7 +109,7 @@ impl<A: Allocator + Copy> Link for MemoryLink<A> {
 
     ghost has_failed = { λ link. link.failed };
 
-    /// It fails where it has the number that was given to `new`, and where there is no memory for its record.
+    /// Fails if it has the number that was given to `new`, or if there is no memory for its record.
     fn send(&mut self, to: Peer, octets: &[u8]) -> Result<(), LinkFault>
         requires { self.old.failed ≡ false }
         ensures fault { self.new.failed ≡ is_err result }
@@ -167,7 +168,7 @@ impl<A: Allocator + Copy> Link for MemoryLink<A> {
     }
 }
 
-// The steps with copies of their octets.
+// Returns the steps with copies of their octets.
 fn keep_all<A: Allocator + Copy>(
     alloc: A,
     steps: &[Step<'_>],
@@ -181,7 +182,7 @@ fn keep_all<A: Allocator + Copy>(
     Ok(kept)
 }
 
-// The step with a copy of its octets.
+// Returns the step with a copy of its octets.
 fn keep<A: Allocator>(alloc: A, step: &Step<'_>) -> Result<Kept<A>, AllocError>
     ensures { IfOk result (λ kept. scene_of_kept kept ≡ scene_of_step step.now) }
 {
@@ -194,7 +195,7 @@ fn keep<A: Allocator>(alloc: A, step: &Step<'_>) -> Result<Kept<A>, AllocError>
     })
 }
 
-// What the record with this number tells.
+// Returns the contents of the record with this number.
 fn sending<A: Allocator>(sent: &[Record<A>], n: usize) -> Option<(u64, Peer, &[u8])>
     ensures { MatchOption result (slice_get (map sending_of sent.now) n ≡ None)
         (λ (time, to, octets). slice_get (map sending_of sent.now) n
@@ -204,7 +205,7 @@ fn sending<A: Allocator>(sent: &[Record<A>], n: usize) -> Option<(u64, Peer, &[u
     Some((record.time, record.to, record.octets.as_slice()))
 }
 
-// Keeps a datagram as sent at this time, unless it has the number of the send that fails, or there is no memory.
+// Records a datagram as sent at this time, unless it has the number of the send that fails, or there is no memory.
 fn keep_sent<A: Allocator + Copy>(
     alloc: A,
     sent: &mut Vec<Record<A>, A>,
@@ -228,7 +229,7 @@ fn keep_sent<A: Allocator + Copy>(
     Ok(())
 }
 
-// The step with this number, its octets lent.
+// Returns the step with this number, its octets lent.
 fn step_at<A: Allocator>(steps: &[Kept<A>], number: usize) -> Option<Step<'_>>
     ensures { option_map scene_of_step result ≡ slice_get (map scene_of_kept steps.now) number }
 {
@@ -239,7 +240,7 @@ fn step_at<A: Allocator>(steps: &[Kept<A>], number: usize) -> Option<Step<'_>>
     })
 }
 
-// What a wait hears where this step is next, and the time then.
+// Plays this step, if there is one: returns what the wait receives, and sets the time.
 fn play(
     step: Option<Step<'_>>,
     wait_ms: u32,
@@ -273,7 +274,7 @@ fn play(
     }
 }
 
-// The peer's address and port.
+// Returns the peer's address and port.
 fn without_route(peer: Peer) -> Peer
     ensures same { station result ≡ unrouted (station peer) }
     ensures plain { result.route ≡ None }

@@ -16,15 +16,15 @@ use bac_text::Search;
 use bac_wire::Frame;
 use std::io::Write;
 
-/// Asks a station which devices there are (Who-Is, clause 16.10), and prints a line of each that introduces itself
-/// until the timeout has gone by: its instance, its peer, the longest APDU that it takes, its segmentation and its
-/// vendor. It is good to have heard a device. Each line is written before the next wait.
+/// Asks a station for its devices (Who-Is, clause 16.10), and prints a line for each device that introduces itself
+/// before the timeout has passed: its instance, its peer, the longest APDU that it accepts, its segmentation and its
+/// vendor. A device that was found is a good end. Each line is written before the next wait.
 ///
 /// # Errors
 ///
-/// `SendFailed` and `ReceiveFailed` where the link failed so, and `TurnsSpent` where there is time left after 65,536
-/// turns; the lines of the turns before were printed then. `WriteFailed` where the writer failed or took no octet; the
-/// lines before and a front of the last were printed then.
+/// `SendFailed` and `ReceiveFailed` if the link failed, and `TurnsSpent` if there is time left after 65,536 turns; then
+/// the lines of the turns before were printed. `WriteFailed` if the writer failed or took no octet; then the lines
+/// before and the beginning of the last one were printed.
 pub fn run_whois<L: Link, W: Write>(
     search: &Search,
     link: &mut L,
@@ -68,7 +68,7 @@ fn ask<L: Link>(search: &Search, link: &mut L) -> Result<(), ToolFault>
     }
 }
 
-// The datagram of a Who-Is. There is always room for it.
+// Returns the datagram of a Who-Is. There is always room for it.
 fn who_is(to: Peer, who: WhoIs) -> Frame
     ensures { result ≡ who_is_datagram (station to) who }
 {
@@ -85,8 +85,8 @@ fn who_is(to: Peer, who: WhoIs) -> Frame
     frame
 }
 
-// Waits for a datagram, and prints the device that introduces itself in it. True where there is one. No page is open
-// during the wait, since an open page holds the writer.
+// Waits for a datagram, and prints the device that introduces itself in it. Returns true if there is one. No page is
+// open during the wait, since an open page holds the writer.
 fn listen<L: Link, W: Write>(
     who: WhoIs,
     link: &mut L,

@@ -1,4 +1,4 @@
-//! A device that answers what comes over a link.
+//! A device that replies to the datagrams of a link.
 ghost use Rattle.std.specs.Prelude.{false, IfOk, ◌≡◌, ◌≤◌};
 ghost use Rattle.bac_links.specs.{is_link_fault, Serves, Inner.ServesTurn};
 
@@ -13,12 +13,12 @@ use bac_work::begin;
 // How long a server waits for a datagram, in milliseconds.
 const SERVE_WAIT: u32 = 1_000;
 
-/// Answers datagrams until `count` of them came: how many replies were sent.
+/// Replies to datagrams until `count` of them came. Returns how many replies were sent.
 ///
 /// # Errors
 ///
-/// `SendFailed` and `ReceiveFailed` if the link failed so; the reply that could not be sent is lost. `TurnsSpent` after
-/// 65,536 turns of at most a second in which fewer datagrams came.
+/// `SendFailed` and `ReceiveFailed` if the link failed; a reply that could not be sent is lost. `TurnsSpent` if fewer
+/// datagrams came in 65,536 turns of at most a second.
 pub fn serve<L: Link>(link: &mut L, device: &mut Device, count: u32) -> Result<u32, ToolFault>
     requires { L.has_failed link.old ≡ false }
     ensures fault { L.has_failed link.new ≡ is_link_fault result }
@@ -42,6 +42,7 @@ pub fn serve<L: Link>(link: &mut L, device: &mut Device, count: u32) -> Result<u
 }
 
 // Replies to the next datagram, if one comes. Returns how many came, one or none, and how many replies were sent.
+#[inline(always)]
 #[tactic(auto, using(crate::proofs::gains_both))]
 fn serve_turn<L: Link>(
     link: &mut L,

@@ -1,14 +1,14 @@
-//! A UDP socket and its clock, and that of the system.
+//! A UDP socket with a clock, and the one of the system.
 ghost use Rattle.std.specs.{Duration.as_nanos, Io.WritesAtMost, IoError.error_kind, Prelude.{[], IfErr, IfOk, is_ok}};
 ghost use Rattle.std.specs.{Prelude.{length, take, ◌++◌, ◌∷◌, ◌≡◌, ◌≤◌}, Result.{result_map_both, result_ok}};
-ghost use Rattle.bac_links.specs.{Bind, Elapsed, Limit, Receive, SendTo};
+ghost use Rattle.bac_links.specs.{AtOnce, Bind, Elapsed, Limit, Receive, SendTo};
 
 use crate::history::{CallNote, Log};
 use std::io;
 use std::net::{Net, SocketAddr, UdpSocket};
 use std::time::{Clock, Duration, Instant};
 
-/// A UDP socket and its clock, which remember what they were asked and answered. Each method is one call of the system.
+/// A UDP socket with a clock, which records its calls and answers. Each method is one call of the system.
 pub trait Socket {
     ghost use Rattle.std.specs.Prelude.{List};
     ghost use Rattle.bac_links.specs.SystemCall.{SystemCall};
@@ -16,22 +16,27 @@ pub trait Socket {
     // The calls of the system so far.
     ghost log: { Self → List SystemCall };
 
-    /// A receive waits at most so long from now on.
+    /// Limits the wait of each receive from now on.
     fn set_read_timeout(&mut self, limit: Duration) -> io::Result<()>
         ensures { log self.new ≡ log self.old ++ Limit (as_nanos limit) (is_ok result) ∷ [] };
 
-    /// Sends a datagram to this address, and returns how many octets went.
+    /// Makes receives return at once from now on, or wait again.
+    fn set_nonblocking(&mut self, on: bool) -> io::Result<()>
+        ensures { log self.new ≡ log self.old ++ AtOnce on (is_ok result) ∷ [] };
+
+    /// Sends a datagram to this address, and returns how many octets were sent.
     fn send_to(&mut self, octets: &[u8], to: SocketAddr) -> io::Result<usize>
         ensures bound { WritesAtMost result octets.now }
         ensures log { log self.new ≡ log self.old ++ SendTo octets.now to (result_ok result) ∷ [] };
 
-    /// Waits for a datagram, and puts as much of it there as fits. Returns how much, and from where it came.
+    /// Waits for a datagram, and puts as much of it into the room as fits. Returns how many octets these are, and the
+    /// sender.
     fn recv_from(&mut self, room: &mut [u8]) -> io::Result<(usize, SocketAddr)>
         ensures within { IfOk result (λ (taken, from). taken ≤ length room.new) }
         ensures log { log self.new ≡ log self.old ++ Receive (length room.old)
             (result_map_both (λ (taken, from). (take taken room.new, from)) error_kind result) ∷ [] };
 
-    /// How long ago the socket was made.
+    /// Returns how long ago the socket was made.
     fn elapsed(&mut self) -> io::Result<Duration>
         ensures { log self.new ≡ log self.old ++ Elapsed (result_ok result) ∷ [] };
 }
@@ -39,7 +44,7 @@ pub trait Socket {
 /// A UDP socket of the system, and its clock.
 ///
 /// This is what is trusted of a socket: that `bind` binds one, copies its descriptor and the runtime, and reads the
-/// clock, each once; that each of the four calls of [`Socket`] makes the one call of `std` which has its name, with its
+/// clock, each once; that each of the five calls of [`Socket`] makes the one call of `std` which has its name, with its
 /// own arguments; and that they note that, and answer what it answered.
 #[derive(Drop)]
 pub struct SystemSocket<R: Drop, S: Drop = UdpSocket> {
@@ -50,8 +55,8 @@ pub struct SystemSocket<R: Drop, S: Drop = UdpSocket> {
 }
 
 impl<R: Net + Clock + Clone + Drop> SystemSocket<R> {
-    // Binds a socket at this address, or at a free port of it if the port is 0. It keeps a duplicate of the one that
-    // was bound, whose descriptor is past those of the standard streams, even if one of these is closed.
+    // Binds a socket at this address, or at a free port of the address if the port is 0. It keeps a duplicate of the
+    // bound socket, whose descriptor is above those of the standard streams, even if one of these is closed.
     pub(crate) fn bind(rt: &R, at: SocketAddr) -> Result<Self, Log>
         ensures ok { IfOk result (λ socket. socket.log.items ≡ Bind at ∷ []) }
         ensures err { IfErr result (λ log. log.items ≡ Bind at ∷ []) }
@@ -76,8 +81,8 @@ impl<R: Net + Clock + Clone + Drop> SystemSocket<R> {
 }
 
 impl<R: Drop, S: Drop> SystemSocket<R, S> {
-    /// Lets the socket go. What it was asked, and answered, is kept. Of any runtime and any socket the log is handed on
-    /// alone: they have no calls here, so none is made.
+    /// Ends the socket, and returns its calls and answers. With any runtime and any socket only the log is returned:
+    /// neither has a call here, so none is made.
     pub fn into_log(self) -> Log
         ensures { result ≡ self.log }
     {
@@ -94,6 +99,15 @@ impl<R: Clock + Drop> Socket for SystemSocket<R> {
     {
         let done = self.socket.set_read_timeout(Some(limit));
         self.log.push(&CallNote::Limit(limit, &done));
+        done
+    }
+
+    fn set_nonblocking(&mut self, on: bool) -> io::Result<()>
+        ensures log { self.new.log.items ≡ self.old.log.items ++ AtOnce on (is_ok result) ∷ [] }
+        ensures left { self.new ≡ record self.old { log = self.new.log } }
+    {
+        let done = self.socket.set_nonblocking(on);
+        self.log.push(&CallNote::AtOnce(on, &done));
         done
     }
 

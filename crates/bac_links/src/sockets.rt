@@ -1,4 +1,4 @@
-//! The sockets of the system, and what is left of them if no socket is available.
+//! The sockets of the system, and the reason if no socket is available.
 ghost use Rattle.std.specs.Prelude.{◌≡◌};
 
 use crate::history::Log;
@@ -7,8 +7,8 @@ use std::alloc::Global;
 use std::fmt;
 use thiserror::Error;
 
-/// The UDP sockets of a runtime, which they own and lend to nobody. Anyone who has them can give them up for one socket
-/// ([`bind_with`](crate::UdpLink::bind_with)), or hand them on, and nothing else.
+/// The UDP sockets of a runtime, which they own and lend to nobody. Their owner can only give them up for one socket
+/// ([`bind_with`](crate::UdpLink::bind_with)), or pass them on.
 #[derive(Drop)]
 pub struct Sockets<R> {
     pub(crate) rt: R,
@@ -16,7 +16,7 @@ pub struct Sockets<R> {
 }
 
 impl<R> Sockets<R> {
-    /// The sockets of this runtime.
+    /// Returns the sockets of this runtime.
     pub fn new(rt: R, alloc: Global) -> Self
         ensures { result ≡ record { rt = rt; alloc = alloc } }
     {
@@ -24,9 +24,9 @@ impl<R> Sockets<R> {
     }
 }
 
-/// No socket, no memory or no clock is available. It keeps the sockets that were given up for one, and what the
-/// system was asked. Nobody takes either out, and nobody else makes one: who has it has asked for a socket in vain, and
-/// has used none of these sockets.
+/// No socket, no memory or no clock is available. This keeps the sockets that were given up, and the calls of the
+/// system. Nobody can take either out, and nobody else can make one: its owner has asked for a socket in vain, and has
+/// used none of these sockets.
 #[derive(Drop, Error)]
 #[error("{}", LinkFault.message())]
 pub struct NoSocket<R> {

@@ -1,10 +1,12 @@
 //! A link over a UDP socket.
 ghost use Rattle.std.specs.{Duration.as_nanos, Option.option_flatten};
-ghost use Rattle.std.specs.Prelude.{[], false, IfErr, IfNone, IfOk, IfSome, is_err, is_ok, length, MatchOption, max};
+ghost use Rattle.std.specs.Prelude.{[], false, IfErr, IfNone, IfOk, IfSome, is_err, is_ok, length, MatchOption};
 ghost use Rattle.std.specs.{Prelude.{None, Ok, OnErr, OnOk, vec_len, ◌*◌, ◌++◌, ◌+◌, ◌≡◌, ◌≢◌}, Result.result_ok};
 ghost use Rattle.{bac_pdu.specs.station, bac_links.specs.{account_over, Binds, BindsAtMost, Gains, heard_by}};
-ghost use Rattle.bac_links.specs.{heard_from, is_quiet, IsAddressOf, limits, Logs, longest_datagram, OverSocket};
-ghost use Rattle.bac_links.specs.{peer_at, posted, Sends, time_by, Timed, Times, Waited, Waits, Keeps.Keeps};
+ghost use Rattle.bac_links.specs.{endless, heard_from, is_quiet, IsAddressOf, limits, Logs, longest_datagram, Looks};
+ghost use Rattle.bac_links.specs.{modes, most_looks, OverSocket, patience_for, peer_at, posted, Sends, Sets, time_by};
+ghost use Rattle.bac_links.specs.{Timed, Times, Waited, Waits, Inner.{brought, IsPlain, KeepsUnheard, ReceivesOnce}};
+ghost use Rattle.bac_links.specs.Keeps.{Keeps};
 
 use crate::datagram::{DATAGRAM_OCTETS, Datagram};
 use crate::history::{EntryNote, History, Log};
@@ -19,40 +21,55 @@ use std::net::{Ipv4Addr, Net, SocketAddr, SocketAddrV4};
 use std::snapshot::Snapshot;
 use std::time::{Clock, Duration};
 
-// One octet more than a datagram may have, so that a longer one is seen.
+// One octet more than a datagram may have, so that a longer one is noticed.
 const BUFFER_OCTETS: usize = DATAGRAM_OCTETS + 1;
 
-/// What becomes of a datagram that the system refuses to send: one to port 0, say, or to where there is no way.
+/// How a datagram is treated that the system refuses to send, for example one to port 0, or to an unreachable address.
 #[derive(Clone, Copy, Debug, PartialEq, Eq)]
 pub enum OnRefusal {
     /// The send fails. This is for a client, whose peer was given to it.
     Fails,
-    /// The datagram is lost, as any may be on its way, and so is what a receive reports of one that was sent before.
-    /// This is for a server, which has its peers from strangers.
+    /// The datagram is lost, as any datagram may be on its way. A receive that reports the loss of an earlier one is
+    /// ignored too. This is for a server, whose peers are strangers.
     IsLost,
+}
+
+// How the receives of a socket wait: at most this long (0 before the first limit), or not at all.
+#[derive(Clone, Copy)]
+struct Patience {
+    limit_ms: u32,
+    at_once: bool,
+}
+
+// The result of one receive.
+#[derive(Clone, Copy)]
+enum Brought {
+    Datagram(Peer),
+    Silence,
+    // A datagram that is too long, or is from no IPv4 address.
+    Unheard,
 }
 
 /// A link over a UDP socket. Its time is milliseconds since the socket was made.
 #[derive(Drop)]
 pub struct UdpLink<S: Socket + Drop> {
     socket: S,
-    // The socket that it was made of, as it was then. It takes no memory.
+    // The socket from which the link was made, as it was then. It needs no memory.
     made_of: Snapshot<S>,
     buffer: Vec<u8>,
     time: u64,
-    // The time limit that the socket has, 0 before the first.
-    wait_ms: u32,
+    patience: Patience,
     refused: OnRefusal,
     failed: bool,
-    // What it was asked and answered.
+    // The calls of the link, with their answers.
     history: History,
     ghost room: { vec_len buffer ≡ longest_datagram + 1 },
-    ghost keeps: { ∥ Keeps refused (S.log made_of.value) (S.log socket) history.items wait_ms time failed ∥₁ },
+    ghost keeps: { ∥ Keeps refused (S.log made_of.value) (S.log socket) history.items patience time failed ∥₁ },
 }
 
 impl<R: Net + Clock + Clone + Drop> UdpLink<SystemSocket<R>> {
-    /// A link over a socket at this address, or at a free port of it if the port is 0. A datagram that the system
-    /// refuses to send is a send that fails.
+    /// Returns a link over a socket at this address, or at a free port of the address if the port is 0. If the system
+    /// refuses a datagram, the send fails.
     ///
     /// # Errors
     ///
@@ -63,7 +80,7 @@ impl<R: Net + Clock + Clone + Drop> UdpLink<SystemSocket<R>> {
         ensures at { IfOk result (λ link. Binds at link.socket.log.items) }
         ensures made { IfOk result (λ link. ⟦<UdpLink<SystemSocket<R>> as Link>⟧.seen link
             ≡ account_over OnRefusal.Fails link.socket.log.items []) }
-        ensures begun { IfOk result (λ link. (link.time ≡ 0) × (link.wait_ms ≡ 0)) }
+        ensures begun { IfOk result (λ link. (link.time ≡ 0) × (link.patience ≡ endless)) }
     {
         let same: Result<_, _> = rt.clone();
         let Ok(rt) = same else {
@@ -75,8 +92,8 @@ impl<R: Net + Clock + Clone + Drop> UdpLink<SystemSocket<R>> {
         }
     }
 
-    /// The same of these sockets, which are given up for it. `refused` says what becomes of a datagram that the system
-    /// refuses to send.
+    /// Returns a link over one of these sockets, which are given up for it, at this address. `refused` says how a
+    /// datagram is treated that the system refuses to send.
     ///
     /// # Errors
     ///
@@ -87,7 +104,7 @@ impl<R: Net + Clock + Clone + Drop> UdpLink<SystemSocket<R>> {
         ensures at { IfOk result (λ link. Binds at link.socket.log.items) }
         ensures made { IfOk result (λ link. ⟦<UdpLink<SystemSocket<R>> as Link>⟧.seen link
             ≡ account_over refused link.socket.log.items []) }
-        ensures begun { IfOk result (λ link. (link.time ≡ 0) × (link.wait_ms ≡ 0)) }
+        ensures begun { IfOk result (λ link. (link.time ≡ 0) × (link.patience ≡ endless)) }
         ensures none { IfErr result (λ none. BindsAtMost at none.log.items) }
         ensures kept { IfErr result (λ none. none.sockets ≡ sockets) }
     {
@@ -103,7 +120,7 @@ impl<R: Net + Clock + Clone + Drop> UdpLink<SystemSocket<R>> {
 }
 
 impl<S: Socket + Drop> UdpLink<S> {
-    /// A link over this socket, whose receives have no time limit yet.
+    /// Returns a link over this socket, whose receives have no time limit yet.
     ///
     /// # Errors
     ///
@@ -113,33 +130,36 @@ impl<S: Socket + Drop> UdpLink<S> {
         ensures refused { IfOk result (λ link. link.refused ≡ refused) }
         ensures socket { IfOk result (λ link. link.socket ≡ socket) }
         ensures made { IfOk result (λ link. ⟦<UdpLink<S> as Link>⟧.seen link ≡ account_over refused (S.log socket) []) }
-        ensures begun { IfOk result (λ link. (link.time ≡ 0) × (link.wait_ms ≡ 0)) }
+        ensures begun { IfOk result (λ link. (link.time ≡ 0) × (link.patience ≡ endless)) }
     {
         Ok(Self::with(socket, buffer(alloc)?, refused))
     }
 
-    // A link over this socket, with this room for a datagram.
+    // Returns a link over this socket, with this room for a datagram.
     fn with(socket: S, buffer: Vec<u8>, refused: OnRefusal) -> Self
         requires { vec_len buffer ≡ longest_datagram + 1 }
         ensures sound { ⟦<UdpLink<S> as Link>⟧.has_failed result ≡ false }
         ensures refused { result.refused ≡ refused }
         ensures socket { result.socket ≡ socket }
         ensures made { ⟦<UdpLink<S> as Link>⟧.seen result ≡ account_over refused (S.log socket) [] }
-        ensures begun { (result.time ≡ 0) × (result.wait_ms ≡ 0) }
+        ensures begun { (result.time ≡ 0) × (result.patience ≡ endless) }
     {
         UdpLink {
             made_of: Snapshot::of(&socket),
             socket,
             buffer,
             time: 0,
-            wait_ms: 0,
+            patience: Patience {
+                limit_ms: 0,
+                at_once: false,
+            },
             refused,
             failed: false,
             history: History::new(),
         }
     }
 
-    /// The socket, as the last call of the link left it.
+    /// Returns the socket, in its state after the last call of the link.
     pub fn into_socket(self) -> S
         ensures { result ≡ self.socket }
     {
@@ -147,7 +167,7 @@ impl<S: Socket + Drop> UdpLink<S> {
     }
 }
 
-// Room for a datagram, and for one octet more.
+// Returns room for a datagram, and for one octet more.
 fn buffer(alloc: Global) -> Result<Vec<u8>, LinkFault>
     ensures { IfOk result (λ buffer. vec_len buffer ≡ longest_datagram + 1) }
 {
@@ -166,7 +186,7 @@ impl<S: Socket + Drop> Link for UdpLink<S> {
         ensures fault { self.new.failed ≡ is_err result }
         ensures lost { self.old.refused ≡ OnRefusal.IsLost → result ≡ Ok tt }
         ensures left { (self.new.refused ≡ self.old.refused) × (self.new.time ≡ self.old.time)
-            × (self.new.wait_ms ≡ self.old.wait_ms) × (self.new.buffer ≡ self.old.buffer) }
+            × (self.new.patience ≡ self.old.patience) × (self.new.buffer ≡ self.old.buffer) }
         ensures asked { Logs (Sends self.old.refused (station to) octets.now (is_ok result))
             (S.log self.old.socket) (S.log self.new.socket) }
         ensures told { Gains (posted result (station to) octets.now)
@@ -184,9 +204,9 @@ impl<S: Socket + Drop> Link for UdpLink<S> {
         ensures fault { self.new.failed ≡ is_err result }
         ensures plain { IfOk result (λ heard. IfSome heard (λ from. from.route ≡ None)) }
         ensures kept { IfNone (option_flatten (result_ok result)) (datagram.new ≡ datagram.old) }
-        ensures limited { OnOk result (self.new.wait_ms ≡ max wait_ms 1) }
+        ensures limited { OnOk result (self.new.patience ≡ patience_for self.old.patience wait_ms) }
         ensures left { (self.new.refused ≡ self.old.refused) × (self.new.time ≡ self.old.time) }
-        ensures asked { Logs (Waits self.old.refused self.old.wait_ms (max wait_ms 1) (heard_by result datagram.new))
+        ensures asked { Logs (Waits self.old.refused self.old.patience wait_ms (heard_by result datagram.new))
             (S.log self.old.socket) (S.log self.new.socket) }
         ensures told { Gains (Waited wait_ms (heard_by result datagram.new))
             (account_over self.old.refused (S.log self.old.made_of.value) self.old.history.items)
@@ -194,7 +214,7 @@ impl<S: Socket + Drop> Link for UdpLink<S> {
     {
         let heard = next_datagram(
             &mut self.socket,
-            &mut self.wait_ms,
+            &mut self.patience,
             self.refused,
             &mut self.buffer,
             wait_ms,
@@ -208,7 +228,7 @@ impl<S: Socket + Drop> Link for UdpLink<S> {
 
     fn now(&mut self) -> u64
         ensures left { (self.new.refused ≡ self.old.refused) × (self.new.failed ≡ self.old.failed)
-            × (self.new.wait_ms ≡ self.old.wait_ms) × (self.new.buffer ≡ self.old.buffer) × (self.new.time ≡ result) }
+            × (self.new.patience ≡ self.old.patience) × (self.new.buffer ≡ self.old.buffer) × (self.new.time ≡ result) }
         ensures asked { Logs (Times self.old.time result) (S.log self.old.socket) (S.log self.new.socket) }
         ensures told { Gains (Timed result)
             (account_over self.old.refused (S.log self.old.made_of.value) self.old.history.items)
@@ -224,14 +244,14 @@ impl<S: Socket + Drop> Link for UdpLink<S> {
     }
 }
 
-// The address of a peer on the network. A route has no part in it.
+// Returns the address of a peer on the network. A route is not part of it.
 fn address_of(peer: Peer) -> SocketAddr
     ensures { IsAddressOf (station peer) result }
 {
     SocketAddr::V4(SocketAddrV4::new(Ipv4Addr::from_bits(peer.ip), peer.port))
 }
 
-// Gives the octets to send to the address of the peer.
+// Sends the octets to the address of the peer.
 fn post<S: Socket>(
     socket: &mut S,
     refused: OnRefusal,
@@ -252,7 +272,7 @@ fn post<S: Socket>(
 // Returns the next datagram within the wait, if there is one that a `Datagram` holds.
 fn next_datagram<S: Socket>(
     socket: &mut S,
-    set_ms: &mut u32,
+    patience: &mut Patience,
     refused: OnRefusal,
     buffer: &mut [u8],
     wait_ms: u32,
@@ -260,43 +280,135 @@ fn next_datagram<S: Socket>(
 ) -> Result<Option<Peer>, LinkFault>
     requires { length buffer.old ≡ longest_datagram + 1 }
     ensures room { length buffer.new ≡ length buffer.old }
-    ensures limited { OnOk result (set_ms.new ≡ max wait_ms 1) }
+    ensures limited { OnOk result (patience.new ≡ patience_for patience.old wait_ms) }
     ensures plain { IfOk result (λ heard. IfSome heard (λ from. from.route ≡ None)) }
     ensures kept { IfNone (option_flatten (result_ok result)) (datagram.new ≡ datagram.old) }
-    ensures asked { Logs (Waits refused set_ms.old (max wait_ms 1) (heard_by result datagram.new))
-        (S.log socket.old) (S.log socket.new) }
+    ensures asked { Logs (Waits refused patience.old wait_ms (heard_by result datagram.new)) (S.log socket.old)
+        (S.log socket.new) }
 {
-    limit_wait(socket, set_ms, wait_ms.max(1))?;
+    let wanted = patience_for(*patience, wait_ms);
+    set_patience(socket, *patience, wanted)?;
+    *patience = wanted;
+    look(socket, refused, buffer, most_looks(wait_ms), datagram)
+}
+
+// Returns how receives must wait for this wait: not at all if it is 0.
+fn patience_for(patience: Patience, wait_ms: u32) -> Patience
+    ensures { result ≡ patience_for patience wait_ms }
+{
+    if wait_ms == 0 {
+        Patience {
+            at_once: true,
+            ..patience
+        }
+    } else {
+        Patience {
+            limit_ms: wait_ms,
+            at_once: false,
+        }
+    }
+}
+
+// Makes the receives of the socket wait in this way. Only changes are passed to the system.
+fn set_patience<S: Socket>(
+    socket: &mut S,
+    before: Patience,
+    wanted: Patience,
+) -> Result<(), LinkFault>
+    ensures { Logs (Sets before wanted (is_ok result)) (S.log socket.old) (S.log socket.new) }
+{
+    set_mode(socket, before.at_once, wanted.at_once)?;
+    limit_wait(socket, before.limit_ms, wanted.limit_ms)
+}
+
+// Makes the receives of the socket return at once, or wait.
+fn set_mode<S: Socket>(socket: &mut S, before: bool, wanted: bool) -> Result<(), LinkFault>
+    ensures unset { OnErr result (before ≢ wanted) }
+    ensures asked { S.log socket.new ≡ S.log socket.old ++ modes before wanted (is_ok result) }
+{
+    if before == wanted {
+        return Ok(());
+    }
+    socket.set_nonblocking(wanted).map_err(|_| LinkFault)
+}
+
+// Limits the socket's waits to this time from now on.
+fn limit_wait<S: Socket>(socket: &mut S, before_ms: u32, wait_ms: u32) -> Result<(), LinkFault>
+    ensures unlimited { OnErr result (wait_ms ≢ before_ms) }
+    ensures asked { S.log socket.new ≡ S.log socket.old ++ limits before_ms wait_ms (is_ok result) }
+{
+    if wait_ms == before_ms {
+        return Ok(());
+    }
+    socket
+        .set_read_timeout(wait_of(wait_ms))
+        .map_err(|_| LinkFault)
+}
+
+// Returns how many receives a wait of this length makes at most: one more after each datagram that is passed over.
+fn most_looks(wait_ms: u32) -> u32
+    ensures { result ≡ most_looks wait_ms }
+{
+    if wait_ms == 0 { 256 } else { 4 }
+}
+
+// Returns the sender of the first datagram that is not passed over, if one comes in this many receives.
+fn look<S: Socket>(
+    socket: &mut S,
+    refused: OnRefusal,
+    buffer: &mut [u8],
+    times: u32,
+    datagram: &mut Datagram,
+) -> Result<Option<Peer>, LinkFault>
+    requires { length buffer.old ≡ longest_datagram + 1 }
+    ensures room { length buffer.new ≡ length buffer.old }
+    ensures plain { IfOk result (λ heard. IfSome heard (λ from. from.route ≡ None)) }
+    ensures kept { IfNone (option_flatten (result_ok result)) (datagram.new ≡ datagram.old) }
+    ensures looks { Logs (Looks refused times (heard_by result datagram.new)) (S.log socket.old) (S.log socket.new) }
+{
+    let mut left = times;
+    'looks: while left > 0 {
+        left -= 1;
+        match receive_once(socket, refused, buffer, datagram)? {
+            Brought::Datagram(from) => return Ok(Some(from)),
+            Brought::Silence => return Ok(None),
+            Brought::Unheard => {}
+        }
+    }
+    Ok(None)
+}
+
+// Receives once from the system.
+fn receive_once<S: Socket>(
+    socket: &mut S,
+    refused: OnRefusal,
+    buffer: &mut [u8],
+    datagram: &mut Datagram,
+) -> Result<Brought, LinkFault>
+    requires { length buffer.old ≡ longest_datagram + 1 }
+    ensures room { length buffer.new ≡ length buffer.old }
+    ensures plain { IfOk result IsPlain }
+    ensures kept { KeepsUnheard result datagram.old datagram.new }
+    ensures asked { Logs (ReceivesOnce refused (brought result datagram.new)) (S.log socket.old) (S.log socket.new) }
+{
     match socket.recv_from(buffer) {
-        Ok((len, from)) => Ok(keep(from, &buffer[..len], datagram)),
-        Err(e) if is_quiet(refused, e.kind()) => Ok(None),
+        Ok((len, from)) => match keep(from, &buffer[..len], datagram) {
+            Some(peer) => Ok(Brought::Datagram(peer)),
+            None => Ok(Brought::Unheard),
+        },
+        Err(e) if is_quiet(refused, e.kind()) => Ok(Brought::Silence),
         Err(_) => Err(LinkFault),
     }
 }
 
-// The socket waits at most so long from now on. The system is asked only if that is another time than the one set.
-fn limit_wait<S: Socket>(socket: &mut S, set_ms: &mut u32, wait_ms: u32) -> Result<(), LinkFault>
-    ensures limited { OnOk result (set_ms.new ≡ wait_ms) }
-    ensures unlimited { OnErr result (wait_ms ≢ set_ms.old) }
-    ensures asked { S.log socket.new ≡ S.log socket.old ++ limits set_ms.old wait_ms (is_ok result) }
-{
-    if wait_ms != *set_ms {
-        if socket.set_read_timeout(wait_of(wait_ms)).is_err() {
-            return Err(LinkFault);
-        }
-        *set_ms = wait_ms;
-    }
-    Ok(())
-}
-
-// A duration of so many milliseconds.
+// Returns a duration of this many milliseconds.
 fn wait_of(wait_ms: u32) -> Duration
     ensures { as_nanos result ≡ wait_ms * 1_000_000 }
 {
     Duration::from_millis(u64::from(wait_ms))
 }
 
-// Keeps the octets that came from there, and returns the peer; or none, if they are too many.
+// Keeps the octets from this address, and returns the peer; or None, if they are too many.
 fn keep(from: SocketAddr, octets: &[u8], datagram: &mut Datagram) -> Option<Peer>
     ensures peer { result ≡ heard_from from octets.now }
     ensures held { MatchOption result (datagram.new ≡ datagram.old) (λ peer. datagram.new ≡ octets.now) }
@@ -309,7 +421,7 @@ fn keep(from: SocketAddr, octets: &[u8], datagram: &mut Datagram) -> Option<Peer
     }
 }
 
-// The peer at an IPv4 address.
+// Returns the peer at an IPv4 address.
 fn peer_of(address: SocketAddr) -> Option<Peer>
     ensures { result ≡ peer_at address }
 {
@@ -323,13 +435,13 @@ fn peer_of(address: SocketAddr) -> Option<Peer>
     }
 }
 
-// Whether a receive with this error counts as silence.
+// Returns whether a receive with this error counts as silence.
 fn is_quiet(refused: OnRefusal, kind: ErrorKind) -> bool
     ensures { result ≡ is_quiet refused kind }
 {
     match kind {
         ErrorKind::WouldBlock | ErrorKind::TimedOut | ErrorKind::Interrupted => true,
-        // These tell of a datagram that was sent before.
+        // These report a datagram that was sent before.
         ErrorKind::ConnectionRefused
         | ErrorKind::ConnectionReset
         | ErrorKind::HostUnreachable
@@ -338,7 +450,7 @@ fn is_quiet(refused: OnRefusal, kind: ErrorKind) -> bool
     }
 }
 
-// The time of the link, by what its clock says has passed.
+// Returns the time of the link, from the time that has passed by its clock.
 fn time_by(passed: io::Result<Duration>, before: u64) -> u64
     ensures { result ≡ time_by (result_ok passed) before }
 {

@@ -1,4 +1,4 @@
--- Bodies that are read: what is found is what the relation of the service says, or the first fault.
+-- Reading bodies: the result is what the relation of the service says, or the first fault.
 use Rattle.std.proofs.Common.{[], ap, append-nil, append_assoc, arith, Bool, cond, Err, false, flat_map, IfSome, inl}
 use Rattle.std.proofs.Common.{inr, length, length-append, List, None, Ok, ok_or, Option, refl, Result, Some, subst, sym}
 use Rattle.std.proofs.{Common.{true, ℕ, ◌++◌, ◌↔◌, ◌∙◌, ◌∷◌, ◌≡◌, ◌≤◌, ◌⊎◌}, lemmas.Bool.false_from_ne_true}
@@ -13,7 +13,7 @@ use Rattle.bac_pdu.specs.{Reference, reference_at, reference_parameters, RejectR
 use Rattle.bac_pdu.specs.{unless_missing, value, whole_of, write_of, WriteFault, ◌>>=◌}
 use Rattle.bac_pdu.specs.{declared.reject.RejectReason.TheVariants.UnknownService, Inner.optional, Parameter.Parameter}
 
--- ---- one after the other
+-- ---- one spelling after the other
 
 module _ {A : Type 0} (Spells : List ℕ → A → Type 0) where
   pub then_to : (octets mid rest : List ℕ) (xs ys : List A) → SpellsTo Spells octets xs mid
@@ -27,7 +27,7 @@ module _ {A : Type 0} (Spells : List ℕ → A → Type 0) where
   split_to _ _ (x ∷ xs) ys (next, first, later) =
       let (mid, others, behind) = split_to next _ xs _ later in (mid, (next, first, others), behind)
 
-  -- what is spelled in front of a rest
+  -- the spellings at the front are one list, and the rest follows
   pub to_front : (octets rest : List ℕ) (xs : List A) → SpellsTo Spells octets xs rest
       → (front : List ℕ) × SpellsAll Spells front xs × (octets ≡ front ++ rest)
   to_front _ _ [] s = ([], refl, s)
@@ -46,7 +46,7 @@ module _ {A : Type 0} (Spells : List ℕ → A → Type 0) where
 
 -- ---- a whole body
 
--- a record that was read, if nothing is left
+-- the record that was read, if nothing is left
 pub whole_ended : {A : Type 0} (x y : A) (rest : List ℕ) → whole_of x rest ≡ Some y → (rest ≡ []) × (x ≡ y)
 whole_ended = grind (arith, none-some)
 
@@ -54,19 +54,19 @@ whole_ended = grind (arith, none-some)
 
 module _ {A : Type 0} (Spells : List ℕ → A → Type 0) (plain : A → List ℕ) (Is : A → Type 0)
     (spell : (x : A) → Is x → Spells (plain x) x) where
-  -- the spellings of these things, and then this rest
+  -- the spellings of the list, and then the rest
   pub all_spell : (xs : List A) (rest : List ℕ) → AllByRecursion Is xs
       → SpellsTo Spells (flat_map plain xs ++ rest) xs rest
   all_spell [] _ h = refl
   all_spell (x ∷ xs) rest (is, are) = grind (arith, append_assoc, all_spell xs rest are)
 
-  -- what is written of these things spells them
+  -- the written octets of a list spell it
   pub whole_spell : (xs : List A) → AllByRecursion Is xs → SpellsAll Spells (flat_map plain xs) xs
   whole_spell xs h = subst (λ (w : List ℕ). SpellsTo Spells w xs []) (append-nil _) (all_spell _ [] h)
 
 -- ---- reading a parameter of ReadProperty or WriteProperty finds what its relation says
 
--- a reader of things of one kind, as a step of what reads such things among others
+-- a reader for one kind of thing, as a step of a reader for several kinds
 pub reader_step : {A P : Type 0} {Spells : List ℕ → P → Type 0} {Kind : List ℕ → A → Type 0}
     {at : List ℕ → Option (A × List ℕ)} (made : A → P) → IsReader Kind at
     → ((front : List ℕ) (x : A) → Kind front x → Spells front (made x))
@@ -86,14 +86,14 @@ numbered_step _ = reader_step _ (number_reader _) (λ front x s. s) (λ front x 
 pub value_step : IsStep SpellsParameter value (enclosed_at 3)
 value_step = reader_step _ (enclosed_reader 3) (λ front x s. s) (λ front x s. s)
 
--- ---- a number that may be there
+-- ---- a number that may be absent
 
 module _ (number : ℕ) (made : ℕ → Parameter) (step : IsStep SpellsParameter made (number_at number)) where
   optional_begins_at : (octets : List ℕ) (read : Option (ℕ × List ℕ)) → number_at number octets ≡ read
       → (let (i, rest) = or_none octets read in SpellsTo SpellsParameter octets (optional made i) rest)
   optional_begins_at = grind arith
 
-  -- what was read of a number that may be there is spelled
+  -- a number that may be absent is spelled at the front if it was read
   pub optional_begins : (octets : List ℕ)
       → (let (i, rest) = optional_at number octets in SpellsTo SpellsParameter octets (optional made i) rest)
   optional_begins _ = optional_begins_at _ _ refl
@@ -118,7 +118,7 @@ pub needs_ok : {A : Type 0} (octets : List ℕ) (found : Option A) (x : A) → (
     → unless_missing octets found ≡ Ok x
 needs_ok = grind (arith, none-some)
 
--- what a step reads, if octets are left
+-- the result of a step, if octets are left
 pub step_ok : {A P : Type 0} {Spells : List ℕ → P → Type 0} {made : A → P} {at : List ℕ → Option (A × List ℕ)}
     → IsStep Spells made at
     → at [] ≡ None → (octets : List ℕ) (x : A) (rest : List ℕ) → Begins Spells octets (made x) rest
@@ -147,8 +147,8 @@ ended_err = grind arith
 
 -- ---- the outcome of a body
 
--- a function that reads a body: it takes what is whole and nothing else; if it fails the body has that fault, and none
--- that comes before
+-- a function that reads a body: it accepts exactly the whole ones; if it fails, the body has that fault and no earlier
+-- one
 pub record IsJudge {A : Type 0} (IsWhole : List ℕ → A → Type 0) (HasFault : List ℕ → RejectReason → Type 0)
     (of : List ℕ → Result A RejectReason) : Type 0 where
   pub takes : (body : List ℕ) (x : A) → of body ≡ Ok x → IsWhole body x
@@ -174,7 +174,7 @@ module _ {A : Type 0} {IsWhole : List ℕ → A → Type 0} {HasFault : List ℕ
   rejected : (reason : RejectReason) → of body ≡ Err reason → IsRejectReason HasFault body reason
   rejected = grind (arith, one_reason)
 
-  -- what is read is the outcome
+  -- the result of reading is the outcome
   outcome_found : (o : Result A RejectReason) → of body ≡ o → IsOutcome IsWhole HasFault body o
   outcome_found = grind (arith, rejected)
 
@@ -203,7 +203,7 @@ reference_takes body r rest e =
     subst (λ ((r, rest) : Reference × List ℕ). SpellsTo SpellsParameter body (reference_parameters r) rest) same
     (behind, first, (after, second, optional_begins 2 _ (numbered_step 2) after))
 
--- the octets after a reference are no more than the body
+-- after a reference no more octets are left than the body has
 pub reference_no_longer : (body rest : List ℕ) (r : Reference) → Ok (r, rest) ≡ reference_at body
     → length rest ≤ length body
 reference_no_longer body rest r e =
@@ -318,7 +318,7 @@ pub value_there : (octets : List ℕ) (x : List ℕ × List ℕ) → enclosed_at
     → unless_missing octets (enclosed_at 3 octets) ≡ Ok x
 value_there _ x = needs_ok _ _ x (λ empty. ap (enclosed_at 3) empty ∙ no_value)
 
--- what an answer body is
+-- the result of reading an answer is what the relation says
 pub ack_is : (body : List ℕ) (a : ReadAck) → (ack_of body ≡ Some a) ↔ IsAckBody body a
 unfolding ack_of
 ack_is _ a = (
@@ -363,7 +363,7 @@ out_of_range : (b : Bool) (o : Order) (reason : RejectReason) → cond b (Ok o) 
     → (b ≡ false) × (reason ≡ OutOfRange)
 out_of_range = grind arith
 
--- what was read, with nothing after the priority
+-- the order that was read, if nothing follows the priority
 order_takes : (body x v rest : List ℕ) (r : Reference) (p : Option ℕ) → reference_at body ≡ Ok (r, x)
     → unless_missing x (enclosed_at 3 x) ≡ Ok (v, rest)
     → (let (priority, last) = optional_at 4 rest in ended priority last ≡ Ok p)
@@ -385,7 +385,7 @@ write_takes _ o e =
 
 -- ---- the faults
 
--- something follows
+-- more octets follow the body
 write_more : (body x v rest : List ℕ) (r : Reference) → reference_at body ≡ Ok (r, x)
     → unless_missing x (enclosed_at 3 x) ≡ Ok (v, rest)
     → (let (_, last) = optional_at 4 rest in last ≡ [] → ⊥) → WriteFault body TooMany

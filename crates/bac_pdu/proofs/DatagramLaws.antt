@@ -1,4 +1,4 @@
--- Peers, headers, datagrams and APDUs: what is read of one is what it carries, and what is written is read back.
+-- Peers, headers, datagrams and APDUs: reading one finds its contents, and written ones are read back.
 use Rattle.std.proofs.Common.{[], ap, append_assoc, arith, Bool, cond, drop, drop_at, eqb, false, IfSome, inl, inr}
 use Rattle.std.proofs.Common.{is_some, length, length-append, length-drop, length-take-le, List, None, OnOk, Option}
 use Rattle.std.proofs.Common.{option_map, refl, replicate, Result, slice_index_or, Some, sym, take, take-append-drop}
@@ -110,7 +110,7 @@ hops_again true [] _ s = absurd (omega arith)
 hops_again true (count ∷ []) _ s = refl
 hops_again true (a ∷ b ∷ front) _ s = absurd (omega arith)
 
--- three parts, and a rest
+-- three parts and a rest, grouped in two ways
 behind_all : (a b c rest : List ℕ) → (a ++ (b ++ c)) ++ rest ≡ a ++ (b ++ (c ++ rest))
 behind_all a b c _ = simp append_assoc
 
@@ -151,7 +151,7 @@ header_reader = grind (arith, header_takes, behind_all, announced_again, hops_ag
 address_spells : (station : NetworkAddress) → station.network < 65536 → SpellsAddress (address_octets station) station
 address_spells = grind arith
 
--- a header that was written, and that it says whether a reply is expected
+-- the written octets are a header that says whether a reply is expected
 pub record IsWrittenHeader (to : Option NetworkAddress) (expect : Bool) : Type 0 where
   pub spelled : SpellsHeader (plain_header to expect) (record { destination = to; source = None })
   pub expected : bit 2 spelled.control ≡ expect
@@ -173,7 +173,7 @@ without_source to control destination hops seven three destined hopped =
       hopped = hopped;
     }
 
--- what is written is a header with this destination and no source
+-- the written octets are a header with this destination and no source
 pub header_written : (to : Option NetworkAddress) (expect : Bool) → IfSome to IsRoutable → IsWrittenHeader to expect
 header_written None true _ = record { spelled = without_source _ 4 [] [] refl refl refl refl; expected = refl }
 header_written None false _ = record { spelled = without_source _ 0 [] [] refl refl refl refl; expected = refl }
@@ -188,7 +188,7 @@ header_written (Some station) false routable =
       expected = refl;
     }
 
--- so is what is written for all stations of a network
+-- the header for all stations of a network is one too
 pub everyone_written : (network : ℕ) → network < 65536 → IsWrittenHeader (Some (everyone network)) false
 everyone_written network small =
     record {
@@ -196,7 +196,7 @@ everyone_written network small =
       expected = refl;
     }
 
--- and it is read back as that, with the octets after it
+-- this header is read back, with the octets after it
 pub everyone_back : (network : ℕ) (apdu : List ℕ) → network < 65536
     → header_at (plain_header (Some (everyone network)) false ++ apdu)
     ≡ found_at (record { destination = Some (everyone network); source = None }) apdu
@@ -256,7 +256,7 @@ delivered_as sender to_all header apdu =
       apdu = apdu;
     }
 
--- the delivery, if the header is heeded
+-- the contents, if the header is accepted
 abbrev heeded_as : Station → Bool → NetworkHeader → List ℕ → Option Delivery
 heeded_as sender to_all header apdu =
     cond (is_for_all header.destination && is_answerable header.source) (Some (delivered_as sender to_all header apdu))
@@ -343,7 +343,7 @@ unfolding front_octets
 length_front = grind (arith, length-append)
 
 module _ (to : Option NetworkAddress) (expect : Bool) (apdu : List ℕ) where
-  -- the front and the APDU are the datagram
+  -- the headers and the APDU are the datagram
   pub front_before : front_octets to expect (length apdu) ++ apdu ≡ wrapped to expect apdu
   unfolding front_octets wrapped
   front_before = grind (arith, length-append)
@@ -355,7 +355,7 @@ module _ (to : Option NetworkAddress) (expect : Bool) (apdu : List ℕ) where
   pub count_wrapped : length (wrapped to expect apdu) ≡ front_count to + length apdu
   count_wrapped = grind (arith, length_wrapped, length_front)
 
-  -- what is written takes the APDU to the station
+  -- the written datagram carries the APDU to the station
   pub wrapped_takes : IfSome to IsRoutable → length (wrapped to expect apdu) < 65536
       → Takes to expect apdu (wrapped to expect apdu)
   unfolding wrapped
@@ -373,7 +373,7 @@ module _ (to : Option NetworkAddress) (expect : Bool) (apdu : List ℕ) where
         expected = header.expected;
       }
 
-  -- how many octets are written round the APDU, at most
+  -- the most octets that are written around the APDU
   pub wrapped_short : IfSome to IsRoutable → length (wrapped to expect apdu) ≤ 17 + length apdu
   unfolding wrapped
   wrapped_short = grind (arith, length-append)
@@ -394,7 +394,7 @@ pub across_front : (network size : ℕ) (header : List ℕ) → network < 65536 
 unfolding front_octets
 across_front = grind arith
 
--- what is written for all stations of a network goes there
+-- the datagram for all stations of a network goes to them
 pub everyone_takes : (network : ℕ) (apdu : List ℕ) → network < 65536
     → length (wrapped (Some (everyone network)) false apdu) < 65536
     → Takes (Some (everyone network)) false apdu (wrapped (Some (everyone network)) false apdu)
@@ -413,20 +413,19 @@ everyone_takes network apdu small fits =
       expected = header.expected;
     }
 
--- an APDU after that front is the datagram for all stations of the network
+-- an APDU after these headers is the datagram for all stations of the network
 pub across_made : {T E : Type 0} (result : Result T E) (network size : ℕ) (apdu front frame : List ℕ)
     → size ≡ length apdu → front ≡ front_octets (Some (everyone network)) false size
     → OnOk result (frame ≡ front ++ apdu) → OnOk result (frame ≡ wrapped (Some (everyone network)) false apdu)
 across_made = grind (arith, front_before)
 
--- an APDU after that front goes to all stations of the network
+-- an APDU after these headers goes to all stations of the network
 pub across_takes : {T E : Type 0} (result : Result T E) (network size : ℕ) (apdu front frame : List ℕ)
     → network < 65536 → size ≡ length apdu → size ≤ 1487 → front ≡ front_octets (Some (everyone network)) false size
     → OnOk result (frame ≡ front ++ apdu) → OnOk result (Takes (Some (everyone network)) false apdu frame)
 across_takes = grind (arith, front_before, count_wrapped, everyone_takes)
 
--- what goes to all stations of all networks is carried to each station; what goes to those of one, to none that has no
--- router between
+-- a datagram for all networks is accepted by each station; one for a single network is not
 pub all_carry : (from : Station) (apdu datagram : List ℕ) → Takes (Some (everyone 65535)) false apdu datagram
     → carried from datagram
     ≡ Some (record
@@ -437,7 +436,7 @@ all_carry _ apdu _ t =
     ap (carried _) t.whole ∙ carried_again_at _ 10 _ _ [] _ _ _ _ _ counted unicast t.headed
     (record { destined = refl; answerable = _ })
 
--- a header with a destination other than all networks is not heeded
+-- a header with a destination other than all networks is ignored
 unheeded : (from : Station) (function high low : ℕ) (header apdu : List ℕ) (network : NetworkHeader)
     → big_number 2 (high ∷ low ∷ []) ≡ 4 + length (header ++ apdu) → SpellsHeader header network
     → is_for_all network.destination ≡ false
@@ -454,7 +453,7 @@ none_carry _ network apdu _ small t =
     let other : is_for_all (Some (everyone network)) ≡ false = grind arith in
     ap (carried _) t.whole ∙ unheeded _ 10 _ _ _ _ _ counted t.headed other
 
--- an APDU after its front takes it to the station
+-- an APDU after its headers is carried to the station
 pub put_front_takes : {T E : Type 0} (result : Result T E) (to : Option NetworkAddress) (expect : Bool) (apdu : List ℕ)
     (size : ℕ) (front frame : List ℕ)
     → IfSome to IsRoutable → size ≡ length apdu → front ≡ front_octets to expect size
@@ -462,7 +461,7 @@ pub put_front_takes : {T E : Type 0} (result : Result T E) (to : Option NetworkA
     → OnOk result (length front + length apdu ≤ 1497) → OnOk result (Takes to expect apdu frame)
 put_front_takes = grind (arith, front_before, count_wrapped, wrapped_takes, routable)
 
--- what takes an APDU to a station of this network is carried to it
+-- a datagram that carries an APDU to a station of this network is accepted there
 pub taken_carries : (from : Station) (expect : Bool) (apdu datagram : List ℕ) → Takes None expect apdu datagram
     → carried from datagram
     ≡ Some (record
@@ -472,7 +471,7 @@ taken_carries _ _ apdu _ t =
     ∙ omega arith in
     ap (carried _) t.whole ∙ carried_again_at _ 10 _ _ [] _ _ _ _ _ counted unicast t.headed _
 
--- a datagram takes one APDU to a station
+-- a datagram carries only one APDU to a station
 pub one_taken : (to : Option NetworkAddress) (expect : Bool) (datagram a b : List ℕ) → Takes to expect a datagram
     → Takes to expect b datagram → a ≡ b
 one_taken to _ _ a b s t =
@@ -484,7 +483,7 @@ one_taken to _ _ a b s t =
 
 -- ---- the part
 
--- the octets of a part, under the flags that announce it
+-- the octets of a part, with the flags that announce it
 abbrev SpellsPart : ℕ → List ℕ → Option Part → Type 0
 SpellsPart first octets part = Flags first part × (octets ≡ part_octets part)
 
@@ -562,11 +561,11 @@ confirmed_no_longer octets part code id service body e =
 
 -- ---- what is written
 
--- the flags of a request
+-- the flags of a request fit its type
 request_part : (part : Option Part) → (part_flags part / 16 ≡ 0) × SpellsPart (part_flags part) (part_octets part) part
 request_part = grind arith
 
--- the flags of an answer, under its type
+-- the flags of an answer fit its type
 answer_part : (part : Option Part) → ((48 + part_flags part) / 16 ≡ 3)
     × SpellsPart (48 + part_flags part) (part_octets part) part
 answer_part = grind arith
@@ -585,9 +584,9 @@ laid_out_is (abort false id reason) h = (112, [], refl, refl, refl)
 pub apdu_back : (m : Message) → IsWritable m → apdu_of (laid_out m) ≡ Some m
 apdu_back m h = apdu_again _ _ (laid_out_is m h)
 
--- ---- what a code announces
+-- ---- the length that a code announces
 
--- the octets that these codes announce, and 50 for each other one
+-- the octets that each code announces: 50 for codes not listed
 pub announced_other : (k : ℕ) → (k ≡ 1 → ⊥) → (k ≡ 2 → ⊥) → (k ≡ 3 → ⊥) → (k ≡ 4 → ⊥) → (k ≡ 5 → ⊥)
     → ◌≡◌ {A = ℕ} 50 (slice_index_or (50 ∷ 128 ∷ 206 ∷ 480 ∷ 1024 ∷ 1476 ∷ []) k 50)
 announced_other = grind arith

@@ -1,4 +1,4 @@
--- Reading the body of a Who-Is, of an I-Am or of an Error finds what its relation says.
+-- Reading the body of a Who-Is, an I-Am or an Error finds what its relation says.
 use Rattle.std.proofs.{Common.{[], List, Option, refl, Some, subst, ℕ, ◌↔◌, ◌∷◌, ◌≡◌}, lemmas.Bool.{eq-eqb, eqb-true}}
 use Rattle.bac_wire.proofs.ItemLaws.{enumerated_step, IsStep, object_step, unsigned_step}
 use Rattle.bac_wire.{proofs.TagLaws.{bind_some, only_if}, specs.{Spells, ◌>>=◌, Datum.Datum, Front.Begins}}

@@ -1,4 +1,4 @@
--- Bodies that are written: each is spelled so, no spelling has fewer octets, and it is read back.
+-- Writing bodies: the written octets spell the body, no spelling has fewer octets, and they are read back.
 use Rattle.std.proofs.Common.{[], ap, append-nil, append_assoc, arith, Err, flat_map, IfSome, length, length-append}
 use Rattle.std.proofs.Common.{List, Ok, Option, refl, Result, slice_index_or, Some, subst, sym, ℕ, ◌*◌, ◌++◌, ◌+◌, ◌<◌}
 use Rattle.std.{proofs.{Common.{◌^◌, ◌∙◌, ◌∷◌, ◌≡◌, ◌≤◌}, lemmas.Grind.common_steps}, specs.List.AllByRecursion}
@@ -44,7 +44,7 @@ pub closing_octet : (number : ℕ) → number < 15 → plain_tag (closing_tag nu
 unfolding plain_tag
 closing_octet = grind arith
 
--- ---- how long the body of a ReadProperty is at most
+-- ---- the longest body of a ReadProperty
 
 tag_short : (number count : ℕ) → length (plain_tag (context_tag number count)) ≤ 7
 unfolding plain_tag
@@ -64,7 +64,7 @@ pub read_octets_short : (r : Reference) → length (read_octets r) ≤ 45
 unfolding plain_parameter
 read_octets_short = grind (arith, length-append, context_short, index_short)
 
--- Appended to no octets, the body is whole, since there is room for it.
+-- In an empty frame there is room for the body, so it is appended whole.
 pub read_alone : {A E : Type 0} (result : Result A E) (before after : List ℕ) (r : Reference) → before ≡ []
     → Appends before (read_octets r) after result → after ≡ read_octets r
 read_alone (Ok x) _ _ r none appended = appended.ok ∙ ap (λ (octets : List ℕ). octets ++ read_octets r) none
@@ -132,7 +132,7 @@ parameter_shortest =
 
 -- ---- one after the other
 
--- things that are each written in the fewest octets
+-- each thing in a list is written in the fewest octets, and so is the list
 module _ {A : Type 0} (Spells : List ℕ → A → Type 0) (plain : A → List ℕ) (Is : A → Type 0)
     (each : (x : A) → Is x → IsShortest Spells (plain x) x) where
   all_least : (xs : List A) (octets rest : List ℕ) → AllByRecursion Is xs → AreOctets octets
@@ -232,7 +232,7 @@ error_shortest class code a b = record {
       omega arith;
 }
 
--- what is written of an error is read back, whatever follows
+-- a written Error is read back, whatever follows
 pub error_is_back : (class code : ℕ) (rest : List ℕ) → Spells (plain (enumerated class)) (enumerated class)
     → Spells (plain (enumerated code)) (enumerated code)
     → error_of (error_octets class code ++ rest) ≡ Some (class, code)
@@ -261,7 +261,7 @@ pub order_known : (o : Order) → AllByRecursion IsParameter (reference_paramete
     → IfSome o.priority IsPriority → AllByRecursion IsParameter (order_parameters o)
 order_known = grind (arith, all_append, urgent_is)
 
--- what is written of an order
+-- the written octets of an order spell it
 pub order_is_written : (o : Order) → AllByRecursion IsParameter (reference_parameters o.reference) → IsRegion 32 o.value
     → IfSome o.priority IsPriority → IsShortest IsWriteBody (write_octets o) o
 order_is_written o named region urgent = grind (arith, write_shortest, order_known)

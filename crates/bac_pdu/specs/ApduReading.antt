@@ -3,7 +3,7 @@ use Rattle.std.specs.Prelude.{[], Bool, false, if◌then◌else◌, List, None, 
 use Rattle.{bac_wire.specs.◌>>=◌, bac_pdu.specs.Apdu.{abort, complex_ack, confirmed, error, Message, reject}}
 use Rattle.bac_pdu.specs.{Apdu.{segment_ack, simple_ack, unconfirmed}, Bits.bit, declared.apdu.Part.Part}
 
--- The part, if the flag says that there is one, and the octets after it.
+-- The part, if the flag is set, and the octets after it.
 abbrev pub part_at : ℕ → List ℕ → Bool → Option (Option Part × List ℕ)
 part_at first octets false = Some (None, octets)
 part_at first (sequence ∷ window ∷ octets) true =
@@ -34,12 +34,12 @@ complex_ack_of first (id ∷ octets) =
     parts_at first octets >>= (λ (part, service, body). Some (complex_ack part id service body))
 complex_ack_of first _ = None
 
--- The APDU after a first octet, if its type has the invoke id, one octet more, and perhaps a rest.
+-- The APDU after a first octet, if its type has only the invoke id and one more octet; the rest is ignored.
 abbrev pub numbered_of : (ℕ → ℕ → List ℕ → Message) → List ℕ → Option Message
 numbered_of made (id ∷ octet ∷ rest) = Some (made id octet rest)
 numbered_of made _ = None
 
--- The APDU that a list of octets is.
+-- The APDU in a list of octets.
 unfoldable pub apdu_of : List ℕ → Option Message
 apdu_of [] = None
 apdu_of (first ∷ octets) =

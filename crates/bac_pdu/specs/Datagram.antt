@@ -1,17 +1,17 @@
--- What a datagram carries: the link header (Annex J.2), the network header and an APDU.
+-- The contents of a datagram: the link header (Annex J.2), the network header and an APDU.
 use Rattle.std.specs.Prelude.{◌≡◌, ℕ, ◌+◌, Bool, true, false, ◌||◌, is_some, List, [], ◌∷◌, ◌++◌, length, Option, Some}
 use Rattle.std.specs.Prelude.{None, IfSome}
 use Rattle.byteorder.specs.Endian.{big_number, big_bytes}
 use Rattle.bac_pdu.specs.{declared.datagram.Carried.Carried, Peer.{NetworkAddress, Station, IsRoutable, station}}
 use Rattle.bac_pdu.specs.{Header.{NetworkHeader, SpellsHeader, plain_header}, Bits.bit}
 
--- What a datagram carries: who sent it, whether it was sent to all, and the APDU.
+-- The contents of a datagram: its sender, whether it was sent to all, and the APDU.
 pub record Delivery : Type 0 where
   pub peer : Station
   pub broadcast : Bool
   pub apdu : List ℕ
 
--- An opened datagram of the code, without where its octets lie in memory.
+-- An opened datagram of the code as a delivery.
 abbrev pub delivery : Carried → Delivery
 delivery carried = record { peer = station carried.peer; broadcast = carried.broadcast; apdu = carried.apdu.now }
 
@@ -19,9 +19,9 @@ delivery carried = record { peer = station carried.peer; broadcast = carried.bro
 abbrev pub originator : List ℕ → List ℕ → Station
 originator ip port = record { ip = big_number 4 ip; port = big_number 2 port; route = None }
 
--- The sender of a datagram of this function, and whether it was sent to all: 10 is an Original-Unicast-NPDU and 11 an
--- Original-Broadcast-NPDU, from where the datagram came; 4 is a Forwarded-NPDU, from the address and port in its next
--- six octets, and always to all.
+-- The sender of a datagram with this function, and whether it was sent to all: 10 is an Original-Unicast-NPDU and 11 an
+-- Original-Broadcast-NPDU, both from the datagram's sender; 4 is a Forwarded-NPDU, from the address and port in its
+-- next six octets, and always to all.
 pub data SpellsOrigin (from : Station) : ℕ → List ℕ → Station → Bool → Type 0 where
   unicast : SpellsOrigin from 10 [] from false
   broadcast : SpellsOrigin from 11 [] from true
@@ -29,8 +29,8 @@ pub data SpellsOrigin (from : Station) : ℕ → List ℕ → Station → Bool �
       → SpellsOrigin from 4 (a ∷ b ∷ c ∷ d ∷ e ∷ f ∷ []) (originator (a ∷ b ∷ c ∷ d ∷ []) (e ∷ f ∷ [])) true
 
 -- The datagram is the type 129, the function, the length of the whole datagram in two octets, the origin, the network
--- header and the APDU. The network header names no destination but all networks, and no source but one that a route
--- leads to. The peer is the sender, with that source as its route.
+-- header and the APDU. A destination in the network header is all networks, and a source is one that a route leads to;
+-- either may be absent. The peer is the sender, with the source as its route.
 pub record Carries (from : Station) (datagram : List ℕ) (delivery : Delivery) : Type 0 where
   pub function : ℕ
   pub high : ℕ
@@ -51,7 +51,7 @@ pub record Carries (from : Station) (datagram : List ℕ) (delivery : Delivery) 
 
 -- ---- the form that is written
 
--- The unicast datagram that takes the APDU to a station: its network header names the station behind the router, if
+-- The unicast datagram that carries the APDU to a station: its network header has the station behind the router, if
 -- any, as the destination, and no source, and says whether a reply is expected.
 pub record Takes (to : Option NetworkAddress) (expect : Bool) (apdu datagram : List ℕ) : Type 0 where
   pub high : ℕ
@@ -62,12 +62,12 @@ pub record Takes (to : Option NetworkAddress) (expect : Bool) (apdu datagram : L
   pub headed : SpellsHeader header (record { destination = to; source = None })
   pub expected : bit 2 headed.control ≡ expect
 
--- The datagram that is written round an APDU: the link header, the network header, and the APDU.
+-- The datagram that is written around an APDU: the link header, the network header, and the APDU.
 unfoldable pub wrapped : Option NetworkAddress → Bool → List ℕ → List ℕ
 wrapped to expect apdu =
     129 ∷ 10 ∷ (big_bytes 2 (4 + length (plain_header to expect ++ apdu)) ++ (plain_header to expect ++ apdu))
 
--- How many octets stand before an APDU: six, or ten and the address of a station behind a router.
+-- The number of octets before an APDU: six, or ten and the address of a station behind a router.
 abbrev pub front_count : Option NetworkAddress → ℕ
 front_count None = 6
 front_count (Some to) = 10 + length to.address

@@ -4,7 +4,7 @@ use Rattle.std.specs.Prelude.{nat_lt, None, Option, Some, take, true, ℕ, ◌&&
 use Rattle.{byteorder.specs.Endian.big_number, bac_wire.specs.{◌>>=◌, TagReading.two_at}, bac_pdu.specs.Bits.bit}
 use Rattle.bac_pdu.specs.{Datagram.{Delivery, originator}, Header.NetworkHeader, Peer.{NetworkAddress, Station}}
 
--- As many octets as the first one says, and those after them.
+-- The octets that the first one counts, and those after them.
 abbrev pub counted_at : List ℕ → Option (List ℕ × List ℕ)
 counted_at [] = None
 counted_at (count ∷ octets) = if nat_lt (length octets) count then None else Some (take count octets, drop count octets)
@@ -16,12 +16,12 @@ address_at octets = do
   (address, rest) ← counted_at behind
   Some (record { network = network; address = address }, rest)
 
--- The address that a bit announces, if it does, and the octets after it.
+-- The address, if a bit announces one, and the octets after it.
 abbrev pub announced_at : Bool → List ℕ → Option (Option NetworkAddress × List ℕ)
 announced_at false octets = Some (None, octets)
 announced_at true octets = address_at octets >>= (λ (address, rest). Some (Some address, rest))
 
--- The octets after the hop count, which is there if there is a destination.
+-- The octets after the hop count, which is present if there is a destination.
 abbrev pub behind_hops : Bool → List ℕ → Option (List ℕ)
 behind_hops false octets = Some octets
 behind_hops true [] = None
@@ -41,13 +41,13 @@ header_at (version ∷ control ∷ octets) =
     if version == 1 then (if bit 7 control then None else behind_control control octets) else None
 header_at _ = None
 
--- The originator that a Forwarded-NPDU names, which is always for all, and the octets after it.
+-- The originator in a Forwarded-NPDU, which is always a broadcast, and the octets after it.
 abbrev pub forwarded_at : List ℕ → Option ((Station × Bool) × List ℕ)
 forwarded_at (a ∷ b ∷ c ∷ d ∷ e ∷ f ∷ octets) =
     Some ((originator (a ∷ b ∷ c ∷ d ∷ []) (e ∷ f ∷ []), true), octets)
 forwarded_at _ = None
 
--- The sender of a datagram of this function, whether it was sent to all, and the octets after.
+-- The sender of a datagram with this function, whether it was sent to all, and the octets after the originator's.
 abbrev pub origin_at : ℕ → Station → List ℕ → Option ((Station × Bool) × List ℕ)
 origin_at function from octets =
     if function == 10 then Some ((from, false), octets)
@@ -55,7 +55,7 @@ origin_at function from octets =
     else if function == 4 then forwarded_at octets
     else None
 
--- The sender of the datagram, whether it was sent to all, and the octets after the link header. Its length has to be
+-- The sender of the datagram, whether it was sent to all, and the octets after the link header, whose length must be
 -- the datagram's.
 unfoldable pub link_at : Station → List ℕ → Option ((Station × Bool) × List ℕ)
 link_at from (kind ∷ function ∷ high ∷ low ∷ octets) =
@@ -69,15 +69,15 @@ abbrev pub is_routable : NetworkAddress → Bool
 is_routable to =
     nat_lt 0 to.network && (nat_lt to.network 65535 && (nat_lt 0 (length to.address) && nat_lt (length to.address) 8))
 
--- Whether the network header names no destination but all networks.
+-- Whether the network header has no destination, or all networks as its destination.
 abbrev pub is_for_all : Option NetworkAddress → Bool
 is_for_all destination = option_map_or (λ to. to.network == 65535) destination true
 
--- Whether it names no source but one that a route leads to.
+-- Whether the network header has no source, or one that a route leads to.
 abbrev pub is_answerable : Option NetworkAddress → Bool
 is_answerable source = option_map_or is_routable source true
 
--- What the datagram carries, or nothing if it is ignored.
+-- The contents of the datagram, or None if it is ignored.
 unfoldable pub carried : Station → List ℕ → Option Delivery
 carried from datagram = do
   ((sender, to_all), behind) ← link_at from datagram

@@ -2,25 +2,25 @@
 use Rattle.std.specs.Prelude.{[], ◌++◌, ◌∷◌, ◌≡◌, Bool, false, if◌then◌else◌, length, List, None, Option, Some, true, ℕ}
 use Rattle.{byteorder.specs.Endian.{big_bytes, big_number}, bac_pdu.specs.{Bits.bit, Peer.NetworkAddress}}
 
--- What a network header says: the stations of other networks that the datagram is for and from.
+-- The contents of a network header: the destination and the source, if they are in other networks.
 pub record NetworkHeader : Type 0 where
   pub destination : Option NetworkAddress
   pub source : Option NetworkAddress
 
--- The number of the network in two octets, how many octets the address has, and these.
+-- The number of the network in two octets, the length of the address, and the address.
 pub record SpellsAddress (octets : List ℕ) (station : NetworkAddress) : Type 0 where
   pub high : ℕ
   pub low : ℕ
   pub whole : octets ≡ high ∷ low ∷ length station.address ∷ station.address
   pub number : station.network ≡ big_number 2 (high ∷ low ∷ [])
 
--- The octets are an address if the bit that announces one is set, and nothing if it is not.
+-- The octets are an address if the announcing bit is set, and none if it is not.
 abbrev pub SpellsAnnounced : Bool → List ℕ → Option NetworkAddress → Type 0
 SpellsAnnounced false octets None = octets ≡ []
 SpellsAnnounced true octets (Some station) = SpellsAddress octets station
 SpellsAnnounced _ octets _ = ⊥
 
--- The version 1, the control octet, the destination, the source and the hop count. Of the control octet, bit 7 is clear
+-- The version 1, the control octet, the destination, the source and the hop count. In the control octet, bit 7 is clear
 -- (it would announce a message of the network layer), bit 5 announces a destination and the hop count, which is one
 -- octet, bit 3 a source, and bit 2 says that a reply is expected.
 pub record SpellsHeader (octets : List ℕ) (header : NetworkHeader) : Type 0 where
@@ -40,7 +40,7 @@ pub record SpellsHeader (octets : List ℕ) (header : NetworkHeader) : Type 0 wh
 abbrev pub address_octets : NetworkAddress → List ℕ
 address_octets station = big_bytes 2 station.network ++ length station.address ∷ station.address
 
--- The header that is written: no bit but the needed ones, and the greatest hop count.
+-- The header that is written: only the needed bits are set, and the hop count is the greatest.
 abbrev pub plain_header : Option NetworkAddress → Bool → List ℕ
 plain_header None expect = 1 ∷ (if expect then 4 else 0) ∷ []
 plain_header (Some station) expect = 1 ∷ (if expect then 36 else 32) ∷ (address_octets station ++ 255 ∷ [])

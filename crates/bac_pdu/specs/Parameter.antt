@@ -4,14 +4,14 @@ use Rattle.bac_wire.specs.{IsIdentifier, IsRegion, number_octets, object_octets,
 use Rattle.bac_wire.specs.Parameter.{enclosed_octets, SpellsEnclosed, SpellsIn}
 use Rattle.bac_wire.specs.Datum as values
 
--- A parameter: an object, a number by the tag that it stands under, or a value.
+-- A parameter: an object, a number with its tag, or a value.
 pub data Parameter : Type 0 where
   object : Identifier → Parameter
   numbered : ℕ → ℕ → Parameter
   value : List ℕ → Parameter
 
--- The octets of a parameter: an object stands under tag 0, a number under its own tag, and a value is a list of whole
--- items between two tags 3.
+-- The octets of a parameter: an object has tag 0, a number its own tag, and a value is a list of whole items between an
+-- opening and a closing tag 3.
 abbrev pub SpellsParameter : List ℕ → Parameter → Type 0
 SpellsParameter octets (object id) = SpellsIn values.object 0 octets id
 SpellsParameter octets (numbered tag n) = SpellsIn values.enumerated tag octets n
@@ -25,7 +25,7 @@ IsParameter (value region) = IsRegion deepest region
 
 -- ---- the form that is written
 
--- The octets that are written: numbers in the fewest octets, each tag in its shortest form.
+-- The octets that are written for a parameter: numbers in the fewest octets, each tag in its shortest form.
 unfoldable pub plain_parameter : Parameter → List ℕ
 plain_parameter (object id) = object_octets 0 id
 plain_parameter (numbered tag n) = number_octets tag n

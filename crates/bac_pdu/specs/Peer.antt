@@ -7,20 +7,21 @@ pub record NetworkAddress : Type 0 where
   pub network : ℕ
   pub address : List ℕ
 
--- An IP address and a port, and a route if a router is there: the station behind the router.
+-- An IP address and a port, and, for a station behind a router there, its route.
 pub record Station : Type 0 where
   pub ip : ℕ
   pub port : ℕ
   pub route : Option NetworkAddress
 
--- The stations that a route leads to: neither in network 0 nor in all networks, and one to seven octets of address.
+-- The stations that a route leads to: in a network other than 0 and 65535 (all networks), with an address of one to
+-- seven octets.
 pub record IsRoutable (to : NetworkAddress) : Type 0 where
   pub local : 0 < to.network
   pub global : to.network < 65535
   pub shortest : 1 ≤ length to.address
   pub longest : length to.address ≤ 7
 
--- All stations of a network, as a network header names them: no octet of address. 65535 stands for all networks.
+-- All stations of a network, as in a network header: the address has no octets. 65535 means all networks.
 abbrev pub everyone : ℕ → NetworkAddress
 everyone network = record { network = network; address = [] }
 
@@ -28,6 +29,6 @@ everyone network = record { network = network; address = [] }
 abbrev pub network_address : Route → NetworkAddress
 network_address route = record { network = route.network; address = take route.count route.octets }
 
--- The station that a `Peer` of the code is, without how its address lies in memory.
+-- A `Peer` of the code as a station.
 abbrev pub station : Peer → Station
 station peer = record { ip = peer.ip; port = peer.port; route = option_map network_address peer.route }

@@ -7,38 +7,38 @@ use Rattle.bac_wire.specs.{Identifier.Identifier, Region.{closing_tag, opening_t
 use Rattle.bac_pdu.specs.declared.property.{Ack.Ack, ReadRequest.ReadRequest, WriteRequest.WriteRequest}
 use Rattle.bac_pdu.specs.Parameter.{numbered, object, Parameter, plain_parameter, SpellsParameter, value}
 
--- A property of an object, or an element of it: what a request names.
+-- A property of an object, or an element of it.
 pub record Reference : Type 0 where
   pub object : Identifier
   pub property : ℕ
   pub index : Option ℕ
 
--- What a ReadProperty-ACK says: a property, and its value.
+-- The contents of a ReadProperty-ACK: a property, and its value.
 pub record ReadAck : Type 0 where
   pub reference : Reference
   pub value : List ℕ
 
--- What a WriteProperty says: a property, the value that it shall have, and the priority of that.
+-- The contents of a WriteProperty: a property, its new value, and the priority of the write.
 pub record Order : Type 0 where
   pub reference : Reference
   pub value : List ℕ
   pub priority : Option ℕ
 
--- ---- the records of the code, without where their octets lie in memory
+-- ---- the records of the code as those of these definitions
 
--- A property, by its object, number and index, from each of the records.
+-- A property with its object, number and index.
 abbrev pub named : ObjectId → ℕ → Option ℕ → Reference
 named id number element = record { object = identifier id; property = number; index = element }
 
--- What a `ReadRequest` names.
+-- A `ReadRequest` of the code as a reference.
 abbrev pub reference : ReadRequest → Reference
 reference r = named r.object r.property r.index
 
--- What an `Ack` says.
+-- An `Ack` of the code as a ReadAck.
 abbrev pub ack_seen : Ack → ReadAck
 ack_seen a = record { reference = named a.object a.property a.index; value = a.value.now }
 
--- What a `WriteRequest` says.
+-- A `WriteRequest` of the code as an order.
 abbrev pub order : WriteRequest → Order
 order w = record { reference = named w.object w.property w.index; value = w.value.now; priority = w.priority }
 
@@ -71,22 +71,22 @@ IsAckBody body a = SpellsAll SpellsParameter body (ack_parameters a)
 abbrev pub IsPriority : ℕ → Type 0
 IsPriority n = (1 ≤ n) × (n ≤ 16)
 
--- The body of a WriteProperty: its parameters, and a priority that there is, or none.
+-- The body of a WriteProperty: its parameters, with a priority of 1 to 16, or none.
 pub record IsWriteBody (body : List ℕ) (o : Order) : Type 0 where
   pub spelled : SpellsAll SpellsParameter body (order_parameters o)
   pub urgent : IfSome o.priority IsPriority
 
 -- ---- the form that is written
 
--- The body that is written of a ReadProperty.
+-- The body that is written for a ReadProperty.
 abbrev pub read_octets : Reference → List ℕ
 read_octets r = flat_map plain_parameter (reference_parameters r)
 
--- The body that is written of a ReadProperty-ACK.
+-- The body that is written for a ReadProperty-ACK.
 abbrev pub ack_octets : ReadAck → List ℕ
 ack_octets a = flat_map plain_parameter (ack_parameters a)
 
--- The body that is written of a WriteProperty.
+-- The body that is written for a WriteProperty.
 abbrev pub write_octets : Order → List ℕ
 write_octets o = flat_map plain_parameter (order_parameters o)
 

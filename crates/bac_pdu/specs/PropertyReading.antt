@@ -5,7 +5,7 @@ use Rattle.{bac_wire.specs.{enclosed_at, number_at, object_at}, bac_pdu.specs.de
 use Rattle.bac_pdu.specs.declared.reject.RejectReason.TheVariants.{InvalidTag, MissingParameter, OutOfRange, TooMany}
 use Rattle.bac_pdu.specs.{Property.{Order, ReadAck, Reference}, Steps.◌>>=◌}
 
--- The thing that was read, and the octets after it; if nothing was read, all octets are left.
+-- The value that was read, and the octets after it; if nothing was read, all octets are left.
 abbrev pub or_none : {A : Type 0} → List ℕ → Option (A × List ℕ) → Option A × List ℕ
 or_none octets None = (None, octets)
 or_none octets (Some (x, rest)) = (Some x, rest)
@@ -14,12 +14,12 @@ or_none octets (Some (x, rest)) = (Some x, rest)
 abbrev pub optional_at : ℕ → List ℕ → Option ℕ × List ℕ
 optional_at number octets = or_none octets (number_at number octets)
 
--- The thing that was read. If no octet is left, a parameter is missing; if something else is there, the tag is invalid.
+-- The value that was read. If no octet is left, a parameter is missing; if other octets are there, the tag is invalid.
 abbrev pub unless_missing : {A : Type 0} → List ℕ → Option A → Result A RejectReason
 unless_missing [] found = Err MissingParameter
 unless_missing (x ∷ xs) found = ok_or found InvalidTag
 
--- The property that the front of a body names, and the octets after it.
+-- The property at the front of a body, and the octets after it.
 unfoldable pub reference_at : List ℕ → Result (Reference × List ℕ) RejectReason
 reference_at body = do
   (object, behind) ← unless_missing body (object_at 0 body)
@@ -31,7 +31,7 @@ abbrev pub whole_of : {A : Type 0} → A → List ℕ → Option A
 whole_of x [] = Some x
 whole_of x (_ ∷ _) = None
 
--- What the body of a ReadProperty asks for, or why it is rejected.
+-- The property that the body of a ReadProperty asks for, or why the body is rejected.
 unfoldable pub read_of : List ℕ → Result Reference RejectReason
 read_of body = do
   (reference, rest) ← reference_at body
@@ -41,7 +41,7 @@ read_of body = do
 abbrev pub is_priority : Option ℕ → Bool
 is_priority priority = option_map_or (λ n. nat_lt 0 n && nat_lt n 17) priority true
 
--- What the body of a WriteProperty orders, or why it is rejected.
+-- The write that the body of a WriteProperty orders, or why the body is rejected.
 unfoldable pub write_of : List ℕ → Result Order RejectReason
 write_of body = do
   (reference, behind) ← reference_at body
@@ -52,7 +52,7 @@ write_of body = do
         then Ok (record { reference = reference; value = value; priority = priority })
         else Err OutOfRange
 
--- What the body of a ReadProperty-ACK says. If a request would be rejected for its body, it says nothing.
+-- The property and the value in the body of a ReadProperty-ACK. `None` if the body is not whole, or if more follows.
 unfoldable pub ack_of : List ℕ → Option ReadAck
 ack_of body = result_ok (do
   (reference, behind) ← reference_at body

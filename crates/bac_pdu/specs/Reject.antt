@@ -1,4 +1,4 @@
--- Why the body of a confirmed request is rejected (clause 18.9; which reason a body gets is this project's choice).
+-- Why the body of a confirmed request is rejected (clause 18.9; this project chooses which reason a body gets).
 use Rattle.std.specs.Prelude.{[], IfErr, IfOk, IfSome, List, Ok, Result, ℕ, ◌∷◌, ◌≡◌, ◌≢◌, ◌⊎◌}
 use Rattle.bac_wire.specs.{SpellsAll, Front.Begins, Identifier.Identifier}
 use Rattle.bac_pdu.specs.declared.reject.RejectReason.{RejectReason, TheVariants.{InvalidTag, MissingParameter}}
@@ -14,11 +14,11 @@ reason_number OutOfRange = 6
 reason_number TooMany = 7
 reason_number UnknownService = 9
 
--- The body has more octets than it should: a front of it is whole, and something follows.
+-- The body has more octets than it should: a whole body, and more after it.
 abbrev pub HasMore : {A : Type 0} → (List ℕ → A → Type 0) → List ℕ → Type 0
 HasMore {A} IsWhole body = (x : A) × (rest : List ℕ) × Begins IsWhole body x rest × (rest ≢ [])
 
--- The body has no octet, or names an object alone.
+-- The body is empty, or only an object.
 abbrev pub LacksReference : List ℕ → Type 0
 LacksReference body = (body ≡ []) ⊎ ((id : Identifier) × SpellsAll SpellsParameter body (object id ∷ []))
 
@@ -40,12 +40,12 @@ WriteFault body MissingParameter = LacksReference body ⊎ ((r : Reference) × I
 WriteFault body InvalidTag = Unit {0}
 WriteFault body UnknownService = ⊥
 
--- The first of these that applies.
+-- This is the first reason in the list that applies.
 abbrev pub IsFirst : {A : Type 0} → (A → Type 0) → List A → A → Type 0
 IsFirst Applies [] x = ⊥
 IsFirst Applies (y ∷ ys) x = (Applies y × (x ≡ y)) ⊎ ((Applies y → ⊥) × IsFirst Applies ys x)
 
--- The outcome is the record that the body is, or the reason to reject it: the first that applies, in this order.
+-- The outcome is the record in the body, or the reason to reject it: the first that applies, in this order.
 pub record IsOutcome {A : Type 0} (IsWhole : List ℕ → A → Type 0) (HasFault : List ℕ → RejectReason → Type 0)
     (body : List ℕ) (outcome : Result A RejectReason) : Type 0 where
   pub whole : IfOk outcome (IsWhole body)

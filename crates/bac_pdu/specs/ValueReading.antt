@@ -4,7 +4,7 @@ use Rattle.bac_wire.specs.{kind_at, number_at, ◌>>=◌, ParameterReading.{enum
 use Rattle.bac_pdu.specs.{declared.discovery.WhoIs.WhoIs, Discovery.Introduction, PropertyReading.whole_of}
 use Rattle.bac_pdu.specs.declared.discovery.WhoIs.TheVariants as limits
 
--- Which devices the body of a Who-Is asks: all, or those between two limits.
+-- The devices that the body of a Who-Is asks for: all, or those between two limits.
 unfoldable pub who_is_of : List ℕ → Option WhoIs
 who_is_of [] = Some limits.All
 who_is_of body = do
@@ -12,7 +12,7 @@ who_is_of body = do
   (high, rest) ← number_at 1 behind
   whole_of (limits.Range low high) rest
 
--- What the body of an I-Am says, if its object is a device.
+-- The contents of the body of an I-Am, if its object is a device.
 unfoldable pub introduction_of : List ℕ → Option Introduction
 introduction_of body = do
   (device, behind) ← kind_at object_in body
@@ -23,7 +23,7 @@ introduction_of body = do
       then whole_of (record { device = device; max_apdu = max_apdu; segmentation = segmentation; vendor = vendor }) rest
       else None
 
--- The class and the code that the body of an Error begins with.
+-- The class and the code at the beginning of the body of an Error.
 unfoldable pub error_of : List ℕ → Option (ℕ × ℕ)
 error_of body = do
   (class, behind) ← kind_at enumerated_in body

@@ -9,9 +9,10 @@ use crate::writing::whole_or_nothing;
 use arrayvec::ArrayVec;
 use bac_wire::{Frame, Full};
 
-/// An APDU (clause 20.1). `id` is the invoke id, `service` the number of the service choice.
+/// An APDU (clause 20.1). `id` is the invoke id, and `service` is the number of the service choice.
 ///
-/// `part` is given if the APDU is one of several; `code` is that of the greatest APDU that the requester accepts.
+/// `part` is given if the APDU is one part of a longer message; `code` is that of the longest APDU that the requester
+/// accepts.
 #[derive(Clone, Copy, Debug, PartialEq, Eq)]
 pub enum Apdu<'a> {
     Confirmed {
@@ -35,7 +36,7 @@ pub enum Apdu<'a> {
         service: u8,
         body: &'a [u8],
     },
-    /// Not looked at beyond its type.
+    /// A SegmentACK, of which only the type is read.
     SegmentAck,
     Error {
         id: u8,
@@ -61,14 +62,13 @@ pub struct Part {
     pub more: bool,
     /// The number of this part, in a cycle of 256.
     pub sequence: u8,
-    /// How many parts the sender would send before it waits for a SegmentACK.
+    /// How many parts the sender sends before it waits for a SegmentACK.
     pub window: u8,
 }
 
-/// Returns the APDU that the octets are. `None` if there are no octets, if the type is unknown, or if the layout is
-/// cut.
+/// Returns the APDU in the octets. `None` if there are no octets, if the type is unknown, or if the layout is cut off.
 ///
-/// Bits and octets that the layout of the type does not name are not looked at.
+/// Bits and octets that the layout of the type does not name are ignored.
 #[tactic(auto, unfolding(crate::specs::apdu_of))]
 #[inline(always)]
 pub fn read_apdu(octets: &[u8]) -> Option<Apdu<'_>>
@@ -107,8 +107,8 @@ pub fn read_apdu(octets: &[u8]) -> Option<Apdu<'_>>
     }
 }
 
-/// Appends the APDU, with 0 in each bit that is not looked at. It must be no SegmentACK, and a code must be below 16.
-/// `Full`, with the frame unchanged, only if there is no room for it.
+/// Appends the APDU, with 0 in each bit that readers ignore. It must not be a SegmentACK, and a code must be below 16.
+/// Returns `Full`, with the frame unchanged, only if there is no room for the APDU.
 #[inline(always)]
 pub fn write_apdu(frame: &mut Frame, apdu: &Apdu<'_>) -> Result<(), Full>
     requires { IsWritable (message apdu.now) }
@@ -119,10 +119,11 @@ pub fn write_apdu(frame: &mut Frame, apdu: &Apdu<'_>) -> Result<(), Full>
 }
 
 /// The octets of the longest service body that a client sends. With the four octets before it in a request (clause
-/// 20.1.2) they make an APDU of 480, which is what code 3 announces, and fits a frame of ARCNET (clause 20.1.2.5).
+/// 20.1.2) they make an APDU of 480 octets. Code 3 announces this length, and it fits a frame of ARCNET (clause
+/// 20.1.2.5).
 pub const LONGEST_BODY: usize = 476;
 
-/// Returns the octets of the greatest APDU that a code announces (clause 20.1.2.5), by its low four bits. Codes above 5
+/// Returns the octets of the longest APDU that a code announces (clause 20.1.2.5) in its low four bits. Codes above 5
 /// count as 0.
 pub fn announced(code: u8) -> u16
     ensures { result ≡ announced_size code }
@@ -219,7 +220,7 @@ fn append_apdu(frame: &mut Frame, apdu: &Apdu<'_>) -> Result<(), Full>
             let head = head_of(&[0x30 + flags_of(*part), *id], *part, *service);
             append_both(frame, head.as_slice(), body)
         }
-        // The condition leaves this kind out.
+        // A SegmentACK is excluded by the precondition.
         Apdu::SegmentAck => Ok(()),
         Apdu::Error { id, service, body } => append_both(frame, &[0x50, *id, *service], body),
         Apdu::Reject { id, reason } => frame.append(&[0x60, *id, *reason]),

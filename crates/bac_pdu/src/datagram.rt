@@ -1,4 +1,4 @@
-//! Datagrams whole: what one carries, and the one that takes an APDU to a peer.
+//! Whole datagrams: reading the contents of one, and writing one that carries an APDU to a peer.
 
 ghost use Rattle.std.specs.Prelude.{false, IfOk, IfSome, length, OnErr, OnOk, option_map, Some, ◌+◌, ◌<◌, ◌^◌, ◌≡◌};
 ghost use Rattle.std.specs.Prelude.{◌≤◌};
@@ -14,12 +14,12 @@ use arrayvec::ArrayVec;
 use bac_wire::{FRAME_OCTETS, Frame, Full};
 use byteorder::{BigEndian, ByteOrder};
 
-/// What a datagram carries.
+/// The contents of a datagram.
 #[derive(Clone, Copy, Debug)]
 pub struct Carried<'a> {
     /// The sender, to which a reply goes.
     pub peer: Peer,
-    /// Whether it was sent to more than one station.
+    /// Whether the datagram was sent to more than one station.
     pub broadcast: bool,
     /// The octets after both headers.
     pub apdu: &'a [u8],
@@ -28,7 +28,7 @@ pub struct Carried<'a> {
 // The type of each BACnet/IP datagram.
 const BACNET_IP: u8 = 0x81;
 
-// The functions that are read (Annex J.2).
+// The functions that are accepted (Annex J.2).
 const UNICAST: u8 = 0x0a;
 
 const BROADCAST: u8 = 0x0b;
@@ -38,15 +38,15 @@ const FORWARDED: u8 = 0x04;
 // The number that stands for all networks (clause 6.2.2).
 const ALL_NETWORKS: u16 = 0xffff;
 
-// The octets before an APDU, at most: of the link header and of the network header.
+// The most octets before an APDU: of the link header and of the network header.
 const FRONT_OCTETS: usize = 4 + HEADER_OCTETS;
 
 /// Returns the contents of the datagram that came from this address and port (Annex J and clause 6).
 ///
 /// The peer is `from`, or the originator that a Forwarded-NPDU names, with the source of the network header as its
-/// route; the route of `from` is not looked at. `None` if the datagram is ignored: a link header that is cut, of
-/// another type or function, or with a length that is not the datagram's; a network header that is cut, of another
-/// version or a message of the network layer; a destination other than all networks; a source that no route leads to.
+/// route; the route of `from` is ignored. `None` if the datagram is ignored: its link header is cut off, has another
+/// type or function, or a length that is not the datagram's; its network header is cut off, has another version, or is
+/// a message of the network layer; its destination is not all networks; or no route leads to its source.
 #[tactic(auto, unfolding(crate::specs::carried))]
 #[inline(always)]
 pub fn open_datagram(from: Peer, datagram: &[u8]) -> Option<Carried<'_>>
@@ -75,10 +75,12 @@ pub fn open_datagram(from: Peer, datagram: &[u8]) -> Option<Carried<'_>>
     })
 }
 
-/// Makes the frame the unicast datagram that takes the APDU to the peer, and says in it whether a reply is expected.
+/// Writes into the frame the unicast datagram that carries the APDU to the peer, and that says whether a reply is
+/// expected.
 ///
-/// `Full`, with the frame unchanged, only if the datagram has more octets than a frame: an APDU of more than 1,491
-/// octets, or with a route of more than 1,487 less those of its address; so never for one of at most 1,480.
+/// Returns `Full`, with the frame unchanged, only if the datagram has more octets than a frame: an APDU of more than
+/// 1,491 octets, or, with a route, of more than 1,487 minus those of its address. This never happens if the APDU has at
+/// most 1,480.
 #[tactic(auto, using(crate::proofs::front_before, crate::proofs::length_front, crate::proofs::length_wrapped, crate::proofs::put_front_takes))]
 pub fn wrap(to: Peer, expect: bool, apdu: &[u8], frame: &mut Frame) -> Result<(), Full>
     ensures ok { OnOk result (frame.new ≡ wrapped (station to).route expect apdu.now) }
@@ -94,8 +96,8 @@ pub fn wrap(to: Peer, expect: bool, apdu: &[u8], frame: &mut Frame) -> Result<()
     frame.append(apdu)
 }
 
-/// Makes the frame, which holds an APDU, the datagram that `wrap` would make of it. Nothing is copied but within the
-/// frame. `Full`, with the frame unchanged, only if the datagram has more octets than a frame.
+/// Turns the APDU in the frame into the datagram that `wrap` would make from it. Nothing is copied except within the
+/// frame. Returns `Full`, with the frame unchanged, only if the datagram has more octets than a frame.
 #[tactic(auto, using(crate::proofs::front_before, crate::proofs::length_front, crate::proofs::length_wrapped, crate::proofs::put_front_takes))]
 #[inline(always)]
 pub fn wrap_within(to: Peer, expect: bool, frame: &mut Frame) -> Result<(), Full>
@@ -115,10 +117,10 @@ pub fn wrap_within(to: Peer, expect: bool, frame: &mut Frame) -> Result<(), Full
     }
 }
 
-/// Makes the frame, which holds an APDU, the unicast datagram by which a router is asked to broadcast it in this
-/// network, or, if the number is 65535, in all networks that it knows: the destination is the network, with no octet
-/// of address (clause 6.2.2). No reply is expected. The number must not be 0. `Full`, with the frame unchanged, only if
-/// the APDU has more than 1,487 octets.
+/// Turns the APDU in the frame into the unicast datagram that asks a router to broadcast it in this network, or, if the
+/// number is 65535, in all networks that the router knows: the destination is the network, without an address (clause
+/// 6.2.2). No reply is expected. The number must not be 0. Returns `Full`, with the frame unchanged, only if the APDU
+/// has more than 1,487 octets.
 #[tactic(auto, using(crate::proofs::across_made, crate::proofs::across_takes))]
 pub fn wrap_across(network: u16, frame: &mut Frame) -> Result<(), Full>
     requires { 0 < network }
@@ -147,8 +149,8 @@ fn link_and_rest(from: Peer, datagram: &[u8]) -> Option<(Peer, bool, &[u8])>
     origin_and_rest(*function, from, rest)
 }
 
-// Returns the sender of a datagram of this function, whether it was sent to all, and the octets after those that say
-// it.
+// Returns the sender of a datagram with this function, whether it was sent to all, and the octets after the
+// originator's.
 fn origin_and_rest(function: u8, from: Peer, octets: &[u8]) -> Option<(Peer, bool, &[u8])>
     ensures { option_map (λ x. ((station x.0, x.1), x.2.now)) result ≡ origin_at function (station from) octets.now }
 {
@@ -170,8 +172,8 @@ fn origin_and_rest(function: u8, from: Peer, octets: &[u8]) -> Option<(Peer, boo
     }
 }
 
-// Returns the octets before an APDU of this size: the link header and the network header. `Full` if no frame has room
-// for these and the APDU.
+// Returns the octets before an APDU of this size: the link header and the network header. Returns `Full` if no frame
+// has room for these and the APDU.
 #[tactic(auto, unfolding(crate::specs::Inner::front_octets))]
 fn front_of(to: Peer, expect: bool, size: usize) -> Result<ArrayVec<u8, FRONT_OCTETS>, Full>
     requires { size < 2 ^ 63 }

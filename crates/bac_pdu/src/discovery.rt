@@ -20,7 +20,7 @@ const HIGH_LIMIT: u8 = 1;
 
 /// Which devices are asked to answer (clause 16.10): all, or those with an instance between two limits, both included.
 ///
-/// If low is above high, it asks no device.
+/// If low is above high, no device is asked.
 #[derive(Clone, Copy, Debug, PartialEq, Eq)]
 pub enum WhoIs {
     All,
@@ -28,7 +28,7 @@ pub enum WhoIs {
 }
 
 impl WhoIs {
-    /// Returns whether it asks the device with this instance.
+    /// Returns whether the device with this instance is asked.
     pub fn asks(self, instance: u32) -> bool
         ensures { result ≡ asks self instance }
     {
@@ -39,20 +39,20 @@ impl WhoIs {
     }
 }
 
-/// What a device says of itself (clause 16.10).
+/// The contents of an I-Am (clause 16.10).
 #[derive(Clone, Copy, Debug, PartialEq, Eq)]
 pub struct IAm {
-    /// An object of type 8.
+    /// The device, an object of type 8.
     pub device: ObjectId,
-    /// The octets of the longest APDU that it accepts.
+    /// The octets of the longest APDU that the device accepts.
     pub max_apdu: u64,
-    /// The number of the segmentation that it supports; 3 means no segmentation.
+    /// The number of the segmentation that the device supports; 3 means no segmentation.
     pub segmentation: u32,
-    /// The number of its vendor.
+    /// The number of the device's vendor.
     pub vendor: u64,
 }
 
-/// Returns which devices the body of a Who-Is asks. `None` if the body is not whole.
+/// Returns which devices the body of a Who-Is asks for. `None` if the body is not whole.
 #[tactic(auto, unfolding(crate::specs::who_is_of))]
 pub fn read_whois(body: &[u8]) -> Option<WhoIs>
     ensures value { result ≡ who_is_of body.now }
@@ -88,8 +88,8 @@ pub fn read_iam(body: &[u8]) -> Option<IAm>
     })
 }
 
-/// Appends the body of a Who-Is, each number in its fewest octets. `Full`, with the frame unchanged, only if there is
-/// no room for it.
+/// Appends the body of a Who-Is, each number in its fewest octets. Returns `Full`, with the frame unchanged, only if
+/// there is no room for it.
 #[tactic(auto, using(crate::proofs::limits_back, crate::proofs::who_is_shortest, std::proofs::lemmas::Result::on_ok_weaker))]
 pub fn write_whois(frame: &mut Frame, who: &WhoIs) -> Result<(), Full>
     ensures appended { Appends frame.old (who_is_octets who.now) frame.new result }
@@ -101,8 +101,8 @@ pub fn write_whois(frame: &mut Frame, who: &WhoIs) -> Result<(), Full>
     whole_or_nothing(frame, start, appended)
 }
 
-/// Appends the body of an I-Am, each number in its fewest octets. The object must be a device. `Full`, with the frame
-/// unchanged, only if there is no room for it.
+/// Appends the body of an I-Am, each number in its fewest octets. The object must be a device. Returns `Full`, with the
+/// frame unchanged, only if there is no room for it.
 pub fn write_iam(frame: &mut Frame, i_am: &IAm) -> Result<(), Full>
     requires { (identifier i_am.now.device).kind ≡ 8 }
     ensures appended { Appends frame.old (i_am_octets (introduction i_am.now)) frame.new result }
@@ -116,7 +116,7 @@ pub fn write_iam(frame: &mut Frame, i_am: &IAm) -> Result<(), Full>
     whole_or_nothing(frame, start, appended)
 }
 
-// Appends the body of a Who-Is. If there is no room, a front of it may stay.
+// Appends the body of a Who-Is. If there is no room, the beginning of it may stay.
 fn append_limits(frame: &mut Frame, who: &WhoIs) -> Result<(), Full>
     ensures appended { AppendsFront frame.old (who_is_octets who.now) frame.new result }
     ensures known { OnOk result (HasLimits who.now) }
@@ -130,7 +130,7 @@ fn append_limits(frame: &mut Frame, who: &WhoIs) -> Result<(), Full>
     }
 }
 
-// Appends the body of an I-Am. If there is no room, a front of it may stay.
+// Appends the body of an I-Am. If there is no room, the beginning of it may stay.
 #[tactic(auto, using(bac_wire::proofs::TagLaws::in_parts))]
 fn append_introduction(frame: &mut Frame, i_am: &IAm) -> Result<(), Full>
     requires { (identifier i_am.now.device).kind ≡ 8 }

@@ -24,18 +24,19 @@ fn examples_of_datagrams()
     ensures body { read_octets present_value ≡ 0x0c ∷ 0x00 ∷ 0x00 ∷ 0x00 ∷ 0x01 ∷ 0x19 ∷ 0x55 ∷ [] }
     ensures body_read { read_of (0x0c ∷ 0x00 ∷ 0x00 ∷ 0x00 ∷ 0x01 ∷ 0x19 ∷ 0x55 ∷ []) ≡ Ok present_value }
 
-    // A confirmed request that takes an answer of up to 1476 octets (code 5), with invoke id 1, for service 12.
+    // A confirmed request for service 12, with invoke id 1, whose sender accepts an answer of up to 1476 octets (code
+    // 5).
     ensures apdu { WritesApdu (confirmed None 5 1 12 (read_octets present_value))
         (0x00 ∷ 0x05 ∷ 0x01 ∷ 0x0c ∷ 0x0c ∷ 0x00 ∷ 0x00 ∷ 0x00 ∷ 0x01 ∷ 0x19 ∷ 0x55 ∷ []) }
 
-    // Seventeen octets (11), for one device (0A), which is to reply (04).
+    // Seventeen octets (11), for one device (0A), which should reply (04).
     ensures datagram { wrapped None true (0x00 ∷ 0x05 ∷ 0x01 ∷ 0x0c ∷ read_octets present_value) ≡
         0x81 ∷ 0x0a ∷ 0x00 ∷ 0x11 ∷ 0x01 ∷ 0x04 ∷ 0x00 ∷ 0x05 ∷ 0x01 ∷ 0x0c ∷ read_octets present_value }
     ensures datagram_read { carried desk
         (0x81 ∷ 0x0a ∷ 0x00 ∷ 0x11 ∷ 0x01 ∷ 0x04 ∷ 0x00 ∷ 0x05 ∷ 0x01 ∷ 0x0c ∷ read_octets present_value) ≡
         Some (from_desk (0x00 ∷ 0x05 ∷ 0x01 ∷ 0x0c ∷ read_octets present_value)) }
 
-    // The same APDU to a station of network 5 (24: a destination follows) with the hop count 255.
+    // The APDU of `apdu` to a station of network 5 (24: a destination follows) with the hop count 255.
     ensures routed { wrapped far.route true (0x00 ∷ 0x05 ∷ 0x01 ∷ 0x0c ∷ read_octets present_value) ≡
         0x81 ∷ 0x0a ∷ 0x00 ∷ 0x16 ∷ 0x01 ∷ 0x24 ∷ 0x00 ∷ 0x05 ∷ 0x01 ∷ 0x07 ∷ 0xff
         ∷ 0x00 ∷ 0x05 ∷ 0x01 ∷ 0x0c ∷ read_octets present_value }
@@ -50,7 +51,7 @@ fn examples_of_apdus()
     ensures complex { WritesApdu (complex_ack None 1 12 (read_octets present_value))
         (0x30 ∷ 0x01 ∷ 0x0c ∷ read_octets present_value) }
 
-    // A write that was made, an unknown property (class 2, code 32), an unknown service (9), and an Abort of the device
+    // A write that was made, an unknown property (class 2, code 32), an unknown service (9), and an Abort by the device
     // (4).
     ensures simple { WritesApdu (simple_ack 1 15) (0x20 ∷ 0x01 ∷ 0x0f ∷ []) }
     ensures failed { WritesApdu (error 1 12 (error_octets 2 32)) (0x50 ∷ 0x01 ∷ 0x0c ∷ 0x91 ∷ 0x02 ∷ 0x91 ∷ 0x20 ∷ []) }
@@ -83,7 +84,7 @@ fn examples_of_discovery()
         ∷ 0x91 ∷ 0x03 ∷ 0x22 ∷ 0x01 ∷ 0x04 ∷ [] }
     ensures body_read { introduction_of (i_am_octets small_device) ≡ Some small_device }
 
-    // A vendor of three octets is taken as it is, though the standard numbers none past 65,535.
+    // A vendor of three octets is accepted, though the standard has no vendor number above 65,535.
     ensures large_vendor { introduction_of (0xc4 ∷ 0x02 ∷ 0x00 ∷ 0x04 ∷ 0xd2 ∷ 0x22 ∷ 0x05 ∷ 0xc4 ∷ 0x91 ∷ 0x03
         ∷ 0x23 ∷ 0x01 ∷ 0x00 ∷ 0x00 ∷ []) ≡ Some (record small_device { vendor = 65536 }) }
     ensures i_am { WritesApdu (unconfirmed 0 (i_am_octets small_device)) (0x10 ∷ 0x00 ∷ i_am_octets small_device) }
@@ -101,7 +102,7 @@ fn examples_of_discovery()
     ensures who_is { found_of All desk (0x81 ∷ 0x0a ∷ 0x00 ∷ 0x08 ∷ 0x01 ∷ 0x00 ∷ 0x10 ∷ 0x08 ∷ []) ≡ None }
 {}
 
-// What a datagram carries, and what takes an APDU to a station (Annex J.2 and clause 6.2).
+// The contents of a datagram, and the datagram that carries an APDU to a station (Annex J.2 and clause 6.2).
 #[tactic(none)]
 fn examples_of_carrying()
     // The length counts the whole datagram.
@@ -123,8 +124,8 @@ fn examples_of_carrying()
         (0x81 ∷ 0x0a ∷ 0x00 ∷ 0x0d ∷ 0x01 ∷ 0x20 ∷ 0x00 ∷ 0x05 ∷ 0x00 ∷ 0xff ∷ ack_octets_of_1)
         (to_all ack_octets_of_1) → ⊥ }
 
-    // A Forwarded-NPDU (04, J.2.5) is a broadcast of the station whose address and port it has, 192.168.1.9:47809; an
-    // Original-Broadcast-NPDU (0B, J.2.12) is one of the station that it comes from.
+    // A Forwarded-NPDU (04, J.2.5) is a broadcast by the station whose address and port it contains, 192.168.1.9:47809;
+    // an Original-Broadcast-NPDU (0B, J.2.12) is a broadcast by its sender.
     ensures forwarded { Carries desk (forwarded_octets ack_octets_of_1) (from_other true ack_octets_of_1) }
     ensures forwarded_to_one { Carries desk (forwarded_octets ack_octets_of_1) (from_other false ack_octets_of_1) → ⊥ }
     ensures forwarded_by { Carries desk (forwarded_octets ack_octets_of_1) (to_all ack_octets_of_1) → ⊥ }
@@ -133,8 +134,8 @@ fn examples_of_carrying()
     ensures original_to_one { Carries desk (0x81 ∷ 0x0b ∷ 0x00 ∷ 0x09 ∷ 0x01 ∷ 0x00 ∷ ack_octets_of_1)
         (from_desk ack_octets_of_1) → ⊥ }
 
-    // Another type than BACnet/IP (81), another version of the protocol (01), a network message (80), a source that no
-    // route leads to, and another APDU.
+    // Datagrams that are ignored or differ: a type other than BACnet/IP (81), another version of the protocol (01), a
+    // network message (80), a source that no route leads to, and another APDU.
     ensures other_type { Carries desk (0x82 ∷ 0x0a ∷ 0x00 ∷ 0x09 ∷ 0x01 ∷ 0x00 ∷ ack_octets_of_1)
         (from_desk ack_octets_of_1) → ⊥ }
     ensures other_version { Carries desk (0x81 ∷ 0x0a ∷ 0x00 ∷ 0x09 ∷ 0x02 ∷ 0x00 ∷ ack_octets_of_1)
@@ -213,7 +214,7 @@ fn examples_of_layouts()
     ensures seen { message (SimpleAck 1 15) ≡ simple_ack 1 15 }
 {}
 
-// What the bodies of services say (clause 21), and which can be written.
+// The contents of service bodies (clause 21), and the contents that can be written.
 #[tactic(none)]
 fn examples_of_bodies()
     ensures read { IsReadBody present_octets present_value }
@@ -234,19 +235,19 @@ fn examples_of_bodies()
     ensures range { IsWhoIsBody (0x09 ∷ 0x01 ∷ 0x19 ∷ 0x02 ∷ []) (Range 1 2) }
     ensures other_range { IsWhoIsBody (0x09 ∷ 0x01 ∷ 0x19 ∷ 0x02 ∷ []) (Range 2 1) → ⊥ }
 
-    // Analog-input (0) 1234 says nothing of a device.
+    // An I-Am of analog-input (0) 1234 is not accepted, since it is not a device.
     ensures i_am { IsIAmBody i_am_1234 small_device }
     ensures no_device { IsIAmBody (0xc4 ∷ 0x00 ∷ 0x00 ∷ 0x04 ∷ 0xd2 ∷ 0x22 ∷ 0x05 ∷ 0xc4 ∷ 0x91 ∷ 0x03 ∷ 0x22 ∷ 0x01
         ∷ 0x04 ∷ []) (record small_device { device = record { kind = 0; instance = 1234 } }) → ⊥ }
 
-    // Another instance, size, segmentation and vendor.
+    // The body does not have another instance, size, segmentation or vendor.
     ensures other_instance { IsIAmBody i_am_1234 (record small_device { device = record { kind = 8; instance = 1235 } })
         → ⊥ }
     ensures other_size { IsIAmBody i_am_1234 (record small_device { max_apdu = 480 }) → ⊥ }
     ensures segmented { IsIAmBody i_am_1234 (record small_device { segmentation = 0 }) → ⊥ }
     ensures other_vendor { IsIAmBody i_am_1234 (record small_device { vendor = 261 }) → ⊥ }
 
-    // An Error says its class and its code; octets after them are not read.
+    // An Error has a class and a code; octets after them are not read.
     ensures error { IsErrorBody (0x91 ∷ 0x02 ∷ 0x91 ∷ 0x20 ∷ 0x00 ∷ []) (2, 32) }
     ensures other_error { IsErrorBody (0x91 ∷ 0x02 ∷ 0x91 ∷ 0x20 ∷ []) (32, 2) → ⊥ }
 

@@ -7,8 +7,8 @@ use crate::value::enumerated_and_rest;
 use crate::writing::whole_or_nothing;
 use bac_wire::{Frame, Full, Value, write_value};
 
-/// Returns the class and the code that the body of an Error begins with (clause 18). `None` if the body does not begin
-/// with two Enumerateds. What follows is not looked at.
+/// Returns the class and the code at the beginning of the body of an Error (clause 18). `None` if the body does not
+/// begin with two Enumerateds. The octets after them are ignored.
 #[tactic(auto, unfolding(crate::specs::error_of))]
 pub fn read_error(body: &[u8]) -> Option<(u32, u32)>
     ensures value { result ≡ error_of body.now }
@@ -18,8 +18,8 @@ pub fn read_error(body: &[u8]) -> Option<(u32, u32)>
     Some((class, code))
 }
 
-/// Appends the body of an Error, both numbers in their fewest octets. `Full`, with the frame unchanged, only if there
-/// is no room for it.
+/// Appends the body of an Error, both numbers in their fewest octets. Returns `Full`, with the frame unchanged, only if
+/// there is no room for it.
 #[tactic(auto, using(bac_wire::proofs::TagLaws::in_parts, crate::proofs::error_shortest))]
 pub fn write_error(frame: &mut Frame, class: u32, code: u32) -> Result<(), Full>
     ensures appended { Appends frame.old (error_octets class code) frame.new result }

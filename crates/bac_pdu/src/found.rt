@@ -9,16 +9,17 @@ use crate::discovery::{IAm, WhoIs, read_iam};
 use crate::peer::Peer;
 use crate::service::I_AM;
 
-/// A device that introduced itself, and where it is.
+/// A device that introduced itself, and its address.
 #[derive(Debug, Drop)]
 pub struct Found {
     /// The sender of its I-Am.
     pub peer: Peer,
-    /// What it says of itself.
+    /// The contents of its I-Am.
     pub device: IAm,
 }
 
-/// Returns the device that introduces itself in a datagram from this peer, if the Who-Is asks for it. Otherwise `None`.
+/// Returns the device that introduces itself in a datagram from this peer, if the Who-Is asks for the device. Otherwise
+/// `None`.
 #[tactic(auto, unfolding(crate::specs::found_of))]
 pub fn read_found(who: WhoIs, from: Peer, datagram: &[u8]) -> Option<Found>
     ensures { option_map found_seen result ≡ found_of who (station from) datagram.now }

@@ -10,14 +10,14 @@ use crate::route::Route;
 use arrayvec::ArrayVec;
 use byteorder::{BigEndian, ByteOrder};
 
-/// What a network header says (clause 6.2): the stations of other networks that the datagram is for and from.
+/// The contents of a network header (clause 6.2): the destination and the source, if they are in other networks.
 #[derive(Clone, Copy)]
 pub(crate) struct Header<'a> {
     pub destination: Option<Address<'a>>,
     pub source: Option<Address<'a>>,
 }
 
-/// A station of another network, as a network header names it.
+/// A station of another network, as in a network header.
 #[derive(Clone, Copy)]
 pub(crate) struct Address<'a> {
     pub network: u16,
@@ -41,11 +41,11 @@ const DESTINED: u8 = 1 << DESTINATION;
 // The hop count of a datagram that no router has passed on.
 const HOPS: u8 = 255;
 
-/// The octets of a header that is written, at most.
+/// The octets of the longest header that is written.
 pub(crate) const HEADER_OCTETS: usize = 13;
 
-/// Returns the network header at the front, and the APDU after it. `None` if it is cut, of another version, or a
-/// message of the network layer.
+/// Returns the network header at the front, and the APDU after it. `None` if it is cut off, has another version, or is
+/// a message of the network layer.
 #[tactic(auto, unfolding(crate::specs::header_at))]
 pub(crate) fn header_and_rest(octets: &[u8]) -> Option<(Header<'_>, &[u8])>
     ensures { option_map (λ x. (header_seen x.0, x.1.now)) result ≡ header_at octets.now }
@@ -69,7 +69,7 @@ pub(crate) fn header_and_rest(octets: &[u8]) -> Option<(Header<'_>, &[u8])>
     ))
 }
 
-/// Returns the network header of a datagram for a station, which is its destination if it is in another network.
+/// Returns the network header of a datagram to a station. A station of another network is its destination.
 pub(crate) fn network_header(route: Option<Route>, expect: bool) -> ArrayVec<u8, HEADER_OCTETS>
     ensures value { result.items ≡ plain_header (option_map network_address route) expect }
     ensures short { length result.items ≤ HEADER_OCTETS }
@@ -107,7 +107,7 @@ pub(crate) fn local_header(expect: bool) -> [u8; 2]
     [VERSION, if expect { EXPECTS_REPLY } else { 0 }]
 }
 
-// Returns the address that the control octet announces, if it does, and the octets after.
+// Returns the address, if the control octet announces one, and the octets after it.
 fn announced_and_rest(announced: bool, octets: &[u8]) -> Option<(Option<Address<'_>>, &[u8])>
     ensures { option_map (λ x. (option_map address_seen x.0, x.1.now)) result
         ≡ announced_at announced octets.now }
@@ -119,7 +119,7 @@ fn announced_and_rest(announced: bool, octets: &[u8]) -> Option<(Option<Address<
     Some((Some(address), rest))
 }
 
-// Returns a network and an address in it, of as many octets as the one before it says, and the octets after.
+// Returns a network and an address in it, whose length is in the octet before it, and the octets after.
 #[tactic(auto, unfolding(crate::specs::address_at))]
 fn address_and_rest(octets: &[u8]) -> Option<(Address<'_>, &[u8])>
     ensures { option_map (λ x. (address_seen x.0, x.1.now)) result ≡ address_at octets.now }
@@ -132,7 +132,7 @@ fn address_and_rest(octets: &[u8]) -> Option<(Address<'_>, &[u8])>
     Some((Address { network, address }, rest))
 }
 
-// Returns the octets after the hop count, which is there if a destination is.
+// Returns the octets after the hop count, which is present if a destination is.
 fn rest_behind_hops(destined: bool, octets: &[u8]) -> Option<&[u8]>
     ensures { option_map (λ x. x.now) result ≡ behind_hops destined octets.now }
 {

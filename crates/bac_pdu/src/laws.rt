@@ -1,5 +1,5 @@
-//! Laws of the definitions that the contracts cite. Each function has an empty body, and its clause is the law;
-//! those at the end are `clone` or `==` of types, and say what a clone is, or what is compared.
+//! Laws of the definitions that the contracts cite. Each function has an empty body, and its clauses are the laws. The
+//! laws at the end are about `clone` and `==`.
 
 ghost use Rattle.std.specs.{List.AllByRecursion, Prelude.{[], Bool, false, IfSome, length, List, Option, Result, ℕ}};
 ghost use Rattle.std.specs.Prelude.{None, Some, true, ◌++◌, ◌+◌, ◌<◌, ◌^◌, ◌↔◌, ◌∷◌, ◌≡◌};
@@ -24,8 +24,8 @@ use crate::reject::RejectReason;
 use crate::route::{ADDRESS_OCTETS, Route};
 use crate::service::{I_AM, READ_PROPERTY, WHO_IS, WRITE_PROPERTY};
 
-/// The function that reads each kind of octets finds what the standard says that they are, and nothing else; so octets
-/// are one thing of each kind at most.
+/// The function that reads each kind of octets finds exactly what the standard says, so octets have at most one meaning
+/// of each kind.
 pub fn in_words()
     ensures carried { (from : Station) (datagram : List ℕ) (delivery : Delivery)
         → (carried from datagram ≡ Some delivery) ↔ Carries from datagram delivery }
@@ -41,7 +41,7 @@ pub fn in_words()
     ensures error { (body : List ℕ) (x : ℕ × ℕ) → (error_of body ≡ Some x) ↔ IsErrorBody body x }
 {}
 
-/// Written octets are read back: a datagram for a station without a route, an APDU, and the body of each kind.
+/// Written octets are read back: a datagram for a station without a route, an APDU, and the body of each service.
 pub fn come_back()
     ensures taken { (from : Station) (expect : Bool) (apdu datagram : List ℕ)
         → Takes None expect apdu datagram → carried from datagram
@@ -62,8 +62,8 @@ pub fn come_back()
         → error_of (error_octets class code ++ rest) ≡ Some (class, code) }
 {}
 
-/// The headers around an APDU make a datagram in the standard's words, of this many octets, that takes no other APDU to
-/// the station; an answer is written in three parts.
+/// The headers around an APDU make a datagram in the standard's words, of this length, that carries no other APDU to
+/// the station. An answer is written in three parts.
 pub fn wrapped_round()
     ensures words { (to : Option NetworkAddress) (expect : Bool) (apdu : List ℕ) → IfSome to IsRoutable
         → length (wrapped to expect apdu) < 65536 → Takes to expect apdu (wrapped to expect apdu) }
@@ -74,9 +74,9 @@ pub fn wrapped_round()
     ensures parts { (a : ReadAck) → ack_octets a ≡ (ack_front a.reference ++ a.value) ++ ack_end }
 {}
 
-/// A header for all stations of a network names that network and no address, and is read back so. For all networks it
-/// is carried to each station that it comes to, as sent to all; for one network no station heeds it, only the router
-/// that should pass it on.
+/// A header for all stations of a network names that network and no address, and is read back. A datagram for all
+/// networks is accepted by each station as a broadcast. A datagram for one network is ignored by stations; only its
+/// router passes it on.
 pub fn goes_across()
     ensures words { (network : ℕ) (apdu : List ℕ) → network < 65536
         → length (wrapped (Some (everyone network)) false apdu) < 65536
@@ -91,8 +91,8 @@ pub fn goes_across()
         → Takes (Some (everyone network)) false apdu datagram → carried from datagram ≡ None }
 {}
 
-/// The numbers that the code names: of the services and of the object type of devices, as the standard has them (clause
-/// 21), and how many octets an address has at most.
+/// The numbers in the code: of the services and of the object type of devices, as in the standard (clause 21), and the
+/// octets of the longest address.
 pub fn numbers()
     ensures read_property { READ_PROPERTY ≡ 12 }
     ensures write_property { WRITE_PROPERTY ≡ 15 }
@@ -102,12 +102,12 @@ pub fn numbers()
     ensures address { ADDRESS_OCTETS ≡ 7 }
 {}
 
-/// The limit that the code names is that of the definitions.
+/// The limit in the code is the limit in the definitions.
 pub fn limits()
     ensures body { LONGEST_BODY ≡ longest_body }
 {}
 
-/// A clone is what it was cloned from, and needs no memory.
+/// A clone equals its original, and allocates no memory.
 pub fn clones()
     ensures peer { MakesCopies ⟦<Peer as Clone>⟧.is_clone ⟦<Peer as Clone>⟧.is_infallible }
     ensures route { MakesCopies ⟦<Route as Clone>⟧.is_clone ⟦<Route as Clone>⟧.is_infallible }
@@ -123,7 +123,7 @@ pub fn clones()
     ensures reason { MakesCopies ⟦<RejectReason as Clone>⟧.is_clone ⟦<RejectReason as Clone>⟧.is_infallible }
 {}
 
-/// `==` compares all that each says, wherever the octets that it borrows lie.
+/// `==` compares all values and all borrowed octets, wherever these lie in memory.
 pub fn equals()
     ensures peer { EqualsBy station ⟦<Peer as PartialEq>⟧.eq }
     ensures route { EqualsBy network_address ⟦<Route as PartialEq>⟧.eq }

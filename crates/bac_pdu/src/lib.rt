@@ -1,10 +1,10 @@
 //! Headers, APDUs and service bodies of BACnet/IP (ANSI/ASHRAE 135, Annex J and clauses 6, 20.1 and 21).
 //!
-//! On the way in, [`open_datagram`] says from whom a datagram is and which APDU it carries, [`read_apdu`] what that
-//! APDU is, and a reader of each service, like [`read_read`] or [`read_ack`], what its body says; [`read_found`] reads
-//! the I-Am that a datagram carries. On the way out, a writer of each service, like [`write_read`], makes the body in a
-//! frame; [`write_apdu`] makes the APDU, and [`wrap`] the datagram round it. `specs/Datagram.antt` and
-//! `specs/Apdu.antt` say what the octets mean.
+//! For reading, [`open_datagram`] returns the sender of a datagram and the APDU that it carries, [`read_apdu`] the
+//! APDU's parts, and a reader of each service, like [`read_read`] or [`read_ack`], the contents of its body;
+//! [`read_found`] reads the I-Am that a datagram carries. For writing, a writer of each service, like [`write_read`],
+//! writes the body into a frame, [`write_apdu`] the APDU, and [`wrap`] the datagram around it. `specs/Datagram.antt`
+//! and `specs/Apdu.antt` define the meaning of the octets.
 //!
 //! From `examples_of_datagrams` in `src/examples.rt`, which is proved: a whole request, ReadProperty (0C) with invoke
 //! id 1.
@@ -15,11 +15,11 @@
 //!     0x81 ∷ 0x0a ∷ 0x00 ∷ 0x11 ∷ 0x01 ∷ 0x04 ∷ 0x00 ∷ 0x05 ∷ 0x01 ∷ 0x0c ∷ read_octets present_value }
 //! ```
 //!
-//! The caller must keep to this: an APDU that is written is not a SegmentACK, and its code at most 15; a value is whole
-//! items (`is_region` of `bac_wire`), a priority 1 to 16, and the object of an I-Am a device. Octets that are read may
-//! be any.
+//! The caller must keep to these conditions: a written APDU is not a SegmentACK, and its code is at most 15; a value is
+//! whole items (`is_region` of `bac_wire`), a priority 1 to 16, and the object of an I-Am a device. Octets that are
+//! read may be any.
 //!
-//! Calls, from `asking` of `bac_uses` (`src/pdu.rt`), which proves that there is room, and which datagram they make:
+//! The calls of `asking` in `bac_uses` (`src/pdu.rt`), which proves that there is room, and which datagram they make:
 //!
 //! ```rust
 //! write_read(&mut body, &request).unwrap();

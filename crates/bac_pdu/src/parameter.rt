@@ -1,4 +1,4 @@
-//! The parameters of a service body: context tags, and items between brackets.
+//! The parameters of a service body: context tags, and items between opening and closing tags.
 
 ghost use Rattle.std.specs.List.{AllByRecursion};
 ghost use Rattle.std.specs.Prelude.{IfSome, length, OnOk, option_map, ◌*◌, ◌+◌, ◌<◌, ◌^◌, ◌≡◌, ◌≤◌};
@@ -25,8 +25,7 @@ const VALUE: u8 = 3;
 
 pub(crate) const PRIORITY: u8 = 4;
 
-/// Returns the object, the property and the index at the front of a body, which name a property or an element of it,
-/// and the octets after.
+/// Returns the object, the property and the index at the front of a body, and the octets after them.
 #[tactic(auto, unfolding(crate::specs::reference_at))]
 pub(crate) fn reference_and_rest(
     body: &[u8],
@@ -49,7 +48,7 @@ pub(crate) fn reference_and_rest(
     Ok((object, property, index, rest))
 }
 
-/// Returns the number under a context tag of this number, if there is one, and the octets after it.
+/// Returns the number under a context tag with this number, if there is one, and the octets after it.
 pub(crate) fn optional_and_rest(number: u8, octets: &[u8]) -> (Option<u32>, &[u8])
     ensures { let found = optional_at number octets.now in (result.0 ≡ found.0) × (result.1.now ≡ found.1) }
 {
@@ -59,7 +58,7 @@ pub(crate) fn optional_and_rest(number: u8, octets: &[u8]) -> (Option<u32>, &[u8
     }
 }
 
-/// Returns the number in one to four octets under a context tag of this number.
+/// Returns the number in one to four octets under a context tag with this number.
 #[tactic(auto, unfolding(bac_wire::specs::ParameterReading::number_at))]
 pub(crate) fn number_and_rest(number: u8, octets: &[u8]) -> Option<(u32, &[u8])>
     ensures { option_map (λ x. (x.0, x.1.now)) result ≡ number_at number octets.now }
@@ -83,7 +82,7 @@ pub(crate) fn enclosed_and_rest<'a>(
     Some((items, rest))
 }
 
-/// Appends the parameters that name a property. If there is no room, a front of them may stay.
+/// Appends the parameters that name a property. If there is no room, the beginning of them may stay.
 #[tactic(auto, using(bac_wire::proofs::TagLaws::in_parts, crate::proofs::optional_plain), unfolding(crate::specs::plain_parameter))]
 #[inline(always)]
 pub(crate) fn append_reference(
@@ -128,7 +127,7 @@ pub(crate) fn append_number(body: &mut Frame, number: u8, n: u32) -> Result<(), 
     append_context(body, number, &contents[..count])
 }
 
-/// Appends whole items between an opening and a closing tag 3. If there is no room, a front of that may stay.
+/// Appends whole items between an opening and a closing tag 3. If there is no room, the beginning of these may stay.
 #[tactic(auto, using(bac_wire::proofs::TagLaws::in_parts))]
 pub(crate) fn append_enclosed(body: &mut Frame, items: &[u8]) -> Result<(), Full>
     ensures { AppendsFront body.old (enclosed_octets 3 items.now) body.new result }
@@ -154,7 +153,7 @@ pub(crate) fn append_closing(body: &mut Frame) -> Result<(), Full>
     body.append(&[16 * VALUE + 15])
 }
 
-// Returns the object's identifier under a context tag of this number.
+// Returns the object's identifier under a context tag with this number.
 #[tactic(auto, unfolding(bac_wire::specs::ParameterReading::object_at))]
 fn object_and_rest(number: u8, octets: &[u8]) -> Option<(ObjectId, &[u8])>
     ensures { option_map (λ x. (identifier x.0, x.1.now)) result ≡ object_at number octets.now }
@@ -167,7 +166,7 @@ fn object_and_rest(number: u8, octets: &[u8]) -> Option<(ObjectId, &[u8])>
     Some((object, rest))
 }
 
-// Returns the contents under a context tag of this number.
+// Returns the contents under a context tag with this number.
 #[tactic(auto, unfolding(bac_wire::specs::ParameterReading::context_at))]
 #[inline(always)]
 fn context_and_rest(number: u8, octets: &[u8]) -> Option<(&[u8], &[u8])>
@@ -225,7 +224,7 @@ fn append_object(body: &mut Frame, number: u8, id: ObjectId) -> Result<(), Full>
     append_four(body, number, &contents)
 }
 
-// Appends a tag of one octet, and the four octets that it counts. If there is no room, nothing is appended.
+// Appends a tag of one octet, and four octets of contents. If there is no room, nothing is appended.
 #[tactic(auto, using(crate::proofs::four_context))]
 fn append_four(body: &mut Frame, number: u8, contents: &[u8; 4]) -> Result<(), Full>
     requires { number < 15 }
@@ -244,8 +243,7 @@ fn append_octet(body: &mut Frame, number: u8, n: u8) -> Result<(), Full>
     body.append(&[16 * number + 9, n])
 }
 
-// Appends a tag of one octet, and the contents that it counts, at most four octets. If there is no room, nothing is
-// appended.
+// Appends a tag of one octet, and at most four octets of contents. If there is no room, nothing is appended.
 #[tactic(auto, using(crate::proofs::short_context))]
 fn append_context(body: &mut Frame, number: u8, contents: &[u8]) -> Result<(), Full>
     requires number { number < 15 }

@@ -14,17 +14,17 @@ use crate::reject::RejectReason;
 use crate::writing::whole_or_nothing;
 use bac_wire::{Frame, Full, ObjectId, Work};
 
-/// Which property of which object is asked for, or which element of it (clause 15.5).
+/// The property, or the element of it, that a ReadProperty asks for (clause 15.5).
 #[derive(Clone, Copy, Debug, PartialEq, Eq)]
 pub struct ReadRequest {
     pub object: ObjectId,
     /// The number of the property (clause 21, BACnetPropertyIdentifier).
     pub property: u32,
-    /// The element of an array, from 1; 0 is how many there are.
+    /// The element of an array, from 1; 0 is the number of its elements.
     pub index: Option<u32>,
 }
 
-/// A property, or an element of it, and the value that it shall have (clause 15.9).
+/// A property, or an element of it, and its new value (clause 15.9).
 #[derive(Clone, Copy, Debug, PartialEq, Eq)]
 pub struct WriteRequest<'a> {
     pub object: ObjectId,
@@ -34,7 +34,7 @@ pub struct WriteRequest<'a> {
     pub index: Option<u32>,
     /// Whole items, as they are on the wire.
     pub value: &'a [u8],
-    /// 1 to 16, where 1 is the most urgent.
+    /// The priority, 1 to 16; 1 is the most urgent.
     pub priority: Option<u8>,
 }
 
@@ -50,11 +50,11 @@ pub struct Ack<'a> {
     pub value: &'a [u8],
 }
 
-/// Reads the body of a ReadProperty, the second `read`: what it asks for, or the first reject reason that it has.
+/// Reads the body of a ReadProperty: returns the requested property, or the first reason to reject the body.
 ///
 /// # Errors
 ///
-/// `TooMany` if a front of the body is whole, `MissingParameter` if it is empty or an object alone, else `InvalidTag`.
+/// `TooMany` if more follows a whole body, `MissingParameter` if it is empty or only an object, otherwise `InvalidTag`.
 #[tactic(auto, unfolding(crate::specs::read_of))]
 pub fn read_read(body: &[u8]) -> Result<ReadRequest, RejectReason>
     ensures value { result_seen reference result ≡ read_of body.now }
@@ -69,13 +69,13 @@ pub fn read_read(body: &[u8]) -> Result<ReadRequest, RejectReason>
     }
 }
 
-/// Reads the body of a WriteProperty, the `write`: what it orders, or the first reject reason that it has. In the walk
-/// over the value at most two tags are read for each octet of the body.
+/// Reads the body of a WriteProperty: returns the ordered write, or the first reason to reject the body. At most two
+/// tags of the value are read for each octet of the body.
 ///
 /// # Errors
 ///
-/// `OutOfRange` if it is whole except for a priority that is not 1 to 16, `TooMany` if a front of the body is whole,
-/// `MissingParameter` if it ends before the property or the value, else `InvalidTag`.
+/// `OutOfRange` if it is whole except for a priority that is not 1 to 16, `TooMany` if more follows a whole body,
+/// `MissingParameter` if it ends before the property or the value, otherwise `InvalidTag`.
 #[tactic(auto, using(crate::proofs::reference_no_longer), unfolding(crate::specs::write_of))]
 pub fn read_write<'a>(body: &'a [u8], work: &mut Work) -> Result<WriteRequest<'a>, RejectReason>
     ensures value { result_seen order result ≡ write_of body.now }
@@ -106,8 +106,8 @@ pub fn read_write<'a>(body: &'a [u8], work: &mut Work) -> Result<WriteRequest<'a
     })
 }
 
-/// Returns what the body of a ReadProperty-ACK says: a property, and its value. `None` if the body is not whole, or if
-/// more follows. In the walk over the value at most two tags are read for each octet of the body.
+/// Returns the property and the value in the body of a ReadProperty-ACK. `None` if the body is not whole, or if more
+/// follows. At most two tags of the value are read for each octet of the body.
 #[tactic(auto, using(crate::proofs::value_there, crate::proofs::reference_no_longer), unfolding(crate::specs::ack_of))]
 pub fn read_ack<'a>(body: &'a [u8], work: &mut Work) -> Option<Ack<'a>>
     ensures value { option_map ack_seen result ≡ ack_of body.now }
@@ -127,8 +127,8 @@ pub fn read_ack<'a>(body: &'a [u8], work: &mut Work) -> Option<Ack<'a>>
     })
 }
 
-/// Appends the body of a ReadProperty, the `read`, each number in its fewest octets. `Full`, with the frame unchanged,
-/// only if there is no room for it.
+/// Appends the body of a ReadProperty, each number in its fewest octets. Returns `Full`, with the frame unchanged, only
+/// if there is no room for it.
 pub fn write_read(frame: &mut Frame, request: &ReadRequest) -> Result<(), Full>
     ensures appended { Appends frame.old (read_octets (reference request.now)) frame.new result }
     ensures shortest { OnOk result
@@ -140,9 +140,9 @@ pub fn write_read(frame: &mut Frame, request: &ReadRequest) -> Result<(), Full>
     whole_or_nothing(frame, start, appended)
 }
 
-/// Appends the body of a WriteProperty, the second `write`, each number in its fewest octets. The value must be whole
-/// items, with at most 32 opening tags open at once, and a priority 1 to 16. `Full`, with the frame unchanged, only if
-/// there is no room for it.
+/// Appends the body of a WriteProperty, each number in its fewest octets. The value must be whole items, with at most
+/// 32 opening tags open at once, and a priority 1 to 16. Returns `Full`, with the frame unchanged, only if there is no
+/// room for it.
 pub fn write_write(frame: &mut Frame, request: &WriteRequest<'_>) -> Result<(), Full>
     requires region { IsRegion deepest request.now.value.now }
     requires priority { IfSome request.now.priority IsPriority }
@@ -156,7 +156,7 @@ pub fn write_write(frame: &mut Frame, request: &WriteRequest<'_>) -> Result<(), 
 }
 
 /// Appends the body of a ReadProperty-ACK, each number in its fewest octets. The value must be whole items, with at
-/// most 32 opening tags open at once. `Full`, with the frame unchanged, only if there is no room for it.
+/// most 32 opening tags open at once. Returns `Full`, with the frame unchanged, only if there is no room for it.
 pub fn write_ack(frame: &mut Frame, ack: &Ack<'_>) -> Result<(), Full>
     requires { IsRegion deepest ack.now.value.now }
     ensures appended { Appends frame.old (ack_octets (ack_seen ack.now)) frame.new result }
@@ -168,8 +168,8 @@ pub fn write_ack(frame: &mut Frame, ack: &Ack<'_>) -> Result<(), Full>
     whole_or_nothing(frame, start, appended)
 }
 
-/// Appends the octets before the value in the body of a ReadProperty-ACK, each number in its fewest octets. `Full`,
-/// with the frame unchanged, only if there is no room for it.
+/// Appends the octets before the value in the body of a ReadProperty-ACK, each number in its fewest octets. Returns
+/// `Full`, with the frame unchanged, only if there is no room for it.
 pub fn begin_ack(frame: &mut Frame, request: &ReadRequest) -> Result<(), Full>
     ensures { Appends frame.old (ack_front (reference request.now)) frame.new result }
 {
@@ -178,15 +178,15 @@ pub fn begin_ack(frame: &mut Frame, request: &ReadRequest) -> Result<(), Full>
     whole_or_nothing(frame, start, appended)
 }
 
-/// Appends the octets after the value in the body of a ReadProperty-ACK. `Full`, with the frame unchanged, only if
-/// there is no room for it.
+/// Appends the octets after the value in the body of a ReadProperty-ACK. Returns `Full`, with the frame unchanged, only
+/// if there is no room for it.
 pub fn end_ack(frame: &mut Frame) -> Result<(), Full>
     ensures { Appends frame.old ack_end frame.new result }
 {
     append_closing(frame)
 }
 
-// Appends the body of a WriteProperty. If there is no room, a front of it may stay.
+// Appends the body of a WriteProperty. If there is no room, the beginning of it may stay.
 fn append_order(frame: &mut Frame, request: &WriteRequest<'_>) -> Result<(), Full>
     ensures appended { AppendsFront frame.old (write_octets (order request.now)) frame.new result }
     ensures known { OnOk result (AllByRecursion IsParameter (reference_parameters (order request.now).reference)) }
@@ -196,7 +196,7 @@ fn append_order(frame: &mut Frame, request: &WriteRequest<'_>) -> Result<(), Ful
     append_optional(frame, PRIORITY, request.priority.map(u32::from))
 }
 
-// Appends the body of a ReadProperty-ACK. If there is no room, a front of it may stay.
+// Appends the body of a ReadProperty-ACK. If there is no room, the beginning of it may stay.
 fn append_ack(frame: &mut Frame, ack: &Ack<'_>) -> Result<(), Full>
     ensures appended { AppendsFront frame.old (ack_octets (ack_seen ack.now)) frame.new result }
     ensures known { OnOk result (AllByRecursion IsParameter (reference_parameters (ack_seen ack.now).reference)) }
@@ -205,7 +205,8 @@ fn append_ack(frame: &mut Frame, ack: &Ack<'_>) -> Result<(), Full>
     append_enclosed(frame, ack.value)
 }
 
-// Appends the octets before the value in the body of a ReadProperty-ACK. If there is no room, a front of it may stay.
+// Appends the octets before the value in the body of a ReadProperty-ACK. If there is no room, the beginning of them may
+// stay.
 fn append_ack_front(frame: &mut Frame, request: &ReadRequest) -> Result<(), Full>
     ensures { AppendsFront frame.old (ack_front (reference request.now)) frame.new result }
 {

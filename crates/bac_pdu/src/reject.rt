@@ -3,24 +3,24 @@
 ghost use Rattle.std.specs.Prelude.{◌≡◌};
 ghost use Rattle.bac_pdu.specs.{reason_number};
 
-/// The fault of a confirmed request that is rejected (clause 18.9): it is its sender's, which gets a Reject. Which
-/// reason a body gets is this project's choice.
+/// The reason why a confirmed request gets a Reject (clause 18.9). The fault is its sender's. This project chooses
+/// which reason a body gets.
 #[derive(Clone, Copy, Debug, PartialEq, Eq)]
 pub enum RejectReason {
-    /// Something else stands where a parameter was expected.
+    /// Other octets are in the place of a parameter.
     InvalidTag,
-    /// The body ends where a parameter has to stand.
+    /// The body ends before a required parameter.
     MissingParameter,
     /// The body is whole except for a priority that is not 1 to 16.
     OutOfRange,
-    /// The body is whole, and more follows.
+    /// The body is whole, and more octets follow.
     TooMany,
-    /// No such service is known.
+    /// The service is unknown.
     UnknownService,
 }
 
 impl RejectReason {
-    /// Returns the number that stands for the reason in a Reject.
+    /// Returns the number of the reason in a Reject.
     pub fn number(self) -> u8
         ensures { result ≡ reason_number self }
     {

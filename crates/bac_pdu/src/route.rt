@@ -2,16 +2,16 @@
 
 ghost use Rattle.std.specs.Prelude.{◌-◌, ◌<◌, ◌↔◌, ◌≡◌, ◌≤◌, drop, IfSome, IsSome, replicate};
 
-/// The octets that the address of a routed station has at most.
+/// The octets of the longest address of a routed station.
 pub const ADDRESS_OCTETS: usize = 7;
 
-// The octets that are kept for an address: a word, which is copied as one.
+// The octets that are kept for an address: eight, which are copied as one word.
 const ROOM: usize = ADDRESS_OCTETS + 1;
 
 /// The way from a router to a station of another network: the number of the network, and the station's address in it
 /// (clause 6.2.2).
 ///
-/// The octets that an address does not need are 0, so that routes are equal if they lead to the same station.
+/// The octets after a shorter address are 0, so that routes are equal if they lead to the same station.
 #[derive(Clone, Copy, Debug, PartialEq, Eq)]
 pub struct Route {
     network: u16,

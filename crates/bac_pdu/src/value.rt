@@ -1,4 +1,4 @@
-//! Values of the kind that a service body has there.
+//! The kinds of values that are in service bodies.
 
 ghost use Rattle.std.specs.Prelude.{option_map, ◌≡◌};
 ghost use Rattle.bac_wire.specs.{identifier, kind_at, ParameterReading.{enumerated_in, object_in, unsigned_in}};

@@ -1,11 +1,11 @@
-//! Writers append a whole, or nothing.
+//! Appending all octets, or none.
 
 ghost use Rattle.std.specs.Prelude.{length, List, ℕ, ◌≡◌, ◌≤◌};
 ghost use Rattle.bac_wire.specs.{Appends, Inner.Writing.AppendsFront};
 
 use bac_wire::{Frame, Full};
 
-/// Keeps what a writer appended after the first `start` octets, if it is whole. If it is not, removes all of it.
+/// Keeps the octets after the first `start` if all were appended. Otherwise removes them.
 pub(crate) fn whole_or_nothing(
     frame: &mut Frame,
     start: usize,

@@ -69,7 +69,7 @@ plain_before (x ∷ xs) (suc n) left before room =
           grind (arith, other, some, same, left_over)
     ]
 
--- The octets before a line feed, as far as there is room for them, stay as they are.
+-- The octets before a line feed that fit in the line stay as they are.
 pub plain_front : (text front : List ℕ) (room : ℕ)
     → front ≡ take (min (unwrap_or (position (λ octet. octet == 10) text) (length text)) room) text →
     (folded room front ≡ front) × (left_after room front ≡ room - length front)
@@ -84,7 +84,7 @@ plain_front text front room is =
 
 -- ---- one call more
 
--- The call of a read that answered this and left these octets in its room.
+-- The call of a read with this result and these octets in its room.
 abbrev read_of : Result ℕ Error → List ℕ → StreamCall
 read_of result octets = ReadCall (length octets) (result_seen (λ count. take count octets) result)
 
@@ -102,12 +102,12 @@ module _ {T : Type 0} (old new : Checked T) (result : Result ℕ Error) (octets 
   pub read_counted : ends_of new ≡ (if passes_none result octets then ends_of old + 1 else ends_of old)
   read_counted = grind (arith, fold-append, read_meets)
 
--- By these it is found what one call more changes.
+-- The rules by which the effect of one more call is computed.
 pub ruleset one_call = (fold-append, flat_map-append, append-nil)
 
 pub ruleset one_read = (read_ends, read_counted, one_call)
 
--- ---- several in a row
+-- ---- several writes in a row
 
 pub Took-none : {W : Type 0} {contents : W → Option (List ℕ)} (a : Checked W) → Took contents a a []
 Took-none = grind (arith, append-nil)
@@ -134,14 +134,14 @@ Gave-none = grind (arith, append-nil)
 pub unread_more : {W : Type 0} (a b c : Checked W) → HasNotRead a b → HasNotRead b c → HasNotRead a c
 unread_more = grind arith
 
--- the writer took what of the text came before the rest
+-- the writer took all of the text before the rest
 pub record Sent {W : Type 0} (contents : W → Option (List ℕ)) (before now : Checked W) (text rest : List ℕ) : Type 0
   where
     pub sent : List ℕ
     pub whole : text ≡ sent ++ rest
     pub took : Took contents before now sent
 
--- One write more, of all that was left.
+-- One more write, of the whole rest.
 pub Sent_more : {W : Type 0} {contents : W → Option (List ℕ)} {before now : Checked W} {text rest : List ℕ}
     (next : Checked W) (answer : Result ℕ Error) → Sent contents before now text rest → has_failed now ≡ false
     → rest ≢ [] → calls_of next ≡ calls_of now ++ WriteCall rest answer ∷ []
@@ -159,28 +159,28 @@ pub Sent_all : {W : Type 0} (contents : W → Option (List ℕ)) (before now : C
     → Sent contents before now text rest → length rest ≡ 0 → Took contents before now text
 Sent_all = grind (arith, no_octets, append-nil)
 
--- ---- what several prints in a row come to
+-- ---- several prints in a row
 
 pub encode_with-append : (t xs ys : List ℕ) → encode_with t (xs ++ ys) ≡ encode_with t xs ++ encode_with t ys
 unfolding encode_with
 encode_with-append t [] ys = refl
 encode_with-append t (x ∷ xs) ys = rw (encode_with-append t xs _) refl
 
--- All of the octets before the rest were printed in hexadecimal.
+-- The octets before the rest were printed in hexadecimal.
 pub record PrintsHex {W : Type 0} (contents : W → Option (List ℕ)) (before after : Page W) (octets rest : List ℕ) : Type
     0 where
   pub front : List ℕ
   pub parts : octets ≡ front ++ rest
   pub printed : Prints contents before after (encode_lower front)
 
--- The text was put on a page, folded, if its first line had so much room; and so much is left after it.
+-- The text was added to a page, folded, if its first line had this much room, and this room is left.
 pub record FoldsTo {W : Type 0} (contents : W → Option (List ℕ)) (before after : Page W) (room : ℕ) (text : List ℕ)
     (left : ℕ) : Type 0 where
   pub held : Holds contents before after (folded room text)
   pub is_left : left ≡ left_after room text
 
 module _ {W : Type 0} {contents : W → Option (List ℕ)} where
-  -- One text written after another.
+  -- Writing two texts in turn writes both.
   pub writes_more : {before middle after : Checked W} {held between kept text more : List ℕ} →
       Writes contents before middle held between text → Writes contents middle after between kept more →
       Writes contents before after held kept (text ++ more)
@@ -209,7 +209,7 @@ module _ {W : Type 0} {contents : W → Option (List ℕ)} where
             }
       ]
 
-  -- Nothing printed, and nothing changed.
+  -- Without a print nothing changed.
   pub no_print : (page : Page W) {said : List ℕ} → [] ≡ said → Prints contents page page said
   unfolding Wrote
   no_print = grind (arith, append-nil, laid_out-none, room_after-none)
@@ -217,7 +217,7 @@ module _ {W : Type 0} {contents : W → Option (List ℕ)} where
   pub prints_nothing : (page : Page W) → Prints contents page page []
   prints_nothing page = no_print _ refl
 
-  -- One print after another.
+  -- Printing two texts in turn prints both.
   infixr 9 ◌⨾◌
   pub ◌⨾◌ : {before middle after : Page W} {text more : List ℕ} → Prints contents before middle text
       → Prints contents middle after more →
@@ -235,14 +235,14 @@ module _ {W : Type 0} {contents : W → Option (List ℕ)} where
         };
       }
 
-  -- The text that was printed, said otherwise.
+  -- The printed text, written in another way.
   pub printed_as : {before after : Page W} {text said : List ℕ} → Prints contents before after text → text ≡ said
       → Prints contents before after said
   printed_as = grind arith
 
-  -- ---- what is put on a page as it is
+  -- ---- text that is added to a page unchanged
 
-  -- One text put on a page after another.
+  -- Adding two texts in turn adds both.
   pub held_more : {before middle after : Page W} {text more : List ℕ} → Holds contents before middle text
       → Holds contents middle after more → Holds contents before after (text ++ more)
   held_more first second = record {
@@ -251,7 +251,7 @@ module _ {W : Type 0} {contents : W → Option (List ℕ)} where
     room = second.room ∙ first.room;
   }
 
-  -- A page that was turned in, and then given a text.
+  -- A page that is turned in and then given a text was given the text.
   pub held_past : {before middle after : Page W} {text : List ℕ} → Prints contents before middle []
       → Holds contents middle after text → Holds contents before after text
   unfolding Wrote
@@ -264,7 +264,7 @@ module _ {W : Type 0} {contents : W → Option (List ℕ)} where
       } in
       held_more turned second
 
-  -- Text that is put on a page that folds no lines was printed.
+  -- Text that is added to a page without folding was printed.
   pub printed_whole : {before after : Page W} {text : List ℕ} → room_of before ≡ None → Holds contents before after text
       → Prints contents before after text
   unfolding Wrote laid_out room_after
@@ -279,7 +279,7 @@ module _ {W : Type 0} {contents : W → Option (List ℕ)} where
         };
       }
 
-  -- So was what is put folded on one that folds them.
+  -- Text that is added folded to a page with folding was printed.
   pub printed_folded : {before middle : Page W} {text : List ℕ} (left left' : ℕ) → room_of before ≡ Some left
       → Holds contents before middle (folded left text) → left' ≡ left_after left text
       → Prints contents before (record middle { room = Some left' }) text
@@ -295,12 +295,12 @@ module _ {W : Type 0} {contents : W → Option (List ℕ)} where
         };
       }
 
-  -- Nothing was put on it yet.
+  -- An empty text is folded onto the page.
   pub folds_none : (page : Page W) (room : ℕ) → FoldsTo contents page page room [] room
   unfolding Wrote
   folds_none page room = record { held = grind (arith, append-nil); is_left = refl }
 
-  -- One more octet.
+  -- One more octet is folded onto the page.
   pub folds_more : {before middle after : Page W} {room left left' : ℕ} {text : List ℕ} (octet : ℕ)
       → FoldsTo contents before middle room text left → Holds contents middle after (folded_octet left octet)
       → left' ≡ left_behind left octet → FoldsTo contents before after room (text ++ octet ∷ []) left'
@@ -312,7 +312,7 @@ module _ {W : Type 0} {contents : W → Option (List ℕ)} where
         is_left = is ∙ ap (λ (n : ℕ). left_behind n octet) first.is_left ∙ sym last;
       }
 
-  -- A front that stands in its line as it is, and the rest folded.
+  -- The first octets are in their line unchanged, and the rest is folded.
   pub folds_on : {before middle after : Page W} {left : ℕ} (text front rest : List ℕ) (room : ℕ)
       → (folded room front ≡ front) × (left_after room front ≡ room - length front) → text ≡ front ++ rest
       → Holds contents before middle front → Holds contents middle after (folded (room - length front) rest)
@@ -362,11 +362,11 @@ pub ruleset printing = (then_prints, three_prints, four_prints, no_print, nat_te
 
 pub ruleset printing_hex = (hex_none, hex_more, take-append-drop)
 
--- ---- what is shown on a page of its own
+-- ---- a text that is printed on a new page
 
 module _ {W : Type 0} {contents : W → Option (List ℕ)} where
-  -- Text that was printed on an empty page that was then finished was written, as it was laid out there, as far as the
-  -- writer did not fail.
+  -- Text that was printed on an empty page, which was then finished, was written as it was laid out, unless the writer
+  -- failed.
   finished_as : {writer after : Checked W} {first last : Page W} {text : List ℕ} → writer_of first ≡ writer
       → held first ≡ [] →
       Prints contents first last text → Writes contents (writer_of last) after (held last) [] []
@@ -405,14 +405,14 @@ module _ {W : Type 0} {contents : W → Option (List ℕ)} where
       Took contents before after text
   all_written {before} {after} {text} p good = grind (arith, append-nil)
 
-  -- The text was written, or, if the writer failed, a front of it.
+  -- The text was written, or the beginning of it if the writer failed.
   pub put : {A E : Type 0} {before after : Checked W} {text : List ℕ} (answer : Result A E)
       → Writes contents before after [] [] text →
       has_failed after ≡ is_err answer → TookOrFailed contents before after text answer
   put (Ok done) written good = all_written written good
   put (Err fault) written _ = (written.taken, written.rest, written.whole, written.took)
 
-  -- A writer that was lent to a page, and is back, wrote the text, or, if it failed, a front of it.
+  -- A writer that was lent to a page and returned wrote the text, or the beginning of it if it failed.
   pub shown : {A E : Type 0} {writer after : Checked W} {first last : Page W} {text : List ℕ} {back : Checked W}
       (answer : Result A E) → after ≡ back →
       writer_of first ≡ writer → held first ≡ [] → room_of first ≡ None → Prints contents first last text
@@ -431,7 +431,7 @@ two_octets = grind (arith, length-decimal-le)
 pub eight_octets : (n : ℕ) → n < 2 ^ 64 → length (decimal n) ≤ 20
 eight_octets n fits = length-decimal-le 20 n (lit< tt) (omega arith) fits
 
--- ---- the texts of values, and of what they are made of
+-- ---- the texts of values and of their parts
 
 -- The text of one more octet.
 pub texts_more : (text : ℕ → List ℕ) (xs : List ℕ) (i : ℕ) → i < length xs →
@@ -447,7 +447,7 @@ length_bits : (octets : List ℕ) → length (flat_map octet_bits octets) ≡ 8 
 length_bits [] = refl
 length_bits (x ∷ xs) = omega (arith, length_bits xs)
 
--- The bits of octets, of which the last is known.
+-- The bits of octets are those of all but the last, and then those of the last.
 pub bits_last : (others : List ℕ) (last unused : ℕ) →
     flat_map octet_bits others ++ take (8 - unused) (octet_bits last) ≡ bits_text unused (others ++ last ∷ [])
 bits_last others last unused =
@@ -464,7 +464,7 @@ one_more : (first : Datum) (more : List Datum) (behind : List ℕ) → values_of
 unfolding values_within
 one_more = grind (arith, append-nil, append_assoc)
 
--- The octets after the first of the values.
+-- If the first value was read before the others, these are the values of the rest.
 behind_first : (value : Datum) (others : List Datum) (found : Option (List Datum))
     → option_map (λ more. value ∷ more) found ≡ Some others →
     (more : List Datum) × (found ≡ Some more) × (others ≡ value ∷ more)
@@ -474,14 +474,14 @@ nothing_left : (rest : List ℕ) (others : List Datum) → value_at rest ≡ Non
 unfolding values_within
 nothing_left = grind arith
 
--- If the region is values and nothing else, the texts of those before the rest were printed.
+-- If the region is only values, the texts of those before the rest were printed.
 pub record PrintsFront {W : Type 0} (contents : W → Option (List ℕ)) (before after : Page W)
     (region rest : List ℕ) : Type 0 where
   pub front : (values : List Datum) → values_of region ≡ Some values →
       (text : List ℕ) × (others : List Datum) × (values_of rest ≡ Some others) × (joined values ≡ text ++ joined others)
       × Prints contents before after text
 
--- The values were printed, if the region is values.
+-- If the region is values, these were printed.
 abbrev pub PrintsValues : {W : Type 0} → (W → Option (List ℕ)) → Page W → Page W → List ℕ → Type 0
 PrintsValues contents before after region =
     IfSome (values_of region) (λ values. Prints contents before after (joined values))

@@ -1,4 +1,5 @@
--- What walks over a ghost list share, besides what `Walks` of bac_wire has: its struct has a mark of its type.
+-- Lemmas for walks over a ghost list, besides those of `Walks` in bac_wire. The struct of the list has a field that
+-- only marks a type.
 use Rattle.bac_wire.proofs.Walks.{[], fjoin, List, move, nothing, RattleType, refl, ‵, ◌$◌, ◌∷◌}
 use denote.{Laws.Is, RattleType.Valss, Steps.owned, Struct.{Laws.makes, Struct.{Shape, Struct, within}}}
 use mir.Val.{Val, vcons, vnil, vstruct}
@@ -9,7 +10,7 @@ use Rattle.std.specs.contracts.marker.PhantomData as Mark
 abbrev pub marked : Val
 marked = vstruct (vcons (vstruct vnil) vnil)
 
--- A struct whose one field is a mark of this type. It has no octets.
+-- A struct with one field, the marker of this type (`PhantomData`). It has no octets.
 abbrev Marked : RattleType → Shape
 Marked R = record { name = []; args = []; types = []; fields = Mark.the_row R ∷ [] }
 

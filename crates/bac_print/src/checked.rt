@@ -7,8 +7,8 @@ ghost use Rattle.bac_print.specs.{has_failed, inner_of, last_of, octets_of, pass
 use crate::noted::Noted;
 use std::io::{self, Read, Write};
 
-/// A reader or a writer that remembers whether it failed, and counts its reads. It is neither of std's: what reads or
-/// writes through it has these three methods, and no others that could pass its notes by.
+/// A reader or a writer that remembers whether it failed, and counts its reads. It implements neither `Read` nor
+/// `Write` of std: it has only these three methods, so nothing is read or written without a note.
 #[derive(Drop)]
 pub struct Checked<T> {
     inner: Noted<T>,
@@ -21,7 +21,7 @@ pub struct Checked<T> {
 pub struct WriteFailed;
 
 impl<T> Checked<T> {
-    /// Returns the reader or writer as it is before its first read or write.
+    /// Returns this reader or writer with no read or write made yet.
     pub fn new(stream: T) -> Self
         ensures { result ≡ fresh stream }
     {
@@ -48,7 +48,7 @@ impl<T> Checked<T> {
 }
 
 impl<R: Read> Checked<R> {
-    /// Makes one read of the reader, into this room.
+    /// Reads once from the reader, into this room.
     #[tactic(auto, using(crate::proofs::one_read))]
     pub fn read(&mut self, buf: &mut [u8]) -> io::Result<usize>
         ensures bound { ReadsAtMost result buf.new }
@@ -74,7 +74,7 @@ impl<R: Read> Checked<R> {
 }
 
 impl<W: Write> Checked<W> {
-    /// Makes one write to the writer, of these octets.
+    /// Writes these octets to the writer once.
     #[tactic(auto, using(crate::proofs::one_call))]
     pub fn write(&mut self, buf: &[u8]) -> io::Result<usize>
         ensures bound { WritesAtMost result buf.now }

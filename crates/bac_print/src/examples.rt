@@ -43,7 +43,8 @@ fn examples_of_peers()
     ensures routed { peer_text far_device ≡ codes "127.0.0.1:47808/5/07" }
 {}
 
-// A writer took a text if it has it now, or a front of it if it failed. A page holds the text that is not written.
+// A writer took a text if it has the text, or the beginning of it if the writer failed. A page holds text that is not
+// written yet.
 #[tactic(none)]
 fn examples_of_writers()
     ensures took { TookOrFailed unknown unasked unasked [] written }
@@ -67,8 +68,8 @@ fn examples_of_pages()
     ensures elsewhere { Prints unknown (page []) (page_named 1 []) [] → ⊥ }
 {}
 
-// A text of just the room in its line, one of an octet more, and one with a line feed at the edge. The room is known
-// after them.
+// A text that just fits its line, a text of one octet more, and a text with a line feed at the edge. The room that is
+// left is known.
 #[tactic(none)]
 fn examples_of_folding()
     ensures longest { folded_line ≡ 4_096 }

@@ -3,7 +3,7 @@ ghost use Rattle.std.specs.{Borrow.ftrue, Coded.coded_list, Prelude.{[], ◌++�
 
 use std::marker::{Model, PhantomData};
 
-/// The notes so far, in order. A clause reads it as `items`: the values of `T`, of which no code need make one.
+/// The items so far, in order. Clauses read them as `items`: values of `T`, which no code needs to make.
 #[derive(Drop)]
 pub struct GhostList<T> {
     of: PhantomData<T>,
@@ -20,21 +20,21 @@ pub trait NoteOf<T> {
 }
 
 impl<T> GhostList<T> {
-    /// Nothing was noted yet.
+    /// Returns an empty list.
     pub fn new() -> Self
         ensures { result ≡ record { of = record {}; items = [] } }
     {
         GhostList { of: PhantomData }
     }
 
-    /// Puts the items of this note after the others.
+    /// Appends the item of this note.
     pub fn push<N: NoteOf<T>>(&mut self, note: &N)
         ensures { self.new.items ≡ self.old.items ++ N.tells note.now ∷ [] }
     {
         *self = self.and(note);
     }
 
-    // Returns the list with the items of this note after it. It is private, so that no list goes on in two ways.
+    // Returns the list with the item of this note appended. It is private, so that no list is continued in two ways.
     fn and<N: NoteOf<T>>(&self, _note: &N) -> Self
         ensures { result.items ≡ self.now.items ++ N.tells _note.now ∷ [] }
     {

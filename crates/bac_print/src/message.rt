@@ -8,20 +8,20 @@ use std::io::Write;
 
 /// The message of a fault. It needs no memory.
 #[derive(Debug, Drop)]
-pub enum Message {
-    /// This text.
+pub enum FaultMessage {
+    /// A fixed text.
     Text(&'static str),
     /// A number between two texts.
     Numbered(&'static str, u64, &'static str),
 }
 
-impl fmt::Display for Message {
+impl fmt::Display for FaultMessage {
     ghost output = { λ message. Some (message_text message) };
 
     fn fmt<W: fmt::Write>(&self, f: &mut fmt::Formatter<W>) -> fmt::Result {
         match self {
-            Message::Text(text) => write!(f, "{text}"),
-            Message::Numbered(before, number, after) => write!(f, "{before}{number}{after}"),
+            FaultMessage::Text(text) => write!(f, "{text}"),
+            FaultMessage::Numbered(before, number, after) => write!(f, "{before}{number}{after}"),
         }
     }
 }
@@ -29,12 +29,12 @@ impl fmt::Display for Message {
 impl<W: Write> Page<'_, W> {
     /// Prints the message.
     #[tactic(auto, using(crate::proofs::printing))]
-    pub fn print_message(&mut self, message: Message)
+    pub fn print_message(&mut self, message: FaultMessage)
         ensures { Prints W.contents self.old self.new (message_text message) }
     {
         match message {
-            Message::Text(text) => self.print(text.as_bytes()),
-            Message::Numbered(before, number, after) => {
+            FaultMessage::Text(text) => self.print(text.as_bytes()),
+            FaultMessage::Numbered(before, number, after) => {
                 self.print(before.as_bytes());
                 self.print_number(number);
                 self.print(after.as_bytes());

@@ -7,8 +7,8 @@ use crate::ghost_list::{GhostList, NoteOf};
 use std::io::{self, Read, Write};
 use std::marker::Model;
 
-/// A reader or a writer with the transcript of its calls. It is trusted that each of its three methods makes the call
-/// that it notes, and no other: each makes one, which has its own name.
+/// A reader or a writer with a list of its calls. It is trusted that each of its three methods makes exactly the one
+/// call that it notes.
 #[derive(Drop)]
 pub(crate) struct Noted<T> {
     stream: T,
@@ -16,7 +16,7 @@ pub(crate) struct Noted<T> {
 }
 
 impl<T> Noted<T> {
-    /// Returns the reader or writer before its first call.
+    /// Returns this reader or writer with an empty list of calls.
     pub(crate) fn new(stream: T) -> Self
         ensures { result ≡ record { stream = stream; transcript = record { of = record {}; items = [] } } }
     {
@@ -26,7 +26,7 @@ impl<T> Noted<T> {
 }
 
 impl<R: Read> Noted<R> {
-    /// Makes one read of the reader.
+    /// Reads once from the reader.
     pub(crate) fn read(&mut self, room: &mut [u8]) -> io::Result<usize>
         ensures bound { ReadsAtMost result room.new }
         ensures bytes { ReadConsumes (R.remaining self.old.stream) (R.remaining self.new.stream) result room.new }
@@ -40,7 +40,7 @@ impl<R: Read> Noted<R> {
 }
 
 impl<W: Write> Noted<W> {
-    /// Makes one write to the writer.
+    /// Writes to the writer once.
     pub(crate) fn write(&mut self, octets: &[u8]) -> io::Result<usize>
         ensures bound { WritesAtMost result octets.now }
         ensures bytes { WriteAppends (W.contents self.old.stream) (W.contents self.new.stream) result octets.now }
@@ -62,7 +62,7 @@ impl<W: Write> Noted<W> {
     }
 }
 
-/// A call of a reader or a writer with its answer, as clauses see it. No code makes one.
+/// A call of a reader or a writer with its result, as clauses see it. No code makes one.
 #[derive(Drop)]
 pub(crate) struct CallMade {
     ghost call: { StreamCall },
@@ -76,7 +76,7 @@ impl Model for CallMade {
     ghost also_owns = { λ _. ftrue };
 }
 
-/// A call that was made, with its answer: a read into this room, a write of these octets, or a flush.
+/// A call that was made, with its result: a read into this room, a write of these octets, or a flush.
 #[derive(Clone, Copy, Drop)]
 pub(crate) enum Made<'a> {
     Read(&'a [u8], &'a io::Result<usize>),

@@ -12,7 +12,7 @@ use std::io::Write;
 ///
 /// # Errors
 ///
-/// `WriteFailed` if the writer failed or took no octet. A front of the text was then written.
+/// `WriteFailed` if the writer failed or took no octet. Then only the beginning of the text was written.
 pub fn show_outcome<W: Write>(
     outcome: &Outcome<'_>,
     writer: &mut Checked<W>,

@@ -14,15 +14,15 @@ const PAGE_ROOM: usize = 16_384;
 // The octets that are turned into hexadecimal at a time.
 const HEX_PART: usize = 32;
 
-// The most octets of a folded line, without its line feed: as many as a line of a script has.
+// The longest folded line, in octets without its line feed: as long as a line of a script may be.
 const FOLDED_LINE: usize = 4_096;
 
 // The digits of the longest number.
 const LONGEST_NUMBER: usize = 20;
 
-/// Text on its way to a writer. It is gathered in fixed room, and goes to the writer when the room is full or the page
-/// is turned in. After a failed write what is printed is lost, so that it is enough to ask the page once whether it
-/// failed. A page cannot be dropped: it is finished.
+/// Text on its way to a writer. It is gathered in a buffer of fixed size, and goes to the writer when the buffer is
+/// full or [`Page::turn_in`] is called. After a failed write all later text is lost, so it is enough to ask the page
+/// once whether it failed. A page cannot be dropped: it must be finished.
 pub struct Page<'w, W> {
     writer: &'w mut Checked<W>,
     held: ArrayVec<u8, PAGE_ROOM>,
@@ -67,7 +67,7 @@ impl<'w, W: Write> Page<'w, W> {
         self.writer.failed()
     }
 
-    /// Hands the writer what the page holds.
+    /// Writes the held text to the writer.
     #[tactic(auto, unfolding(crate::specs::Wrote, crate::specs::laid_out, crate::specs::room_after))]
     pub fn turn_in(&mut self)
         ensures printed { Prints W.contents self.old self.new [] }
@@ -77,7 +77,7 @@ impl<'w, W: Write> Page<'w, W> {
         self.held.clear();
     }
 
-    /// Turns the page in, and gives the writer back.
+    /// Writes the held text to the writer, and gives the writer back.
     ///
     /// # Errors
     ///
@@ -109,7 +109,7 @@ impl<'w, W: Write> Page<'w, W> {
         }
     }
 
-    // Puts a text on the page, folded; its first line has `room` for octets. Returns the room after it.
+    // Adds a text to the page, folded, if its first line has this much room. Returns the room after it.
     fn fold(&mut self, text: &[u8], room: usize) -> usize
         ensures text { Holds W.contents self.old self.new (folded room text.now) }
         ensures left { result ≡ left_after room text.now }
@@ -149,7 +149,7 @@ impl<'w, W: Write> Page<'w, W> {
         room - 1
     }
 
-    // Puts a text on the page as it is.
+    // Adds a text to the page unchanged.
     #[inline(always)]
     fn hold(&mut self, text: &[u8])
         ensures { Holds W.contents self.old self.new text.now }
@@ -159,7 +159,7 @@ impl<'w, W: Write> Page<'w, W> {
         }
     }
 
-    // Puts a text on a page that has no room for it.
+    // Adds a text to a page that has no room for it.
     #[cold]
     fn hold_past(&mut self, text: &[u8])
         ensures { Holds W.contents self.old self.new text.now }
@@ -168,7 +168,7 @@ impl<'w, W: Write> Page<'w, W> {
         self.hold_or_write(text);
     }
 
-    // Holds the text on an empty page, or writes it if no page has room for it.
+    // Holds the text on an empty page, or writes it if it is longer than a page.
     fn hold_or_write(&mut self, text: &[u8])
         requires { held self.old ≡ [] }
         ensures { Holds W.contents self.old self.new text.now }
@@ -221,7 +221,7 @@ fn feed_position(text: &[u8]) -> Option<usize>
     text.iter().position(|octet| *octet == b'\n')
 }
 
-/// Writes the decimal digits of a number before a position of the room, and returns where they begin.
+/// Writes the decimal digits of a number so that they end before position `end`, and returns where they begin.
 #[tactic(auto, using(std::proofs::lemmas::Fmt::decimal_nonempty))]
 pub(crate) fn write_digits(number: u64, room: &mut [u8], end: usize) -> usize
     requires within { end ≤ length room.old }
@@ -251,7 +251,7 @@ fn write_on<W: Write>(writer: &mut Checked<W>, text: &[u8])
     }
 }
 
-// Writes the whole text, or fails after a front of it.
+// Writes the whole text, or fails after the beginning of it.
 fn put<W: Write>(writer: &mut Checked<W>, text: &[u8]) -> Result<(), WriteFailed>
     requires { has_failed writer.old ≡ false }
     ensures text { TookOrFailed W.contents writer.old writer.new text.now result }

@@ -51,7 +51,8 @@ fn write_station(ip: u32, port: u16, room: &mut [u8; LONGEST_STATION]) -> usize
     write_octet(first, b'.', room, start)
 }
 
-// Writes the number of an octet and a mark before a position of the room, and returns where they begin.
+// Writes the decimal digits of an octet and a mark so that they end before position `end`, and returns where they
+// begin.
 #[tactic(auto, using(crate::proofs::one_octet))]
 fn write_octet(octet: u8, mark: u8, room: &mut [u8], end: usize) -> usize
     requires within { end ≤ length room.old }

@@ -12,12 +12,12 @@ use bac_wire::{ObjectId, Value};
 use bac_work::begin;
 use std::io::Write;
 
-/// Writes the text of a region: of one value its text, of none or several their texts in braces, and of anything else
-/// `hex ` and its octets.
+/// Writes the text of a region: the text of its value, or the texts of none or several values in braces, or, if it is
+/// not values, `hex ` and its octets.
 ///
 /// # Errors
 ///
-/// `WriteFailed` if the writer failed or took no octet. A front of the text was then written.
+/// `WriteFailed` if the writer failed or took no octet. Then only the beginning of the text was written.
 pub fn show_value<W: Write>(region: &[u8], writer: &mut Checked<W>) -> Result<(), WriteFailed>
     requires { has_failed writer.old ≡ false }
     ensures text { TookOrFailed W.contents writer.old writer.new (region_text region.now) result }
@@ -29,7 +29,7 @@ pub fn show_value<W: Write>(region: &[u8], writer: &mut Checked<W>) -> Result<()
 }
 
 impl<W: Write> Page<'_, W> {
-    /// Prints what the body of a ReadProperty-ACK says.
+    /// Prints the value in the body of a ReadProperty-ACK, or `bad-ack` if the octets are not such a body.
     #[tactic(auto, using(crate::proofs::printing))]
     pub fn print_ack(&mut self, body: &[u8])
         ensures { Prints W.contents self.old self.new (ack_text body.now) }
@@ -43,7 +43,7 @@ impl<W: Write> Page<'_, W> {
         }
     }
 
-    /// Prints the values that a region is, or its octets.
+    /// Prints the values in a region, or its octets if it is not values.
     pub fn print_region(&mut self, region: &[u8])
         ensures { Prints W.contents self.old self.new (region_text region.now) }
     {
@@ -196,7 +196,7 @@ impl<W: Write> Page<'_, W> {
         self.print(b"'");
     }
 
-    // Prints the bits of the octets except the last ones, which are unused.
+    // Prints the bits of the octets, except the unused ones at the end.
     #[tactic(auto, using(crate::proofs::printing, crate::proofs::bits_last, std::proofs::lemmas::List::nil_from_length))]
     fn print_used_bits(&mut self, unused: u8, octets: &[u8])
         ensures { Prints W.contents self.old self.new (bits_text unused octets.now) }
@@ -256,7 +256,7 @@ fn is_printable(octet: u8) -> bool
     b' ' <= octet && octet <= b'~'
 }
 
-// Returns how many values the region is, if it is nothing else.
+// Returns the number of values if the region is only values.
 #[tactic(auto, using(bac_wire::proofs::DatumLaws::counted))]
 fn count_values(region: &[u8]) -> Option<usize>
     ensures { result ≡ option_map length (values_of region.now) }
@@ -271,7 +271,7 @@ fn count_values(region: &[u8]) -> Option<usize>
     Some(count)
 }
 
-// Returns the value at the front, and the octets after it.
+// Returns the first value, and the octets after it.
 fn value_and_rest(octets: &[u8]) -> Option<(Value<'_>, &[u8])>
     ensures value { option_map (λ x. (datum x.0, x.1.now)) result ≡ value_at octets.now }
     ensures shorter { IfSome result (λ x. length x.1.now < length octets.now) }

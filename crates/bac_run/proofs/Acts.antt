@@ -1,4 +1,4 @@
--- Acts one after another.
+-- Lemmas about acts one after another.
 use Rattle.bac_run.specs.{Rested, sends_at, Sought}
 use Rattle.std.proofs.Common.{[], ap, append_assoc, arith, Bool, drop, Err, false, get_or, inl, inr, length, List}
 use Rattle.std.proofs.Common.{nat_lt, None, Ok}
@@ -28,7 +28,7 @@ journal-append client (x ∷ xs) ys = grind (arith, append_assoc, journal-append
 pub feeds-append : (xs ys : List Act) → feeds_in (xs ++ ys) ≡ feeds_in xs ++ feeds_in ys
 feeds-append = grind (arith, flat_map-append)
 
--- All was done.
+-- The result that all was done.
 abbrev pub done : Result (Unit {0}) RunFault
 done = Ok tt
 
@@ -40,7 +40,7 @@ gained_more done (Err (Link SendFailed)) due gained more further same (sent, lat
     (due ++ sent, later, to, octets, grind (arith, append_assoc, is), grind (arith, append_assoc, was, same))
 gained_more done (Err (Link fault)) due gained more further same is = grind arith
 
--- Entries that are due, and then more of them.
+-- Two lists of due entries, one after the other.
 pub due_more : {Origin A B : Type 0} {done : A} {result : Result B RunFault} {due more : List Entry}
     {a b c : Account Origin} → GainsDue (Ok done) due a b → GainsDue result more b c
     → GainsDue result (due ++ more) a c
@@ -67,7 +67,7 @@ asks_more client (x ∷ xs) ys gained further none lost sure (inl (rest, is, lat
     )
 asks_more client (x ∷ xs) ys gained further none lost sure (inr (_, bad, _)) then = absurd (cc)
 
--- The entries that some acts ask for, and then those of the acts after them.
+-- The entries of some acts, and then those of the later acts.
 pub asked_more : {Origin A B : Type 0} {x : A} {result : Result B RunFault} {client middle : Client}
     {xs ys : List Act} {a b c : Account Origin} → middle ≡ client_after client xs → HasAsked (Ok x) client xs a b
     → HasAsked result middle ys b c → HasAsked result client (xs ++ ys) a c
@@ -85,7 +85,7 @@ asked_more {client} {middle} {xs} {ys} is first second =
       );
     }
 
--- If no send failed, all was asked.
+-- If no send failed, all calls were made.
 pub asks_all : (client : Client) (acts : List Act) (gained : List Entry) (lost : Bool) → Asks client acts gained lost
     → lost ≡ false → gained ≡ history_of client acts
 asks_all client [] gained lost (none, _) sure = none
@@ -107,7 +107,7 @@ one_asked (Err (Script fault)) client act gained is = (false, one_whole client a
 one_asked (Err (Link SendFailed)) client act gained is = (true, inr (refl, refl, is), refl)
 one_asked (Err (Link fault)) client act gained is = (false, one_whole client act gained is, search)
 
--- What one act asks.
+-- The calls of one act.
 pub asked_once : {Origin A : Type 0} {result : Result A RunFault} {client : Client} (act : Act) {a b : Account Origin}
     → GainsDue result (asked_by act ++ sends_at client act) a b
     → HasAsked result client (act ∷ []) a b
@@ -140,7 +140,7 @@ front_gained : (A : Type 0) (due gained rest : List Entry) → IsGained (failed 
 front_gained A due gained rest (sent, later, to, octets, whole, was) =
     (sent, later ++ rest, to, octets, grind (arith, append_assoc, whole), was)
 
--- A send that failed is among more that is due.
+-- A failed send among the first entries is one among all.
 pub due_front : {Origin A : Type 0} {due : List Entry} {a b : Account Origin} (fault : RunFault) (rest : List Entry)
     → fault ≡ send_failed → GainsDue (failed A fault) due a b → GainsDue (failed A fault) (due ++ rest) a b
 due_front {A} {due} fault rest is first = record {
@@ -168,14 +168,14 @@ pub posts-answer : (answer : Option (ℕ × Outcome)) → posts (datagram_notes 
 posts-answer None = refl
 posts-answer (Some x) = refl
 
--- A request whose body is too long is refused, and nothing else comes of it.
+-- A request whose body is too long is refused, and has no other effect.
 pub refused_long : (client : Client) (peer : Station) (body : List ℕ) → longest_body < length body
     → at_event client (Ask peer 15 body) ≡ record { notes = Refused TooLong ∷ []; after = client }
 unfolding refusal_of
 refused_long client peer body long =
     let e : nat_lt longest_body (length body) ≡ true = grind (arith, nat_tests, long) in rw e refl
 
--- ---- how many are open
+-- ---- how many requests are open
 
 within_append : (window : ℕ) (client : Client) (xs ys : List Act) → IsWithin window client xs
     → IsWithin window (client_after client xs) ys → IsWithin window client (xs ++ ys)
@@ -199,7 +199,7 @@ within_append window client (Told time ∷ xs) ys here later =
 within_append window client (Read time ∷ xs) ys here later =
     within_append window (turn_at client (Read time)).after xs ys here later
 
--- Acts, and then those of a client that they leave.
+-- Acts, and then acts of the client after them.
 pub within_more : (window : ℕ) (client middle : Client) (xs ys : List Act) → middle ≡ client_after client xs
     → IsWithin window client xs → IsWithin window middle ys → IsWithin window client (xs ++ ys)
 within_more window client middle xs ys is here later =

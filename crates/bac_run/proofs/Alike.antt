@@ -1,4 +1,4 @@
--- Two runs from one stage on: as far as they were answered alike they did and asked the same.
+-- Two runs from one stage on: as far as they were answered alike, they did the same acts and made the same calls.
 use Rattle.bac_run.specs.{Rested, Rests, sends_at, Sought}
 use Rattle.std.proofs.Common.{[], ap, append_assoc, Bool, false, inl, inr, length, List, map, refl, subst, suc, sym}
 use Rattle.std.proofs.Common.{true, ℕ, ◌++◌, ◌∙◌, ◌∷◌}
@@ -12,9 +12,9 @@ use Rattle.bac_run.specs.{IsCut, IsDue, IsPassed, Looked, moved, NextLine, NoLin
 use Rattle.bac_run.specs.{Read}
 use Rattle.bac_run.specs.{Stage, stage_after, Telling, Told, Took, turn_at, Turns}
 
--- ---- which act is due
+-- ---- the act that is due
 
--- Two acts that are due at one stage ask the same; and where they were answered the same they are one.
+-- Two acts that are due at one stage make the same calls; if the answers are the same too, the acts are the same.
 abbrev SameDue : Act → Act → Type 0
 SameDue act other = (map question_of (asked_by act) ≡ map question_of (asked_by other))
     × (asked_by act ≡ asked_by other → act ≡ other)
@@ -57,7 +57,7 @@ same_due timeout stage (Looked time) aims (Passed wait heard) (Passed wait' hear
 same_due timeout stage (Telling time) aims act other fed due too = rw (due, too) (refl, λ e. refl)
 same_due timeout stage phase aims act other fed due too = search
 
--- Acts that take of one input: the first two, and those after them.
+-- Two lists of acts that take from one input: their first two acts do, and so do the later ones.
 fed_first : (x y : Act) (xs ys : List Act) → AreFedAlike (feed_in x ++ xs) (feed_in y ++ ys)
     → AreFedAlike (feed_in x) (feed_in y)
 fed_first (Took line) (Took other) xs ys (same, _) = (same, tt)
@@ -71,7 +71,7 @@ fed_later (Took line) xs ys (_, fed) = fed
 fed_later (NoLine reading) xs ys (_, fed) = fed
 fed_later x xs ys fed = fed
 
--- ---- what was asked
+-- ---- the calls of the link
 
 -- A history begins with these entries.
 abbrev Begins : List Entry → List Entry → (List Entry → Type 0) → Type 0
@@ -84,14 +84,14 @@ abbrev IsLost : Entry → Entry → Type 0
 IsLost (Posted to octets) got = got ≡ Unposted to octets
 IsLost entry got = ⊥
 
--- These sends were asked for; or one failed, and that was the last thing.
+-- These sends were made; or one failed, and it was the last call.
 abbrev Sends : List Entry → List Entry → (List Entry → Type 0) → Type 0 → Type 0
 Sends [] gained Then Last = Then gained
 Sends (entry ∷ due) [] Then Last = ⊥
 Sends (entry ∷ due) (got ∷ gained) Then Last = ((got ≡ entry) × Sends due gained Then Last)
     ⊎ (IsLost entry got × (gained ≡ []) × Last)
 
--- Each of these acts was due, and this was asked of the link. The flag says whether a send failed: nothing was done
+-- Each of these acts was due, and these calls were made. The flag says whether a send failed: then nothing was done
 -- after it.
 abbrev pub Steps : (timeout : ℕ) → Stage → Client → List Act → List Entry → Bool → Type 0
 Steps timeout stage client [] gained lost = (gained ≡ []) × (lost ≡ false)
@@ -119,7 +119,7 @@ none_answered (x ∷ xs) e = absurd (cc)
 heads : (x y : Entry) (xs ys : List Entry) → x ≡ y → xs ≡ ys → x ∷ xs ≡ y ∷ ys
 heads x y xs ys one same = cc
 
--- A send that was made and one that failed are answered otherwise.
+-- The answers of a send that was made and of one that failed differ.
 unlike : (entry got lost : Entry) → got ≡ entry → IsLost entry lost → answer_of got ≡ answer_of lost → ⊥
 unlike (Posted to octets) got lost is fails says = absurd (cc)
 unlike entry got lost is fails says = search
@@ -198,8 +198,8 @@ module _ (Then : List Entry → List Entry → Type 0)
           let (f', r') = none_both first' rest' none' in
           (heads p q first first' (lost_alike x p q lost lost') (f ∙ sym f'), rw (r, r') (last is is'))
 
--- Two runs from one stage on, of which these entries are left: both ask the same next; both did and were asked the
--- same; or one was asked all that its acts ask, and the other did more, the first act of which was due.
+-- Two runs from one stage on, with these entries left. Both have the same next call; or both did the same acts and made
+-- the same calls; or one made all calls of its acts, and the other did more, whose first act was due.
 pub data Next (timeout : ℕ) (stage : Stage) (acts others : List Act) (lost lost' : Bool) (rest rest' : List Entry)
     : Type 0 where
   AskBoth : (x y : Entry) (xs ys : List Entry) → rest ≡ x ∷ xs → rest' ≡ y ∷ ys → question_of x ≡ question_of y
@@ -222,7 +222,7 @@ module _ (timeout : ℕ) where
   next_then stage act acts others lost lost' rest rest' (More is none next more longer due) =
       More is none next more (ap (λ (zs : List Act). act ∷ zs) longer) due
 
-  -- As far as they were answered alike they were asked alike, and so they go on.
+  -- As far as two runs were answered alike, they made the same calls, and go on in one of these ways.
   pub both_go : (stage : Stage) (client : Client) (acts others : List Act) (lost lost' : Bool)
       → AreFedAlike (feeds_in acts) (feeds_in others) → (first rest first' rest' : List Entry) → Steps timeout stage
       client acts (first ++ rest) lost
@@ -278,7 +278,7 @@ module _ (timeout : ℕ) where
           (λ (none, cut) (none', cut'). Same (ap (λ (zs : List Act). x ∷ zs) (none ∙ sym none')) (cut ∙ sym cut') refl
           refl)
 
--- ---- acts and what they ask, as steps
+-- ---- acts and their calls, as steps
 
 begins_all : (xs gained : List Entry) (P : List Entry → Type 0) → P gained → Begins xs (xs ++ gained) P
 begins_all [] gained P is = is
@@ -319,7 +319,7 @@ begins_cut (Sought to octets) due gained P on cut = on gained cut
 begins_cut (Rested time) due gained P on cut = on gained cut
 begins_cut (Told time) due gained P on cut = on gained cut
 
--- Acts each of which was due, and what they ask.
+-- A list of acts, each of which was due, and their calls.
 pub steps_of : (timeout : ℕ) (stage : Stage) (client : Client) (acts : List Act) (gained : List Entry) (lost : Bool)
     → Goes timeout stage acts → Asks client acts gained lost → Steps timeout stage client acts gained lost
 steps_of timeout stage client [] gained lost goes is = is

@@ -1,4 +1,4 @@
--- How lines are cut from what the reader gave, and how the reader stands then.
+-- How lines are cut from the reader's octets, and the state of the reader then.
 use Rattle.bac_run.specs.{acts_of_result}
 use Rattle.std.proofs.Common.{IfOk, Ok, Some}
 use Rattle.std.proofs.Common.{[], ap, append-nil, append_assoc, arith, drop, Err, false, inl, inr, length, List, None}
@@ -9,21 +9,21 @@ use Rattle.std.proofs.lemmas.List.{append_cancel_left}
 use Rattle.std.specs.{List.{concat}, Prelude.if◌then◌else◌}
 use Rattle.{bac_text.specs.longest_line, bac_print.specs.{ends_of, fresh, has_failed}, bac_run.specs.acts_of_line}
 use Rattle.bac_run.specs.{Act, addressed, AtEnd, Checked, ends_with_return, Failed, fault_of_line}
-use Rattle.bac_run.specs.{fault_of_said, Feeds, HasNoFeed, HasNoWhole, IsGood, IsLast, IsUsedUp, IsWhole, LineFault}
-use Rattle.bac_run.specs.{lines_in, LineTooLong, NoLine, Open, Reading, RunFault, said_of, Takes, Took, feeds_in}
+use Rattle.bac_run.specs.{fault_of_said, Feeds, HasNoFeed, HasNoWhole, IsGood, IsLast, IsUsedUp, IsWholeLine, LineFault}
+use Rattle.bac_run.specs.{lines_in, LineTooLong, NoLine, Open, Reading, RunFault, said_of, TakesLines, Took, feeds_in}
 use Rattle.bac_run.specs.{TraceEnd}
 use Rattle.bac_script.proofs.Courses.Chunks.{ends_with_feed-push, said-long, said-whole_long}
 use Rattle.bac_script.specs.{ReaderStands, Said, said, declared.line.LineFault.TheVariants.TooLong}
 use Rattle.bac_script.specs.{Input.CanReadOn, Limits.line_room, Line.without_feed, NextLine.{IsLineCut}}
 
--- ---- what acts take of the input
+-- ---- the input that acts take
 
 pub lines_fed : (acts : List Act) → lines_in (feeds_in acts) ≡ lines_in acts
 lines_fed [] = refl
 lines_fed (Took line ∷ acts) = ap (λ (ls : List (List ℕ)). line ∷ ls) (lines_fed acts)
 lines_fed (_ ∷ acts) = lines_fed acts
 
--- What acts take, and what others take once more was given.
+-- Acts that take some input, and others that take more of it.
 pub feeds_on : (reading : Reading) (xs ys : List Act) (given kept more last : List ℕ) → Feeds Open given kept xs
     → Feeds reading (kept ++ more) last ys → Feeds reading (given ++ more) last (xs ++ ys)
 feeds_on reading [] ys given kept more last is after =
@@ -40,7 +40,7 @@ feeds_on reading (NoLine AtEnd ∷ xs) ys given kept more last (is, none, fed) a
 feeds_on reading (NoLine Failed ∷ xs) ys given kept more last (is, none, fed) after = absurd (cc)
 feeds_on reading (_ ∷ xs) ys given kept more last fed after = absurd fed
 
--- Whatever comes after what was given, while reading is open.
+-- While reading is open, more octets may follow those that were given.
 pub feeds_open : (reading : Reading) (xs : List Act) (given kept more : List ℕ) → Feeds Open given kept xs
     → Feeds reading (given ++ more) (kept ++ more) xs
 feeds_open reading xs given kept more fed =
@@ -56,9 +56,9 @@ feeds_whole reading (Took line ∷ xs) given kept (rest, is, _, fed) =
 feeds_whole reading (NoLine over ∷ xs) given kept (_, _, fed) = feeds_whole reading xs given kept fed
 feeds_whole reading (_ ∷ xs) given kept fed = absurd fed
 
--- What a reader gave are the lines that were taken, one after another, and what is kept.
+-- The reader's octets are the lines that were taken, one after another, and the kept octets.
 pub given_lines : {R : Type 0} {remaining : R → Option (List ℕ)} {reader reader' : Checked R}
-    {result : Result TraceEnd RunFault} (acts : List Act) (takes : Takes remaining reader reader' acts result)
+    {result : Result TraceEnd RunFault} (acts : List Act) (takes : TakesLines remaining reader reader' acts result)
     → takes.given ≡ concat (lines_in acts) ++ takes.kept
 given_lines acts takes =
     feeds_whole takes.reading (feeds_in acts) takes.given takes.kept takes.feeds
@@ -66,7 +66,7 @@ given_lines acts takes =
 
 -- ---- the first line of some octets
 
--- The first line, if it has at most so many octets.
+-- The first line, if it has at most this many octets.
 first_line : ℕ → List ℕ → List ℕ
 first_line zero octets = []
 first_line (suc n) [] = []
@@ -99,7 +99,7 @@ first_last (suc n) [] none short = refl
 first_last (suc n) (x ∷ xs) (other, none) short =
     rw (ne_eqb x 10 other) (ap (λ (os : List ℕ). x ∷ os) (first_last n xs none (omega (arith, short))))
 
-took_first : (reading : Reading) (line rest : List ℕ) → IsWhole line ⊎ IsLast reading line rest
+took_first : (reading : Reading) (line rest : List ℕ) → IsWholeLine line ⊎ IsLast reading line rest
     → first_line line_room (line ++ rest) ≡ line
 took_first reading line rest (inl (inl ((text, none, is), short))) =
     ap (λ (os : List ℕ). first_line line_room (os ++ rest)) is
@@ -122,12 +122,12 @@ not_empty [] is = absurd (cc)
 not_empty (x ∷ xs) is = absurd (cc)
 
 -- A line that is taken is not empty.
-some_taken : (reading : Reading) (line rest : List ℕ) → IsWhole line ⊎ IsLast reading line rest → line ≡ [] → ⊥
+some_taken : (reading : Reading) (line rest : List ℕ) → IsWholeLine line ⊎ IsLast reading line rest → line ≡ [] → ⊥
 some_taken reading line rest (inl (inl ((text, _, ended), _))) none = not_empty text (sym none ∙ ended)
 some_taken reading line rest (inl (inr (_, long))) none = absurd (let size = rw none at long in omega (arith, size))
 some_taken reading line rest (inr (_, _, _, some)) none = some none
 
--- Of no octets no line is taken.
+-- No line is taken from no octets.
 pub none_fed : (reading : Reading) (xs : List Act) (kept : List ℕ) → Feeds reading [] kept xs → lines_in xs ≡ []
 none_fed reading [] kept fed = refl
 none_fed reading (Took line ∷ xs) kept (rest, is, whole, fed) =
@@ -137,7 +137,7 @@ none_fed reading (_ ∷ xs) kept fed = absurd fed
 
 -- If no line is left, none is taken.
 none_taken : (reading over : Reading) (line rest given : List ℕ) → given ≡ line ++ rest
-    → IsWhole line ⊎ IsLast reading line rest → over ≡ reading → IsUsedUp over given → ⊥
+    → IsWholeLine line ⊎ IsLast reading line rest → over ≡ reading → IsUsedUp over given → ⊥
 none_taken reading Open line rest given is whole same up = up
 none_taken reading AtEnd line rest given is whole same up =
     some_taken reading line rest whole (none_left_of line rest (sym is ∙ up))
@@ -147,7 +147,7 @@ none_taken reading Failed line rest given is (inl (inr (_, long))) same (_, shor
     absurd (omega (arith, long, short, ap (λ (os : List ℕ). length os) is, length-append line rest))
 none_taken reading Failed line rest given is (inr (ended, _, _, _)) same up = absurd (cc)
 
--- Of two lists of acts, each takes a front of what the other takes.
+-- One list of acts takes only the first lines of the other.
 abbrev pub AreFedAlike : List Act → List Act → Type 0
 AreFedAlike [] ys = Unit {0}
 AreFedAlike (x ∷ xs) [] = Unit {0}
@@ -180,7 +180,7 @@ fed_alike reading (x ∷ xs) (y ∷ ys) given kept kept' fed fed' = search
 
 -- ---- how a line is cut
 
--- A line that is too long is bad, and so is its fault.
+-- A line that is too long is bad, and its fault is that it is too long.
 said_of_long : (line : List ℕ) → said false line ≡ Err TooLong → said_of line ≡ Err TooLong
 said_of_long line is =
     elim (cases_Bool (length line == longest_line && ends_with_return line)) [
@@ -194,18 +194,18 @@ unsaid line is = ap (λ (r : Result Said LineFault). acts_of_result line r) (sai
 long_fault : (n : ℕ) (line : List ℕ) → said false line ≡ Err TooLong → fault_of_line n line ≡ LineTooLong n
 long_fault n line is = ap (λ (r : Result Said LineFault). fault_of_said n r) (said_of_long line is)
 
--- The line that a run takes is a front of what was found as the next line: that is cut if it is too long. A good line
--- is taken whole.
+-- The line that a run takes is the beginning of the next line that was found, which is cut if it is too long. A good
+-- line is taken whole.
 pub record Cuts (reading : Reading) (line later : List ℕ) : Type 0 where
   pub front : List ℕ
   pub rest : List ℕ
   pub split : line ≡ front ++ rest
-  pub whole : IsWhole front ⊎ IsLast reading front (rest ++ later)
+  pub whole : IsWholeLine front ⊎ IsLast reading front (rest ++ later)
   pub same : acts_of_line front ≡ acts_of_line line
   pub alike : (n : ℕ) → fault_of_line n front ≡ fault_of_line n line
   pub all : IsGood line → rest ≡ []
 
-front_all : (reading : Reading) (line later : List ℕ) → IsWhole line ⊎ IsLast reading line later
+front_all : (reading : Reading) (line later : List ℕ) → IsWholeLine line ⊎ IsLast reading line later
     → Cuts reading line later
 front_all reading line later whole = record {
   front = line;
@@ -261,7 +261,7 @@ front_ended reading line text later is none =
           (front_long reading text later none (omega (arith, many, size, more)))
     ]
 
--- The next line, where reading has not failed.
+-- The next line, if reading has not failed.
 pub cut_front : (reading : Reading) (now : List ℕ) (n : ℕ) → reading ≢ Failed → (n ≡ 0 → ⊥) → n ≤ length now
     → IsLineCut reading (take n now) → (reading ≡ AtEnd → drop n now ≡ []) → Cuts reading (take n now) (drop n now)
 cut_front Failed now n sure some within cut last = absurd (sure refl)
@@ -285,7 +285,7 @@ failed_none remaining a b reading now n is cut stands =
     sym (append-nil (take n now)) ∙ ap (λ (xs : List ℕ). take n now ++ xs) (sym s.empty) ∙ take-append-drop n now in
     subst HasNoWhole all (c.no_feed, c.short)
 
--- ---- how the reader stands
+-- ---- the state of the reader
 
 pub at_last : {R : Type 0} (remaining : R → Option (List ℕ)) (before after : Checked R) (held : List ℕ)
     (reading : Reading) → ReaderStands remaining reading before after held → reading ≡ AtEnd → held ≡ []
@@ -298,7 +298,7 @@ can_read remaining before after held Open stands sure = stands.sound
 can_read remaining before after held AtEnd stands sure = stands.sound
 can_read remaining before after held Failed stands sure = absurd (sure refl)
 
--- A reader that could be read on, and then on, or not.
+-- A reader that can be read on, twice in a row.
 pub reads_on : {R : Type 0} {a b c : Checked R} → CanReadOn a b → CanReadOn b c → CanReadOn a c
 reads_on first after = record { sound = after.sound; unended = after.unended ∙ first.unended }
 
@@ -315,7 +315,7 @@ reading_on remaining a b c AtEnd first after = record {
 reading_on remaining a b c Failed first after =
     record { empty = refl; failed = after.failed; unended = after.unended ∙ first.unended }
 
--- What a reader stands like when the next line was found, and nothing more is held or taken.
+-- The state of the reader when the next line was found, and nothing more is held or taken.
 pub still_stands : {R : Type 0} (remaining : R → Option (List ℕ)) (a b : Checked R) (held : List ℕ) (reading : Reading)
     → ReaderStands remaining reading a b held → ReaderStands remaining reading a b []
 still_stands remaining a b held Open stands = stands
@@ -360,7 +360,7 @@ at_end remaining a b Open now n empty sure (inr c) stands =
 at_end remaining a b AtEnd now n empty sure c stands = still_stands remaining a b (drop n now) AtEnd stands
 at_end remaining a b Failed now n empty sure c stands = absurd (sure refl)
 
--- ---- lines that are good
+-- ---- good lines
 
 pub good_so : {acts : List Act} (line : List ℕ) → acts_of_line line ≡ Some acts → IsGood line
 good_so line is none = absurd (let bad = sym is ∙ none in cc)
@@ -372,7 +372,7 @@ good_line (Err fault) line is = tt
 
 -- ---- how often reading met the end
 
--- How often reading met the end.
+-- The number of times that reading met the end.
 abbrev pub ends : Reading → ℕ
 ends AtEnd = 1
 ends Open = 0

@@ -13,7 +13,7 @@ use Rattle.bac_run.proofs.{Lines.text_ended}
 use Rattle.bac_run.proofs.{Plain.{IsPlain, IsPlainLine, IsPlainOctet, note_plain, plain_on, plain_take}}
 use Rattle.bac_run.specs.{HasNoFeed, IsLineOf, LineFault, remark, remarks}
 
--- From the beginning of a line on.
+-- Text folded from the beginning of a line on.
 abbrev pub lay : List ℕ → List ℕ
 lay = folded folded_line
 
@@ -119,7 +119,7 @@ plus_plain = ((λ same. absurd (omega (arith, same))), omega arith)
 
 module _ (Q : List ℕ → Type 0)
     (skip : (line rest : List ℕ) → IsLineOf false line Remark → Q rest → Q (line ++ rest)) where
-  -- A line was begun, which the text goes on with.
+  -- The text continues a line that was begun.
   text_skipped : (text front : List ℕ) (left : ℕ) (rest : List ℕ) → IsPlain text → IsPlain front
       → length (35 ∷ front) + left ≡ folded_line → Q (lay rest)
       → Q ((35 ∷ front) ++ folded left (text ++ 10 ∷ rest))

@@ -1,4 +1,4 @@
--- How two runs of one session go on, and what they print.
+-- How two runs of one setup go on, and what they print.
 use Rattle.std.proofs.Common.{[], ap, arith, Bool, Err, false, inl, inr, List, Ok, Option, refl, Result, Some}
 use Rattle.std.proofs.Common.{subst, sym, true, zero, ℕ, ◌++◌, ◌<◌, ◌↔◌, ◌∙◌, ◌∷◌, ◌≡◌, ◌≢◌, ◌≤◌, ◌⊎◌}
 use Rattle.std.proofs.lemmas.{Bool.false≢true, List.{append-nil, append_cancel_left}}
@@ -8,13 +8,13 @@ use Rattle.bac_run.proofs.{Cut.{AreFedAlike, ends, ends_so, fed_alike, feeds_ope
 use Rattle.bac_run.specs.{Act, Aim, AskNext, AtEnd, BadLine, Broken, Checked, DueIn, Ends, EndsAt, Failed, Feeds}
 use Rattle.bac_run.specs.{feeds_in, first_stage, Goes, IsAsked, IsDue, IsPrinted, journal_of, LineTooLong, Link, Loses}
 use Rattle.bac_run.specs.{new_client, Open, Outside, Phase, ReadFailed, Reading, ReceiveFailed, result_at, result_in}
-use Rattle.bac_run.specs.{RunFault, Runs, Script, SendFailed, Session, Stage, stage_by, TraceEnd, Turns, TurnsSpent}
+use Rattle.bac_run.specs.{RunFault, Runs, Script, SendFailed, Setup, Stage, stage_by, TraceEnd, Turns, TurnsSpent}
 use Rattle.bac_script.specs.{GaveSame, IsFrontOf, ReaderStands, Alike.GaveFront}
 use Rattle.bac_script.specs.{declared.tracing.TraceFault.TheVariants.WriteFailed, Input.most_reads}
 use Rattle.bac_links.specs.{Account, answers_of, Entry, GainsAll, Answered.GoOnAlike}
 use Rattle.bac_links.specs.declared.fault.ToolFault.TheVariants.{WriteFailed as LinkNotWritten}
 
--- ---- where a run is over
+-- ---- the stage of a run that is over
 
 over_in : (timeout : ℕ) (stage : Stage) (phase : Phase) (aims : List Aim) (result : Result TraceEnd RunFault) (act :
     Act)
@@ -24,22 +24,23 @@ over_in timeout stage Outside (Ends end ∷ later) result act is due = absurd du
 over_in timeout stage Outside (Turns until zero ∷ later) result act is due = absurd due
 over_in timeout stage phase aims result act is due = absurd (cc)
 
--- A run as steps: its writer failed; or a send did, which was the last; or it is over, and its stage says how.
-data Stops (session : Session) (acts : List Act) (result : Result TraceEnd RunFault) (lost : Bool) : Type 0 where
-  Unwritten : result ≡ Err (Script WriteFailed) → Stops session acts result lost
-  Unsent : result ≡ Err (Link SendFailed) → lost ≡ true → Stops session acts result lost
-  Over : lost ≡ false → result_at (stage_by session acts) ≡ Some result → Stops session acts result lost
+-- The end of a run: its writer failed; or a send failed, which was its last call; or it is over, with the result of its
+-- stage.
+data Stops (setup : Setup) (acts : List Act) (result : Result TraceEnd RunFault) (lost : Bool) : Type 0 where
+  Unwritten : result ≡ Err (Script WriteFailed) → Stops setup acts result lost
+  Unsent : result ≡ Err (Link SendFailed) → lost ≡ true → Stops setup acts result lost
+  Over : lost ≡ false → result_at (stage_by setup acts) ≡ Some result → Stops setup acts result lost
 
-record Stepped (session : Session) (acts : List Act) (result : Result TraceEnd RunFault) (gained : List Entry)
+record Stepped (setup : Setup) (acts : List Act) (result : Result TraceEnd RunFault) (gained : List Entry)
     : Type 0 where
   lost : Bool
-  steps : Steps session.config.timeout (first_stage session)
-      (new_client session.config.timeout session.config.retries 0) acts gained lost
-  stops : Stops session acts result lost
+  steps : Steps setup.config.timeout (first_stage setup)
+      (new_client setup.config.timeout setup.config.retries 0) acts gained lost
+  stops : Stops setup acts result lost
 
-module _ (session : Session) where
+module _ (setup : Setup) where
   stops_so : (acts : List Act) (result : Result TraceEnd RunFault) (lost : Bool)
-      → EndsAt result (stage_by session acts) → Loses result lost → Stops session acts result lost
+      → EndsAt result (stage_by setup acts) → Loses result lost → Stops setup acts result lost
   stops_so acts (Err (Script WriteFailed)) lost ends loses = Unwritten refl
   stops_so acts (Err (Link SendFailed)) lost ends loses = Unsent refl loses
   stops_so acts (Ok end) lost ends loses = Over loses ends
@@ -51,25 +52,26 @@ module _ (session : Session) where
   stops_so acts (Err (Link LinkNotWritten)) lost ends loses = Over loses ends
 
   stepped : (acts : List Act) (result : Result TraceEnd RunFault) (gained : List Entry)
-      → Goes session.config.timeout (first_stage session) acts → EndsAt result (stage_by session acts)
-      → IsAsked result (new_client session.config.timeout session.config.retries 0) acts gained
-      → Stepped session acts result gained
+      → Goes setup.config.timeout (first_stage setup) acts → EndsAt result (stage_by setup acts)
+      → IsAsked result (new_client setup.config.timeout setup.config.retries 0) acts gained
+      → Stepped setup acts result gained
   stepped acts result gained goes ends (lost, asked, loses) = record {
     lost = lost;
-    steps = steps_of session.config.timeout (first_stage session)
-        (new_client session.config.timeout session.config.retries 0) acts gained lost goes asked;
+    steps = steps_of setup.config.timeout (first_stage setup)
+        (new_client setup.config.timeout setup.config.retries 0) acts gained lost goes asked;
     stops = stops_so acts result lost ends loses;
   }
 
--- Two runs did the same; or one was cut off, and the other did more.
+-- Two runs did the same acts; or one was cut off, and the other did more.
 pub data Meets (acts others : List Act) (result other : Result TraceEnd RunFault) : Type 0 where
   Both : acts ≡ others → Meets acts others result other
   Front : result ≡ Err (Script WriteFailed) → (more : List Act) → others ≡ acts ++ more
       → Meets acts others result other
   Back : other ≡ Err (Script WriteFailed) → (more : List Act) → acts ≡ others ++ more → Meets acts others result other
 
--- How they go on: as far as they were answered alike they asked alike; then they ask the same next, or one was cut off,
--- or both ended alike. If one or both are over, they did the same, except what one that was cut off did not do.
+-- How two runs go on. As far as they were answered alike, they made the same calls; then they make the same next call,
+-- or one was cut off, or both ended alike. If a run is over, both did the same, except the acts that a run that was cut
+-- off did not do.
 abbrev pub AreOn : (acts others : List Act) → (result other : Result TraceEnd RunFault) → (rest rest' : List Entry)
     → Type 0
 AreOn acts others result other rest rest' =
@@ -77,21 +79,21 @@ AreOn acts others result other rest rest' =
     (λ r s. r ≢ Err (Script WriteFailed) → s ≢ Err (Script WriteFailed) → r ≡ s) (λ r s. Meets acts others r s) result
     other rest rest'
 
-module _ (session : Session) (acts others : List Act) (result other : Result TraceEnd RunFault)
-    (gained got first rest first' rest' : List Entry) (one : Stepped session acts result gained)
-    (two : Stepped session others other got) (fed : AreFedAlike (feeds_in acts) (feeds_in others))
+module _ (setup : Setup) (acts others : List Act) (result other : Result TraceEnd RunFault)
+    (gained got first rest first' rest' : List Entry) (one : Stepped setup acts result gained)
+    (two : Stepped setup others other got) (fed : AreFedAlike (feeds_in acts) (feeds_in others))
     (is : gained ≡ first ++ rest) (is' : got ≡ first' ++ rest') (answers : answers_of first ≡ answers_of first') where
-  -- If an act is due after all that a run did, and no send failed, its writer failed.
-  cut_at : (xs : List Act) (r : Result TraceEnd RunFault) (lost : Bool) (act : Act) → Stops session xs r lost
-      → lost ≡ false → IsDue session.config.timeout (stage_by session xs) act → r ≡ Err (Script WriteFailed)
+  -- If an act is still due after the acts of a run, and no send failed, its writer failed.
+  cut_at : (xs : List Act) (r : Result TraceEnd RunFault) (lost : Bool) (act : Act) → Stops setup xs r lost
+      → lost ≡ false → IsDue setup.config.timeout (stage_by setup xs) act → r ≡ Err (Script WriteFailed)
   cut_at xs r lost act (Unwritten cut) sure due = cut
   cut_at xs r lost act (Unsent fails lacks) sure due = absurd (cc)
   cut_at xs r lost act (Over none is) sure due =
-      let stage = stage_by session xs in
-      absurd (over_in session.config.timeout stage stage.phase stage.aims r act is due)
+      let stage = stage_by setup xs in
+      absurd (over_in setup.config.timeout stage stage.phase stage.aims r act is due)
 
-  end_same : acts ≡ others → (lost lost' : Bool) → lost ≡ lost' → Stops session acts result lost
-      → Stops session others other lost' → result ≢ Err (Script WriteFailed)
+  end_same : acts ≡ others → (lost lost' : Bool) → lost ≡ lost' → Stops setup acts result lost
+      → Stops setup others other lost' → result ≢ Err (Script WriteFailed)
       → other ≢ Err (Script WriteFailed) → result ≡ other
   end_same same lost lost' alike (Unwritten cut) stops wrote wrote' = absurd (wrote cut)
   end_same same lost lost' alike stops (Unwritten cut) wrote wrote' = absurd (wrote' cut)
@@ -102,7 +104,7 @@ module _ (session : Session) (acts others : List Act) (result other : Result Tra
       let both = rw (sym same) at is' in cc
 
   on : (xs ys : List Entry)
-      → Next session.config.timeout (first_stage session) acts others one.lost two.lost xs ys
+      → Next setup.config.timeout (first_stage setup) acts others one.lost two.lost xs ys
       → AreOn acts others result other xs ys
   on xs ys (AskBoth x y more more' is is' asks) = rw (is, is') asks
   on xs ys (Same same alike is is') =
@@ -122,14 +124,14 @@ module _ (session : Session) (acts others : List Act) (result other : Result Tra
 
   stepped_on : (first ≡ first') × AreOn acts others result other rest rest'
   stepped_on =
-      let (same, next) = both_go session.config.timeout (first_stage session)
-      (new_client session.config.timeout session.config.retries 0) acts others one.lost two.lost fed first rest first'
+      let (same, next) = both_go setup.config.timeout (first_stage setup)
+      (new_client setup.config.timeout setup.config.retries 0) acts others one.lost two.lost fed first rest first'
       rest' (rw is at one.steps) (rw is' at two.steps) answers in
       (same, on rest rest' next)
 
--- ---- how two readers were read
+-- ---- the input of two readers
 
--- What acts take of two readers that gave the same, and met their end as often, is the same.
+-- Two readers that gave the same octets, and met their end as often: acts take the same from both.
 one_feed : (reading other : Reading) (given kept kept' : List ℕ) (xs ys : List Act) → ends reading ≡ ends other
     → Feeds reading given kept xs → Feeds other given kept' ys → AreFedAlike xs ys
 one_feed Open other given kept kept' xs ys met one two =
@@ -144,7 +146,7 @@ one_feed AtEnd AtEnd given kept kept' xs ys met one two = fed_alike AtEnd xs ys 
 one_feed Failed Failed given kept kept' xs ys met one two = fed_alike Failed xs ys given kept kept' one two
 one_feed reading other given kept kept' xs ys met one two = absurd (cc)
 
--- Or one gave a front of the other, and could be read on.
+-- The first reader gave only the first octets of the other, and could be read on.
 front_feed : (reading other : Reading) (given more kept kept' : List ℕ) (xs ys : List Act) → reading ≡ Open
     → Feeds reading given kept xs → Feeds other (given ++ more) kept' ys
     → AreFedAlike xs ys × AreFedAlike ys xs
@@ -154,7 +156,7 @@ front_feed reading other given more kept kept' xs ys opened one two =
       fed_alike other ys xs (given ++ more) kept' (kept ++ more) two open_one,
     )
 
--- A run was cut off, and gave a front of what the other was given; it could be read on.
+-- A run was cut off; its reader gave only the first octets of the other's, and could be read on.
 pub record IsCutShort {R S : Type 0} (result : Result TraceEnd RunFault) (reader : Checked R) (other : Checked S)
     : Type 0 where
   pub cut : result ≡ Err (Script WriteFailed)
@@ -180,12 +182,12 @@ gained_so {Origin} seen left gained whole gains is =
     append_cancel_left seen.history _ _ (sym (ap (λ (a : Account Origin). a.history) gains) ∙ is)
 
 module _ {Origin Other R S V W : Type 0} {remaining : R → Option (List ℕ)} {remaining' : S → Option (List ℕ)}
-    {contents : V → Option (List ℕ)} {contents' : W → Option (List ℕ)} (session : Session) (reader : R)
+    {contents : V → Option (List ℕ)} {contents' : W → Option (List ℕ)} (setup : Setup) (reader : R)
     (other_reader : S) (reader' : Checked R) (other_reader' : Checked S) (before after : Checked V)
     (other_before other_after : Checked W) (seen left : Account Origin) (other_seen other_left : Account Other)
     (result other : Result TraceEnd RunFault) (first rest first' rest' : List Entry)
-    (runs : Runs remaining contents session (fresh reader) reader' before after seen left result)
-    (others : Runs remaining' contents' session (fresh other_reader) other_reader' other_before other_after other_seen
+    (runs : Runs remaining contents setup (fresh reader) reader' before after seen left result)
+    (others : Runs remaining' contents' setup (fresh other_reader) other_reader' other_before other_after other_seen
     other_left other)
     (read : GaveSame reader' other_reader' ⊎ IsCutShort result reader' other_reader'
     ⊎ IsCutShort other other_reader' reader')
@@ -233,9 +235,9 @@ module _ {Origin Other R S V W : Type 0} {remaining : R → Option (List ℕ)} {
 
   pub runs_on : Goal
   runs_on =
-      stepped_on session runs.acts others.acts result other runs.asks.gained others.asks.gained first rest first' rest'
-      (stepped session runs.acts result runs.asks.gained runs.goes runs.ends runs.asks.as_due)
-      (stepped session others.acts other others.asks.gained others.goes others.ends others.asks.as_due) fed
+      stepped_on setup runs.acts others.acts result other runs.asks.gained others.asks.gained first rest first' rest'
+      (stepped setup runs.acts result runs.asks.gained runs.goes runs.ends runs.asks.as_due)
+      (stepped setup others.acts other others.asks.gained others.goes others.ends others.asks.as_due) fed
       (gained_so seen left _ _ runs.asks.gains gains) (gained_so other_seen other_left _ _ others.asks.gains gains')
       answers
 
@@ -251,22 +253,22 @@ asks_next acts others result other (x ∷ rest) (y ∷ rest') asks = asks
 
 module _ {Origin Other R S V W : Type 0} {remaining : R → Option (List ℕ)} {remaining' : S → Option (List ℕ)}
     {contents : V → Option (List ℕ)} {contents' : W → Option (List ℕ)} where
-  -- If neither writer failed, they did the same and ended alike.
-  pub ends_alike : (session : Session) (reader : R) (other_reader : S) (reader' : Checked R) (other_reader' : Checked S)
+  -- If neither writer failed, both runs did the same acts and ended alike.
+  pub ends_alike : (setup : Setup) (reader : R) (other_reader : S) (reader' : Checked R) (other_reader' : Checked S)
       (before after : Checked V) (other_before other_after : Checked W) (seen left : Account Origin)
       (other_seen other_left : Account Other) (result other : Result TraceEnd RunFault)
       (gained other_gained : List Entry)
-      → (runs : Runs remaining contents session (fresh reader) reader' before after seen left result)
-      → (others : Runs remaining' contents' session (fresh other_reader) other_reader' other_before other_after
+      → (runs : Runs remaining contents setup (fresh reader) reader' before after seen left result)
+      → (others : Runs remaining' contents' setup (fresh other_reader) other_reader' other_before other_after
       other_seen
       other_left other) → GaveSame reader' other_reader' → left.history ≡ seen.history ++ gained
       → other_left.history ≡ other_seen.history ++ other_gained → answers_of gained ≡ answers_of other_gained
       → result ≢ Err (Script WriteFailed) → other ≢ Err (Script WriteFailed)
       → (result ≡ other) × (runs.acts ≡ others.acts)
-  ends_alike session reader other_reader reader' other_reader' before after other_before other_after seen left
+  ends_alike setup reader other_reader reader' other_reader' before after other_before other_after seen left
       other_seen
       other_left result other gained other_gained runs others gave is is' same wrote wrote' =
-      let (_, (end, meet)) = runs_on session reader other_reader reader' other_reader' before after other_before
+      let (_, (end, meet)) = runs_on setup reader other_reader reader' other_reader' before after other_before
       other_after seen left other_seen other_left result other gained [] other_gained [] runs others (inl gave)
       (is ∙ ap (λ (xs : List Entry). seen.history ++ xs) (sym (append-nil gained)))
       (is' ∙ ap (λ (xs : List Entry). other_seen.history ++ xs) (sym (append-nil other_gained))) same in
@@ -277,9 +279,9 @@ module _ {Origin Other R S V W : Type 0} {remaining : R → Option (List ℕ)} {
       met acts others' (Front cut more longer) = absurd (wrote cut)
       met acts others' (Back cut more longer) = absurd (wrote' cut)
 
--- ---- what they print
+-- ---- the printed text
 
--- A writer took the whole text; or a front of it, if it failed.
+-- A writer took the whole text, or the beginning of it if it failed.
 abbrev pub IsTaken : (written text : List ℕ) → Result TraceEnd RunFault → Type 0
 IsTaken written text result = (written ≡ text) ⊎ ((result ≡ Err (Script WriteFailed)) × IsFrontOf written text)
 
@@ -302,33 +304,33 @@ taken contents writer after text result printed wrote = go (has_failed after) re
         inl (printed.took.passed ∙ sym (printed.whole ∙ ap (λ (xs : List ℕ). printed.taken ++ xs) none
         ∙ append-nil printed.taken))
 
--- Both took one text, or a front of it where they were cut off.
-pub one_text : (session : Session) (acts others : List Act) (result other : Result TraceEnd RunFault)
-    (written written' : List ℕ) → Meets acts others result other → IsTaken written (journal_of session acts) result
-    → IsTaken written' (journal_of session others) other
+-- Both writers took one text, or the beginning of it if their runs were cut off.
+pub one_text : (setup : Setup) (acts others : List Act) (result other : Result TraceEnd RunFault)
+    (written written' : List ℕ) → Meets acts others result other → IsTaken written (journal_of setup acts) result
+    → IsTaken written' (journal_of setup others) other
     → (text : List ℕ) × IsTaken written text result × IsTaken written' text other
-one_text session acts others result other written written' (Both same) took took' = (
-  journal_of session others,
-  subst (λ (xs : List Act). IsTaken written (journal_of session xs) result) same took,
+one_text setup acts others result other written written' (Both same) took took' = (
+  journal_of setup others,
+  subst (λ (xs : List Act). IsTaken written (journal_of setup xs) result) same took,
   took',
 )
-one_text session acts others result other written written' (Front cut more is) took took' =
-    (journal_of session others, front took, took')
+one_text setup acts others result other written written' (Front cut more is) took took' =
+    (journal_of setup others, front took, took')
   where
-    whole : IsFrontOf (journal_of session acts) (journal_of session others)
-    whole = subst (λ (xs : List Act). IsFrontOf (journal_of session acts) (journal_of session xs)) (sym is)
-        (journal_front session acts more)
+    whole : IsFrontOf (journal_of setup acts) (journal_of setup others)
+    whole = subst (λ (xs : List Act). IsFrontOf (journal_of setup acts) (journal_of setup xs)) (sym is)
+        (journal_front setup acts more)
 
-    front : IsTaken written (journal_of session acts) result → IsTaken written (journal_of session others) result
-    front (inl all) = inr (cut, subst (λ (xs : List ℕ). IsFrontOf xs (journal_of session others)) (sym all) whole)
+    front : IsTaken written (journal_of setup acts) result → IsTaken written (journal_of setup others) result
+    front (inl all) = inr (cut, subst (λ (xs : List ℕ). IsFrontOf xs (journal_of setup others)) (sym all) whole)
     front (inr (_, some)) = inr (cut, fronts_join _ _ _ some whole)
-one_text session acts others result other written written' (Back cut more is) took took' =
-    (journal_of session acts, took, front took')
+one_text setup acts others result other written written' (Back cut more is) took took' =
+    (journal_of setup acts, took, front took')
   where
-    whole : IsFrontOf (journal_of session others) (journal_of session acts)
-    whole = subst (λ (xs : List Act). IsFrontOf (journal_of session others) (journal_of session xs)) (sym is)
-        (journal_front session others more)
+    whole : IsFrontOf (journal_of setup others) (journal_of setup acts)
+    whole = subst (λ (xs : List Act). IsFrontOf (journal_of setup others) (journal_of setup xs)) (sym is)
+        (journal_front setup others more)
 
-    front : IsTaken written' (journal_of session others) other → IsTaken written' (journal_of session acts) other
-    front (inl all) = inr (cut, subst (λ (xs : List ℕ). IsFrontOf xs (journal_of session acts)) (sym all) whole)
+    front : IsTaken written' (journal_of setup others) other → IsTaken written' (journal_of setup acts) other
+    front (inl all) = inr (cut, subst (λ (xs : List ℕ). IsFrontOf xs (journal_of setup acts)) (sym all) whole)
     front (inr (_, some)) = inr (cut, fronts_join _ _ _ some whole)

@@ -1,4 +1,4 @@
--- The lines of requests are read back.
+-- Requests are read back from their lines.
 use Rattle.std.proofs.Common.{[], ap, append_assoc, arith, Err, false, inl, inr, length, length-append, List, nat_lt}
 use Rattle.std.proofs.Common.{Ok, refl, Result, sym, true, ℕ, ◌&&◌, ◌++◌, ◌==◌, ◌∙◌, ◌∷◌, ◌≡◌, ◌≢◌, ◌≤◌, ◌⊎◌}
 use Rattle.std.proofs.lemmas.{Bool.{cases_Bool, false≢true, Decides.nat_tests}, Grind.common_steps}
@@ -35,7 +35,7 @@ short_so line what none says =
       | inr short ↦ grind (arith, nat_tests, short)
     ]
 
--- A whole line with this text says what the line says.
+-- A whole line with this text has the meaning of the line.
 says_same : (line text : List ℕ) (what : Said) → HasNoFeed line → length line ≤ longest_line
     → text_of_line (text ++ 10 ∷ []) ≡ Ok line → said false line ≡ Ok what → said false (text ++ 10 ∷ []) ≡ Ok what
 says_same line text what none short is says =
@@ -58,7 +58,7 @@ addressed_so (Ok (Happens (Data from octets))) what is = is
 addressed_so (Ok (Happens (Tick time))) what is = is
 addressed_so (Err fault) what is = is
 
--- A line that says something is not too long.
+-- A line with a meaning is not too long.
 not_long : (line : List ℕ) (what : Said) → said_of line ≡ Ok what
     → (said false line ≡ Ok what) × (ends_with_return line ≡ true → (length line == longest_line) ≡ false)
 not_long line what is =
@@ -112,7 +112,7 @@ read_back line what (inr none) says room =
           }
     ]
 
--- The line, with a line feed where it lacks one, is read as it was.
+-- The line is read as before, with a line feed if it lacked one.
 pub line_read_back : (line : List ℕ) (what : Said) → EndsWithFeed line ⊎ HasNoFeed line → said_of line ≡ Ok what
     → IsLineOf false (whole_line line) what
 line_read_back line what cut is =

@@ -1,4 +1,4 @@
--- What a run tells is what the look-ahead gives.
+-- The notes of a run are those of the look-ahead.
 use Rattle.bac_run.specs.{Rested, Sought}
 use Rattle.std.proofs.Common.{[], ap, arith, length, List, map, None, refl, suc, sym, take_all, ℕ, ◌*◌, ◌++◌, ◌+◌, ◌∙◌}
 use Rattle.std.proofs.Common.{◌∷◌, ◌≡◌, ◌≤◌}

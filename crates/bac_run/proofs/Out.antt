@@ -1,32 +1,32 @@
--- All output is out before a wait.
+-- All output is written before a wait.
 use Rattle.std.proofs.Common.{[], ap, append-nil, append_assoc, false, inl, inr, List, Option, refl, Some, subst, sym}
 use Rattle.std.proofs.Common.{ℕ, ◌++◌, ◌∙◌, ◌∷◌, ◌≡◌, ◌⊎◌}
 use Rattle.{bac_tsm.specs.Client.Client, bac_print.proofs.Printed.{folded-append, laid_out-append, laid_out-none}}
 use Rattle.bac_print.specs.{folded_line, has_failed, held, octets_of, Prints, room_of, writer_of, Writes}
 use Rattle.{bac_print.specs.Page.{folded, laid_out, left_after, Wrote}, bac_run.proofs.Acts.journal-append}
 use Rattle.bac_run.specs.{Act, Checked, client_after, IsOut, WantsOut, journal, journal_lines, journal_of, new_client}
-use Rattle.{bac_run.specs.{Page, Session, settings_line, Inner.{HasPassed, IsOutAt}}}
+use Rattle.{bac_run.specs.{Page, Setup, settings_line, Inner.{HasPassed, IsOutAt}}}
 use Rattle.{bac_script.specs.{IsFrontOf, NextLine.IsTurnedIn}}
 
 pub fronts_join : (xs ys zs : List ℕ) → IsFrontOf xs ys → IsFrontOf ys zs → IsFrontOf xs zs
 fronts_join xs ys zs (rest, is) (more, is') =
     (rest ++ more, is' ∙ ap (λ (os : List ℕ). os ++ more) is ∙ append_assoc xs rest more)
 
--- The journal of some acts is a front of that of more.
-pub journal_front : (session : Session) (acts more : List Act)
-    → IsFrontOf (journal_of session acts) (journal_of session (acts ++ more))
-journal_front session acts more =
-    let client = new_client session.config.timeout session.config.retries 0 in
-    let line = settings_line session.config.timeout session.config.retries in
+-- The journal of some acts is the beginning of the journal of more acts.
+pub journal_front : (setup : Setup) (acts more : List Act)
+    → IsFrontOf (journal_of setup acts) (journal_of setup (acts ++ more))
+journal_front setup acts more =
+    let client = new_client setup.config.timeout setup.config.retries 0 in
+    let line = settings_line setup.config.timeout setup.config.retries in
     let later = journal (client_after client acts) more in (
-      folded (left_after folded_line (journal_lines session acts)) later,
+      folded (left_after folded_line (journal_lines setup acts)) later,
       ap (λ (xs : List ℕ). folded folded_line xs)
           (ap (λ (xs : List ℕ). line ++ xs) (journal-append client acts more)
           ∙ sym (append_assoc line (journal client acts) later))
-          ∙ folded-append folded_line (journal_lines session acts) later,
+          ∙ folded-append folded_line (journal_lines setup acts) later,
     )
 
--- Of acts one after another a wait is among the first or among the second.
+-- A wait in a list of acts is in its first part or in its second.
 split_at : (xs ys earlier later : List Act) (wait : Act) → xs ++ ys ≡ earlier ++ wait ∷ later
     → ((more : List Act) × (xs ≡ earlier ++ wait ∷ more))
     ⊎ ((less : List Act) × (earlier ≡ xs ++ less) × (ys ≡ less ++ wait ∷ later))
@@ -51,16 +51,16 @@ no_split : {A : Type 0} (xs ys : List A) (x : A) → [] ≡ xs ++ x ∷ ys → �
 no_split [] ys x is = absurd (cc)
 no_split (z ∷ xs) ys x is = absurd (cc)
 
--- One act before which nothing has to be out.
-pub out_unwaited : {W : Type 0} (session : Session) (before after : Checked W) (act : Act) → (WantsOut act → ⊥)
-    → IsOut session before after (act ∷ [])
-out_unwaited session before after act never [] later wait waits is =
+-- An act that needs no output to be written before it.
+pub out_unwaited : {W : Type 0} (setup : Setup) (before after : Checked W) (act : Act) → (WantsOut act → ⊥)
+    → IsOut setup before after (act ∷ [])
+out_unwaited setup before after act never [] later wait waits is =
     let same : act ≡ wait = cc in absurd (never (subst (λ (a : Act). WantsOut a) (sym same) waits))
-out_unwaited session before after act never (x ∷ []) later wait waits is = absurd (cc)
-out_unwaited session before after act never (x ∷ y ∷ earlier) later wait waits is = absurd (cc)
+out_unwaited setup before after act never (x ∷ []) later wait waits is = absurd (cc)
+out_unwaited setup before after act never (x ∷ y ∷ earlier) later wait waits is = absurd (cc)
 
 module _ {W : Type 0} where
-  -- If nothing is held, all that was printed has passed.
+  -- If no text is held, all printed text was written.
   pub passed_here : {p : Page W} {after : Checked W} → has_failed (writer_of p) ≡ false → held p ≡ []
       → IsFrontOf (octets_of (writer_of p)) (octets_of after) → HasPassed p after []
   passed_here {p} {after} sound none front = record {
@@ -71,7 +71,7 @@ module _ {W : Type 0} where
         ∙ append-nil (octets_of (writer_of p)))) front;
   }
 
-  -- Text that was printed before a page was turned in has passed.
+  -- After `turn_in` all text that was printed before it is written.
   pub passed_turned : {p q : Page W} → IsTurnedIn p q → HasPassed p (writer_of q) []
   passed_turned {p} {q} turned = record {
     sound = turned.sound;
@@ -92,7 +92,7 @@ module _ {W : Type 0} where
   out_one client p q act out (x ∷ []) later wait waits is = absurd (cc)
   out_one client p q act out (x ∷ y ∷ earlier) later wait waits is = absurd (cc)
 
-  -- What had passed was taken, once the page is given up.
+  -- Text that was written is in the writer after the page is given up.
   pub out_whole : {first : Page W} {writer after : Checked W} {text : List ℕ} → writer_of first ≡ writer
       → held first ≡ [] → room_of first ≡ Some folded_line → HasPassed first after text
       → IsFrontOf (octets_of writer ++ folded folded_line text) (octets_of after)
@@ -109,13 +109,13 @@ module _ {W : Type 0} {contents : W → Option (List ℕ)} where
       → IsFrontOf (octets_of before) (octets_of after)
   grown writes = (writes.taken, writes.took.passed)
 
-  -- What passed had passed later.
+  -- Text that was written stays written.
   pub passed_on : (p q : Page W) (after : Checked W) {text more held kept : List ℕ} → HasPassed p (writer_of q) text
       → Writes contents (writer_of q) after held kept more → HasPassed p after text
   passed_on p q after passed writes =
       record { sound = passed.sound; front = fronts_join _ _ _ passed.front (grown writes) }
 
-  -- Text that was printed before had passed with it.
+  -- Text that was printed before written text was written too.
   pub passed_before : {p q : Page W} {after : Checked W} {text more : List ℕ} → Prints contents p q text
       → HasPassed q after more → HasPassed p after (text ++ more)
   unfolding Wrote
@@ -161,7 +161,7 @@ module _ {W : Type 0} {contents : W → Option (List ℕ)} where
           ∙ ap (λ (zs : List Act). journal client zs) (sym here))
           (passed_before printed (second less later wait waits there))
 
-  -- The page was turned in before, or something else was printed.
+  -- Text that was printed before the acts was also written before each act with `WantsOut`.
   pub out_behind : (client : Client) (p q r : Page W) {text : List ℕ} {xs : List Act} → Prints contents p q text
       → IsOutAt client q r xs → (earlier later : List Act) (wait : Act) → WantsOut wait → xs ≡ earlier ++ wait ∷ later
       → HasPassed p (writer_of r) (text ++ journal client earlier)

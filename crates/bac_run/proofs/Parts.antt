@@ -17,14 +17,15 @@ use Rattle.bac_run.specs.{LineTooLong, ReadFailed}
 use Rattle.bac_run.specs.{Act, Aim, arrival_line, Asked, asked_by, Came, Does, feed_in, FewOpen}
 use Rattle.bac_run.specs.{FitsLine, Fresh, Goes, is_reached, IsAsked, IsDue, WantsOut, IsWithin}
 use Rattle.bac_run.specs.{line_of, Link, moved, NoLine, open_in, Page, Passed, posts, Read, Reading, ready}
-use Rattle.bac_run.specs.{remark, remarks, result_at, RunFault, Script, Session, Stage, stage_after, StopsAt}
+use Rattle.bac_run.specs.{remark, remarks, result_at, RunFault, Script, Setup, Stage, stage_after, StopsAt}
 use Rattle.bac_run.specs.{time_line, TimeTold, Told, Took, TraceFault, Turn, turn_at, Turns, TurnsSpent, whole_line}
-use Rattle.bac_run.specs.{declared.turns.{Run.Run, Until.Until}, Inner.{begins_turn, GainsDue, HasPassed, IsGained}}
+use Rattle.bac_run.specs.declared.turns.{Runner.Runner, Until.Until}
+use Rattle.bac_run.specs.Inner.{begins_turn, GainsDue, HasPassed, IsGained}
 use Rattle.bac_run.specs.Inner.{ComesTo, Opened, outside, send_failed, started, Went.Went}
 use Rattle.bac_script.specs.declared.tracing.TraceFault.TheVariants.{WriteFailed}
 use Rattle.bac_links.specs.{Account, Arrived, Entry, Heard, History.Gains, Timed, Waited}
 
--- ---- the course
+-- ---- the course of a run
 
 after-append : (timeout : ℕ) (stage : Stage) (xs ys : List Act)
     → stage_after timeout stage (xs ++ ys) ≡ stage_after timeout (stage_after timeout stage xs) ys
@@ -48,66 +49,69 @@ after_on : (timeout timeout' : ℕ) (stage mid : Stage) (xs ys : List Act) → t
 after_on timeout timeout' stage mid xs ys same is =
     after-append timeout stage xs ys ∙ rw (is, same) refl
 
--- A send that failed comes to any stage.
+-- A send may fail at any stage.
 pub comes_sent : {A : Type 0} (result : Result A RunFault) {stage left : Stage}
     → IfErr result (λ fault. fault ≡ send_failed) → left ≡ stage → ComesTo result stage left
 comes_sent (Ok x) cause is = is
 comes_sent (Err fault) cause is = rw cause tt
 
--- ---- what is reached
+pub stops_sent : (fault : RunFault) (left : Stage) → fault ≡ send_failed → StopsAt fault left
+stops_sent fault left cause = rw cause tt
 
--- Turns are still due, and the next one begins.
-pub unreached : (run : Run) (until : Until) (left : ℕ) (later : List Aim)
-    → is_reached run.client run.behind (Turns until 0) ≡ false
+-- ---- the end of a wait
+
+-- The wait is not over, and the next turn begins.
+pub unreached : (run : Runner) (until : Until) (left : ℕ) (later : List Aim)
+    → is_reached run.client run.since_told (Turns until 0) ≡ false
     → started run (Turns until left ∷ later) ≡ outside run (Turns until left ∷ later)
 unreached run (FewOpen most) left later none = rw none refl
 unreached run TimeTold left later none = rw none refl
 unreached run (ClockAt time) left later none = rw none refl
 
-pub begun : (run : Run) (until : Until) (left : ℕ) (later : List Aim)
-    → is_reached run.client run.behind (Turns until 0) ≡ false → (left ≡ 0 → ⊥)
+pub begun : (run : Runner) (until : Until) (left : ℕ) (later : List Aim)
+    → is_reached run.client run.since_told (Turns until 0) ≡ false → (left ≡ 0 → ⊥)
     → started run (Turns until left ∷ later) ≡ begins_turn run (until, left - 1, later)
 begun run until zero later unmet some = absurd (some refl)
 begun run until (suc left) later unmet some =
     unreached run until (suc left) later unmet
     ∙ ap (λ (n : ℕ). outside run (Turns until (suc n) ∷ later)) (omega arith)
 
--- They are over.
-pub reached : (run : Run) (until : Until) (left : ℕ) (later : List Aim)
-    → is_reached run.client run.behind (Turns until 0) ≡ true
+-- The wait is over.
+pub reached : (run : Runner) (until : Until) (left : ℕ) (later : List Aim)
+    → is_reached run.client run.since_told (Turns until 0) ≡ true
     → started run (Turns until left ∷ later) ≡ started run later
 reached run (FewOpen most) left later met = rw met refl
 reached run TimeTold left later met = rw met refl
 reached run (ClockAt time) left later met = rw met refl
 
--- They are spent.
-pub spent : (run : Run) (until : Until) (left : ℕ) (later : List Aim)
-    → is_reached run.client run.behind (Turns until 0) ≡ false → left ≡ 0
+-- The turns of the wait are spent.
+pub spent : (run : Runner) (until : Until) (left : ℕ) (later : List Aim)
+    → is_reached run.client run.since_told (Turns until 0) ≡ false → left ≡ 0
     → result_at (started run (Turns until left ∷ later)) ≡ Some (Err (Link TurnsSpent))
 spent run until zero later unmet none = ap result_at (unreached run until 0 later unmet)
 spent run until (suc left) later unmet none = absurd (omega (arith, none))
 
--- A run stops once it is to end with a fault.
-pub stops_so : (run : Run) (fault : TraceFault) (later : List Aim)
+-- A run whose next aim is to end with a fault stops with it.
+pub stops_so : (run : Runner) (fault : TraceFault) (later : List Aim)
     → StopsAt (Script fault) (started run (Ends (Err fault) ∷ later))
 stops_so run WriteFailed later = tt
 stops_so run ReadFailed later = refl
 stops_so run (BadLine n) later = refl
 stops_so run (LineTooLong n) later = refl
 
--- ---- parts
+-- ---- the parts
 
 module _ {Origin W : Type 0} {contents : W → Option (List ℕ)} where
-  -- Some acts, and then more.
-  pub went_more : {A B I : Type 0} {x : A} {result : Result B RunFault} {c d e : Run} {p q r : Page W}
+  -- Two parts of a run, one after the other.
+  pub went_more : {A B I : Type 0} {x : A} {result : Result B RunFault} {c d e : Runner} {p q r : Page W}
       {s t u : Account Origin} {from mid to : I → Stage} {xs ys : List Act}
       → Went contents c d p q s t from mid (Ok x) xs → Went contents d e q r t u mid to result ys
       → Went contents c e p r s u from to result (xs ++ ys)
   went_more {result} {c} {d} {from} {mid} {to} first second =
       let moved' = client_after-append c.client first.acts second.acts in
       let printed = journal-append c.client first.acts second.acts in
-      let here = c.session.config.timeout in
-      let there = d.session.config.timeout in
+      let here = c.setup.config.timeout in
+      let there = d.setup.config.timeout in
       let same : there ≡ here = rw first.same refl in
       record {
         acts = first.acts ++ second.acts;
@@ -122,20 +126,20 @@ module _ {Origin W : Type 0} {contents : W → Option (List ℕ)} where
         out = out_more first.client_is first.out first.prints second.out second.prints;
         asks = asked_more first.client_is first.asks second.asks;
         fit = fit_append first.acts second.acts first.fit second.fit;
-        within = within_more c.session.window c.client d.client first.acts second.acts first.client_is first.within
-            (subst (λ (session : Session). IsWithin session.window d.client second.acts) first.same second.within);
+        within = within_more c.setup.window c.client d.client first.acts second.acts first.client_is first.within
+            (subst (λ (setup : Setup). IsWithin setup.window d.client second.acts) first.same second.within);
       }
 
-  pub more_acts : {A B I : Type 0} {x : A} {result : Result B RunFault} {c d e : Run} {p q r : Page W}
+  pub more_acts : {A B I : Type 0} {x : A} {result : Result B RunFault} {c d e : Runner} {p q r : Page W}
       {s t u : Account Origin} {from mid to : I → Stage} {xs ys : List Act}
       (first : Went contents c d p q s t from mid (Ok x) xs) (second : Went contents d e q r t u mid to result ys)
       → (went_more first second).acts ≡ first.acts ++ second.acts
   unfolding went_more
   more_acts first second = refl
 
-  -- Nothing was done, and the stage is the same.
-  pub went_still : {I : Type 0} (c d : Run) (p : Page W) (s : Account Origin) {from to : I → Stage}
-      → d.session ≡ c.session → d.client ≡ c.client → ((i : I) → from i ≡ to i)
+  -- An empty part: nothing was done, and the stage is the same.
+  pub went_still : {I : Type 0} (c d : Runner) (p : Page W) (s : Account Origin) {from to : I → Stage}
+      → d.setup ≡ c.setup → d.client ≡ c.client → ((i : I) → from i ≡ to i)
       → Went contents c d p p s s from to done []
   went_still c d p s same client stages = record {
     acts = [];
@@ -151,12 +155,12 @@ module _ {Origin W : Type 0} {contents : W → Option (List ℕ)} where
     within = tt;
   }
 
-  pub went_nothing : {I : Type 0} (c : Run) (p : Page W) (s : Account Origin) (from : I → Stage)
+  pub went_nothing : {I : Type 0} (c : Runner) (p : Page W) (s : Account Origin) (from : I → Stage)
       → Went contents c c p p s s from from done []
   went_nothing c p s from = went_still c c p s refl refl (λ i. refl)
 
-  -- The page was turned in.
-  pub went_turned : {A I : Type 0} {result : Result A RunFault} {c d : Run} {p q r : Page W} {s t : Account Origin}
+  -- A part in which the held text of the page was written first.
+  pub went_turned : {A I : Type 0} {result : Result A RunFault} {c d : Runner} {p q r : Page W} {s t : Account Origin}
       {from to : I → Stage} {xs : List Act} → Prints contents p q [] → Went contents c d q r s t from to result xs
       → Went contents c d p r s t from to result xs
   went_turned {c} {p = p} {q = q} {r = r} first then = record {
@@ -173,14 +177,14 @@ module _ {Origin W : Type 0} {contents : W → Option (List ℕ)} where
     within = then.within;
   }
 
-  pub turned_acts : {A I : Type 0} {result : Result A RunFault} {c d : Run} {p q r : Page W} {s t : Account Origin}
+  pub turned_acts : {A I : Type 0} {result : Result A RunFault} {c d : Runner} {p q r : Page W} {s t : Account Origin}
       {from to : I → Stage} {xs : List Act} (first : Prints contents p q [])
       (then : Went contents c d q r s t from to result xs) → (went_turned first then).acts ≡ then.acts
   unfolding went_turned
   turned_acts first then = refl
 
-  -- A part goes from other stages, and with another result, by the same acts.
-  went_as : {A B I J : Type 0} {result : Result A RunFault} {other : Result B RunFault} {c d : Run} {p q : Page W}
+  -- A part with the same acts has other stages and another result.
+  went_as : {A B I J : Type 0} {result : Result A RunFault} {other : Result B RunFault} {c d : Runner} {p q : Page W}
       {s t : Account Origin} {from to : I → Stage} {from' to' : J → Stage} {xs : List Act} (f : J → I)
       → ((j : J) → from' j ≡ from (f j))
       → ((j : J) (left : Stage) → ComesTo result (to (f j)) left → ComesTo other (to' j) left)
@@ -205,30 +209,30 @@ module _ {Origin W : Type 0} {contents : W → Option (List ℕ)} where
     within = went.within;
   }
 
-  pub went_at : {A I J : Type 0} {result : Result A RunFault} {c d : Run} {p q : Page W} {s t : Account Origin}
+  pub went_at : {A I J : Type 0} {result : Result A RunFault} {c d : Runner} {p q : Page W} {s t : Account Origin}
       {from to : I → Stage} {xs : List Act} (f : J → I) → Went contents c d p q s t from to result xs
       → Went contents c d p q s t (λ j. from (f j)) (λ j. to (f j)) result xs
   went_at f went = went_as f (λ j. refl) (λ j left is. is) (λ acts gained is. is) went
 
-  pub went_from : {A I : Type 0} {result : Result A RunFault} {c d : Run} {p q : Page W} {s t : Account Origin}
+  pub went_from : {A I : Type 0} {result : Result A RunFault} {c d : Runner} {p q : Page W} {s t : Account Origin}
       {from other to : I → Stage} {xs : List Act} → ((i : I) → other i ≡ from i)
       → Went contents c d p q s t from to result xs → Went contents c d p q s t other to result xs
   went_from is went = went_as (λ i. i) is (λ i left comes. comes) (λ acts gained asked. asked) went
 
-  pub went_to : {A I : Type 0} {x : A} {c d : Run} {p q : Page W} {s t : Account Origin}
+  pub went_to : {A I : Type 0} {x : A} {c d : Runner} {p q : Page W} {s t : Account Origin}
       {from to other : I → Stage} {xs : List Act} → ((i : I) → to i ≡ other i)
       → Went contents c d p q s t from to (Ok x) xs → Went contents c d p q s t from other (Ok x) xs
   went_to is went = went_as (λ i. i) (λ i. refl) (λ i left comes. comes ∙ is i) (λ acts gained asked. asked) went
 
-  -- One act.
-  pub went_one : {A I : Type 0} {result : Result A RunFault} {c d : Run} {p q : Page W} {s t : Account Origin}
-      {from to : I → Stage} (act : Act) → FitsLine act → d.session ≡ c.session → d.client ≡ (turn_at c.client act).after
-      → ((i : I) → IsDue c.session.config.timeout (from i) act)
-      → ((i : I) → ComesTo result (to i) (moved c.session.config.timeout (from i) act))
+  -- A part of one act.
+  pub went_one : {A I : Type 0} {result : Result A RunFault} {c d : Runner} {p q : Page W} {s t : Account Origin}
+      {from to : I → Stage} (act : Act) → FitsLine act → d.setup ≡ c.setup → d.client ≡ (turn_at c.client act).after
+      → ((i : I) → IsDue c.setup.config.timeout (from i) act)
+      → ((i : I) → ComesTo result (to i) (moved c.setup.config.timeout (from i) act))
       → Prints contents p q (line_of act ++ remarks (turn_at c.client act).notes)
       → (WantsOut act → HasPassed p (writer_of q) [])
       → GainsDue result (asked_by act ++ sends_at c.client act) s t
-      → IsWithin c.session.window c.client (act ∷ []) → Went contents c d p q s t from to result (feed_in act)
+      → IsWithin c.setup.window c.client (act ∷ []) → Went contents c d p q s t from to result (feed_in act)
   went_one {c} {p = p} {q = q} act fits same moved' due comes printed out asked within = record {
     acts = act ∷ [];
     takes = append-nil _;
@@ -243,39 +247,39 @@ module _ {Origin W : Type 0} {contents : W → Option (List ℕ)} where
     within = within;
   }
 
-  -- A wait in which nothing came that is handed on, or that failed.
-  pub went_passed : {A I : Type 0} {result : Result A RunFault} (c d : Run) (p : Page W) {s t : Account Origin}
-      {from to : I → Stage} (wait : ℕ) (heard : Heard) → d.session ≡ c.session → d.client ≡ c.client
-      → ((i : I) → IsDue c.session.config.timeout (from i) (Passed wait heard))
-      → ((i : I) → ComesTo result (to i) (moved c.session.config.timeout (from i) (Passed wait heard)))
+  -- A part of one wait that brought nothing for the client, or failed.
+  pub went_passed : {A I : Type 0} {result : Result A RunFault} (c d : Runner) (p : Page W) {s t : Account Origin}
+      {from to : I → Stage} (wait : ℕ) (heard : Heard) → d.setup ≡ c.setup → d.client ≡ c.client
+      → ((i : I) → IsDue c.setup.config.timeout (from i) (Passed wait heard))
+      → ((i : I) → ComesTo result (to i) (moved c.setup.config.timeout (from i) (Passed wait heard)))
       → ((gained : List Entry) → gained ≡ Waited wait heard ∷ [] → IsGained result (Waited wait heard ∷ []) gained)
-      → has_failed (writer_of p) ≡ false → (1 < wait → held p ≡ []) → Gains (Waited wait heard) s t
+      → has_failed (writer_of p) ≡ false → (0 < wait → held p ≡ []) → Gains (Waited wait heard) s t
       → Went contents c d p p s t from to result []
   went_passed c d p wait heard same client due comes fits sound none gains =
       went_one (Passed wait heard) tt same client due comes (prints_nothing p)
       (λ waits. passed_here sound (none waits) ([], sym (append-nil _)))
       (record { gained = Waited wait heard ∷ []; gains = gains; as_due = fits _ refl }) tt
 
-  -- The time was read.
-  pub went_read : {I : Type 0} (c d : Run) (p : Page W) {s t : Account Origin} {from to : I → Stage} (time : ℕ)
-      → d.session ≡ c.session → d.client ≡ c.client
-      → ((i : I) → IsDue c.session.config.timeout (from i) (Read time))
-      → ((i : I) → moved c.session.config.timeout (from i) (Read time) ≡ to i)
+  -- A part in which the time was read.
+  pub went_read : {I : Type 0} (c d : Runner) (p : Page W) {s t : Account Origin} {from to : I → Stage} (time : ℕ)
+      → d.setup ≡ c.setup → d.client ≡ c.client
+      → ((i : I) → IsDue c.setup.config.timeout (from i) (Read time))
+      → ((i : I) → moved c.setup.config.timeout (from i) (Read time) ≡ to i)
       → Gains (Timed time) s t → Went contents c d p p s t from to done []
   went_read c d p time same client due comes gains =
       went_one (Read time) tt same client due comes (prints_nothing p) (λ waits. absurd waits)
       (record { gained = Timed time ∷ []; gains = gains; as_due = refl }) tt
 
-  -- A datagram was handed on.
-  pub went_came : {I : Type 0} {c d : Run} {p q r : Page W} {s t : Account Origin} {from to : I → Stage} (wait : ℕ)
+  -- A part in which a datagram was passed to the client.
+  pub went_came : {I : Type 0} {c d : Runner} {p q r : Page W} {s t : Account Origin} {from to : I → Stage} (wait : ℕ)
       (peer : Station) (octets : List ℕ) (answer : Option (ℕ × Outcome)) → FitsLine (Came wait peer octets)
-      → d.session ≡ c.session
+      → d.setup ≡ c.setup
       → answer ≡ (datagram (rules_of c.client) c.client.state peer octets).answer
       → d.client ≡ keeping c.client (datagram (rules_of c.client) c.client.state peer octets).after
-      → ((i : I) → IsDue c.session.config.timeout (from i) (Came wait peer octets))
-      → ((i : I) → moved c.session.config.timeout (from i) (Came wait peer octets) ≡ to i)
+      → ((i : I) → IsDue c.setup.config.timeout (from i) (Came wait peer octets))
+      → ((i : I) → moved c.setup.config.timeout (from i) (Came wait peer octets) ≡ to i)
       → Prints contents p q (arrival_line peer octets) → Prints contents q r (remarks (datagram_notes answer))
-      → has_failed (writer_of p) ≡ false → (1 < wait → held p ≡ []) → Gains (Waited wait (Arrived peer octets)) s t
+      → has_failed (writer_of p) ≡ false → (0 < wait → held p ≡ []) → Gains (Waited wait (Arrived peer octets)) s t
       → Went contents c d p r s t from to done []
   went_came {c} wait peer octets answer fits same is left due comes line notes sound none_held gains =
       let none = posts-answer answer in
@@ -290,13 +294,13 @@ module _ {Origin W : Type 0} {contents : W → Option (List ℕ)} where
       })
       tt
 
-  -- The time was told.
-  pub went_told : {A I : Type 0} {result : Result A RunFault} {c d : Run} {p q r : Page W} {s t : Account Origin}
-      {from to : I → Stage} (time : ℕ) (due : List DueEntry) → time < 2 ^ 64 → d.session ≡ c.session
+  -- A part in which the client got the time.
+  pub went_told : {A I : Type 0} {result : Result A RunFault} {c d : Runner} {p q r : Page W} {s t : Account Origin}
+      {from to : I → Stage} (time : ℕ) (due : List DueEntry) → time < 2 ^ 64 → d.setup ≡ c.setup
       → due ≡ (tick (rules_of c.client) c.client.state time).answer
       → d.client ≡ keeping c.client (tick (rules_of c.client) c.client.state time).after
-      → ((i : I) → IsDue c.session.config.timeout (from i) (Told time))
-      → ((i : I) → ComesTo result (to i) (moved c.session.config.timeout (from i) (Told time)))
+      → ((i : I) → IsDue c.setup.config.timeout (from i) (Told time))
+      → ((i : I) → ComesTo result (to i) (moved c.setup.config.timeout (from i) (Told time)))
       → Prints contents p q (time_line time) → Prints contents q r (remarks (flat_map (due_notes d.client.state) due))
       → GainsDue result (posts (flat_map (due_notes d.client.state) due)) s t
       → Went contents c d p r s t from to result []
@@ -307,36 +311,36 @@ module _ {Origin W : Type 0} {contents : W → Option (List ℕ)} where
       (printed_as (line ⨾ notes) (ap (λ (ns : List Note). time_line time ++ remarks ns) alike))
       (λ waits. absurd waits) (rw (sym alike) sends) tt
 
-  -- A request was asked for, while there was room.
-  pub went_asked : {A I : Type 0} {result : Result A RunFault} {c d : Run} {p q r : Page W} {s t : Account Origin}
-      {from to : I → Stage} (line : List ℕ) (event : Event) → d.session ≡ c.session
-      → ((i : I) → IsDue c.session.config.timeout (from i) (Asked line event))
-      → ((i : I) → ComesTo result (to i) (moved c.session.config.timeout (from i) (Asked line event)))
+  -- A part in which a request was made, while there was room.
+  pub went_asked : {A I : Type 0} {result : Result A RunFault} {c d : Runner} {p q r : Page W} {s t : Account Origin}
+      {from to : I → Stage} (line : List ℕ) (event : Event) → d.setup ≡ c.setup
+      → ((i : I) → IsDue c.setup.config.timeout (from i) (Asked line event))
+      → ((i : I) → ComesTo result (to i) (moved c.setup.config.timeout (from i) (Asked line event)))
       → Prints contents p q (whole_line line) → Opened contents c.client d.client q r s t result event
       → (WantsOut (Asked line event) → (has_failed (writer_of p) ≡ false) × (held p ≡ []))
-      → open_in c.client < c.session.window → Went contents c d p r s t from to result []
+      → open_in c.client < c.setup.window → Went contents c d p r s t from to result []
   went_asked line event same due comes printed opened out few =
       went_one (Asked line event) tt same opened.client_is due comes (printed ⨾ opened.prints)
       (λ wants.
       let (sound, none) = out wants in passed_here sound none (printed_on (printed ⨾ opened.prints))) opened.asks
       (few, tt)
 
-  -- A fault of one part is that of the whole, whatever was to come after it.
-  pub went_failed : {A I : Type 0} (B : Type 0) {c d : Run} {p q : Page W} {s t : Account Origin}
+  -- The fault of one part is the fault of the whole, whatever comes later.
+  pub went_failed : {A I : Type 0} (B : Type 0) {c d : Runner} {p q : Page W} {s t : Account Origin}
       {from to other : I → Stage} {xs : List Act} (fault : RunFault)
       → Went contents c d p q s t from to (failed A fault) xs
       → Went contents c d p q s t from other (failed B fault) xs
   went_failed B fault went =
       went_as (λ i. i) (λ i. refl) (λ i left comes. comes) (λ acts gained asked. asked) went
 
-  -- All was done, whatever it answers.
-  pub went_ok : {A B I : Type 0} {x : A} (y : B) {c d : Run} {p q : Page W} {s t : Account Origin}
+  -- A part that ended well, with any result.
+  pub went_ok : {A B I : Type 0} {x : A} (y : B) {c d : Runner} {p q : Page W} {s t : Account Origin}
       {from to : I → Stage} {xs : List Act} → Went contents c d p q s t from to (Ok x) xs
       → Went contents c d p q s t from to (Ok y) xs
   went_ok y went = went_as (λ i. i) (λ i. refl) (λ i left comes. comes) (λ acts gained asked. asked) went
 
-  -- The run stops where it stands.
-  pub went_stopped : {I : Type 0} (A : Type 0) (c : Run) (p : Page W) (s : Account Origin) (from to : I → Stage)
+  -- The run stops at this stage.
+  pub went_stopped : {I : Type 0} (A : Type 0) (c : Runner) (p : Page W) (s : Account Origin) (from to : I → Stage)
       (fault : TraceFault) → ((i : I) → StopsAt (Script fault) (from i))
       → Went contents c c p p s s from to (failed A (Script fault)) []
   went_stopped A c p s from to fault stops = record {
@@ -353,36 +357,36 @@ module _ {Origin W : Type 0} {contents : W → Option (List ℕ)} where
     within = tt;
   }
 
-  -- All turns are taken.
-  pub went_spent : {I : Type 0} (A : Type 0) {B : Type 0} {x : B} {c d : Run} {p q : Page W} {s t : Account Origin}
+  -- The run stops because all turns are spent.
+  pub went_spent : {I : Type 0} (A : Type 0) {B : Type 0} {x : B} {c d : Runner} {p q : Page W} {s t : Account Origin}
       {from mid to : I → Stage} {xs : List Act} → ((i : I) → result_at (mid i) ≡ Some (Err (Link TurnsSpent)))
       → Went contents c d p q s t from mid (Ok x) xs
       → Went contents c d p q s t from to (failed A (Link TurnsSpent)) xs
   went_spent A spent' went =
       went_as (λ i. i) (λ i. refl) (λ i left comes. rw comes (spent' i)) (λ acts gained asked. asked) went
 
-  -- A line is taken, or none is left, while there is room.
-  pub went_took : {I : Type 0} (c : Run) (p : Page W) (s : Account Origin) {from to : I → Stage} (line : List ℕ)
-      → ((i : I) → IsDue c.session.config.timeout (from i) (Took line))
-      → ((i : I) → moved c.session.config.timeout (from i) (Took line) ≡ to i) → open_in c.client < c.session.window
+  -- A part in which a line was taken, or none was left, while there was room.
+  pub went_took : {I : Type 0} (c : Runner) (p : Page W) (s : Account Origin) {from to : I → Stage} (line : List ℕ)
+      → ((i : I) → IsDue c.setup.config.timeout (from i) (Took line))
+      → ((i : I) → moved c.setup.config.timeout (from i) (Took line) ≡ to i) → open_in c.client < c.setup.window
       → Went contents c c p p s s from to done (Took line ∷ [])
   went_took c p s line due comes few =
       went_one (Took line) tt refl refl due comes (prints_nothing p) (λ waits. absurd waits) (due_nothing s) (few, tt)
 
-  pub went_none : {I : Type 0} (c : Run) (p : Page W) (s : Account Origin) {from to : I → Stage} (reading : Reading)
-      → ((i : I) → IsDue c.session.config.timeout (from i) (NoLine reading))
-      → ((i : I) → moved c.session.config.timeout (from i) (NoLine reading) ≡ to i)
+  pub went_none : {I : Type 0} (c : Runner) (p : Page W) (s : Account Origin) {from to : I → Stage} (reading : Reading)
+      → ((i : I) → IsDue c.setup.config.timeout (from i) (NoLine reading))
+      → ((i : I) → moved c.setup.config.timeout (from i) (NoLine reading) ≡ to i)
       → Went contents c c p p s s from to done (NoLine reading ∷ [])
   went_none c p s reading due comes =
       went_one (NoLine reading) tt refl refl due comes (prints_nothing p) (λ waits. absurd waits) (due_nothing s) tt
 
-  -- A request that is too long was refused, while there was room.
-  pub went_refused : {c d : Run} {p q r m : Page W} {s t : Account Origin} (line : List ℕ) (peer : Station)
+  -- A part in which a request was refused as too long, while there was room.
+  pub went_refused : {c d : Runner} {p q r m : Page W} {s t : Account Origin} (line : List ℕ) (peer : Station)
       (body : List ℕ) → longest_body < length body
       → Went contents c d p m s t (λ later. started c (Fresh ∷ Does (Asked line (Ask peer 15 body)) ∷ later))
       (λ later. started d (Does (Asked line (Ask peer 15 body)) ∷ later)) done []
       → Prints contents m q (whole_line line) → Prints contents q r (remark (Refused TooLong))
-      → open_in d.client < c.session.window
+      → open_in d.client < c.setup.window
       → Went contents c d p r s t (λ later. started c (Fresh ∷ Does (Asked line (Ask peer 15 body)) ∷ later))
       (λ later. started d later) done []
   went_refused {c} {d} {q} {r} {t} line peer body long fresh printed noted few =
@@ -394,34 +398,34 @@ module _ {Origin W : Type 0} {contents : W → Option (List ℕ)} where
         prints = printed_as plain (ap (λ (t : Turn). remarks t.notes) is);
         asks = subst (λ (x : Turn). GainsDue done (posts x.notes) t t) is (due_nothing t);
       } in
-      let comes = λ (later : List Aim). ap (λ (client : Client). ready client d.behind later) (sym (ap (λ
+      let comes = λ (later : List Aim). ap (λ (client : Client). ready client d.since_told later) (sym (ap (λ
       (t : Turn). t.after) is)) in
-      let room : open_in d.client < d.session.window =
-      subst (λ (session : Session). open_in d.client < session.window) (sym fresh.same) few in
+      let room : open_in d.client < d.setup.window =
+      subst (λ (setup : Setup). open_in d.client < setup.window) (sym fresh.same) few in
       went_more fresh
       (went_asked line (Ask peer 15 body) refl (λ (later : List Aim). (refl, refl)) comes printed opened
       (λ (is, short). absurd (omega (arith, long, short))) room)
 
-  -- What a line says is wanted of it.
-  pub line_said : {A : Type 0} {result : Result A RunFault} {c d : Run} {p q : Page W} {s t : Account Origin}
+  -- The aims of a line follow from its meaning.
+  pub line_said : {A : Type 0} {result : Result A RunFault} {c d : Runner} {p q : Page W} {s t : Account Origin}
       {to : List Aim → Stage} {acts : List Act} (line : List ℕ) (number : ℕ) → acts_of_line line ≡ Some acts
       → Went contents c d p q s t
-      (λ later. started c (flat_map aims_of acts ++ taking c.session.window number later)) to result []
+      (λ later. started c (flat_map aims_of acts ++ taking c.setup.window number later)) to result []
       → Went contents c d p q s t
-      (λ later. started c (aims_for (acts_of_line line) c.session.window number line later)) to result []
+      (λ later. started c (aims_for (acts_of_line line) c.setup.window number line later)) to result []
   line_said {c = c} line number is went =
-      went_from (λ later. ap (λ (o : Option (List Act)). started c (aims_for o c.session.window number line later)) is)
+      went_from (λ later. ap (λ (o : Option (List Act)). started c (aims_for o c.setup.window number line later)) is)
       went
 
-  -- A line that is bad.
-  pub went_bad : {c d : Run} {p q : Page W} {s t : Account Origin} {to other : List Aim → Stage}
+  -- A part in which a bad line was taken.
+  pub went_bad : {c d : Runner} {p q : Page W} {s t : Account Origin} {to other : List Aim → Stage}
       {named : TraceFault} {fault : RunFault} (line : List ℕ) (number : ℕ) → acts_of_line line ≡ None
       → fault_of_line number line ≡ named
       → Went contents c d p q s t (λ later. started c (ending (Err named) later)) to (failed (Unit {0}) fault) []
       → Went contents c d p q s t
-      (λ later. started c (aims_for (acts_of_line line) c.session.window number line later)) other
+      (λ later. started c (aims_for (acts_of_line line) c.setup.window number line later)) other
       (failed (Unit {0}) fault) []
   went_bad {c = c} {fault = fault} line number none is went =
       went_failed (Unit {0}) fault
-      (went_from (λ later. ap (λ (o : Option (List Act)). started c (aims_for o c.session.window number line later))
+      (went_from (λ later. ap (λ (o : Option (List Act)). started c (aims_for o c.setup.window number line later))
       none ∙ ap (λ (f : TraceFault). started c (ending (Err f) later)) is) went)

@@ -1,4 +1,4 @@
--- What the client tells is ASCII, and each note is one line.
+-- The client's notes are ASCII, and each is one line.
 use Rattle.std.proofs.Common.{[], append_assoc, arith, false, get_or, inl, inr, length, List, map, None, Option, refl}
 use Rattle.std.proofs.Common.{Some, suc, take, true, zero, ℕ, ◌%◌, ◌++◌, ◌+◌, ◌/◌, ◌<◌, ◌==◌, ◌||◌, ◌∷◌, ◌≡◌, ◌≢◌, ◌≤◌}
 use Rattle.std.proofs.lemmas.{Bool.{cases_Bool, Decides.nat_tests}, List.Folds.list_all-append}
@@ -41,7 +41,7 @@ plain_take zero xs is = tt
 plain_take (suc n) [] is = tt
 plain_take (suc n) (x ∷ xs) (first, later) = (first, plain_take n xs later)
 
--- Whether an octet is one of these, by a test.
+-- Whether an octet is of this kind, as a test.
 abbrev is_plain : ℕ → Bool
 is_plain octet = nat_lt octet 10 || is_in_range 11 127 octet
 

@@ -19,11 +19,11 @@ use Rattle.{bac_print.specs.{peer_text, PeerTexts.address_text}, bac_script.proo
 use Rattle.bac_script.specs.{Happens, Said, Settings, Line.{said_by, said_in, text_of_line}}
 use Rattle.bac_run.specs.{arrival_line, IsLineOf, LineFault, settings_line, time_line}
 
--- Octets that stand for themselves: those of a text in ASCII, from a space (32) on.
+-- Printable octets: those of a text in ASCII, from a space (32) on.
 abbrev pub IsShown : List ℕ → Type 0
 IsShown = AllByRecursion (λ octet. (32 ≤ octet) × (octet ≤ 126))
 
--- Octets that stand for themselves, without a space.
+-- Printable octets without a space.
 abbrev pub IsVisible : List ℕ → Type 0
 IsVisible = AllByRecursion (λ octet. (33 ≤ octet) × (octet ≤ 126))
 
@@ -60,7 +60,7 @@ text_so xs is short =
     let ended = ends_with_feed-push xs in
     grind (arith, common_steps, nat_tests, same, ended, length-append)
 
--- A line of visible octets and spaces says what its words say.
+-- A line of printable octets has the meaning of its words.
 pub line_so : (is_first : Bool) (xs : List ℕ) (what : Said) → IsShown xs → length xs ≤ longest_line
     → said_by is_first (words_of xs) ≡ Some what → IsLineOf is_first (xs ++ 10 ∷ []) what
 line_so is_first xs what is short says = record {
@@ -110,7 +110,7 @@ number_so most n within fits =
     let some = decimal_nonempty n fits in
     grind (arith, nat_tests, digits, value, some, within)
 
--- Octets that are seen to be visible.
+-- Whether an octet is visible, as a test.
 abbrev pub visible_test : ℕ → Bool
 visible_test octet = nat_le 33 octet && nat_le octet 126
 
@@ -118,7 +118,7 @@ pub visible_so : (xs : List ℕ) → list_all visible_test xs ≡ true → IsVis
 visible_so [] is = tt
 visible_so (x ∷ xs) is = (grind (arith, nat_tests, is), visible_so xs (grind (arith, nat_tests, is)))
 
--- Two words and a space are shown.
+-- Two words with a space between them are printable.
 pub two_shown : (word rest : List ℕ) → IsVisible word → IsShown rest → IsShown (word ++ 32 ∷ rest)
 two_shown word rest is more = shown_on word (32 ∷ rest) (shown word is) ((omega arith, omega arith), more)
 
@@ -132,7 +132,7 @@ tick_says text digits n words number = rw (words, number) refl
 short_tick : (digits : List ℕ) → length digits ≤ 20 → length (codes "tick" ++ 32 ∷ digits) ≤ longest_line
 short_tick digits few = omega (arith, few)
 
--- The line of a time is read as that time.
+-- The line of a time is read as this time.
 pub time_read_back : (n : ℕ) → n < 2 ^ 64 → IsLineOf false (time_line n) (Happens (Tick n))
 time_read_back n fits =
     let some = decimal_nonempty n fits in
@@ -170,7 +170,7 @@ short_settings first second few less =
       length-append second (32 ∷ codes "0"),
     )
 
--- The settings of a session, as one text.
+-- The settings of a setup, as one text.
 settings_text : (timeout retries : ℕ) → settings_line timeout retries
     ≡ (codes "client" ++ 32 ∷ (decimal timeout ++ 32 ∷ (decimal retries ++ 32 ∷ codes "0"))) ++ 10 ∷ []
 settings_text timeout retries = grind (arith, append_assoc)
@@ -220,7 +220,7 @@ decimal_range n fits =
     digits_range (decimal n)
     (digits_decimal (numerals_by_value (λ ds. all_ascii_digits ds ≡ true) tells_all_ascii_digits) n fits)
 
--- Digits are no such octet.
+-- The mark is not a digit.
 none_is : (mark : ℕ) (word : List ℕ) → (57 < mark) ⊎ (mark < 48)
     → AllByRecursion (λ octet. (48 ≤ octet) × (octet ≤ 57)) word → AllByRecursion (λ octet. octet ≢ mark) word
 none_is mark [] out is = tt
@@ -281,7 +281,7 @@ address_back a b c d one two three four =
     (arith, four)) wide in
     rw (first, second, third, last) refl
 
--- The four octets of an address.
+-- An address has four octets.
 record Quad (ip : ℕ) : Type 0 where
   a : ℕ
   b : ℕ
@@ -362,7 +362,7 @@ dotted_long a b c d one two three four =
 abbrev pub plain : ℕ → ℕ → Station
 plain ip port = record { ip = ip; port = port; route = None }
 
--- The text of it.
+-- The text of a peer without a route.
 record IsPeerText (ip port : ℕ) (text : List ℕ) : Type 0 where
   visible : IsVisible text
   some : 0 < length text
@@ -453,7 +453,7 @@ arrival_so ip port peer octets is bytes some few =
     (arrival_says (codes "data" ++ 32 ∷ (peer ++ 32 ∷ digits)) peer digits octets (plain ip port) words is.back
     (octets_back octets bytes some few))
 
--- The line of a datagram is read as that datagram.
+-- The line of a datagram is read as this datagram.
 pub arrival_read_back : (ip port : ℕ) (octets : List ℕ) → ip < 2 ^ 32 → port < 65536 → IsBytes octets
     → 0 < length octets → length octets ≤ 2034
     → IsLineOf false (arrival_line (plain ip port) octets) (Happens (Data (plain ip port) octets))

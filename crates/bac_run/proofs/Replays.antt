@@ -9,11 +9,11 @@ use Rattle.bac_script.specs.{Blank, Happens, lines, Remark, Said, Inner.Running.
 use Rattle.bac_script.specs.{Script.{all_said, fault_from, first_fault, said_from, text}, Text.notes_text}
 use Rattle.bac_run.proofs.{Folded.{lay, line_laid, plain_skipped, remarks_skipped}, Plain.{IsPlainLine, rest_plain}}
 use Rattle.bac_run.proofs.Plain.{seek_plain}
-use Rattle.bac_run.specs.{Act, AreSettings, Asked, AtEnd, Came, IsLineOf, IsReadBack, journal, journal_of, line_of}
-use Rattle.bac_run.specs.{new_client, NoLine, notes_of, Passed, Paused, Read, remarks, Session, settings_line, Told}
+use Rattle.bac_run.specs.{Act, AreSettings, Asked, AtEnd, Came, IsLineOf, IsReplayed, journal, journal_of, line_of}
+use Rattle.bac_run.specs.{new_client, NoLine, notes_of, Passed, Paused, Read, remarks, Setup, settings_line, Told}
 use Rattle.bac_run.specs.{Took, turn_at}
 
--- A line that says this, and then the rest.
+-- A line with this meaning, and then the rest.
 line_then : {is_first : Bool} {line : List ℕ} {what : Said} (rest : List ℕ) → IsLineOf is_first line what
     → lines (line ++ rest) AtEnd ≡ line ∷ lines rest AtEnd
 line_then rest is = rw is.ended (lines-ended is.text rest AtEnd is.no_feed)
@@ -61,8 +61,8 @@ plain_then client {told} rest is =
     ∙ plain_skipped (λ xs. printed client xs ≡ printed client (lay rest))
     (λ line more is same. remark_then client more is ∙ same) is rest refl
 
--- The text at an act comes before that of the rest.
-act_then : (client : Client) (act : Act) (rest : List ℕ) → IsReadBack act
+-- The text of an act comes before the text of the rest.
+act_then : (client : Client) (act : Act) (rest : List ℕ) → IsReplayed act
     → printed client (lay ((line_of act ++ remarks (turn_at client act).notes) ++ rest))
     ≡ notes_text (turn_at client act).notes ++ printed (turn_at client act).after (lay rest)
 act_then client (Asked line event) rest is = event_then client event _ rest is
@@ -80,7 +80,7 @@ notes_text-append : (xs ys : List Note) → notes_text (xs ++ ys) ≡ notes_text
 notes_text-append = grind (arith, flat_map-append)
 
 -- The text of a journal.
-journal_text : (client : Client) (acts : List Act) → AllByRecursion IsReadBack acts
+journal_text : (client : Client) (acts : List Act) → AllByRecursion IsReplayed acts
     → printed client (lay (journal client acts)) ≡ notes_text (notes_of client acts)
 journal_text client [] is = refl
 journal_text client (act ∷ later) (here, others) =
@@ -89,18 +89,18 @@ journal_text client (act ∷ later) (here, others) =
     (journal_text (turn_at client act).after later others)
     ∙ sym (notes_text-append (turn_at client act).notes (notes_of (turn_at client act).after later))
 
--- The lines of a journal, of which the settings are the first.
-abbrev laid_lines : Session → List Act → List (List ℕ)
-laid_lines session acts = lines (settings_line session.config.timeout session.config.retries
-    ++ lay (journal (new_client session.config.timeout session.config.retries 0) acts)) AtEnd
+-- The lines of a journal; the settings are the first.
+abbrev laid_lines : Setup → List Act → List (List ℕ)
+laid_lines setup acts = lines (settings_line setup.config.timeout setup.config.retries
+    ++ lay (journal (new_client setup.config.timeout setup.config.retries 0) acts)) AtEnd
 
-pub replays : (session : Session) (acts : List Act) → AreSettings session → AllByRecursion IsReadBack acts
-    → text (journal_of session acts) AtEnd
-    ≡ notes_text (notes_of (new_client session.config.timeout session.config.retries 0) acts)
-replays session acts settings are =
-    let client = new_client session.config.timeout session.config.retries 0 in
+pub replays : (setup : Setup) (acts : List Act) → AreSettings setup → AllByRecursion IsReplayed acts
+    → text (journal_of setup acts) AtEnd
+    ≡ notes_text (notes_of (new_client setup.config.timeout setup.config.retries 0) acts)
+replays setup acts settings are =
+    let client = new_client setup.config.timeout setup.config.retries 0 in
     ap (λ (xs : List ℕ). text xs AtEnd) (line_laid (journal client acts) settings)
-    ∙ text_is (all_said (laid_lines session acts)) (settings_first (laid_lines session acts))
+    ∙ text_is (all_said (laid_lines setup acts)) (settings_first (laid_lines setup acts))
     ∙ rw (line_then (lay (journal client acts)) settings, settings.says) (journal_text client acts are)
 
 -- No line has a fault, whatever its number.
@@ -126,7 +126,7 @@ plain_well {told} rest is well =
     subst (λ (xs : List ℕ). Faultless (lay (xs ++ rest))) (sym (append-nil (codes "# " ++ told)))
     (plain_skipped Faultless (λ line more. line_well more) is rest well)
 
-act_well : (client : Client) (act : Act) (rest : List ℕ) → IsReadBack act → Faultless (lay rest)
+act_well : (client : Client) (act : Act) (rest : List ℕ) → IsReplayed act → Faultless (lay rest)
     → Faultless (lay ((line_of act ++ remarks (turn_at client act).notes) ++ rest))
 act_well client (Asked line event) rest is well = event_well _ rest is well
 act_well client Paused rest is well =
@@ -140,17 +140,17 @@ act_well client (Read time) rest is well = well
 act_well client (Took line) rest is well = well
 act_well client (NoLine reading) rest is well = well
 
-journal_well : (client : Client) (acts : List Act) → AllByRecursion IsReadBack acts
+journal_well : (client : Client) (acts : List Act) → AllByRecursion IsReplayed acts
     → Faultless (lay (journal client acts))
 unfolding Faultless
 journal_well client [] is = λ n. refl
 journal_well client (act ∷ later) (here, others) =
     act_well client act _ here (journal_well (turn_at client act).after later others)
 
-pub no_fault : (session : Session) (acts : List Act) → AreSettings session → AllByRecursion IsReadBack acts
-    → first_fault (lines (journal_of session acts) AtEnd) ≡ None
+pub no_fault : (setup : Setup) (acts : List Act) → AreSettings setup → AllByRecursion IsReplayed acts
+    → first_fault (lines (journal_of setup acts) AtEnd) ≡ None
 unfolding Faultless
-no_fault session acts settings are =
-    let client = new_client session.config.timeout session.config.retries 0 in
+no_fault setup acts settings are =
+    let client = new_client setup.config.timeout setup.config.retries 0 in
     ap (λ (xs : List ℕ). first_fault (lines xs AtEnd)) (line_laid (journal client acts) settings)
     ∙ rw (line_then (lay (journal client acts)) settings, settings.says) (journal_well client acts are 2)

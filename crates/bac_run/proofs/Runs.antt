@@ -1,4 +1,4 @@
--- A run so far, and where it stops.
+-- The first part of a run, and where the run stops.
 use Rattle.std.proofs.Common.{[], ap, append-nil, append_assoc, arith, drop, Err, false, flat_map, IfOk, inl, inr}
 use Rattle.std.proofs.Common.{length, length-append, List, None, Ok, Option, refl, Result, Some, subst, suc, sym, take}
 use Rattle.std.proofs.Common.{take-append-drop, ℕ, ◌++◌, ◌+◌, ◌<◌, ◌∙◌, ◌∷◌, ◌≡◌, ◌⊎◌}
@@ -15,59 +15,59 @@ use Rattle.bac_run.proofs.Parts.{more_acts, turned_acts, went_at, went_failed, w
 use Rattle.bac_run.proofs.{Parts.{went_still, went_stopped, went_took, went_turned}, Todo.done_so}
 use Rattle.bac_run.specs.{Act, acts_of_line, Aim, aims_for, aims_of, AreSettings, AtEnd, Checked, ending, Ends, EndsAt}
 use Rattle.bac_run.specs.{Failed, fault_of_line, feeds_in, Feeds, first_stage, HasNoWhole, IsGood, IsLast, IsOver}
-use Rattle.bac_run.specs.{IsOverAt, IsWhole}
+use Rattle.bac_run.specs.{IsOverAt, IsWholeLine}
 use Rattle.bac_run.specs.{IsReadWhenDue, IsTold, journal_lines, lines_in, Link, new_client, NextLine}
 use Rattle.bac_run.specs.{NoLine, Open, open_in, Page, ReadFailed, Reading, result_at, room_for, RunFault, Runs}
-use Rattle.bac_run.specs.{Script, Session, settings_line, Stage, stage_by, taking, Took}
-use Rattle.bac_run.specs.{TraceEnd, TraceFault, WantsLine, write_failed, declared.turns.Run.Run}
+use Rattle.bac_run.specs.{Script, Setup, settings_line, Stage, stage_by, taking, Took}
+use Rattle.bac_run.specs.{TraceEnd, TraceFault, WantsLine, write_failed, declared.turns.Runner.Runner}
 use Rattle.bac_run.specs.Inner.{ComesTo, HasPassed, IsOfWait, RunsOn, started, stopped, Went.Went}
 use Rattle.bac_script.specs.{ReaderStands, declared.tracing.TraceFault.TheVariants.WriteFailed, Input.CanReadOn}
 use Rattle.bac_script.specs.NextLine.{ReadForLine, TakesAndKeeps}
 use Rattle.{bac_links.specs.Account, bac_links.specs.declared.datagram.Datagram.Datagram}
 
--- A run as it begins.
-abbrev pub begins : Session → Datagram → Run
-begins session datagram = record {
-  session = session;
-  client = new_client session.config.timeout session.config.retries 0;
+-- A run at its beginning.
+abbrev pub begins : Setup → Datagram → Runner
+begins setup datagram = record {
+  setup = setup;
+  client = new_client setup.config.timeout setup.config.retries 0;
   datagram = datagram;
-  behind = 0;
+  since_told = 0;
 }
 
-abbrev start : Session → Client
-start session = new_client session.config.timeout session.config.retries 0
+abbrev start : Setup → Client
+start setup = new_client setup.config.timeout setup.config.retries 0
 
--- What the reader gave so far, of which acts took some, and some is held; and it was read only where that was due.
-pub record IsFed {R W : Type 0} (remaining : R → Option (List ℕ)) (session : Session) (reader reader' : Checked R)
+-- The reader's octets so far: some were taken, and some are held. The input was read only when that was due.
+pub record IsFed {R W : Type 0} (remaining : R → Option (List ℕ)) (setup : Setup) (reader reader' : Checked R)
     (held : List ℕ) (page : Page W) (after : Checked W) (acts feeds : List Act) : Type 0 where
   pub given : List ℕ
   pub gave : Gave remaining reader reader' given
   pub feeds_on : Feeds Open given held feeds
-  pub read : IsReadWhenDue session reader reader' given acts
-      (λ earlier. HasPassed page after (journal_lines session earlier))
+  pub read : IsReadWhenDue setup reader reader' given acts
+      (λ earlier. HasPassed page after (journal_lines setup earlier))
 
--- The settings were printed, and lines were taken, and what they ask for was done.
+-- The settings were printed, lines were taken, and their acts were done.
 pub record SoFar {Origin R W : Type 0} (remaining : R → Option (List ℕ)) (contents : W → Option (List ℕ))
-    (session : Session) (run : Run) (reader reader' : Checked R) (held : List ℕ) (page page' : Page W)
+    (setup : Setup) (run : Runner) (reader reader' : Checked R) (held : List ℕ) (page page' : Page W)
     (seen left : Account Origin) (count : ℕ) : Type 0 where
   pub datagram : Datagram
   pub first : Page W
-  pub settings : Prints contents page first (settings_line session.config.timeout session.config.retries)
+  pub settings : Prints contents page first (settings_line setup.config.timeout setup.config.retries)
   pub feeds : List Act
-  pub went : Went contents (begins session datagram) run first page' seen left (λ (u : Unit {0}). first_stage session)
-      (λ (u : Unit {0}). started run (taking session.window count [])) done feeds
-  pub fed : IsFed remaining session reader reader' held page (writer_of page') went.acts feeds
+  pub went : Went contents (begins setup datagram) run first page' seen left (λ (u : Unit {0}). first_stage setup)
+      (λ (u : Unit {0}). started run (taking setup.window count [])) done feeds
+  pub fed : IsFed remaining setup reader reader' held page (writer_of page') went.acts feeds
   pub good : AllByRecursion IsGood (lines_in feeds)
   pub counts : count ≡ length (lines_in feeds)
   pub stands : CanReadOn reader reader'
 
 -- ---- reads
 
--- The last read was due, by more acts and a later writer.
-due_on : {R : Type 0} {session : Session} {reader reader' : Checked R} {given : List ℕ} {acts : List Act}
+-- The last read was due, also with more acts and a later writer.
+due_on : {R : Type 0} {setup : Setup} {reader reader' : Checked R} {given : List ℕ} {acts : List Act}
     (IsPast IsPast' : List Act → Type 0) (all more : List Act) → all ≡ acts ++ more
     → ((earlier : List Act) → IsPast earlier → IsPast' earlier)
-    → IsReadWhenDue session reader reader' given acts IsPast → IsReadWhenDue session reader reader' given all IsPast'
+    → IsReadWhenDue setup reader reader' given acts IsPast → IsReadWhenDue setup reader reader' given all IsPast'
 due_on IsPast IsPast' all more is past (inl unread) = inl unread
 due_on IsPast IsPast' all more is past (inr last) =
     inr (record {
@@ -98,29 +98,29 @@ all_append : (xs ys : List (List ℕ)) → AllByRecursion IsGood xs → AllByRec
 all_append [] ys all more = more
 all_append (x ∷ xs) ys (here, all) more = (here, all_append xs ys all more)
 
--- A wait for room, and what a line asks for, in the words of the session.
-pub roomed : {Origin W A : Type 0} {contents : W → Option (List ℕ)} {session : Session} {result : Result A RunFault}
-    {c d : Run} {p q : Page W} {s t : Account Origin} → c.session ≡ session
-    → Went contents c d p q s t (λ later. started c (room_for c.session.window ∷ later)) (λ later. started d later)
+-- A wait for room, and what a line asks for, in the words of the setup.
+pub roomed : {Origin W A : Type 0} {contents : W → Option (List ℕ)} {setup : Setup} {result : Result A RunFault}
+    {c d : Runner} {p q : Page W} {s t : Account Origin} → c.setup ≡ setup
+    → Went contents c d p q s t (λ later. started c (room_for c.setup.window ∷ later)) (λ later. started d later)
     result []
-    → Went contents c d p q s t (λ later. started c (room_for session.window ∷ later)) (λ later. started d later)
+    → Went contents c d p q s t (λ later. started c (room_for setup.window ∷ later)) (λ later. started d later)
     result []
 roomed {c} same went =
-    went_from (λ later. ap (λ (x : Session). started c (room_for x.window ∷ later)) (sym same)) went
+    went_from (λ later. ap (λ (x : Setup). started c (room_for x.window ∷ later)) (sym same)) went
 
-pub lined : {Origin W A : Type 0} {contents : W → Option (List ℕ)} {session : Session} {result : Result A RunFault}
-    {c d : Run} {p q : Page W} {s t : Account Origin} (o : Option (List Act)) (number : ℕ) (line : List ℕ)
-    → c.session ≡ session
-    → Went contents c d p q s t (λ later. started c (aims_for o c.session.window number line later))
-    (λ later. started d (taking c.session.window number later)) result []
-    → Went contents c d p q s t (λ later. started c (aims_for o session.window number line later))
-    (λ later. started d (taking session.window number later)) result []
+pub lined : {Origin W A : Type 0} {contents : W → Option (List ℕ)} {setup : Setup} {result : Result A RunFault}
+    {c d : Runner} {p q : Page W} {s t : Account Origin} (o : Option (List Act)) (number : ℕ) (line : List ℕ)
+    → c.setup ≡ setup
+    → Went contents c d p q s t (λ later. started c (aims_for o c.setup.window number line later))
+    (λ later. started d (taking c.setup.window number later)) result []
+    → Went contents c d p q s t (λ later. started c (aims_for o setup.window number line later))
+    (λ later. started d (taking setup.window number later)) result []
 lined {contents = contents} {result = result} {c = c} {d = d} {p = p} {q = q} {s = s} {t = t} o number line same
     went =
-    subst (λ (x : Session). Went contents c d p q s t (λ later. started c (aims_for o x.window number line later))
+    subst (λ (x : Setup). Went contents c d p q s t (λ later. started c (aims_for o x.window number line later))
     (λ later. started d (taking x.window number later)) result []) same went
 
--- A fault that may come while requests are open says nothing of them.
+-- A fault that may come while requests are open does not depend on them.
 pub over_wait : (fault : RunFault) (client : Client) → IsOfWait fault → IsOverAt fault client
 over_wait (Link fault) client is = tt
 over_wait (Script WriteFailed) client is = tt
@@ -144,7 +144,7 @@ same_aims None o' window n m line other is same alike =
     (alike n ∙ ap (λ (k : ℕ). fault_of_line k other) same))
 
 -- The end of the input.
-well_so : (e : Run) (result : Result TraceEnd RunFault) (count : ℕ) (ls : List (List ℕ)) (left : List ℕ)
+well_so : (e : Runner) (result : Result TraceEnd RunFault) (count : ℕ) (ls : List (List ℕ)) (left : List ℕ)
     → IfOk result (λ end. end.lines ≡ count) → AllByRecursion IsGood ls → left ≡ [] → count ≡ length ls
     → IfOk result (λ end. (result_at (started e (Ends (Ok (record { lines = count })) ∷ [])) ≡ Some (Ok end))
     × AllByRecursion IsGood ls × (left ≡ []) × (end.lines ≡ length ls))
@@ -152,44 +152,44 @@ well_so e (Ok end) count ls left is good none counts =
     (ap (λ (n : ℕ). Some (Ok (record { lines = n }))) (sym is), good, none, is ∙ counts)
 well_so e (Err fault) count ls left is good none counts = tt
 
-module _ {Origin R W : Type 0} {remaining : R → Option (List ℕ)} {contents : W → Option (List ℕ)} {session : Session}
+module _ {Origin R W : Type 0} {remaining : R → Option (List ℕ)} {contents : W → Option (List ℕ)} {setup : Setup}
   where
-    -- Nothing was taken yet.
-    pub so_far_none : {page first : Page W} (run : Run) (reader : Checked R) (seen : Account Origin) {held : List ℕ}
-        → Prints contents page first (settings_line session.config.timeout session.config.retries)
-        → run.session ≡ session → run.client ≡ start session → run.behind ≡ 0 → has_failed reader ≡ false → held ≡ []
-        → SoFar remaining contents session run reader reader held page first seen seen 0
+    -- At the beginning no line was taken.
+    pub so_far_none : {page first : Page W} (run : Runner) (reader : Checked R) (seen : Account Origin) {held : List ℕ}
+        → Prints contents page first (settings_line setup.config.timeout setup.config.retries)
+        → run.setup ≡ setup → run.client ≡ start setup → run.since_told ≡ 0 → has_failed reader ≡ false → held ≡ []
+        → SoFar remaining contents setup run reader reader held page first seen seen 0
     so_far_none {first} run reader seen printed same is none sound empty = record {
       datagram = run.datagram;
       first = first;
       settings = printed;
       feeds = [];
-      went = went_still (begins session run.datagram) run first seen same is (λ u. rw (is, none) refl);
+      went = went_still (begins setup run.datagram) run first seen same is (λ u. rw (is, none) refl);
       fed = record { given = []; gave = Gave-none _; feeds_on = sym empty; read = inl (refl, refl) };
       good = tt;
       counts = refl;
       stands = record { sound = sound; unended = refl };
     }
 
-    -- A run that came so far, with so much held; the page was turned in since then.
-    module _ {reader reader' : Checked R} {now : List ℕ} {page first p q : Page W} {s t : Account Origin} {d : Run}
+    -- The first part of a run, with these octets held; then the held text of the page was written.
+    module _ {reader reader' : Checked R} {now : List ℕ} {page first p q : Page W} {s t : Account Origin} {d : Runner}
         {datagram : Datagram} {mid : Unit {0} → Stage} {feeds : List Act}
-        (settings : Prints contents page first (settings_line session.config.timeout session.config.retries))
-        (base : Went contents (begins session datagram) d first p s t (λ (u : Unit {0}). first_stage session) mid done
-        feeds) (fed : IsFed remaining session reader reader' now page (writer_of q) base.acts feeds)
+        (settings : Prints contents page first (settings_line setup.config.timeout setup.config.retries))
+        (base : Went contents (begins setup datagram) d first p s t (λ (u : Unit {0}). first_stage setup) mid done
+        feeds) (fed : IsFed remaining setup reader reader' now page (writer_of q) base.acts feeds)
         (turned : Prints contents p q []) where
-      abbrev both : {e : Run} {r : Page W} {v : Account Origin} {to : Unit {0} → Stage} {ys : List Act} {A : Type 0}
+      abbrev both : {e : Runner} {r : Page W} {v : Account Origin} {to : Unit {0} → Stage} {ys : List Act} {A : Type 0}
           {result : Result A RunFault} → Went contents d e q r t v mid to result ys
-          → Went contents (begins session datagram) e first r s v (λ (u : Unit {0}). first_stage session) to result
+          → Went contents (begins setup datagram) e first r s v (λ (u : Unit {0}). first_stage setup) to result
           (feeds ++ ys)
       both last = went_more base (went_turned turned last)
 
-      -- It went on.
-      pub goes_on : {e : Run} {r : Page W} {v : Account Origin} {ys : List Act} {left : List ℕ} {count : ℕ}
-          (last : Went contents d e q r t v mid (λ (u : Unit {0}). started e (taking session.window count [])) done ys)
+      -- The run went on.
+      pub goes_on : {e : Runner} {r : Page W} {v : Account Origin} {ys : List Act} {left : List ℕ} {count : ℕ}
+          (last : Went contents d e q r t v mid (λ (u : Unit {0}). started e (taking setup.window count [])) done ys)
           → Feeds Open now left ys → AllByRecursion IsGood (lines_in feeds) → AllByRecursion IsGood (lines_in ys)
           → count ≡ length (lines_in feeds) + length (lines_in ys) → CanReadOn reader reader'
-          → SoFar remaining contents session e reader reader' left page r s v count
+          → SoFar remaining contents setup e reader reader' left page r s v count
       goes_on {r = r} {ys = ys} {left = left} last more good also counts stands = record {
         datagram = datagram;
         first = first;
@@ -202,8 +202,8 @@ module _ {Origin R W : Type 0} {remaining : R → Option (List ℕ)} {contents :
           feeds_on = subst (λ (os : List ℕ). Feeds Open os left (feeds ++ ys)) (append-nil fed.given)
               (feeds_on Open feeds ys fed.given now [] left fed.feeds_on
               (subst (λ (os : List ℕ). Feeds Open os left ys) (sym (append-nil now)) more));
-          read = due_on (λ earlier. HasPassed page (writer_of q) (journal_lines session earlier))
-              (λ earlier. HasPassed page (writer_of r) (journal_lines session earlier)) (both last).acts last.acts
+          read = due_on (λ earlier. HasPassed page (writer_of q) (journal_lines setup earlier))
+              (λ earlier. HasPassed page (writer_of r) (journal_lines setup earlier)) (both last).acts last.acts
               (more_acts base (went_turned turned last)
               ∙ ap (λ (xs : List Act). base.acts ++ xs) (turned_acts turned last))
               (λ earlier passed. passed_later last.prints passed) fed.read;
@@ -215,14 +215,14 @@ module _ {Origin R W : Type 0} {remaining : R → Option (List ℕ)} {contents :
         stands = stands;
       }
 
-      -- It stopped.
-      pub stops : {e : Run} {r : Page W} {v : Account Origin} {to : Unit {0} → Stage} {ys : List Act}
+      -- The run stopped.
+      pub stops : {e : Runner} {r : Page W} {v : Account Origin} {to : Unit {0} → Stage} {ys : List Act}
           (left : List ℕ) (result : Result TraceEnd RunFault) (reading : Reading) (last : Went contents d e q r t v mid
           to result ys)
           → Feeds reading now left ys → ReaderStands remaining reading reader reader' [] → IsOver result e.client
           → IfOk result (λ end. (result_at (to tt) ≡ Some (Ok end)) × AllByRecursion IsGood (lines_in (feeds ++ ys))
           × (left ≡ []) × (end.lines ≡ length (lines_in (feeds ++ ys))))
-          → RunsOn remaining contents session reader reader' page r s v result
+          → RunsOn remaining contents setup reader reader' page r s v result
       stops {e} {r} {v} {to = to} {ys = ys} left result reading last more stands over well = record {
         acts = all.acts;
         takes = record {
@@ -235,34 +235,34 @@ module _ {Origin R W : Type 0} {remaining : R → Option (List ℕ)} {contents :
               (subst (λ (os : List ℕ). Feeds reading os left (feeds ++ ys)) (append-nil fed.given)
               (feeds_on reading feeds ys fed.given now [] left fed.feeds_on
               (subst (λ (os : List ℕ). Feeds reading os left ys) (sym (append-nil now)) more)));
-          all_done = done_so session all.acts result left (all.goes tt) ends (taken result well);
+          all_done = done_so setup all.acts result left (all.goes tt) ends (taken result well);
         };
         goes = all.goes tt;
         ends = ends;
-        read = due_on (λ earlier. HasPassed page (writer_of q) (journal_lines session earlier))
-            (λ earlier. HasPassed page (writer_of r) (journal_lines session earlier)) all.acts last.acts
+        read = due_on (λ earlier. HasPassed page (writer_of q) (journal_lines setup earlier))
+            (λ earlier. HasPassed page (writer_of r) (journal_lines setup earlier)) all.acts last.acts
             (more_acts base (went_turned turned last)
             ∙ ap (λ (xs : List Act). base.acts ++ xs) (turned_acts turned last))
             (λ earlier passed. passed_later last.prints passed) fed.read;
         prints = settings ⨾ all.prints;
-        out = out_behind (start session) page first r settings all.out;
+        out = out_behind (start setup) page first r settings all.out;
         asks = all.asks;
         over = subst (λ (client : Client). IsOver result client) all.client_is over;
         within = all.within;
         fit = all.fit;
       }
         where
-          all : Went contents (begins session datagram) e first r s v (λ (u : Unit {0}). first_stage session) to result
+          all : Went contents (begins setup datagram) e first r s v (λ (u : Unit {0}). first_stage setup) to result
               (feeds ++ ys)
           all = both last
 
-          ends : EndsAt result (stage_by session all.acts)
+          ends : EndsAt result (stage_by setup all.acts)
           ends = go result (all.comes tt) well
             where
-              go : (result : Result TraceEnd RunFault) → ComesTo result (to tt) (stage_by session all.acts)
+              go : (result : Result TraceEnd RunFault) → ComesTo result (to tt) (stage_by setup all.acts)
                   → IfOk result (λ end. (result_at (to tt) ≡ Some (Ok end))
                   × AllByRecursion IsGood (lines_in (feeds ++ ys)) × (left ≡ [])
-                  × (end.lines ≡ length (lines_in (feeds ++ ys)))) → EndsAt result (stage_by session all.acts)
+                  × (end.lines ≡ length (lines_in (feeds ++ ys)))) → EndsAt result (stage_by setup all.acts)
               go (Ok end) comes (is, _, _, _) = ap result_at comes ∙ is
               go (Err fault) comes none = comes
 
@@ -279,37 +279,37 @@ module _ {Origin R W : Type 0} {remaining : R → Option (List ℕ)} {contents :
               )
           taken (Err fault) none = tt
 
-    -- ---- the ways out
+    -- ---- the exits
 
     module _ {reader middle reader' : Checked R} {held now : List ℕ} {page p q q' : Page W} {s t u : Account Origin}
-        {c d : Run} {count : ℕ} (f : SoFar remaining contents session c reader middle held page p s t count)
-        (waited : Went contents c d p q t u (λ later. started c (room_for session.window ∷ later))
-        (λ later. started d later) done []) (few : open_in d.client < d.session.window)
+        {c d : Runner} {count : ℕ} (f : SoFar remaining contents setup c reader middle held page p s t count)
+        (waited : Went contents c d p q t u (λ later. started c (room_for setup.window ∷ later))
+        (λ later. started d later) done []) (few : open_in d.client < d.setup.window)
         (given : TakesAndKeeps remaining middle reader' held now []) (turned : Prints contents q q' [])
         (needed : ReadForLine middle reader' q q' held now) where
-      abbrev roomy : Went contents (begins session f.datagram) d f.first q s u (λ (u : Unit {0}). first_stage session)
-          (λ (u : Unit {0}). started d (NextLine session.window count ∷ [])) done (f.feeds ++ [])
-      roomy = went_more f.went (went_at (λ (u : Unit {0}). NextLine session.window count ∷ []) waited)
+      abbrev roomy : Went contents (begins setup f.datagram) d f.first q s u (λ (u : Unit {0}). first_stage setup)
+          (λ (u : Unit {0}). started d (NextLine setup.window count ∷ [])) done (f.feeds ++ [])
+      roomy = went_more f.went (went_at (λ (u : Unit {0}). NextLine setup.window count ∷ []) waited)
 
       same_lines : lines_in roomy.acts ≡ lines_in f.feeds
       same_lines = lines_of roomy.acts (f.feeds ++ []) roomy.takes ∙ ap lines_in (append-nil f.feeds)
 
-      read_next : ReadForLine middle reader' q q' held now → IsReadWhenDue session reader reader'
+      read_next : ReadForLine middle reader' q q' held now → IsReadWhenDue setup reader reader'
           (f.fed.given ++ given.given) roomy.acts
-          (λ earlier. HasPassed page (writer_of q') (journal_lines session earlier))
+          (λ earlier. HasPassed page (writer_of q') (journal_lines setup earlier))
       read_next (inl unread) =
           let none : given.given ≡ [] = append_cancel_left held given.given []
           (given.order ∙ unread.kept ∙ sym (append-nil held)) in
-          let past = λ (earlier : List Act) (passed : HasPassed page (writer_of p) (journal_lines session earlier)).
+          let past = λ (earlier : List Act) (passed : HasPassed page (writer_of p) (journal_lines setup earlier)).
           passed_later turned (passed_later waited.prints passed) in
-          subst (λ (last : Checked R). IsReadWhenDue session reader last (f.fed.given ++ given.given) roomy.acts
-          (λ earlier. HasPassed page (writer_of q') (journal_lines session earlier))) (sym unread.same)
-          (subst (λ (octets : List ℕ). IsReadWhenDue session reader middle octets roomy.acts
-          (λ earlier. HasPassed page (writer_of q') (journal_lines session earlier)))
+          subst (λ (last : Checked R). IsReadWhenDue setup reader last (f.fed.given ++ given.given) roomy.acts
+          (λ earlier. HasPassed page (writer_of q') (journal_lines setup earlier))) (sym unread.same)
+          (subst (λ (octets : List ℕ). IsReadWhenDue setup reader middle octets roomy.acts
+          (λ earlier. HasPassed page (writer_of q') (journal_lines setup earlier)))
           (sym (ap (λ (os : List ℕ). f.fed.given ++ os) none ∙ append-nil f.fed.given))
-          (due_on (λ earlier. HasPassed page (writer_of p) (journal_lines session earlier))
-          (λ earlier. HasPassed page (writer_of q') (journal_lines session earlier)) roomy.acts _
-          (more_acts f.went (went_at (λ (u : Unit {0}). NextLine session.window count ∷ []) waited)) past f.fed.read))
+          (due_on (λ earlier. HasPassed page (writer_of p) (journal_lines setup earlier))
+          (λ earlier. HasPassed page (writer_of q') (journal_lines setup earlier)) roomy.acts _
+          (more_acts f.went (went_at (λ (u : Unit {0}). NextLine setup.window count ∷ []) waited)) past f.fed.read))
       read_next (inr on) = inr (record {
         before = f.fed.given ++ on.last.before;
         held = held ++ on.last.before;
@@ -324,13 +324,13 @@ module _ {Origin R W : Type 0} {remaining : R → Option (List ℕ)} {contents :
             ∙ append_assoc (concat (lines_in f.feeds)) held on.last.before
             ∙ ap (λ (ls : List (List ℕ)). concat ls ++ (held ++ on.last.before)) (sym same_lines);
         no_line = (on.last.no_feed, on.last.short);
-        wanted = subst (λ (stage : Stage). WantsLine session stage) (sym (roomy.comes tt))
-            (count, refl, refl, subst (λ (x : Session). open_in d.client < x.window) roomy.same few);
-        told = subst (λ (os : List ℕ). HasPassed page (writer_of q') os) (append-nil (journal_lines session roomy.acts))
+        wanted = subst (λ (stage : Stage). WantsLine setup stage) (sym (roomy.comes tt))
+            (count, refl, refl, subst (λ (x : Setup). open_in d.client < x.window) roomy.same few);
+        told = subst (λ (os : List ℕ). HasPassed page (writer_of q') os) (append-nil (journal_lines setup roomy.acts))
             (passed_before (f.settings ⨾ roomy.prints) (passed_turned on.turned_in));
       })
 
-      fed_next : IsFed remaining session reader reader' now page (writer_of q') roomy.acts (f.feeds ++ [])
+      fed_next : IsFed remaining setup reader reader' now page (writer_of q') roomy.acts (f.feeds ++ [])
       fed_next = record {
         given = f.fed.given ++ given.given;
         gave = gave_more f.fed.gave given.gave;
@@ -344,18 +344,18 @@ module _ {Origin R W : Type 0} {remaining : R → Option (List ℕ)} {contents :
 
       -- The writer fails before more is read.
       pub stops_unread : ReaderStands remaining Open middle reader' now
-          → RunsOn remaining contents session reader reader' page q' s u (Err write_failed)
+          → RunsOn remaining contents setup reader reader' page q' s u (Err write_failed)
       stops_unread stands =
           stops f.settings roomy fed_next turned now (Err write_failed) Open
-          (went_stopped TraceEnd d q' u (λ (u : Unit {0}). started d (NextLine session.window count ∷ []))
+          (went_stopped TraceEnd d q' u (λ (u : Unit {0}). started d (NextLine setup.window count ∷ []))
           (λ (u : Unit {0}). started d []) WriteFailed (λ u. tt)) refl (reads_on f.stands stands) tt tt
 
-      -- The reader failed.
-      pub stops_reading : {e : Run} {r : Page W} {v : Account Origin} (fault : RunFault)
+      -- The run stops because the reader failed.
+      pub stops_reading : {e : Runner} {r : Page W} {v : Account Origin} (fault : RunFault)
           → Went contents d e q' r u v (λ later. started d (ending (Err ReadFailed) later))
           (λ later. started e later) (stopped fault) [] → IsOver (failed TraceEnd fault) e.client → HasNoWhole now
           → ReaderStands remaining Failed middle reader' []
-          → RunsOn remaining contents session reader reader' page r s v (failed TraceEnd fault)
+          → RunsOn remaining contents setup reader reader' page r s v (failed TraceEnd fault)
       stops_reading fault last over none stands =
           stops f.settings roomy fed_next turned {to = λ (u : Unit {0}). started d []} now (failed TraceEnd fault)
           Failed
@@ -363,13 +363,13 @@ module _ {Origin R W : Type 0} {remaining : R → Option (List ℕ)} {contents :
           (went_failed TraceEnd fault (went_at (λ (u : Unit {0}). []) last)))
           (refl, none, refl) (reading_on remaining _ _ _ Failed f.stands stands) over tt
 
-      -- It ends where no line is left.
-      pub ends_unread : {e : Run} {r : Page W} {v : Account Origin} (result : Result TraceEnd RunFault) → now ≡ []
+      -- The run ends because no line is left.
+      pub ends_unread : {e : Runner} {r : Page W} {v : Account Origin} (result : Result TraceEnd RunFault) → now ≡ []
           → IfOk result (λ end. end.lines ≡ count)
           → Went contents d e q' r u v (λ later. started d (ending (Ok (record { lines = count })) later))
           (λ later. started e (Ends (Ok (record { lines = count })) ∷ later)) result [] → IsOver result e.client
           → ReaderStands remaining AtEnd middle reader' []
-          → RunsOn remaining contents session reader reader' page r s v result
+          → RunsOn remaining contents setup reader reader' page r s v result
       ends_unread {e} result none counted last over stands =
           let same = sym (same_feeds (NoLine AtEnd ∷ []) ∙ append-nil (lines_in f.feeds)) in
           stops f.settings roomy fed_next turned [] result AtEnd
@@ -384,28 +384,29 @@ module _ {Origin R W : Type 0} {remaining : R → Option (List ℕ)} {contents :
         front_is : acts_of_line cut.front ≡ acts_of_line line
         front_is = cut.same ∙ ap acts_of_line (sym is)
 
-        abbrev taken : {A : Type 0} {e : Run} {r : Page W} {v : Account Origin} {to : Unit {0} → Stage} {ys : List Act}
+        abbrev taken : {A : Type 0} {e : Runner} {r : Page W} {v : Account Origin} {to : Unit {0} → Stage}
+            {ys : List Act}
             {result : Result A RunFault} → Went contents d e q' r u v
-            (λ (u : Unit {0}). started d (aims_for (acts_of_line line) session.window number line [])) to result ys
-            → Went contents d e q' r u v (λ (u : Unit {0}). started d (NextLine session.window count ∷ [])) to result
+            (λ (u : Unit {0}). started d (aims_for (acts_of_line line) setup.window number line [])) to result ys
+            → Went contents d e q' r u v (λ (u : Unit {0}). started d (NextLine setup.window count ∷ [])) to result
             (Took cut.front ∷ ys)
         taken then =
             went_more (went_took d q' u cut.front (λ u. tt)
             (λ u. ap (λ (aims : List Aim). started d aims) (same_aims (acts_of_line cut.front) (acts_of_line line)
-            session.window (suc count) number cut.front line front_is (omega (arith, numbered))
+            setup.window (suc count) number cut.front line front_is (omega (arith, numbered))
             (λ k. cut.alike k ∙ ap (λ (os : List ℕ). fault_of_line k os) (sym is)))) few) then
 
         split : now ≡ cut.front ++ (cut.rest ++ drop n now)
         split = sym (take-append-drop n now) ∙ ap (λ (os : List ℕ). os ++ drop n now) cut.split
             ∙ append_assoc cut.front cut.rest (drop n now)
 
-        -- It stops at a line.
-        pub stops_line : {e : Run} {r : Page W} {v : Account Origin} (fault : RunFault)
+        -- The run stops at a line.
+        pub stops_line : {e : Runner} {r : Page W} {v : Account Origin} (fault : RunFault)
             → Went contents d e q' r u v
-            (λ later. started d (aims_for (acts_of_line line) session.window number line later))
-            (λ later. started e (taking session.window number later)) (failed (Unit {0}) fault) []
+            (λ later. started d (aims_for (acts_of_line line) setup.window number line later))
+            (λ later. started e (taking setup.window number later)) (failed (Unit {0}) fault) []
             → IsOver (failed TraceEnd fault) e.client → ReaderStands remaining reading middle reader' []
-            → RunsOn remaining contents session reader reader' page r s v (failed TraceEnd fault)
+            → RunsOn remaining contents setup reader reader' page r s v (failed TraceEnd fault)
         stops_line fault last over stands =
             stops f.settings roomy fed_next turned {to = λ (u : Unit {0}). started d []} (cut.rest ++ drop n now)
             (failed TraceEnd fault) reading
@@ -421,18 +422,18 @@ module _ {Origin R W : Type 0} {remaining : R → Option (List ℕ)} {contents :
           all_taken = ap (λ (os : List ℕ). os ++ drop n now)
               (cut.all (λ none. good (ap acts_of_line is ∙ none)))
 
-          -- One more line, after which more comes.
-          pub so_far_more : {e : Run} {r : Page W} {v : Account Origin} → reading ≡ Open
+          -- One more line was run, and more follow.
+          pub so_far_more : {e : Runner} {r : Page W} {v : Account Origin} → reading ≡ Open
               → Went contents d e q' r u v
-              (λ later. started d (aims_for (acts_of_line line) session.window number line later))
-              (λ later. started e (taking session.window number later)) done []
+              (λ later. started d (aims_for (acts_of_line line) setup.window number line later))
+              (λ later. started e (taking setup.window number later)) done []
               → CanReadOn middle reader'
-              → SoFar remaining contents session e reader reader' (drop n now) page r s v number
+              → SoFar remaining contents setup e reader reader' (drop n now) page r s v number
           so_far_more {e} opened last stands =
               goes_on f.settings roomy fed_next turned (taken (went_at (λ (u : Unit {0}). []) last)) (
                 cut.rest ++ drop n now,
                 split,
-                subst (λ (x : Reading). IsWhole cut.front ⊎ IsLast x cut.front (cut.rest
+                subst (λ (x : Reading). IsWholeLine cut.front ⊎ IsLast x cut.front (cut.rest
                     ++ drop n now)) opened cut.whole,
                 all_taken,
               )
@@ -451,28 +452,28 @@ module _ {Origin R W : Type 0} {remaining : R → Option (List ℕ)} {contents :
               AtEnd ∷ [])))
               (all_append (lines_in f.feeds) (cut.front ∷ []) f.good (front_good, tt))
 
-          -- It ends after the last line, which may lack its line feed.
-          pub ends_behind : {e g h : Run} {r mid last : Page W} {v w x : Account Origin} (result : Result TraceEnd
+          -- The run ends after the last line, which may lack its line feed.
+          pub ends_behind : {e g h : Runner} {r mid last : Page W} {v w x : Account Origin} (result : Result TraceEnd
               RunFault)
               → reading ≡ AtEnd → drop n now ≡ [] → Went contents d e q' r u v
-              (λ later. started d (aims_for (acts_of_line line) session.window number line later))
-              (λ later. started e (taking session.window number later)) done []
-              → Went contents e g r mid v w (λ later. started e (room_for session.window ∷ later))
+              (λ later. started d (aims_for (acts_of_line line) setup.window number line later))
+              (λ later. started e (taking setup.window number later)) done []
+              → Went contents e g r mid v w (λ later. started e (room_for setup.window ∷ later))
               (λ later. started g later) done []
               → Went contents g h mid last w x (λ later. started g (ending (Ok (record { lines = number })) later))
               (λ later. started h (Ends (Ok (record { lines = number })) ∷ later)) result []
               → IfOk result (λ end. end.lines ≡ number) → IsOver result h.client
               → ReaderStands remaining AtEnd middle reader' []
-              → RunsOn remaining contents session reader reader' page last s x result
+              → RunsOn remaining contents setup reader reader' page last s x result
           ends_behind {g = g} {h = h} {mid = mid} {w = w} result over none took room end counted closed stands =
               let nothing = all_taken ∙ none in
               stops f.settings roomy fed_next turned [] result AtEnd
               (taken (went_more (went_at (λ (u : Unit {0}). []) took)
-              (went_more (went_at (λ (u : Unit {0}). NextLine session.window number ∷ []) room)
+              (went_more (went_at (λ (u : Unit {0}). NextLine setup.window number ∷ []) room)
               (went_more (went_none g mid w AtEnd (λ u. tt) (λ u. refl)) (went_at (λ (u : Unit {0}). []) end))))) (
                 cut.rest ++ drop n now,
                 split,
-                subst (λ (x : Reading). IsWhole cut.front ⊎ IsLast x cut.front (cut.rest
+                subst (λ (x : Reading). IsWholeLine cut.front ⊎ IsLast x cut.front (cut.rest
                     ++ drop n now)) over cut.whole,
                 (refl, nothing, nothing),
               ) (reading_on remaining _ _ _ AtEnd f.stands stands) closed
@@ -485,51 +486,51 @@ module _ {Origin R W : Type 0} {remaining : R → Option (List ℕ)} {contents :
                 ap (λ (ls : List (List ℕ)). length ls) (same_feeds (Took cut.front ∷ NoLine AtEnd ∷ [])),
               )))
 
-          -- It stops after the last line, in a wait.
-          pub stops_last : {e g : Run} {r last : Page W} {v w : Account Origin} (fault : RunFault)
+          -- The run stops after the last line, in a wait.
+          pub stops_last : {e g : Runner} {r last : Page W} {v w : Account Origin} (fault : RunFault)
               → Went contents d e q' r u v
-              (λ later. started d (aims_for (acts_of_line line) session.window number line later))
-              (λ later. started e (taking session.window number later)) done []
-              → Went contents e g r last v w (λ later. started e (room_for session.window ∷ later))
+              (λ later. started d (aims_for (acts_of_line line) setup.window number line later))
+              (λ later. started e (taking setup.window number later)) done []
+              → Went contents e g r last v w (λ later. started e (room_for setup.window ∷ later))
               (λ later. started g later) (failed (Unit {0}) fault) [] → IsOver (failed TraceEnd fault) g.client
               → ReaderStands remaining reading middle reader' []
-              → RunsOn remaining contents session reader reader' page last s w (failed TraceEnd fault)
+              → RunsOn remaining contents setup reader reader' page last s w (failed TraceEnd fault)
           stops_last fault took room over stands =
               stops f.settings roomy fed_next turned {to = λ (u : Unit {0}). started d []} (cut.rest ++ drop n now)
               (failed TraceEnd fault) reading
               (taken (went_more (went_at (λ (u : Unit {0}). []) took)
-              (went_failed TraceEnd fault (went_at (λ (u : Unit {0}). NextLine session.window number ∷ []) room))))
+              (went_failed TraceEnd fault (went_at (λ (u : Unit {0}). NextLine setup.window number ∷ []) room))))
               (cut.rest ++ drop n now, split, cut.whole, refl) (reading_on remaining _ _ _ reading f.stands stands) over
               tt
 
-    -- It stops at a wait before a line is read.
+    -- The run stops in a wait before a line is read.
     pub stops_waiting : {reader middle : Checked R} {held : List ℕ} {page p q : Page W} {s t u : Account Origin}
-        {c d : Run} {count : ℕ} → SoFar remaining contents session c reader middle held page p s t count
-        → (fault : RunFault) → Went contents c d p q t u (λ later. started c (room_for session.window ∷ later))
+        {c d : Runner} {count : ℕ} → SoFar remaining contents setup c reader middle held page p s t count
+        → (fault : RunFault) → Went contents c d p q t u (λ later. started c (room_for setup.window ∷ later))
         (λ later. started d later) (stopped fault) [] → IsOver (failed TraceEnd fault) d.client
-        → RunsOn remaining contents session reader middle page q s u (failed TraceEnd fault)
+        → RunsOn remaining contents setup reader middle page q s u (failed TraceEnd fault)
     stops_waiting {held = held} {p = p} {d = d} {count = count} f fault last over =
         stops f.settings f.went f.fed (prints_nothing p) {to = λ (u : Unit {0}). started d []} held (failed TraceEnd
         fault) Open
-        (went_failed TraceEnd fault (went_at (λ (u : Unit {0}). NextLine session.window count ∷ []) last)) refl f.stands
+        (went_failed TraceEnd fault (went_at (λ (u : Unit {0}). NextLine setup.window count ∷ []) last)) refl f.stands
         over tt
 
-    -- In the end the rest of the page goes out, or the writer fails.
+    -- At the end the rest of the page is written, or the writer fails.
     pub goes_out : {reader reader' : Checked R} {first last : Page W} {writer after back : Checked W} {s t : Account
         Origin}
         {result : Result TraceEnd RunFault} → after ≡ back
-        → RunsOn remaining contents session reader reader' first last s t result
-        → AreSettings session → writer_of first ≡ writer → held first ≡ [] → room_of first ≡ Some folded_line
+        → RunsOn remaining contents setup reader reader' first last s t result
+        → AreSettings setup → writer_of first ≡ writer → held first ≡ [] → room_of first ≡ Some folded_line
         → Writes contents (writer_of last) after (held last) [] []
-        → Runs remaining contents session reader reader' writer back s t result
+        → Runs remaining contents setup reader reader' writer back s t result
     goes_out {first = first} {last = last} {writer = writer} {after = after} {back = back} is runs settings same empty
         folds gone = record {
           acts = runs.acts;
           takes = runs.takes;
           goes = runs.goes;
           ends = runs.ends;
-          read = due_on (λ earlier. HasPassed first (writer_of last) (journal_lines session earlier))
-              (λ earlier. IsTold session writer back earlier) runs.acts [] (sym (append-nil runs.acts))
+          read = due_on (λ earlier. HasPassed first (writer_of last) (journal_lines setup earlier))
+              (λ earlier. IsTold setup writer back earlier) runs.acts [] (sym (append-nil runs.acts))
               (λ earlier passed. rw is at (out_whole same empty folds (passed_on first last after passed gone)))
               runs.read;
           printed = rw is at (folded_out same empty folds runs.prints gone);
@@ -542,10 +543,10 @@ module _ {Origin R W : Type 0} {remaining : R → Option (List ℕ)} {contents :
           settings = settings;
         }
 
-    -- It is told that the writer has failed.
+    -- The result is that the writer has failed.
     pub cut_off : {reader reader' : Checked R} {writer after : Checked W} {s t : Account Origin}
-        {result : Result TraceEnd RunFault} → Runs remaining contents session reader reader' writer after s t result
-        → Runs remaining contents session reader reader' writer after s t (Err write_failed)
+        {result : Result TraceEnd RunFault} → Runs remaining contents setup reader reader' writer after s t result
+        → Runs remaining contents setup reader reader' writer after s t (Err write_failed)
     cut_off {result} runs =
         let (lost, asked, _) = runs.asks.as_due in
         record {
@@ -557,7 +558,7 @@ module _ {Origin R W : Type 0} {remaining : R → Option (List ℕ)} {contents :
             gave = runs.takes.gave;
             stands = runs.takes.stands;
             feeds = runs.takes.feeds;
-            all_done = done_so session runs.acts (Err write_failed) runs.takes.kept runs.goes tt tt;
+            all_done = done_so setup runs.acts (Err write_failed) runs.takes.kept runs.goes tt tt;
           };
           goes = runs.goes;
           ends = tt;

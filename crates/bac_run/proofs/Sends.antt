@@ -6,7 +6,7 @@ use Rattle.std.{proofs.lemmas.List.{append-nil, append_cancel_left, Concat.flat_
 use Rattle.{bac_pdu.specs.Station, bac_tsm.specs.{Note, Sent, Client.Client}}
 use Rattle.bac_run.specs.{Act, AreSent, Asked, asked_by, Asks, Came, Checked, Loses}
 use Rattle.bac_run.specs.{IsLost, Link, new_client, NoLine, Passed, Paused, posted_in, posts, Read}
-use Rattle.bac_run.specs.{RunFault, Runs, Script, SendFailed, sent_in, Session, Told, Took, TraceEnd, turn_at}
+use Rattle.bac_run.specs.{RunFault, Runs, Script, SendFailed, sent_in, Setup, Told, Took, TraceEnd, turn_at}
 use Rattle.{bac_script.specs.declared.tracing.TraceFault.TheVariants.WriteFailed, bac_links.specs.{Account, Entry}}
 
 posts_sent : (notes : List Note) → flat_map posted_in (posts notes) ≡ flat_map sent_in notes
@@ -26,7 +26,7 @@ asked_none (Passed wait heard) = refl
 asked_none (Told time) = refl
 asked_none (Read time) = refl
 
--- What an act sends: a Who-Is, or what the notes say.
+-- The sends of an act: a Who-Is, or those of the notes.
 sent_at : (client : Client) (act : Act)
     → flat_map posted_in (sends_at client act) ≡ sought_in act ++ flat_map sent_in (turn_at client act).notes
 sent_at client (Sought to octets) = refl
@@ -47,7 +47,7 @@ due_sent client act =
     let here = sent_at client act in
     grind (arith, flat_map-append, none, here)
 
--- The remarks name all that was sent; or all up to a send that failed.
+-- The remarks name all sends, or all before a send that failed.
 abbrev Tells : Client → List Act → (lost : Bool) → List Entry → Type 0
 Tells client acts false gained = flat_map posted_in gained ≡ sends_of client acts
 Tells client acts true gained = IsLost (sends_of client acts) (flat_map posted_in gained)
@@ -83,17 +83,17 @@ sent_by client acts gained (Err (Link SendFailed)) lost loses is = rw loses at i
 sent_by client acts gained (Err (Link fault)) lost loses is = let sure : lost ≡ false = search in rw sure at is
 
 module _ {Origin R W : Type 0} (remaining : R → Option (List ℕ)) (contents : W → Option (List ℕ)) where
-  pub all_sent : (session : Session) (reader reader' : Checked R) (before after : Checked W)
+  pub all_sent : (setup : Setup) (reader reader' : Checked R) (before after : Checked W)
       (seen left : Account Origin)
       (result : Result TraceEnd RunFault) (gained : List Entry)
-      → (runs : Runs remaining contents session reader reader' before after seen left result)
+      → (runs : Runs remaining contents setup reader reader' before after seen left result)
       → left.history ≡ seen.history ++ gained
-      → AreSent result (sends_of (new_client session.config.timeout session.config.retries 0) runs.acts)
+      → AreSent result (sends_of (new_client setup.config.timeout setup.config.retries 0) runs.acts)
       (flat_map posted_in gained)
-  all_sent session reader reader' before after seen left result gained runs is =
+  all_sent setup reader reader' before after seen left result gained runs is =
       let here : runs.asks.gained ≡ gained =
       append_cancel_left seen.history _ _ (sym (ap (λ (a : Account Origin). a.history) runs.asks.gains) ∙ is) in
       let (lost, asked, loses) = runs.asks.as_due in
-      let client = new_client session.config.timeout session.config.retries 0 in
+      let client = new_client setup.config.timeout setup.config.retries 0 in
       rw (sym here)
       (sent_by client runs.acts runs.asks.gained result lost loses (tells client runs.acts runs.asks.gained lost asked))

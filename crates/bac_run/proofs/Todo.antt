@@ -1,4 +1,4 @@
--- All that the lines which were taken ask for was done, or is still to be done.
+-- All acts of the lines that were taken were done, or are still to be done.
 use Rattle.std.proofs.Common.{None, Option}
 use Rattle.std.proofs.Common.{[], ap, append-nil, append_assoc, Bool, Err, false, flat_map, IfOk, length}
 use Rattle.std.proofs.Common.{List}
@@ -10,17 +10,17 @@ use Rattle.bac_script.specs.{Line.text_of_line, declared.line.LineFault.TheVaria
 use Rattle.bac_run.specs.{acts_of_result, limits_of, own_by, own_of, Rested, rest_of, Rests, seek_of, Sought}
 use Rattle.{bac_tsm.specs.{Ask, Data, Tick, Client.Client}}
 use Rattle.bac_script.specs.{Blank, Happens, Remark, Said, Settings, Line.Asks}
-use Rattle.bac_links.specs.{Arrived, Failure, Heard, Silence}
+use Rattle.bac_links.specs.{Arrived, Failure, Heard, most_turns, Silence}
 use Rattle.bac_run.specs.{Act, acted, acts_or_none, Aim, aims_for, AllDone, Broken, Came, Does, DueIn}
 use Rattle.bac_run.specs.{Ends, EndsAt, first_stage, Fresh, freshened, Goes, heard_at, input_in, inputs_in, is_reached}
 use Rattle.bac_run.specs.{IsGood, left_of, line_in, lines_in, LineFault, longest_row, Looked, moved}
 use Rattle.bac_run.specs.{moved_in}
-use Rattle.bac_run.specs.{new_client, NextLine, NoLine, open_in, Outside, Passed, passed_at, Phase, Read, result_in}
-use Rattle.bac_run.specs.{RunFault}
-use Rattle.bac_run.specs.{said_of, Session, settled_in, Stage, stage_after, stage_by, taking, Telling, telling}
-use Rattle.bac_run.specs.{Took, TraceEnd, Turns}
+use Rattle.bac_run.specs.{new_client, NextLine, NoLine, open_in, Outside, Passed, passed_at, Phase, Read, renewed}
+use Rattle.bac_run.specs.{result_in, RunFault}
+use Rattle.bac_run.specs.{said_of, Setup, settled_in, Stage, stage_after, stage_by, taking, Telling, telling}
+use Rattle.bac_run.specs.{TimeTold, Took, TraceEnd, Turns}
 
--- The acts among aims that are still to be done of the lines which were taken.
+-- The acts of the taken lines that are still to be done, from the aims.
 abbrev todo : List Aim → List Act
 todo [] = []
 todo (Does act ∷ later) = input_in act ++ todo later
@@ -30,19 +30,20 @@ todo (Rests time ∷ later) = todo later
 todo (NextLine window taken ∷ later) = []
 todo (Ends end ∷ later) = []
 
-left_todo : (client : Client) (behind : ℕ) (aims : List Aim) → todo (left_of client behind aims) ≡ todo aims
-left_todo client behind [] = refl
-left_todo client behind (Turns until left ∷ later) =
-    go (is_reached client behind (Turns until left)) refl (left_todo client behind later)
+left_todo : (client : Client) (since_told : ℕ) (aims : List Aim) → todo (left_of client since_told aims) ≡ todo aims
+left_todo client since_told [] = refl
+left_todo client since_told (Turns until left ∷ later) =
+    go (is_reached client since_told (Turns until left)) refl (left_todo client since_told later)
   where
-    go : (b : Bool) → is_reached client behind (Turns until left) ≡ b → todo (left_of client behind later) ≡ todo later
-        → todo (left_of client behind (Turns until left ∷ later)) ≡ todo (Turns until left ∷ later)
+    go : (b : Bool) → is_reached client since_told (Turns until left) ≡ b
+        → todo (left_of client since_told later) ≡ todo later
+        → todo (left_of client since_told (Turns until left ∷ later)) ≡ todo (Turns until left ∷ later)
     go true e rest = rw e rest
     go false e rest = rw e refl
-left_todo client behind (aim ∷ later) = refl
+left_todo client since_told (aim ∷ later) = refl
 
 settled_todo : (stage : Stage) (phase : Phase) → todo (settled_in stage phase).aims ≡ todo stage.aims
-settled_todo stage Outside = left_todo stage.client stage.behind stage.aims
+settled_todo stage Outside = left_todo stage.client stage.since_told stage.aims
 settled_todo stage (Looked time) = refl
 settled_todo stage (Telling time) = refl
 settled_todo stage Broken = refl
@@ -55,9 +56,9 @@ telling_aims stage time = go (nat_lt stage.client.state.clock time) refl
     go false e = rw e refl
 
 heard_aims : (stage : Stage) (time : ℕ) → (heard_at stage time).aims ≡ stage.aims
-heard_aims stage time = go (nat_lt (suc stage.behind) longest_row) refl
+heard_aims stage time = go (nat_lt (suc stage.since_told) longest_row) refl
   where
-    go : (b : Bool) → nat_lt (suc stage.behind) longest_row ≡ b → (heard_at stage time).aims ≡ stage.aims
+    go : (b : Bool) → nat_lt (suc stage.since_told) longest_row ≡ b → (heard_at stage time).aims ≡ stage.aims
     go true e = rw e refl
     go false e = rw e (telling_aims stage time)
 
@@ -68,18 +69,28 @@ fresh_todo timeout stage time =
     go : (none : Bool) → (open_in stage.client == 0) ≡ none → (late : Bool)
         → nat_lt (timeout / 10) (time - stage.client.state.clock) ≡ late
         → todo (freshened timeout stage time).aims ≡ todo stage.aims
-    go true e late f = rw e (ap todo (telling_aims stage time))
+    go true e late f =
+        rw e (ap todo (telling_aims (record stage { aims = Turns TimeTold most_turns ∷ stage.aims }) time))
     go false e true f = rw (e, f) refl
     go false e false f = rw (e, f) refl
 
-passed_aims : (stage : Stage) (time : ℕ) (heard : Heard) → (passed_at stage time heard).aims ≡ stage.aims
-passed_aims stage time Silence = telling_aims stage time
-passed_aims stage time (Arrived from octets) = heard_aims stage time
-passed_aims stage time Failure = refl
+passed_aims : (stage : Stage) (time wait : ℕ) (heard : Heard) → (passed_at stage time wait heard).aims ≡ stage.aims
+passed_aims stage time wait Silence = go (wait == 0) refl
+  where
+    go : (b : Bool) → (wait == 0) ≡ b → (passed_at stage time wait Silence).aims ≡ stage.aims
+    go true e = rw e (telling_aims stage time)
+    go false e = rw e (heard_aims stage time)
+passed_aims stage time wait (Arrived from octets) = heard_aims stage time
+passed_aims stage time wait Failure = refl
 
--- ---- what a line `who` or `wait` asks for
+renewed_todo : (aims : List Aim) → todo aims ≡ todo (renewed aims)
+renewed_todo [] = refl
+renewed_todo (Turns until left ∷ later) = refl
+renewed_todo (aim ∷ later) = refl
 
--- It is a Who-Is or a wait.
+-- ---- the act of a line `who` or `wait`
+
+-- The act is a Who-Is or a wait.
 abbrev pub IsOwn : Option Act → Type 0
 IsOwn None = Unit {0}
 IsOwn (Some (Sought to octets)) = Unit {0}
@@ -124,7 +135,7 @@ own_todo (Some (Sought to octets)) window number line later is = refl
 own_todo (Some (Rested time)) window number line later is = refl
 own_todo (Some act) window number line later is = absurd is
 
--- Once a line is taken, the acts that it asks for are to be done.
+-- Once a line is taken, its acts are to be done.
 line_todo : (line : List ℕ) (window number : ℕ) (later : List Aim)
     → todo (aims_for (acts_of_result line (said_of line)) window number line later)
     ≡ acts_or_none line
@@ -165,8 +176,8 @@ moved_todo timeout stage Outside (NextLine window taken ∷ later) (NoLine readi
 moved_todo timeout stage (Looked time) aims (Came wait from octets) is due =
     same_todo _ _ (ap todo (sym is ∙ sym (heard_aims (acted stage (Came wait from octets)) time)))
 moved_todo timeout stage (Looked time) aims (Passed wait heard) is due =
-    same_todo _ _ (ap todo (sym is ∙ sym (passed_aims stage time heard)))
-moved_todo timeout stage (Telling time) aims act is due = rw due (same_todo _ _ (ap todo (sym is)))
+    same_todo _ _ (ap todo (sym is ∙ sym (passed_aims stage time wait heard)))
+moved_todo timeout stage (Telling time) aims act is due = rw due (same_todo _ _ (renewed_todo aims))
 moved_todo timeout stage phase aims act is due = search
 
 goes_todo : (timeout : ℕ) (stage : Stage) (acts : List Act) → Goes timeout stage acts
@@ -187,36 +198,36 @@ goes_todo timeout stage (act ∷ acts) (due, goes) =
     ∙ sym (append_assoc (input_in act) (inputs_in acts) (todo (stage_after timeout (moved timeout stage act)
     acts).aims))
 
--- If a run ends well, nothing is to be done.
+-- If a run ends well, no act is left to be done.
 ended_todo : (phase : Phase) (aims : List Aim) (end : TraceEnd) → result_in phase aims ≡ Some (Ok end) → todo aims ≡ []
 ended_todo Outside (Ends end ∷ later) over is = refl
 ended_todo Outside (Turns until zero ∷ later) over is = absurd (cc)
 ended_todo phase aims over is = absurd (cc)
 
--- A run as it begins, before it is settled.
-abbrev begun : Session → Stage
-begun session = record {
-  client = new_client session.config.timeout session.config.retries 0;
-  behind = 0;
+-- A run at its beginning, with all its aims.
+abbrev begun : Setup → Stage
+begun setup = record {
+  client = new_client setup.config.timeout setup.config.retries 0;
+  since_told = 0;
   phase = Outside;
-  aims = taking session.window 0 [];
+  aims = taking setup.window 0 [];
 }
 
-pub done_so : (session : Session) (acts : List Act) (result : Result TraceEnd RunFault) (kept : List ℕ)
-    → Goes session.config.timeout (first_stage session) acts → EndsAt result (stage_by session acts)
+pub done_so : (setup : Setup) (acts : List Act) (result : Result TraceEnd RunFault) (kept : List ℕ)
+    → Goes setup.config.timeout (first_stage setup) acts → EndsAt result (stage_by setup acts)
     → IfOk result (λ end. AllByRecursion IsGood (lines_in acts) × (kept ≡ []) × (end.lines ≡ length (lines_in acts)))
     → AllDone result (lines_in acts) kept acts
-done_so session acts result kept goes ends whole = go result ends whole
+done_so setup acts result kept goes ends whole = go result ends whole
   where
-    wanted : flat_map acts_or_none (lines_in acts) ≡ inputs_in acts ++ todo (stage_by session acts).aims
+    wanted : flat_map acts_or_none (lines_in acts) ≡ inputs_in acts ++ todo (stage_by setup acts).aims
     wanted =
-        ap (λ (xs : List Act). xs ++ flat_map acts_or_none (lines_in acts)) (sym (settled_todo (begun session) Outside))
-        ∙ goes_todo session.config.timeout (first_stage session) acts goes
+        ap (λ (xs : List Act). xs ++ flat_map acts_or_none (lines_in acts)) (sym (settled_todo (begun setup) Outside))
+        ∙ goes_todo setup.config.timeout (first_stage setup) acts goes
 
-    go : (result : Result TraceEnd RunFault) → EndsAt result (stage_by session acts)
+    go : (result : Result TraceEnd RunFault) → EndsAt result (stage_by setup acts)
         → IfOk result (λ end. AllByRecursion IsGood (lines_in acts) × (kept ≡ [])
         × (end.lines ≡ length (lines_in acts))) → AllDone result (lines_in acts) kept acts
     go (Ok end) ends (good, empty, count) =
-        let none = ended_todo (stage_by session acts).phase (stage_by session acts).aims end ends in
+        let none = ended_todo (stage_by setup acts).phase (stage_by setup acts).aims end ends in
         (sym (wanted ∙ ap (λ (xs : List Act). inputs_in acts ++ xs) none ∙ append-nil _), good, empty, count)
-    go (Err fault) ends whole = (todo (stage_by session acts).aims, wanted)
+    go (Err fault) ends whole = (todo (stage_by setup acts).aims, wanted)

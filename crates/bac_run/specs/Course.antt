@@ -1,4 +1,4 @@
--- The course of a run: what it is about, and which act is due by all that was done before.
+-- The course of a run: its aims, and the act that is due after all acts so far.
 use Rattle.std.specs.{List.flat_map}
 use Rattle.std.specs.Prelude.{[], Bool, Err, false, if◌then◌else◌, length, List, max, min, nat_le, nat_lt, None, Ok}
 use Rattle.std.specs.Prelude.{Option}
@@ -15,9 +15,9 @@ use Rattle.bac_run.specs.Input.{acts_of_line, fault_of_line, line_in}
 use Rattle.bac_run.specs.Journal.{Act, Asked, Came, has_line, NoLine, Passed, Paused, Read, Rested, Sought, Told}
 use Rattle.bac_run.specs.Journal.{Took, turn_at}
 
--- What a run is about: it takes turns until something is reached, so many at most; it reads the time for a request; it
--- reads the time of which on it waits so many milliseconds; it does what a line says; it takes the next line, after so
--- many; it ends so.
+-- An aim of a run: to take at most this many turns until a wait is over; to read the time for a request; to read the
+-- time from which a wait of this many milliseconds begins; to do what a line asks for; to take the next line, after
+-- this many; or to end with this result.
 pub data Aim : Type 0 where
   Turns : (until : Until) (left : ℕ) → Aim
   Fresh : Aim
@@ -26,7 +26,7 @@ pub data Aim : Type 0 where
   NextLine : (window taken : ℕ) → Aim
   Ends : (end : Result TraceEnd TraceFault) → Aim
 
--- The phase of a turn: outside of one; the time was read, and a wait is due; the client has to get a time; the wait
+-- The phase of a turn: outside a turn; the time was read, and a wait is due; the client must get a time; the wait
 -- failed.
 pub data Phase : Type 0 where
   Outside : Phase
@@ -34,11 +34,11 @@ pub data Phase : Type 0 where
   Telling : (time : ℕ) → Phase
   Broken : Phase
 
--- The stage of a run: its client; how many datagrams were heard since the time was told, none if it is that of the last
--- turn; its phase; and what it is about, one thing after another.
+-- The stage of a run: its client; how many waits are over since the client last got the time, 0 if that was in the last
+-- turn; its phase; and its aims, in order.
 pub record Stage : Type 0 where
   pub client : Client
-  pub behind : ℕ
+  pub since_told : ℕ
   pub phase : Phase
   pub aims : List Aim
 
@@ -46,67 +46,74 @@ pub record Stage : Type 0 where
 abbrev pub open_in : Client → ℕ
 open_in client = length client.state.waiting
 
--- After so many waits in a row the time is told all the same.
+-- After this many waits in a row the client gets the time anyway.
 abbrev pub longest_row : ℕ
 longest_row = 256
 
--- The aim is reached at a client, with so many datagrams heard since the time was told.
-abbrev pub is_reached : Client → (behind : ℕ) → Aim → Bool
-is_reached client behind (Turns (FewOpen most) left) = nat_le (open_in client) most
-is_reached client behind (Turns TimeTold left) = behind == 0
-is_reached client behind (Turns (ClockAt time) left) = nat_le time client.state.clock
-is_reached client behind aim = false
+-- The aim is reached with this client and this many waits over since the client last got the time.
+abbrev pub is_reached : Client → (since_told : ℕ) → Aim → Bool
+is_reached client since_told (Turns (FewOpen most) left) = nat_le (open_in client) most
+is_reached client since_told (Turns TimeTold left) = since_told == 0
+is_reached client since_told (Turns (ClockAt time) left) = nat_le time client.state.clock
+is_reached client since_told aim = false
 
--- The rest of the aims, from the first that is not reached.
-abbrev pub left_of : Client → (behind : ℕ) → List Aim → List Aim
-left_of client behind [] = []
-left_of client behind (aim ∷ later) =
-    if is_reached client behind aim then left_of client behind later else aim ∷ later
+-- The aims from the first one that is not reached.
+abbrev pub left_of : Client → (since_told : ℕ) → List Aim → List Aim
+left_of client since_told [] = []
+left_of client since_told (aim ∷ later) =
+    if is_reached client since_told aim then left_of client since_told later else aim ∷ later
 
--- The stage without the aims that are reached, once no turn goes on.
+-- The stage without the aims that are reached, if no turn goes on.
 abbrev pub settled_in : Stage → Phase → Stage
-settled_in stage Outside = record stage { aims = left_of stage.client stage.behind stage.aims }
+settled_in stage Outside = record stage { aims = left_of stage.client stage.since_told stage.aims }
 settled_in stage phase = stage
 
 abbrev pub settled : Stage → Stage
 settled stage = settled_in stage stage.phase
 
 -- Outside of a turn, with these aims.
-abbrev pub ready : Client → (behind : ℕ) → List Aim → Stage
-ready client behind aims = settled (record { client = client; behind = behind; phase = Outside; aims = aims })
+abbrev pub ready : Client → (since_told : ℕ) → List Aim → Stage
+ready client since_told aims =
+    settled (record { client = client; since_told = since_told; phase = Outside; aims = aims })
 
--- The client has to get the time, if it is later than the one that it got last.
+-- The client must get the time, if it is later than its last one.
 abbrev pub telling : Stage → (time : ℕ) → Stage
 telling stage time =
-    if nat_lt stage.client.state.clock time then record stage { behind = 0; phase = Telling time }
-    else record stage { behind = 0; phase = Outside }
+    if nat_lt stage.client.state.clock time then record stage { since_told = 0; phase = Telling time }
+    else record stage { since_told = 0; phase = Outside }
 
--- A datagram was heard in a turn: others may have come with it before the time of the turn, so that is not told yet,
--- except after so many.
+-- A datagram was received in a turn, or a wait is over. Others may have come before the present time, so the client
+-- does not get the time of the turn yet, except after too many waits.
 abbrev pub heard_at : Stage → (time : ℕ) → Stage
 heard_at stage time =
-    if nat_lt (suc stage.behind) longest_row then record stage { behind = suc stage.behind; phase = Outside }
+    if nat_lt (suc stage.since_told) longest_row
+    then record stage { since_told = suc stage.since_told; phase = Outside }
     else telling stage time
 
--- Nothing was handed on in a turn: where nothing was heard its time is told; a datagram that no line can say was heard
--- all the same.
-abbrev pub passed_at : Stage → (time : ℕ) → Heard → Stage
-passed_at stage time Silence = telling stage time
-passed_at stage time (Arrived from octets) = heard_at stage time
-passed_at stage time Failure = record stage { phase = Broken }
+-- Nothing was passed to the client in a turn. If the turn only looked, the client gets its time. After a wait that time
+-- is old: the next turn reads the time anew, and looks. A datagram that is too long for a line counts as received.
+abbrev pub passed_at : Stage → (time wait : ℕ) → Heard → Stage
+passed_at stage time wait Silence = if wait == 0 then telling stage time else heard_at stage time
+passed_at stage time wait (Arrived from octets) = heard_at stage time
+passed_at stage time wait Failure = record stage { phase = Broken }
 
--- The client as an act leaves it.
+-- The turns of a wait are counted anew when the client gets a time.
+abbrev pub renewed : List Aim → List Aim
+renewed (Turns until left ∷ later) = Turns until most_turns ∷ later
+renewed aims = aims
+
+-- The stage with the client after an act.
 abbrev pub acted : Stage → Act → Stage
 acted stage act = record stage { client = (turn_at stage.client act).after }
 
--- A wait brought nothing that is handed on.
+-- A wait brought nothing for the client.
 abbrev pub IsPassed : Heard → Type 0
 IsPassed (Arrived from octets) = has_line (length octets) ≡ false
 IsPassed heard = ⊤
 
--- ---- what a run is about, by a line of its input
+-- ---- the aims that a line of the input adds
 
--- What a request asks for, a line without words, a Who-Is and a wait.
+-- The aims of a request, of a line without words, of a Who-Is and of a wait.
 abbrev pub aims_of : Act → List Aim
 aims_of (Asked line event) = Fresh ∷ Does (Asked line event) ∷ []
 aims_of Paused = Turns (FewOpen 0) most_turns ∷ Does Paused ∷ []
@@ -114,45 +121,46 @@ aims_of (Sought to octets) = Fresh ∷ Does (Sought to octets) ∷ []
 aims_of (Rested time) = Rests time ∷ Does (Rested time) ∷ []
 aims_of act = []
 
--- Before a line is read, and before it is found that none is left, there has to be room for one more request.
+-- There must be room for one more request before a line is read, and before the input ends.
 abbrev pub room_for : (window : ℕ) → Aim
 room_for window = Turns (FewOpen (window - 1)) most_turns
 
--- So many lines were taken: once there is room, the next is.
+-- After this many lines, the next one is taken once there is room.
 abbrev pub taking : (window taken : ℕ) → List Aim → List Aim
 taking window taken later = room_for window ∷ NextLine window taken ∷ later
 
--- No line is taken any more: once no request is open, the run ends so.
+-- No more lines are taken: once no request is open, the run ends with this result.
 abbrev pub ending : Result TraceEnd TraceFault → List Aim → List Aim
 ending end later = Turns (FewOpen 0) most_turns ∷ Ends end ∷ later
 
--- The aims by the line of this number: its acts, and then the next line; but after a bad line no other is taken.
+-- The aims after the line with this number: its acts, and then the next line; but after a bad line no more lines.
 abbrev pub aims_for : Option (List Act) → (window number : ℕ) → (line : List ℕ) → List Aim → List Aim
 aims_for (Some acts) window number line later = flat_map aims_of acts ++ taking window number later
 aims_for None window number line later = ending (Err (fault_of_line number line)) later
 
--- How a run ends that finds no line left, after so many.
+-- The end of a run that finds no more lines, after this many.
 abbrev pub end_by : Reading → (taken : ℕ) → Result TraceEnd TraceFault
 end_by AtEnd taken = Ok (record { lines = taken })
 end_by reading taken = Err ReadFailed
 
--- ---- which act is due
+-- ---- the act that is due
 
 module _ (timeout : ℕ) where
-  -- How long a turn waits, in milliseconds: only a moment where a datagram was heard since the time was told.
-  abbrev pub wait_at : (behind : ℕ) → ℕ
-  wait_at behind = if behind == 0 then turn_wait timeout else 1
+  -- How long a turn waits, in milliseconds. If a wait is over since the client last got the time, the turn only looks.
+  abbrev pub wait_at : (since_told : ℕ) → ℕ
+  wait_at since_told = if since_told == 0 then turn_wait timeout else 0
 
-  -- The time was read for a request. If none is open, it is told. Otherwise, if the one that was told last lies back by
-  -- more than a tenth of the timeout, turns are taken until it is told.
+  -- The time was read for a request. If none is open, the client gets it. Otherwise, if the client's last time is older
+  -- than a tenth of the timeout, turns are taken until the client gets a time.
   abbrev pub freshened : Stage → (time : ℕ) → Stage
   freshened stage time =
-      if open_in stage.client == 0 then telling stage time
+      let told = record stage { aims = Turns TimeTold most_turns ∷ stage.aims } in
+      if open_in stage.client == 0 then telling told time
       else if nat_lt (timeout / 10) (time - stage.client.state.clock)
-      then record stage { behind = max stage.behind 1; aims = Turns TimeTold most_turns ∷ stage.aims }
+      then record told { since_told = max stage.since_told 1 }
       else stage
 
-  -- The act is the one that is due in this phase, with these aims.
+  -- This act is due in this phase, with these aims.
   abbrev pub DueIn : Stage → Phase → List Aim → Act → Type 0
   DueIn stage Outside (Turns until (suc left) ∷ later) (Read time) = ⊤
   DueIn stage Outside (Fresh ∷ later) (Read time) = ⊤
@@ -161,12 +169,12 @@ module _ (timeout : ℕ) where
   DueIn stage Outside (NextLine window taken ∷ later) (Took line) = ⊤
   DueIn stage Outside (NextLine window taken ∷ later) (NoLine reading) = ⊤
   DueIn stage (Looked time) aims (Came wait from octets) =
-      (wait ≡ wait_at stage.behind) × (has_line (length octets) ≡ true)
-  DueIn stage (Looked time) aims (Passed wait heard) = (wait ≡ wait_at stage.behind) × IsPassed heard
+      (wait ≡ wait_at stage.since_told) × (has_line (length octets) ≡ true)
+  DueIn stage (Looked time) aims (Passed wait heard) = (wait ≡ wait_at stage.since_told) × IsPassed heard
   DueIn stage (Telling time) aims act = act ≡ Told time
   DueIn stage phase aims act = ⊥
 
-  -- The stage after such an act.
+  -- The stage after this act, in this phase, with these aims.
   abbrev pub moved_in : Stage → Phase → List Aim → Act → Stage
   moved_in stage Outside (Turns until (suc left) ∷ later) (Read time) =
       record stage { phase = Looked time; aims = Turns until left ∷ later }
@@ -179,8 +187,8 @@ module _ (timeout : ℕ) where
   moved_in stage Outside (NextLine window taken ∷ later) (NoLine reading) =
       record stage { aims = ending (end_by reading taken) later }
   moved_in stage (Looked time) aims (Came wait from octets) = heard_at (acted stage (Came wait from octets)) time
-  moved_in stage (Looked time) aims (Passed wait heard) = passed_at stage time heard
-  moved_in stage (Telling time) aims act = record (acted stage act) { phase = Outside }
+  moved_in stage (Looked time) aims (Passed wait heard) = passed_at stage time wait heard
+  moved_in stage (Telling time) aims act = record (acted stage act) { phase = Outside; aims = renewed aims }
   moved_in stage phase aims act = stage
 
   -- The act is due at the stage, and the stage after it.
@@ -190,7 +198,7 @@ module _ (timeout : ℕ) where
   abbrev pub moved : Stage → Act → Stage
   moved stage act = settled (moved_in stage stage.phase stage.aims act)
 
-  -- Each of these acts was due where it was done.
+  -- Each of these acts was due when it was done.
   abbrev pub Goes : Stage → List Act → Type 0
   Goes stage [] = ⊤
   Goes stage (act ∷ later) = IsDue stage act × Goes (moved stage act) later
@@ -200,9 +208,9 @@ module _ (timeout : ℕ) where
   stage_after stage [] = stage
   stage_after stage (act ∷ later) = stage_after (moved stage act) later
 
--- ---- how a run ends
+-- ---- the end of a run
 
--- The result of a run that is over at this phase, with these aims.
+-- The result of a run that is over in this phase, with these aims.
 abbrev pub result_in : Phase → List Aim → Option (Result TraceEnd RunFault)
 result_in Broken aims = Some (Err (Link ReceiveFailed))
 result_in Outside (Turns until zero ∷ later) = Some (Err (Link TurnsSpent))
@@ -210,11 +218,11 @@ result_in Outside (Ends (Ok end) ∷ later) = Some (Ok end)
 result_in Outside (Ends (Err fault) ∷ later) = Some (Err (Script fault))
 result_in phase aims = None
 
--- How a run ends is a function of its stage; there is none where an act is due.
+-- The result of a run is a function of its stage; there is none while an act is due.
 abbrev pub result_at : Stage → Option (Result TraceEnd RunFault)
 result_at stage = result_in stage.phase stage.aims
 
--- A run with this fault stops at this stage. A writer or a send that fails may stop it at any.
+-- A run with this fault stops at this stage. If a writer or a send fails, it may stop at any stage.
 abbrev pub StopsAt : RunFault → Stage → Type 0
 StopsAt (Script WriteFailed) stage = ⊤
 StopsAt (Link SendFailed) stage = ⊤
@@ -227,6 +235,6 @@ EndsAt (Err fault) stage = StopsAt fault stage
 
 -- ---- how long a request waits
 
--- None of the events after this position moves the clock by more than so much.
+-- None of the events after this position moves the clock by more than `longest`.
 abbrev pub AreSteady : (longest : ℕ) → List Event → (position : ℕ) → Type 0
 AreSteady longest events i = (j : ℕ) → i < j → clock events (suc j) ≤ clock events j + longest

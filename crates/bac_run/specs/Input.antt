@@ -1,4 +1,4 @@
--- The lines of the input, and what a run does of each.
+-- The lines of the input, and the acts of each.
 use Rattle.std.specs.{List.{AllByRecursion, flat_map}, Prelude.{[], Err, false, if◌then◌else◌, length}}
 use Rattle.std.specs.Prelude.{List, None, Ok, Option, option_map, Result, Some, unwrap_or, ℕ, ◌&&◌, ◌<◌, ◌≤◌}
 use Rattle.std.specs.{Prelude.{◌++◌, ◌==◌, ◌∷◌, ◌≡◌, ◌≢◌, ◌⊎◌}}
@@ -12,8 +12,8 @@ use Rattle.bac_script.specs.Script.{fault_at}
 use Rattle.bac_run.specs.{declared.fault.RunFault.RunFault}
 use Rattle.bac_run.specs.{Journal.{Act, Asked, ends_with_return, NoLine, Paused, Rested, Sought, Took}, Own.own_of}
 
--- What is done of a line that says this: at one without words the run waits, of a remark nothing is done, and a request
--- is asked for. A line that says anything else is bad.
+-- The acts of a line with this meaning: at a line without words the run waits, at a remark it does nothing, and a
+-- request is made. Any other line is bad.
 abbrev pub acts_of_said : List ℕ → Said → Option (List Act)
 acts_of_said line Blank = Some (Paused ∷ [])
 acts_of_said line Remark = Some []
@@ -26,14 +26,13 @@ addressed (Ok (Happens (Ask peer service body))) =
     if peer.ip == 0 then Err Bad else Ok (Happens (Ask peer service body))
 addressed result = result
 
--- What a line says. No line says settings. If it has 4,096 octets, lacks its line feed and ends with a carriage return,
--- it is too long: the journal would have one more.
+-- The meaning of a line, which never has settings. A line of 4,096 octets without a line feed that ends with a carriage
+-- return is too long: its line in the journal would have one more.
 abbrev pub said_of : List ℕ → Result Said LineFault
 said_of line =
     if length line == longest_line && ends_with_return line then Err TooLong else addressed (said false line)
 
--- The acts that a line asks for, if a script's reader says this of it. A line that a script does not have may be `who`
--- or `wait`.
+-- The acts of a line with this result of a script's reader. A line that a script does not have may be `who` or `wait`.
 abbrev pub acts_of_result : List ℕ → Result Said LineFault → Option (List Act)
 acts_of_result line (Ok what) = acts_of_said line what
 acts_of_result line (Err Bad) = option_map (λ act. act ∷ []) (own_of line)
@@ -43,7 +42,7 @@ acts_of_result line (Err TooLong) = None
 abbrev pub acts_of_line : List ℕ → Option (List Act)
 acts_of_line line = acts_of_result line (said_of line)
 
--- The fault of a line that is bad or too long, by its number.
+-- The fault of a line that is bad or too long, with its number.
 abbrev pub fault_of_said : ℕ → Result Said LineFault → TraceFault
 fault_of_said n (Ok one) = BadLine n
 fault_of_said n (Err fault) = fault_at n fault
@@ -54,7 +53,7 @@ fault_of_line n line = fault_of_said n (said_of line)
 abbrev pub acts_or_none : List ℕ → List Act
 acts_or_none line = unwrap_or (acts_of_line line) []
 
--- The acts that lines of the input ask for.
+-- The acts that come from lines of the input.
 abbrev pub input_in : Act → List Act
 input_in (Asked line event) = Asked line event ∷ []
 input_in Paused = Paused ∷ []
@@ -78,18 +77,18 @@ abbrev pub IsGood : List ℕ → Type 0
 IsGood line = acts_of_line line ≢ None
 
 -- A line is whole: it ends with its only line feed, or has as many octets as a line that is too long.
-abbrev pub IsWhole : List ℕ → Type 0
-IsWhole line = (EndsWithFeed line × (length line ≤ line_room)) ⊎ (HasNoFeed line × (length line ≡ line_room))
+abbrev pub IsWholeLine : List ℕ → Type 0
+IsWholeLine line = (EndsWithFeed line × (length line ≤ line_room)) ⊎ (HasNoFeed line × (length line ≡ line_room))
 
 -- No whole line is among these octets.
 abbrev pub HasNoWhole : List ℕ → Type 0
 HasNoWhole octets = HasNoFeed octets × (length octets < line_room)
 
--- The last line may lack its line feed: where reading has ended, it is all that is left.
+-- The last line may lack its line feed: once reading has ended, the line is all that is left.
 abbrev pub IsLast : Reading → (line rest : List ℕ) → Type 0
 IsLast reading line rest = (reading ≡ AtEnd) × (rest ≡ []) × HasNoWhole line × (line ≢ [])
 
--- No line is left: reading has ended, and all octets are taken; or it failed, and no whole line is left.
+-- No line is left: reading has ended, and all octets were taken; or it failed, and no whole line is left.
 abbrev pub IsUsedUp : Reading → List ℕ → Type 0
 IsUsedUp Open octets = ⊥
 IsUsedUp AtEnd octets = octets ≡ []
@@ -104,12 +103,12 @@ feed_in _ = []
 abbrev pub feeds_in : List Act → List Act
 feeds_in = flat_map feed_in
 
--- By these acts these octets are taken, one whole line after another, and some are kept, where reading stands so in the
+-- These acts take these octets, one whole line after another, and leave the kept ones; `reading` is the state at the
 -- end.
 abbrev pub Feeds : Reading → (given kept : List ℕ) → List Act → Type 0
 Feeds reading given kept [] = given ≡ kept
 Feeds reading given kept (Took line ∷ later) = (rest : List ℕ) × (given ≡ line ++ rest)
-    × (IsWhole line ⊎ IsLast reading line rest) × Feeds reading rest kept later
+    × (IsWholeLine line ⊎ IsLast reading line rest) × Feeds reading rest kept later
 Feeds reading given kept (NoLine over ∷ later) = (over ≡ reading) × IsUsedUp over given
     × Feeds reading given kept later
 Feeds reading given kept (act ∷ later) = ⊥
@@ -122,15 +121,16 @@ line_in _ = []
 abbrev pub lines_in : List Act → List (List ℕ)
 lines_in = flat_map line_in
 
--- With this result all that these lines ask for was done, in their order, and they are all that came; or a front of it.
+-- With this result all acts of these lines were done, in their order, and no line is left; or only the first of these
+-- acts were done.
 abbrev pub AllDone : Result TraceEnd RunFault → (taken : List (List ℕ)) → (kept : List ℕ) → (acts : List Act) → Type 0
 AllDone (Ok end) taken kept acts = (inputs_in acts ≡ flat_map acts_or_none taken) × AllByRecursion IsGood taken
     × (kept ≡ []) × (end.lines ≡ length taken)
 AllDone (Err fault) taken kept acts = (rest : List Act) × (flat_map acts_or_none taken ≡ inputs_in acts ++ rest)
 
--- What the reader gave are the lines that acts take, one after another, and what is kept after them; reading stands so
--- in the end; and what the lines ask for was done.
-pub record Takes {R : Type 0} (remaining : R → Option (List ℕ)) (reader reader' : Checked R) (acts : List Act)
+-- The octets of the reader are the lines that the acts take, one after another, and the kept octets; reading has this
+-- state at the end; and the acts of the lines were done.
+pub record TakesLines {R : Type 0} (remaining : R → Option (List ℕ)) (reader reader' : Checked R) (acts : List Act)
     (result : Result TraceEnd RunFault) : Type 0 where
   pub given : List ℕ
   pub kept : List ℕ

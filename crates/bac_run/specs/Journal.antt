@@ -1,16 +1,18 @@
--- What a run does, one thing after another; its journal, what it asks of its link, and what `bactrace` prints of it.
+-- The acts of a run, one after another; their journal, their calls of the link, and the text that `bactrace` prints
+-- from the journal.
 use Rattle.std.specs.{List.flat_map, Prelude.{[], Bool, codes, decimal, if◌then◌else◌, length, List, nat_le, nat_lt}}
 use Rattle.std.specs.Prelude.{None, slice_index, true, ℕ, ◌&&◌, ◌++◌, ◌-◌, ◌<◌, ◌==◌, ◌^◌, ◌∷◌, ◌≡◌}
 use Rattle.{hex.specs.Hex.{encode_lower, IsBytes}, bac_pdu.specs.Station}
-use Rattle.bac_tsm.specs.{Data, Event, keeping, Note, Sent, Tick, Client.Client}
-use Rattle.{bac_print.specs.peer_text, bac_script.specs.{step_of, Line.ends_with_feed, Text.note_text}}
+use Rattle.bac_tsm.specs.{Data, Event, keeping, Note, Sent, step_of, Tick, Client.Client}
+use Rattle.{bac_print.specs.peer_text, bac_script.specs.{Line.ends_with_feed, Text.note_text}}
 use Rattle.{bac_script.specs.declared.input.Reading.Reading}
 use Rattle.bac_links.specs.{Arrived, Entry, Heard, Posted, Timed, Waited}
 
--- One thing that a run does: it takes a line of its input; it finds that no line is left, since reading has ended or
--- failed; a line of its input asks for a request; a line without words was waited for; a Who-Is is sent, which opens no
--- request; a line has waited so many milliseconds; a datagram is heard in a wait of so long, and handed to the client;
--- a wait of so long hears nothing that is handed on; the time is read; the client gets a time that was read.
+-- One act of a run: it takes a line of its input; it finds no more lines, since reading has ended or failed; it makes
+-- the request of a line; it has waited at a line without words; it sends a Who-Is, which opens no request; it has
+-- waited this many milliseconds for a line; it receives a datagram in a wait of this length, and passes it to the
+-- client; it waits this long and receives nothing for the client; it reads the time; the client gets a time that was
+-- read.
 pub data Act : Type 0 where
   Took : (line : List ℕ) → Act
   NoLine : (reading : Reading) → Act
@@ -23,7 +25,7 @@ pub data Act : Type 0 where
   Read : (time : ℕ) → Act
   Told : (time : ℕ) → Act
 
--- The notes of the client, and what it is then.
+-- The notes of the client, and the client after them.
 pub record Turn : Type 0 where
   pub notes : List Note
   pub after : Client
@@ -32,14 +34,14 @@ abbrev pub at_event : Client → Event → Turn
 at_event client event =
     record { notes = (step_of client event).notes; after = keeping client (step_of client event).after }
 
--- What an act is to the client.
+-- The client's notes on an act, and the client after it.
 abbrev pub turn_at : Client → Act → Turn
 turn_at client (Asked line event) = at_event client event
 turn_at client (Came wait from octets) = at_event client (Data from octets)
 turn_at client (Told time) = at_event client (Tick time)
 turn_at client _ = record { notes = []; after = client }
 
--- The event of an act, where the client is handed one; and those of all acts, in their order.
+-- The event of an act, if it has one for the client; and those of all acts, in their order.
 abbrev pub event_in : Act → List Event
 event_in (Asked line event) = event ∷ []
 event_in (Came wait from octets) = Data from octets ∷ []
@@ -53,8 +55,8 @@ events_of = flat_map event_in
 abbrev pub ends_with_return : List ℕ → Bool
 ends_with_return line = slice_index line (length line - 1) == 13
 
--- A line with its line feed (10), which the last of the input may lack. If that ends with a carriage return, it has one
--- more, since one that stands before a line feed does not belong to the line.
+-- A line with its line feed (10), which only the last line of the input may lack. If that line ends with a carriage
+-- return, it gets one more, since one before a line feed does not belong to the line.
 abbrev pub whole_line : List ℕ → List ℕ
 whole_line line =
     if ends_with_feed line then line
@@ -65,15 +67,15 @@ whole_line line =
 abbrev pub settings_line : ℕ → ℕ → List ℕ
 settings_line timeout retries = codes "client " ++ (decimal timeout ++ 32 ∷ (decimal retries ++ codes " 0\n"))
 
--- The line of a datagram, and that of a time.
+-- The line of a datagram, and the line of a time.
 abbrev pub arrival_line : Station → List ℕ → List ℕ
 arrival_line from octets = codes "data " ++ (peer_text from ++ 32 ∷ (encode_lower octets ++ 10 ∷ []))
 
 abbrev pub time_line : ℕ → List ℕ
 time_line time = codes "tick " ++ (decimal time ++ 10 ∷ [])
 
--- A datagram of so many octets has a line of at most 4,096 octets: `data `, at most 21 of its peer, a space, and two
--- digits for each of its octets. One without octets has none.
+-- A datagram of this length has a line of at most 4,096 octets: `data `, at most 21 of its peer, a space, and two
+-- digits for each of its octets. A datagram without octets has none.
 abbrev pub has_line : ℕ → Bool
 has_line count = nat_lt 0 count && nat_le count 2034
 
@@ -94,22 +96,22 @@ line_of (Came wait from octets) = arrival_line from octets
 line_of (Told time) = time_line time
 line_of _ = []
 
--- What the link answers fits the line that says it: an address of 32 bits and a port of 16, without a route, and octets
--- for which there is a line; a time of 64 bits.
+-- The answer of the link fits its line: an address of 32 bits and a port of 16, without a route, and octets that have a
+-- line; a time of 64 bits.
 abbrev pub FitsLine : Act → Type 0
 FitsLine (Came wait from octets) = (from.ip < 2 ^ 32) × (from.port < 2 ^ 16) × (from.route ≡ None) × IsBytes octets
     × (has_line (length octets) ≡ true)
 FitsLine (Told time) = time < 2 ^ 64
 FitsLine act = Unit {0}
 
--- What `bactrace` prints of a note, as a remark: after # (35) and a space (32).
+-- A note as a remark: after # (35) and a space (32), the text that `bactrace` prints for it.
 abbrev pub remark : Note → List ℕ
 remark note = codes "# " ++ note_text note
 
 abbrev pub remarks : List Note → List ℕ
 remarks = flat_map remark
 
--- What an act asks of the link, except what the client sends.
+-- The calls of an act on the link, except the client's sends.
 abbrev pub asked_by : Act → List Entry
 asked_by (Came wait from octets) = Waited wait (Arrived from octets) ∷ []
 asked_by (Passed wait heard) = Waited wait heard ∷ []
@@ -125,7 +127,7 @@ post_in _ = []
 abbrev pub posts : List Note → List Entry
 posts = flat_map post_in
 
--- What an act of a client sends: a Who-Is, or what the client sends.
+-- The sends of an act: a Who-Is, or the client's datagrams.
 abbrev pub sends_at : Client → Act → List Entry
 sends_at client (Sought to octets) = Posted to octets ∷ []
 sends_at client act = posts (turn_at client act).notes
@@ -135,12 +137,12 @@ abbrev pub client_after : Client → List Act → Client
 client_after client [] = client
 client_after client (act ∷ later) = client_after (turn_at client act).after later
 
--- The notes of the client at these acts.
+-- The notes of the client on these acts.
 abbrev pub notes_of : Client → List Act → List Note
 notes_of client [] = []
 notes_of client (act ∷ later) = (turn_at client act).notes ++ notes_of (turn_at client act).after later
 
--- The journal of these acts: of each its line, and after it the client's notes as remarks.
+-- The journal of these acts: for each its line, and then the client's notes as remarks.
 abbrev pub journal : Client → List Act → List ℕ
 journal client [] = []
 journal client (act ∷ later) =

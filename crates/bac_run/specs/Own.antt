@@ -13,7 +13,7 @@ seek_octets (to, None) who = wrapped to.route false (laid_out (unconfirmed 8 (wh
 seek_octets (to, Some network) who =
     wrapped (Some (everyone network)) false (laid_out (unconfirmed 8 (who_is_octets who)))
 
--- Which devices are asked: all, or those whose instances are from LOW to HIGH, where LOW is not above HIGH.
+-- The devices that are asked for: all, or those with instances from LOW to HIGH, if LOW is not above HIGH.
 abbrev pub limits_of : List (List ℕ) → Option WhoIs
 limits_of [] = Some All
 limits_of (word ∷ words) = do
@@ -21,19 +21,19 @@ limits_of (word ∷ words) = do
   (high, words) ← next_as (number_up_to 4194303) words
   if nat_le low high then at_end words (Range low high) else None
 
--- PEER, ROUTER/NETWORK or ROUTER/*, but not at 0.0.0.0, and perhaps the limits.
+-- A Who-Is: PEER, ROUTER/NETWORK or ROUTER/*, but not at 0.0.0.0, and optional limits.
 abbrev pub seek_of : List (List ℕ) → Option Act
 seek_of words = do
   (reach, words) ← next_as reach_of words
   if reach.0.ip == 0 then None else option_map (λ who. Sought reach.0 (seek_octets reach who)) (limits_of words)
 
--- TIME, at most a minute.
+-- A wait: TIME, at most a minute.
 abbrev pub rest_of : List (List ℕ) → Option Act
 rest_of words = do
   (time, words) ← next_as (number_up_to 60000) words
   at_end words (Rested time)
 
--- What the words of such a line ask for.
+-- The act in the words of a line `who` or `wait`.
 abbrev pub own_by : List (List ℕ) → Option Act
 own_by [] = None
 own_by (name ∷ words) =
@@ -41,6 +41,6 @@ own_by (name ∷ words) =
     else if bytes_eq name (codes "wait") then rest_of words
     else None
 
--- What such a line asks for.
+-- The act of a line `who` or `wait`.
 abbrev pub own_of : List ℕ → Option Act
 own_of line = result_ok (text_of_line line) >>= (λ text. own_by (words_of text))

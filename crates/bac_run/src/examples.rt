@@ -1,4 +1,4 @@
-//! Examples of what a run does, worked out by computation. They show what the definitions mean.
+//! Examples of runs, worked out by computation. They show what the definitions mean.
 
 ghost use Rattle.std.specs.Prelude.{[], codes, Err, false, List, replicate, true, ℕ, ◌++◌, ◌+◌, ◌<◌, ◌^◌, ◌∷◌, ◌≡◌};
 ghost use Rattle.{bac_tsm.specs.Tick, bac_script.specs.{Blank, Happens, declared.line.LineFault.TheVariants.TooLong}};
@@ -6,71 +6,81 @@ ghost use Rattle.std.specs.Prelude.{None, Some};
 ghost use Rattle.bac_run.specs.{acts_of_line, ClockAt, moved, Rested, Rests, sends_of, Sought, taking, Turns};
 ghost use Rattle.bac_run.specs.{AreSent, AreSteady, Asked, AskNext, AtEnd, BadLine, Came, Does, EndsAt, EndsWithFeed};
 ghost use Rattle.bac_run.specs.{events_of, Failed, Feeds, FitsLine, Fresh, Goes, HasNoFeed, IsAsked, IsDue, IsLineOf};
-ghost use Rattle.bac_run.specs.{IsOut, IsPassed, IsReadBack, IsWithin, journal, journal_of, Link, NextLine};
+ghost use Rattle.bac_run.specs.{IsOut, IsPassed, IsReplayed, IsWithin, journal, journal_of, Link, NextLine};
 ghost use Rattle.bac_run.specs.{NoLine, notes_of, Open, Passed, passed_at, Paused, posted_in, Read, ReadFailed};
 ghost use Rattle.bac_run.specs.{ReceiveFailed, room_for, Runs, said_of, Script};
 ghost use Rattle.bac_run.specs.{SendFailed, sent_in, stage_after, time_line, Told, Took, TurnsSpent};
 ghost use Rattle.bac_run.specs.{FewOpen, LastIsDue, Telling, WantsLine, write_failed, Inner.drained};
 ghost use Rattle.bac_run.specs.Inner.{about, answer, asked, busy, deaf, desk, ended, filled, history_of, idle};
 ghost use Rattle.bac_run.specs.Inner.{full_after, given_once, IsRunOf, link_with, long_answer, octets, one_by_one};
-ghost use Rattle.bac_run.specs.Inner.{read, read_line, sent, slow, unknown, unsent, waiting};
+ghost use Rattle.bac_run.specs.Inner.{read, read_line, sent, slow, told_at, unknown, unsent, waiting};
 ghost use Rattle.bac_links.specs.{Arrived, most_turns, Posted, Silence, Timed, Unposted, Waited};
 ghost use Rattle.{bac_print.specs.fresh, bac_run.specs.has_line};
 
-// Which act is due in a wait for what is open. The timeout is three seconds, so a turn waits for 50 milliseconds.
+// The act that is due while a run waits for open requests. The timeout is three seconds, so a turn waits for 50
+// milliseconds.
 #[tactic(auto, unfolding(bac_script::proofs::Computed::computed))]
 fn examples_of_turns()
     ensures looks { IsDue 3000 (waiting 0 9) (Read 40) }
     ensures tells_unread { IsDue 3000 (waiting 0 9) (Told 40) → ⊥ }
 
-    // The time is read, nothing is heard, and that time is told; no other is, nor without the wait.
-    ensures quiet { Goes 3000 (waiting 0 9) (Read 40 ∷ Passed 50 Silence ∷ Told 40 ∷ []) }
-    ensures other_time { Goes 3000 (waiting 0 9) (Read 40 ∷ Passed 50 Silence ∷ Told 90 ∷ []) → ⊥ }
+    // In silence the next turn reads the time again and only looks; then the client gets the new time. Without the look
+    // it gets no time, and it never gets another one.
+    ensures quiet { Goes 3000 (waiting 0 9) (Read 40 ∷ Passed 50 Silence ∷ Read 90 ∷ Passed 0 Silence ∷ Told 90 ∷ []) }
+    ensures old_time { Goes 3000 (waiting 0 9) (Read 40 ∷ Passed 50 Silence ∷ Told 40 ∷ []) → ⊥ }
+    ensures other_time { Goes 3000 (waiting 0 9)
+        (Read 40 ∷ Passed 50 Silence ∷ Read 90 ∷ Passed 0 Silence ∷ Told 40 ∷ []) → ⊥ }
+    ensures no_look { Goes 3000 (waiting 0 9) (Read 40 ∷ Passed 50 Silence ∷ Read 90 ∷ Told 90 ∷ []) → ⊥ }
     ensures no_wait { Goes 3000 (waiting 0 9) (Read 40 ∷ Told 40 ∷ []) → ⊥ }
     ensures other_wait { Goes 3000 (waiting 0 9) (Read 40 ∷ Passed 49 Silence ∷ []) → ⊥ }
-    ensures no_later { Goes 3000 (waiting 0 9) (Read 0 ∷ Passed 50 Silence ∷ Told 0 ∷ []) → ⊥ }
+    ensures no_later { Goes 3000 (waiting 1 9) (Read 0 ∷ Passed 0 Silence ∷ Told 0 ∷ []) → ⊥ }
 
-    // A datagram is heard: the time is told once nothing more waits, in a wait of a moment.
+    // A datagram is received: the client gets the time after a turn that only looks and receives nothing.
     ensures heard { Goes 3000 (waiting 0 9)
-        (Read 40 ∷ Came 50 desk (7 ∷ []) ∷ Read 41 ∷ Passed 1 Silence ∷ Told 41 ∷ []) }
+        (Read 40 ∷ Came 50 desk (7 ∷ []) ∷ Read 41 ∷ Passed 0 Silence ∷ Told 41 ∷ []) }
     ensures told_behind { Goes 3000 (waiting 0 9) (Read 40 ∷ Came 50 desk (7 ∷ []) ∷ Told 40 ∷ []) → ⊥ }
     ensures long_behind { Goes 3000 (waiting 0 9) (Read 40 ∷ Came 50 desk (7 ∷ []) ∷ Read 41 ∷ Passed 50 Silence ∷ [])
         → ⊥ }
 
-    // After 256 datagrams in a row the time is told all the same.
-    ensures row { Goes 3000 (waiting 255 9) (Read 40 ∷ Came 1 desk (7 ∷ []) ∷ Told 40 ∷ []) }
-    ensures no_row { Goes 3000 (waiting 254 9) (Read 40 ∷ Came 1 desk (7 ∷ []) ∷ Told 40 ∷ []) → ⊥ }
+    // After 256 waits in a row the client gets the time anyway.
+    ensures row { Goes 3000 (waiting 255 9) (Read 40 ∷ Came 0 desk (7 ∷ []) ∷ Told 40 ∷ []) }
+    ensures no_row { Goes 3000 (waiting 254 9) (Read 40 ∷ Came 0 desk (7 ∷ []) ∷ Told 40 ∷ []) → ⊥ }
+
+    // A turn is counted; after the client has got a time, the count begins again.
+    ensures counted { stage_after 3000 (waiting 0 9) (Read 40 ∷ Passed 50 Silence ∷ []) ≡ waiting 1 8 }
+    ensures anew { stage_after 3000 (record (waiting 0 1) { phase = Telling 5 }) (Told 5 ∷ [])
+        ≡ told_at 5 (waiting 0 most_turns) }
 
     // After the last turn no act is due.
     ensures spent { Goes 3000 (waiting 0 0) (Read 40 ∷ []) → ⊥ }
 
-    // Before a request the time is told if no request is open, or if the time told last lies back by more than a tenth
-    // of the timeout.
+    // Before a request the client gets the time if no request is open, or if its last time is older than a tenth of the
+    // timeout.
     ensures first { Goes 3000 (about idle 0 (Fresh ∷ Does asked ∷ [])) (Read 40 ∷ Told 40 ∷ asked ∷ []) }
     ensures first_untold { Goes 3000 (about idle 0 (Fresh ∷ Does asked ∷ [])) (Read 40 ∷ asked ∷ []) → ⊥ }
     ensures soon { Goes 3000 (about busy 0 (Fresh ∷ Does asked ∷ [])) (Read 300 ∷ asked ∷ []) }
     ensures late { Goes 3000 (about busy 0 (Fresh ∷ Does asked ∷ []))
-        (Read 301 ∷ Read 302 ∷ Passed 1 Silence ∷ Told 302 ∷ asked ∷ []) }
+        (Read 301 ∷ Read 302 ∷ Passed 0 Silence ∷ Told 302 ∷ asked ∷ []) }
     ensures too_late { Goes 3000 (about busy 0 (Fresh ∷ Does asked ∷ [])) (Read 301 ∷ asked ∷ []) → ⊥ }
     ensures told_at_once { Goes 3000 (about busy 0 (Fresh ∷ Does asked ∷ [])) (Read 301 ∷ Told 301 ∷ []) → ⊥ }
 {}
 
-// What a run is about, by a line of its input.
+// The acts of a run that follow from a line of its input.
 #[tactic(auto, unfolding(bac_script::proofs::Computed::computed))]
 fn examples_of_lines()
-    // A line is taken if nothing else is to be done. The acts that it asks for come before the next line.
+    // A line is taken if no other act is due. Its acts come before the next line.
     ensures request { Goes 3000 (about idle 0 (NextLine 2 0 ∷ [])) (Took read_line ∷ Read 40 ∷ Told 40 ∷ asked
         ∷ Took read_line ∷ []) }
     ensures two { Goes 3000 (about idle 0 (NextLine 2 0 ∷ [])) (Took read_line ∷ Took read_line ∷ []) → ⊥ }
     ensures untaken { Goes 3000 (about idle 0 (NextLine 2 0 ∷ [])) (Read 40 ∷ []) → ⊥ }
 
-    // There has to be room for one more request: with a window of one the first is waited for.
+    // There must be room for one more request: with a window of one the run waits for the first.
     ensures full { Goes 3000 (about idle 0 (NextLine 1 0 ∷ []))
         (Took read_line ∷ Read 40 ∷ Told 40 ∷ asked ∷ Took read_line ∷ []) → ⊥ }
     ensures waits { Goes 3000 (about idle 0 (NextLine 1 0 ∷ [])) (Took read_line ∷ Read 40 ∷ Told 40 ∷ asked ∷ Read
         41 ∷ []) }
 
-    // At a line without words it waits until nothing is open, and at a remark it does nothing.
+    // At a line without words the run waits until nothing is open, and at a remark it does nothing.
     ensures empty { Goes 3000 (about busy 0 (NextLine 2 1 ∷ [])) (Took (10 ∷ []) ∷ Read 40 ∷ []) }
     ensures empty_still { Goes 3000 (about busy 0 (NextLine 2 1 ∷ [])) (Took (10 ∷ []) ∷ Paused ∷ []) → ⊥ }
     ensures remark { Goes 3000 (about busy 0 (NextLine 2 1 ∷ [])) (Took (codes "# x\n") ∷ Took read_line ∷ []) }
@@ -84,7 +94,7 @@ fn examples_of_lines()
     // A line of 4,096 octets that ends in a carriage return.
     ensures too_long { said_of (replicate 4095 32 ++ 13 ∷ []) ≡ Err TooLong }
 
-    // How a run ends.
+    // The ends of a run.
     ensures ended { EndsAt (ended 1) (stage_after 3000 (about idle 0 (NextLine 2 1 ∷ [])) (NoLine AtEnd ∷ [])) }
     ensures other_count { EndsAt (ended 2) (stage_after 3000 (about idle 0 (NextLine 2 1 ∷ [])) (NoLine AtEnd ∷ []))
         → ⊥ }
@@ -109,7 +119,7 @@ fn examples_of_lines()
     ensures unsent { EndsAt (Err (Link SendFailed)) (waiting 0 9) }
 {}
 
-// The lines that acts take from an input.
+// The lines that a run takes from its input.
 #[tactic(auto, unfolding(bac_script::proofs::Computed::computed))]
 fn examples_of_input()
     // The last line may lack its line feed if reading has ended.
@@ -122,7 +132,7 @@ fn examples_of_input()
     ensures failed { Feeds Failed (35 ∷ []) (35 ∷ []) (NoLine Failed ∷ []) }
     ensures whole { Feeds Failed (10 ∷ []) (10 ∷ []) (NoLine Failed ∷ []) → ⊥ }
 
-    // A read is due if no line is held and nothing else is to be done. With a window of one no request may be open.
+    // A read is due if no whole line is held and no other act is due. With a window of one no request may be open.
     ensures wanted { (timed : 0 < 3000) (some : 0 < 1) → WantsLine (one_by_one timed some) (about idle 0 (NextLine 1
         3 ∷ [])) }
     ensures unwanted { (timed : 0 < 3000) (some : 0 < 1) → WantsLine (one_by_one timed some) (waiting 0 9) → ⊥ }
@@ -130,7 +140,7 @@ fn examples_of_input()
         ∷ [])) → ⊥ }
 {}
 
-// The acts of the lines `who` and `wait`. A Who-Is names its network, and no octet of address.
+// The acts of the lines `who` and `wait`. A Who-Is names its network, without an address.
 #[tactic(auto, unfolding(bac_script::proofs::Computed::computed))]
 fn examples_of_seeking()
     ensures one { acts_of_line (codes "who 127.0.0.1/5\n") ≡ Some (Sought desk
@@ -149,17 +159,18 @@ fn examples_of_seeking()
         ≡ about idle 0 (Rests 60000 ∷ Does (Rested 60000) ∷ taking 1 1 []) }
     ensures too_long { acts_of_line (codes "wait 60001\n") ≡ None }
 
-    // A Who-Is opens no request, and is sent once: at no time is it due again.
+    // A Who-Is opens no request, and is sent once: it is never sent again.
     ensures sent { history_of idle (Sought desk (7 ∷ []) ∷ Told 9000 ∷ []) ≡ Posted desk (7 ∷ []) ∷ [] }
     ensures sends { sends_of idle (Sought desk (7 ∷ []) ∷ asked ∷ []) ≡ (desk, 7 ∷ []) ∷ (desk, octets) ∷ [] }
     ensures remarked { journal idle (Sought desk (7 ∷ []) ∷ Rested 50 ∷ [])
         ≡ codes "# who 127.0.0.1:47808 07\n# wait 50\n" }
 
-    // From the time that is read on a wait takes turns until it is told that so much has gone by.
+    // A wait takes turns from the time that is read until the client gets a time that is later by the whole wait.
     ensures begins { moved 3000 (about idle 0 (Rests 70 ∷ [])) (Read 40)
         ≡ about idle 0 (Turns (ClockAt 110) most_turns ∷ []) }
     ensures quiet { Goes 3000 (about idle 0 (Rests 70 ∷ Does (Rested 70) ∷ [])) (Read 40 ∷ Read 41 ∷ Passed 50 Silence
-        ∷ Told 41 ∷ Read 110 ∷ Passed 50 Silence ∷ Told 110 ∷ Rested 70 ∷ []) }
+        ∷ Read 91 ∷ Passed 0 Silence ∷ Told 91 ∷ Read 92 ∷ Passed 50 Silence ∷ Read 142 ∷ Passed 0 Silence ∷ Told 142
+        ∷ Rested 70 ∷ []) }
     ensures early { Goes 3000 (about idle 0 (Rests 70 ∷ Does (Rested 70) ∷ [])) (Read 40 ∷ Read 109 ∷ Passed 50 Silence
         ∷ Told 109 ∷ Rested 70 ∷ []) → ⊥ }
 {}
@@ -167,7 +178,7 @@ fn examples_of_seeking()
 // The open requests, the journal and the sends of the acts of a run.
 #[tactic(auto, unfolding(bac_script::proofs::Computed::computed))]
 fn examples_of_acts()
-    // With a window of one no second request is asked for while the first is open, and no line is taken.
+    // With a window of one no second request is made while the first is open, and no line is taken.
     ensures within { IsWithin 1 idle (Took read_line ∷ asked ∷ []) }
     ensures full { IsWithin 1 idle (asked ∷ asked ∷ []) → ⊥ }
     ensures full_line { IsWithin 1 idle (asked ∷ Took read_line ∷ []) → ⊥ }
@@ -176,7 +187,7 @@ fn examples_of_acts()
     ensures empty { FitsLine (Came 50 desk []) → ⊥ }
     ensures late { FitsLine (Told (2 ^ 64)) → ⊥ }
 
-    // The events of the client, in this order.
+    // The events of the client, in order.
     ensures events { events_of (asked ∷ Read 3000 ∷ Passed 50 Silence ∷ Told 3000 ∷ []) ≡ read ∷ Tick 3000 ∷ [] }
 
     // A request is sent, and again at its timeout.
@@ -189,12 +200,12 @@ fn examples_of_acts()
     ensures in_entry { posted_in (Posted desk octets) ≡ (desk, octets) ∷ [] }
     ensures not_in_entry { posted_in (Unposted desk octets) ≡ [] }
 
-    // Two sends of which the second failed.
+    // Two sends, of which the second failed.
     ensures lost { AreSent {D = ℕ} unsent (1 ∷ 2 ∷ []) (1 ∷ []) }
     ensures none_lost { AreSent {D = ℕ} unsent (1 ∷ 2 ∷ []) (1 ∷ 2 ∷ []) → ⊥ }
     ensures one_less { AreSent {D = ℕ} (ended 2) (1 ∷ 2 ∷ []) (1 ∷ []) → ⊥ }
 
-    // A send that fails is the last thing that a link is asked, and in the last act, even if the writer fails too.
+    // A send that fails is the last call of the link, and belongs to the last act, even if the writer fails too.
     ensures unsent { IsAsked unsent idle (asked ∷ []) (Unposted desk octets ∷ []) }
     ensures unwritten { IsAsked {A = ℕ} (Err write_failed) idle (asked ∷ []) (Unposted desk octets ∷ []) }
     ensures all_sent { IsAsked unsent idle (asked ∷ []) (Posted desk octets ∷ []) → ⊥ }
@@ -213,7 +224,7 @@ fn examples_of_runs()
         ++ codes "data 127.0.0.1:47808 810a0017010030010c0c0000000519553e444290999a3f\n# done 0 value 4290999a\n")
         (Timed 0 ∷ Posted desk octets ∷ Timed 5 ∷ Waited 50 (Arrived desk answer) ∷ []) }
 
-    // Whatever is printed: for a remark the link is asked for nothing, and the request of a line is sent.
+    // Whatever is printed: a remark uses no link, and the request of a line is sent.
     ensures unasked { (printed : List ℕ) → IsRunOf (codes "# x\n") printed
         (Timed 0 ∷ Posted desk octets ∷ Timed 5 ∷ Waited 50 (Arrived desk answer) ∷ []) → ⊥ }
     ensures unsent { (printed : List ℕ) → IsRunOf read_line printed
@@ -232,7 +243,7 @@ fn examples_of_runs()
         (drained (codes "tick 1\n")) (fresh 0) (filled (codes "client 3000 3 0\n")) (link_with []) (link_with [])
         (Err (Script (BadLine 1))) → ⊥ }
 
-    // No line of a journal has a time of 65 bits, nor a script a timeout of 33.
+    // A line of a journal does not have a time of 65 bits, nor a script a timeout of 33 bits.
     ensures past_the_clock { (printed : List ℕ) → IsRunOf read_line printed
         (Timed (2 ^ 64) ∷ Posted desk octets ∷ Timed (2 ^ 64 + 5) ∷ Waited 50 (Arrived desk answer) ∷ []) → ⊥ }
     ensures too_slow { (timed : 0 < 2 ^ 32) (some : 0 < 1) (printed : List ℕ) → Runs unknown unknown (slow timed some)
@@ -243,20 +254,20 @@ fn examples_of_runs()
         (fresh 0) (given_once read_line) (fresh 0) (full_after (codes "client 3000 3 0\n")) (link_with [])
         (link_with (Timed 0 ∷ Posted desk octets ∷ Timed 5 ∷ Waited 50 Silence ∷ [])) (Err write_failed) → ⊥ }
 
-    // With a window of one no read is due while a request is open; nor is one while a whole line is held.
+    // With a window of one no read is due while a request is open, or while a whole line is held.
     ensures early { (timed : 0 < 3000) (some : 0 < 1) → LastIsDue (one_by_one timed some) (drained read_line) read_line
         (Took read_line ∷ Read 0 ∷ asked ∷ []) (λ acts. Unit {0}) → ⊥ }
     ensures held { (timed : 0 < 3000) (some : 0 < 1) → LastIsDue (one_by_one timed some) (drained read_line) read_line
         [] (λ acts. Unit {0}) → ⊥ }
 
-    // Before a wait the settings are out.
+    // The settings are written before a wait.
     ensures out { (timed : 0 < 3000) (some : 0 < 1) → IsOut (one_by_one timed some) (fresh 0)
         (filled (codes "client 3000 3 0\n")) (Passed 50 Silence ∷ []) }
     ensures kept_back { (timed : 0 < 3000) (some : 0 < 1) → IsOut {W = ℕ} (one_by_one timed some) (fresh 0) (fresh 0)
         (Passed 50 Silence ∷ []) → ⊥ }
 {}
 
-// A journal whose remark is longer than a line.
+// A journal with a remark that is longer than a line.
 #[tactic(auto, unfolding(bac_script::proofs::Computed::computed))]
 fn examples_of_folding()
     // A remark of 4,122 octets goes on in a second line.
@@ -268,7 +279,7 @@ fn examples_of_folding()
         ++ codes "'\n")))))) }
 {}
 
-// The next question of two runs, and how far a clock goes at once.
+// The next call of two runs, and how far a clock goes at once.
 fn examples_of_asking()
     ensures next { AskNext (Timed 1 ∷ []) (Timed 2 ∷ []) }
     ensures other { AskNext (Timed 1 ∷ []) (Waited 50 Silence ∷ []) → ⊥ }
@@ -276,7 +287,7 @@ fn examples_of_asking()
     ensures leap { AreSteady 40 (Tick 0 ∷ Tick 41 ∷ []) 0 → ⊥ }
 {}
 
-// The event that `bactrace` reads in a line of the journal.
+// The event that `bactrace` reads from a line of the journal.
 #[tactic(auto, using(crate::proofs::time_read_back))]
 fn examples_of_reading()
     ensures feed { EndsWithFeed (13 ∷ 10 ∷ []) }
@@ -285,11 +296,11 @@ fn examples_of_reading()
     ensures lines { IsLineOf false (10 ∷ 10 ∷ []) Blank → ⊥ }
     ensures no_line { IsLineOf false [] Blank → ⊥ }
     ensures other_time { IsLineOf false (time_line 40) (Happens (Tick 41)) → ⊥ }
-    ensures read_back { IsReadBack (Told 40) }
-    ensures not_read_back { IsReadBack (Asked (10 ∷ 10 ∷ []) read) → ⊥ }
+    ensures read_back { IsReplayed (Told 40) }
+    ensures not_read_back { IsReplayed (Asked (10 ∷ 10 ∷ []) read) → ⊥ }
 {}
 
-// The longest datagram of a line, and the room for a request.
+// The longest datagram that has a line, and the room for a request.
 #[tactic(none)]
 fn examples_of_limits()
     ensures one { has_line 1 ≡ true }
@@ -297,9 +308,11 @@ fn examples_of_limits()
     ensures too_long { has_line 2035 ≡ false }
     ensures empty { has_line 0 ≡ false }
 
-    // A datagram that no line has room for was heard all the same, so the time of its turn is not told yet.
-    ensures heard_unsaid { passed_at (waiting 0 9) 40 (Arrived desk (replicate 2035 0)) ≡ waiting 1 9 }
-    ensures silent { passed_at (waiting 0 9) 40 Silence ≡ record (waiting 0 9) { phase = Telling 40 } }
+    // A datagram that is too long for a line still counts as received, so the client does not get the time of its turn
+    // yet.
+    ensures heard_unsaid { passed_at (waiting 0 9) 40 50 (Arrived desk (replicate 2035 0)) ≡ waiting 1 9 }
+    ensures silent { passed_at (waiting 1 9) 40 0 Silence ≡ record (waiting 0 9) { phase = Telling 40 } }
+    ensures silent_long { passed_at (waiting 0 9) 40 50 Silence ≡ waiting 1 9 }
     ensures unsaid { IsPassed (Arrived desk (replicate 2035 0)) }
     ensures to_be_said { IsPassed (Arrived desk (7 ∷ [])) → ⊥ }
 

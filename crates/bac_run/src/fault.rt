@@ -3,7 +3,7 @@ ghost use Rattle.std.specs.Prelude.{◌≡◌};
 ghost use Rattle.{bac_print.specs.message_text, bac_run.specs.run_fault_text};
 
 use bac_links::ToolFault;
-use bac_print::{Message, WriteFailed};
+use bac_print::{FaultMessage, WriteFailed};
 use bac_script::TraceFault;
 use thiserror::Error;
 
@@ -11,15 +11,15 @@ use thiserror::Error;
 #[derive(Clone, Copy, Debug, PartialEq, Eq, Error)]
 #[error("{}", self.message())]
 pub enum RunFault {
-    /// A line is bad, or reading or writing failed.
+    /// A line is bad, or a read or a write failed.
     Script(TraceFault),
     /// The link failed, or the turns of a wait are spent.
     Link(ToolFault),
 }
 
 impl RunFault {
-    /// Its message.
-    pub fn message(&self) -> Message
+    /// Returns the message.
+    pub fn message(&self) -> FaultMessage
         ensures { message_text result ≡ run_fault_text self.now }
     {
         match self {

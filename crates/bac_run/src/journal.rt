@@ -12,10 +12,11 @@ use bac_script::{print_datagram, print_note};
 use bac_tsm::{Client, Config, DueEntry, Ended, Note};
 use std::io::Write;
 
-// The most octets of a datagram that has a line: `data `, 21 octets of a peer, a space, and two digits for each.
+// The octets of the longest datagram that has a line: `data `, 21 octets of a peer, a space, and two digits for each
+// octet.
 const LONGEST_TOLD: usize = 2_034;
 
-/// Whether a datagram of so many octets has a line in a script.
+/// Returns whether a datagram of this length has a line in a script.
 pub(crate) fn has_line(octets: usize) -> bool
     ensures { result ≡ has_line octets }
 {
@@ -33,8 +34,8 @@ pub(crate) fn print_settings<W: Write>(page: &mut Page<'_, W>, config: Config)
     print_retries(page, config.retries);
 }
 
-/// Prints a line of the input. If it lacks a line feed, it gets one; and before that one more carriage return, if it
-/// ends with one.
+/// Prints a line of the input. A last line without a line feed gets one, and before that one more carriage return if
+/// the line ends with one.
 #[tactic(auto, using(bac_print::proofs::Printed::printing))]
 pub(crate) fn print_line<W: Write>(page: &mut Page<'_, W>, line: &[u8])
     ensures { Prints W.contents page.old page.new (whole_line line.now) }
@@ -56,7 +57,7 @@ pub(crate) fn print_arrival<W: Write>(page: &mut Page<'_, W>, from: Peer, octets
     print_datagram(page, from, octets);
 }
 
-/// Remarks a Who-Is that is sent.
+/// Prints a remark: this Who-Is was sent.
 #[tactic(auto, using(bac_print::proofs::Printed::printing))]
 pub(crate) fn remark_seek<W: Write>(page: &mut Page<'_, W>, to: Peer, octets: &[u8])
     ensures { Prints W.contents page.old page.new (codes "# " ++ seek_text (station to) octets.now) }
@@ -65,7 +66,7 @@ pub(crate) fn remark_seek<W: Write>(page: &mut Page<'_, W>, to: Peer, octets: &[
     print_datagram(page, to, octets);
 }
 
-/// Remarks a wait that is over.
+/// Prints a remark: this wait is over.
 #[tactic(auto, using(bac_print::proofs::Printed::printing))]
 pub(crate) fn remark_rest<W: Write>(page: &mut Page<'_, W>, time: u32)
     ensures { Prints W.contents page.old page.new (codes "# " ++ rest_text time) }
@@ -85,7 +86,7 @@ pub(crate) fn print_time<W: Write>(page: &mut Page<'_, W>, now: u64)
     page.print(b"\n");
 }
 
-/// Remarks a note.
+/// Prints a note as a remark.
 #[tactic(auto, using(bac_print::proofs::Printed::printing))]
 pub(crate) fn remark<W: Write>(page: &mut Page<'_, W>, note: Note<'_>)
     ensures { Prints W.contents page.old page.new (remark (note_seen note.entry)) }
@@ -94,7 +95,7 @@ pub(crate) fn remark<W: Write>(page: &mut Page<'_, W>, note: Note<'_>)
     print_note(page, note);
 }
 
-/// Remarks a note, where there is one.
+/// Prints a note as a remark, if there is one.
 #[tactic(auto, using(bac_print::proofs::Printed::printing, std::proofs::lemmas::Grind::common_steps))]
 pub(crate) fn remark_any<W: Write>(page: &mut Page<'_, W>, note: Option<Note<'_>>)
     ensures { Prints W.contents page.old page.new (remarks (option_to_list (option_map note_seen note.entry))) }
@@ -104,7 +105,7 @@ pub(crate) fn remark_any<W: Write>(page: &mut Page<'_, W>, note: Option<Note<'_>
     }
 }
 
-/// Remarks what became of a datagram.
+/// Prints the result of a datagram as a remark.
 #[tactic(auto, using(bac_print::proofs::Printed::printing, std::proofs::lemmas::Grind::common_steps))]
 pub(crate) fn remark_end<W: Write>(page: &mut Page<'_, W>, ended: Option<Ended<'_>>)
     ensures { Prints W.contents page.old page.new (remarks (datagram_notes (option_map end_seen ended.entry))) }
@@ -112,7 +113,7 @@ pub(crate) fn remark_end<W: Write>(page: &mut Page<'_, W>, ended: Option<Ended<'
     remark(page, ended.map_or(Note::Dropped, Note::Done));
 }
 
-/// Remarks what became of the requests that were due, in their order.
+/// Prints remarks on the requests that were due, in their order.
 #[tactic(auto, using(bac_print::proofs::Printed::printing, std::proofs::lemmas::Grind::common_steps, std::proofs::lemmas::List::take_more))]
 pub(crate) fn remark_due<W: Write>(page: &mut Page<'_, W>, client: &Client, due: &[DueEntry])
     ensures { Prints W.contents page.old page.new (remarks (flat_map (due_notes client.now.state) due.now)) }

@@ -12,15 +12,15 @@ use bac_wire::Frame;
 // The greatest instance of an object.
 const LAST_INSTANCE: u64 = 4_194_303;
 
-// The longest wait, in milliseconds: as long as a turn takes a millisecond at least, there are turns for it.
+// The longest wait, in milliseconds.
 const LONGEST_REST: u64 = 60_000;
 
-/// What a line `who` or `wait` asks for.
+/// The meaning of a line `who` or `wait`.
 #[derive(Clone, Copy)]
 pub(crate) enum Own {
     /// A Who-Is.
     Seek(Reach, WhoIs),
-    /// A wait of so many milliseconds.
+    /// A wait of this many milliseconds.
     Rest(u32),
 }
 
@@ -35,7 +35,7 @@ pub(crate) fn read_own(line: &[u8]) -> Option<Own>
     read_own_words(Words::new(text))
 }
 
-/// The datagram of a Who-Is. There is always room for it.
+/// Returns the datagram of a Who-Is. There is always room for it.
 pub(crate) fn who_is(reach: Reach, who: WhoIs) -> Frame
     requires { IfSome reach.network (λ network. 0 < network) }
     ensures { result ≡ seek_octets (reach_seen reach) who }

@@ -13,8 +13,8 @@ ghost use Rattle.bac_script.specs.declared.line.LineFault.TheVariants.{Bad};
 use crate::fault::RunFault;
 use crate::journal::{print_line, print_settings, remark, remark_any, remark_rest, remark_seek};
 use crate::own::{Own, read_own, who_is};
-use crate::session::Session;
-use crate::turns::{Run, Until, send_any, send_seek};
+use crate::setup::Setup;
+use crate::turns::{Runner, Until, send_any, send_seek};
 use bac_links::{Datagram, Link};
 use bac_pdu::{Peer, WRITE_PROPERTY, WhoIs};
 use bac_print::{Checked, Page};
@@ -23,9 +23,9 @@ use bac_text::{LONGEST_LINE, Reach};
 use bac_tsm::{Client, Event, Note, SubmitFault};
 use std::io::{Read, Write};
 
-/// Asks for what the lines of the reader say, and prints the journal of that.
+/// Makes the requests of the reader's lines, and prints their journal.
 pub fn run_requests<L: Link, R: Read, W: Write>(
-    session: Session,
+    setup: Setup,
     link: &mut L,
     reader: &mut Checked<R>,
     writer: &mut Checked<W>,
@@ -33,20 +33,20 @@ pub fn run_requests<L: Link, R: Read, W: Write>(
     requires link { L.has_failed link.old ≡ false }
     requires reader { has_failed reader.old ≡ false }
     requires writer { has_failed writer.old ≡ false }
-    ensures runs { Runs R.remaining W.contents session reader.old reader.new writer.old writer.new (L.seen link.old)
+    ensures runs { Runs R.remaining W.contents setup reader.old reader.new writer.old writer.new (L.seen link.old)
         (L.seen link.new) result }
     ensures link_fault { result ≢ Err write_failed → L.has_failed link.new ≡ is_of_link result }
     ensures write_fault { (has_failed writer.new ≡ true) ↔ (result ≡ Err write_failed) }
 {
     let mut page = Page::folding(writer);
-    let answer = run_lines(session, link, reader, &mut page);
+    let answer = run_lines(setup, link, reader, &mut page);
     page.finish()?;
     answer
 }
 
-// Asks for what the lines say. In the end some of the journal may still be on the page.
+// Makes the requests of the lines. At the end some of the journal may still be on the page.
 fn run_lines<L: Link, R: Read, W: Write>(
-    session: Session,
+    setup: Setup,
     link: &mut L,
     reader: &mut Checked<R>,
     page: &mut Page<'_, W>,
@@ -55,20 +55,20 @@ fn run_lines<L: Link, R: Read, W: Write>(
     requires reader { has_failed reader.old ≡ false }
     requires page { held page.old ≡ [] }
     ensures fault { L.has_failed link.new ≡ is_of_link result }
-    ensures runs { RunsOn R.remaining W.contents session reader.old reader.new page.old page.new (L.seen link.old)
+    ensures runs { RunsOn R.remaining W.contents setup reader.old reader.new page.old page.new (L.seen link.old)
         (L.seen link.new) result }
     ensures not_written { result ≡ Err write_failed → has_failed (writer_of page.new) ≡ true }
 {
     let mut chunk = Chunk::new();
     let mut room = LineRoom::new();
-    let mut run = Run {
-        session,
-        client: Client::new(session.config, 0),
+    let mut run = Runner {
+        setup,
+        client: Client::new(setup.config, 0),
         datagram: Datagram::new(),
-        behind: 0,
+        since_told: 0,
     };
     let mut lines = 0;
-    print_settings(page, session.config);
+    print_settings(page, setup.config);
     'lines: loop {
         run.make_room(link, page)?;
         let next = chunk.next_line(reader, page)?;
@@ -88,8 +88,8 @@ fn run_lines<L: Link, R: Read, W: Write>(
     }
 }
 
-impl Run {
-    // Does what a line says.
+impl Runner {
+    // Does what a line asks for.
     fn take_line<L: Link, W: Write>(
         &mut self,
         line: &[u8],
@@ -99,11 +99,11 @@ impl Run {
         page: &mut Page<'_, W>,
     ) -> Result<(), RunFault>
         requires link { L.has_failed link.old ≡ false }
-        requires room { open_in self.old.client < self.old.session.window }
+        requires room { open_in self.old.client < self.old.setup.window }
         ensures fault { L.has_failed link.new ≡ is_of_link result }
         ensures went { Went W.contents self.old self.new page.old page.new (L.seen link.old) (L.seen link.new)
-            (λ later. started self.old (aims_for (acts_of_line line.now) self.old.session.window number line.now later))
-            (λ later. started self.new (taking self.old.session.window number later)) result [] }
+            (λ later. started self.old (aims_for (acts_of_line line.now) self.old.setup.window number line.now later))
+            (λ later. started self.new (taking self.old.setup.window number later)) result [] }
         ensures not_written { result ≡ Err write_failed → has_failed (writer_of page.new) ≡ true }
         ensures over { IfErr result (λ fault. IsOverAt fault self.new.client) }
         ensures good { IfOk result (λ _. IsGood line.now) }
@@ -116,7 +116,7 @@ impl Run {
                 self.ask(line, peer, service, body, link, page)
             }
             Ok(Line::LongWrite(_)) => {
-                self.freshen(link, page)?;
+                self.refresh_time(link, page)?;
                 print_line(page, line);
                 remark(page, Note::Refused(SubmitFault::TooLong));
                 Ok(())
@@ -128,7 +128,7 @@ impl Run {
         }
     }
 
-    // Does what a line `who` or `wait` says. Any other line is bad.
+    // Does what a line `who` or `wait` asks for. Any other line is bad.
     fn take_own<L: Link, W: Write>(
         &mut self,
         line: &[u8],
@@ -140,8 +140,8 @@ impl Run {
         requires bad { said_of line.now ≡ Err Bad }
         ensures fault { L.has_failed link.new ≡ is_of_link result }
         ensures went { Went W.contents self.old self.new page.old page.new (L.seen link.old) (L.seen link.new)
-            (λ later. started self.old (aims_for (acts_of_line line.now) self.old.session.window number line.now later))
-            (λ later. started self.new (taking self.old.session.window number later)) result [] }
+            (λ later. started self.old (aims_for (acts_of_line line.now) self.old.setup.window number line.now later))
+            (λ later. started self.new (taking self.old.setup.window number later)) result [] }
         ensures not_written { result ≡ Err write_failed → has_failed (writer_of page.new) ≡ true }
         ensures over { IfErr result (λ fault. IsOverAt fault self.new.client) }
         ensures good { IfOk result (λ _. IsGood line.now) }
@@ -170,13 +170,13 @@ impl Run {
         ensures not_written { result ≡ Err write_failed → has_failed (writer_of page.new) ≡ true }
         ensures cause { IfErr result IsOfWait }
     {
-        self.freshen(link, page)?;
+        self.refresh_time(link, page)?;
         let datagram = who_is(reach, who);
         remark_seek(page, reach.to, datagram.as_slice());
         send_seek(reach.to, datagram.as_slice(), link)
     }
 
-    // Waits so many milliseconds, whatever is open.
+    // Waits this many milliseconds, whatever is open.
     fn sit_out<L: Link, W: Write>(
         &mut self,
         time: u32,
@@ -215,7 +215,7 @@ impl Run {
         Ok(())
     }
 
-    // Asks the client to make a request of the peer, and sends it.
+    // Makes a request to the peer with the client, and sends it.
     fn ask<L: Link, W: Write>(
         &mut self,
         line: &[u8],
@@ -226,7 +226,7 @@ impl Run {
         page: &mut Page<'_, W>,
     ) -> Result<(), RunFault>
         requires link { L.has_failed link.old ≡ false }
-        requires room { open_in self.old.client < self.old.session.window }
+        requires room { open_in self.old.client < self.old.setup.window }
         ensures fault { L.has_failed link.new ≡ is_of_link result }
         ensures went { Went W.contents self.old self.new page.old page.new (L.seen link.old) (L.seen link.new)
             (λ later. started self.old (Fresh ∷ Does (Asked line.now (Ask (station peer) service body.now)) ∷ later))
@@ -234,7 +234,7 @@ impl Run {
         ensures not_written { result ≡ Err write_failed → has_failed (writer_of page.new) ≡ true }
         ensures cause { IfErr result IsOfWait }
     {
-        self.freshen(link, page)?;
+        self.refresh_time(link, page)?;
         if !may_ask(service, page) {
             return Err(RunFault::Script(TraceFault::WriteFailed));
         }
@@ -251,16 +251,16 @@ impl Run {
         requires { L.has_failed link.old ≡ false }
         ensures fault { L.has_failed link.new ≡ is_of_link result }
         ensures went { Went W.contents self.old self.new page.old page.new (L.seen link.old) (L.seen link.new)
-            (λ later. started self.old (room_for self.old.session.window ∷ later))
+            (λ later. started self.old (room_for self.old.setup.window ∷ later))
             (λ later. started self.new later) result [] }
         ensures not_written { result ≡ Err write_failed → has_failed (writer_of page.new) ≡ true }
-        ensures room { IfOk result (λ _. open_in self.new.client < self.new.session.window) }
+        ensures room { IfOk result (λ _. open_in self.new.client < self.new.setup.window) }
         ensures cause { IfErr result IsOfWait }
     {
-        self.wait(Until::FewOpen(self.session.window - 1), link, page)
+        self.wait(Until::FewOpen(self.setup.window - 1), link, page)
     }
 
-    // Waits until no request is open, and then stops with this fault; or with that of the wait.
+    // Waits until no request is open, and then stops with this fault, or with a fault of the wait.
     fn stop<L: Link, W: Write>(
         &mut self,
         fault: TraceFault,
@@ -282,7 +282,7 @@ impl Run {
         }
     }
 
-    // Waits until no request is open, and then ends after so many lines.
+    // Waits until no request is open, and then ends after this many lines.
     fn end<L: Link, W: Write>(
         &mut self,
         lines: u64,
@@ -306,7 +306,7 @@ impl Run {
     }
 }
 
-// Asks the client to make a request of the peer, and sends it. Its line was printed.
+// Makes a request to the peer with the client, and sends it. Its line was printed before.
 fn submit<L: Link, W: Write>(
     client: &mut Client,
     peer: Peer,
@@ -334,8 +334,8 @@ fn submit<L: Link, W: Write>(
     }
 }
 
-// Returns whether a request of this service may be asked for. Before a write all output goes out, and if that fails, it
-// may not.
+// Returns whether a request of this service may be made. Before a write all output is written; if that fails, the write
+// may not be made.
 fn may_ask<W: Write>(service: u8, page: &mut Page<'_, W>) -> bool
     ensures printed { Prints W.contents page.old page.new [] }
     ensures sound { result ≡ true → service ≡ 15 → has_failed (writer_of page.new) ≡ false }
@@ -349,7 +349,8 @@ fn may_ask<W: Write>(service: u8, page: &mut Page<'_, W>) -> bool
     !page.failed()
 }
 
-// Prints the line of a request. That of a write goes out, so that the write is recorded before it is sent.
+// Prints the line of a request. The line of a write is written at once, so that it is recorded before the write is
+// sent.
 fn print_request<W: Write>(page: &mut Page<'_, W>, service: u8, line: &[u8])
     ensures { Prints W.contents page.old page.new (whole_line line.now) }
 {
@@ -359,7 +360,7 @@ fn print_request<W: Write>(page: &mut Page<'_, W>, service: u8, line: &[u8])
     }
 }
 
-// Reads a line. It is too long if the journal has no room for it. A request to 0.0.0.0 is a bad line.
+// Reads a line. It is too long if its line in the journal would be. A request to 0.0.0.0 is a bad line.
 fn read_short_line<'a>(line: &'a [u8], room: &'a mut LineRoom) -> Result<Line<'a>, LineFault>
     ensures { result_seen line_seen result ≡ said_of line.now }
 {

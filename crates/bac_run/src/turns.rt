@@ -1,49 +1,50 @@
-//! Turns of a run: what the link hears and the time are handed to the client, and what it sends is sent.
+//! Turns of a run: each passes received datagrams and the time to the client, and sends the client's datagrams.
 
 ghost use Rattle.std.specs.{List.flat_map, Option.{option_map, option_to_list}};
-ghost use Rattle.std.specs.Prelude.{[], Err, false, IfErr, IfOk, List, true, ℕ, ◌<◌, ◌∷◌, ◌≡◌, ◌≤◌};
+ghost use Rattle.std.specs.Prelude.{[], Err, false, if◌then◌else◌, IfErr, IfOk, List, true, ℕ, ◌<◌, ◌∷◌, ◌≡◌, ◌≤◌};
 ghost use Rattle.{bac_pdu.specs.station, bac_print.specs.{has_failed, held, Prints, writer_of}};
-ghost use Rattle.{bac_tsm.specs.{due_notes, Seen.note_seen}, bac_links.specs.{most_turns, Posted}};
-ghost use Rattle.bac_run.specs.{Aim, Fresh, heard_at, is_of_link, is_reached, open_in, posts, Rests, settled, Turns};
-ghost use Rattle.bac_run.specs.{wait_at};
-ghost use Rattle.bac_run.specs.{write_failed, Inner.{begins_turn, ends_turn, GainsDue, heard_until, hearing, IsOfWait}};
-ghost use Rattle.bac_run.specs.Inner.{looking, outside, send_failed, started, to_tell, Went.Went};
+ghost use Rattle.{bac_tsm.specs.{due_notes, Seen.note_seen}, bac_links.specs.{most_turns, Posted, Silence}};
+ghost use Rattle.bac_run.specs.{Aim, Fresh, heard_at, is_of_link, is_reached, open_in, passed_at, posts, Rests};
+ghost use Rattle.bac_run.specs.{settled, Turns, wait_at, write_failed, Inner.{begins_turn, ends_turn, GainsDue}};
+ghost use Rattle.bac_run.specs.Inner.{heard_until, hearing};
+ghost use Rattle.bac_run.specs.Inner.{IsOfWait, looking, MovesClock, outside, send_failed, started, telling_in};
+ghost use Rattle.bac_run.specs.Inner.Went.{Went};
 
 use crate::fault::RunFault;
 use crate::journal::{has_line, print_arrival, print_time, remark_due, remark_end};
-use crate::session::Session;
+use crate::setup::Setup;
 use bac_links::{Datagram, Link, ToolFault, most_turns, turn_wait};
 use bac_pdu::Peer;
 use bac_print::{Page, WriteFailed};
 use bac_tsm::{Client, DueEntry, Note};
 use std::io::Write;
 
-// After so many waits in a row the time is told all the same.
+// After this many waits in a row the client gets the time anyway.
 const LONGEST_ROW: u32 = 256;
 
-// What a run has beside its streams.
+// The state of a run, without its streams.
 #[derive(Drop)]
-pub(crate) struct Run {
-    pub session: Session,
+pub(crate) struct Runner {
+    pub setup: Setup,
     pub client: Client,
     pub datagram: Datagram,
-    // How many datagrams were heard since the time was told. None where that was the time of the last turn.
-    pub behind: u32,
+    // How many waits are over since the client last got the time: 0 if that was in the last turn.
+    pub since_told: u32,
 }
 
-// Until when turns are taken.
+// The end of a wait.
 #[derive(Clone, Copy)]
 pub(crate) enum Until {
-    // At most so many requests are open.
+    // At most this many requests are open.
     FewOpen(usize),
-    // The client has got the time of the last turn.
+    // The client has the time of the last turn.
     TimeTold,
-    // The client knows this time or a later one.
+    // The client has this time or a later one.
     ClockAt(u64),
 }
 
-impl Run {
-    /// Takes turns until that is reached.
+impl Runner {
+    /// Takes turns until the wait is over.
     pub fn wait<L: Link, W: Write>(
         &mut self,
         until: Until,
@@ -55,7 +56,7 @@ impl Run {
         ensures went { Went W.contents self.old self.new page.old page.new (L.seen link.old) (L.seen link.new)
             (λ later. started self.old (Turns until most_turns ∷ later)) (λ later. started self.new later) result [] }
         ensures not_written { result ≡ Err write_failed → has_failed (writer_of page.new) ≡ true }
-        ensures reached { IfOk result (λ _. is_reached self.new.client self.new.behind (Turns until 0) ≡ true) }
+        ensures reached { IfOk result (λ _. is_reached self.new.client self.new.since_told (Turns until 0) ≡ true) }
         ensures kept { open_in self.new.client ≤ open_in self.old.client }
         ensures cause { IfErr result IsOfWait }
     {
@@ -64,15 +65,15 @@ impl Run {
             if left == 0 {
                 return Err(RunFault::Link(ToolFault::TurnsSpent));
             }
-            left -= 1;
-            self.turn(link, page)?;
+            let told = self.turn(link, page)?;
+            left = left_after(told, left - 1);
         }
         Ok(())
     }
 
-    /// Reads the time for a request: it is told where no request is open. Else, where the one that was told last lies
-    /// back by more than a tenth of the timeout, turns are taken until it is told.
-    pub fn freshen<L: Link, W: Write>(
+    /// Reads the time for a request. If no request is open, the client gets it. Otherwise, if the client's last time is
+    /// older than a tenth of the timeout, turns are taken until the client gets a time.
+    pub fn refresh_time<L: Link, W: Write>(
         &mut self,
         link: &mut L,
         page: &mut Page<'_, W>,
@@ -87,17 +88,18 @@ impl Run {
     {
         let now = link.now();
         if self.client.open_count() == 0 {
-            return self.tell(now, link, page);
+            self.tell_time(now, link, page)?;
+            return Ok(());
         }
-        let late = u64::from(self.session.config.timeout / 10);
+        let late = u64::from(self.setup.config.timeout / 10);
         if now.saturating_sub(self.client.clock()) <= late {
             return Ok(());
         }
-        self.behind = self.behind.max(1);
+        self.since_told = self.since_told.max(1);
         self.wait(Until::TimeTold, link, page)
     }
 
-    /// Reads the time, and takes turns until a time is told that is so many milliseconds later.
+    /// Reads the time, and takes turns until the client gets a time that is this many milliseconds later.
     pub fn rest<L: Link, W: Write>(
         &mut self,
         time: u32,
@@ -116,51 +118,53 @@ impl Run {
         self.wait(Until::ClockAt(until), link, page)
     }
 
-    // Returns whether that is reached.
+    // Returns whether the wait is over.
     fn has_reached(&self, until: Until) -> bool
-        ensures { result ≡ is_reached self.now.client self.now.behind (Turns until 0) }
+        ensures { result ≡ is_reached self.now.client self.now.since_told (Turns until 0) }
     {
         match until {
             Until::FewOpen(most) => self.client.open_count() <= most,
-            Until::TimeTold => self.behind == 0,
+            Until::TimeTold => self.since_told == 0,
             Until::ClockAt(time) => self.client.clock() >= time,
         }
     }
 
-    // How long a turn waits, in milliseconds: only a moment where a datagram was heard since the time was told.
+    // Returns how long a turn waits, in milliseconds: 0 if a wait is over since the client last got the time.
     fn longest_wait(&self) -> u32
-        ensures { result ≡ wait_at self.now.session.config.timeout self.now.behind }
+        ensures { result ≡ wait_at self.now.setup.config.timeout self.now.since_told }
     {
-        if self.behind == 0 {
-            turn_wait(self.session.config.timeout)
+        if self.since_told == 0 {
+            turn_wait(self.setup.config.timeout)
         } else {
-            1
+            0
         }
     }
 
-    // Lets all output out, if the wait of the turn is longer than a moment.
+    // Writes all output, unless the turn only looks.
     fn let_out<W: Write>(&self, page: &mut Page<'_, W>)
         ensures printed { Prints W.contents page.old page.new [] }
-        ensures out { 1 < wait_at self.now.session.config.timeout self.now.behind → held page.new ≡ [] }
+        ensures out { 0 < wait_at self.now.setup.config.timeout self.now.since_told → held page.new ≡ [] }
     {
-        if self.longest_wait() > 1 {
+        if self.longest_wait() > 0 {
             page.turn_in();
         }
     }
 
-    // One turn: output goes out before a long wait, the time is read, and then comes a wait. What waited in the socket
-    // when the time was read is heard before that time is told.
+    // Takes one turn: output is written before a wait, the time is read, and then comes the wait. Datagrams that were
+    // in the socket when the time was read are received before the client gets this time. Returns whether the client
+    // got a later time.
     fn turn<L: Link, W: Write>(
         &mut self,
         link: &mut L,
         page: &mut Page<'_, W>,
-    ) -> Result<(), RunFault>
+    ) -> Result<bool, RunFault>
         requires { L.has_failed link.old ≡ false }
         ensures fault { L.has_failed link.new ≡ is_of_link result }
         ensures went { Went W.contents self.old self.new page.old page.new (L.seen link.old) (L.seen link.new)
-            (begins_turn self.old) (ends_turn self.new) result [] }
+            (begins_turn self.old) (ends_turn self.new result) result [] }
         ensures not_written { result ≡ Err write_failed → has_failed (writer_of page.new) ≡ true }
         ensures kept { open_in self.new.client ≤ open_in self.old.client }
+        ensures moves { IfOk result (λ told. MovesClock told self.old.client self.new.client) }
         ensures cause { IfErr result IsOfWait }
     {
         self.let_out(page);
@@ -169,13 +173,14 @@ impl Run {
         }
         let now = link.now();
         if self.hear(link, page)? {
-            return Ok(());
+            return Ok(false);
         }
-        self.tell(now, link, page)
+        self.tell_time(now, link, page)
     }
 
-    // Hands the client what the link hears in the wait of a turn. True where a datagram came: others may have come with
-    // it, so the time of the turn is not told yet.
+    // Passes the client the datagram that the link receives in the turn's wait, if there is one. Returns true if the
+    // client does not get the turn's time yet: a datagram came, and others may follow; or a wait is over, and the time
+    // is old.
     fn hear<L: Link, W: Write>(
         &mut self,
         link: &mut L,
@@ -183,18 +188,19 @@ impl Run {
     ) -> Result<bool, RunFault>
         requires link { L.has_failed link.old ≡ false }
         requires sound { has_failed (writer_of page.old) ≡ false }
-        requires out { 1 < wait_at self.old.session.config.timeout self.old.behind → held page.old ≡ [] }
+        requires out { 0 < wait_at self.old.setup.config.timeout self.old.since_told → held page.old ≡ [] }
         ensures fault { L.has_failed link.new ≡ is_of_link result }
         ensures went { Went W.contents self.old self.new page.old page.new (L.seen link.old) (L.seen link.new)
             (looking self.old) (hearing self.new result) result [] }
         ensures not_written { result ≡ Err write_failed → has_failed (writer_of page.new) ≡ true }
         ensures kept { open_in self.new.client ≤ open_in self.old.client }
+        ensures still { MovesClock false self.old.client self.new.client }
         ensures cause { IfErr result IsOfWait }
     {
         let wait_ms = self.longest_wait();
         let from = match link.receive(wait_ms, &mut self.datagram) {
             Ok(Some(from)) => from,
-            Ok(None) => return Ok(false),
+            Ok(None) => return Ok(self.passes(wait_ms)),
             Err(_) => return Err(RunFault::Link(ToolFault::ReceiveFailed)),
         };
         let octets = self.datagram.as_slice();
@@ -206,43 +212,62 @@ impl Run {
         Ok(self.defers())
     }
 
-    // Counts a datagram. True where the time is not told yet: it is behind so many in a row.
+    // Counts a wait that received nothing. Returns true if the client does not get the time yet, but after a look.
+    fn passes(&mut self, wait_ms: u32) -> bool
+        ensures same { self.new ≡ record self.old { since_told = self.new.since_told } }
+        ensures passes { (time : ℕ) (aims : List Aim)
+            → settled (passed_at (outside self.old aims) time wait_ms Silence) ≡ heard_until self.new result time aims }
+    {
+        wait_ms > 0 && self.defers()
+    }
+
+    // Counts a wait. Returns true if the client does not get the time yet: too few waits are over.
     fn defers(&mut self) -> bool
-        ensures same { self.new ≡ record self.old { behind = self.new.behind } }
+        ensures same { self.new ≡ record self.old { since_told = self.new.since_told } }
         ensures defers { (time : ℕ) (aims : List Aim)
             → settled (heard_at (outside self.old aims) time) ≡ heard_until self.new result time aims }
     {
-        self.behind = self.behind.saturating_add(1);
-        self.behind < LONGEST_ROW
+        self.since_told = self.since_told.saturating_add(1);
+        self.since_told < LONGEST_ROW
     }
 
-    // Tells the client the time if it is later than the last, and sends what is due then.
-    fn tell<L: Link, W: Write>(
+    // Gives the client the time if it is later than the last, and sends what is due then. Returns whether it was later.
+    fn tell_time<L: Link, W: Write>(
         &mut self,
         now: u64,
         link: &mut L,
         page: &mut Page<'_, W>,
-    ) -> Result<(), RunFault>
+    ) -> Result<bool, RunFault>
         requires { L.has_failed link.old ≡ false }
         ensures fault { L.has_failed link.new ≡ is_of_link result }
         ensures went { Went W.contents self.old self.new page.old page.new (L.seen link.old) (L.seen link.new)
-            (to_tell self.old now) (started self.new) result [] }
+            (telling_in self.old now) (ends_turn self.new result) result [] }
         ensures not_written { result ≡ Err write_failed → has_failed (writer_of page.new) ≡ true }
         ensures kept { open_in self.new.client ≤ open_in self.old.client }
+        ensures moves { IfOk result (λ told. MovesClock told self.old.client self.new.client) }
+        ensures told { self.new.since_told ≡ 0 }
         ensures cause { IfErr result IsOfWait }
     {
-        self.behind = 0;
+        self.since_told = 0;
         if now <= self.client.clock() {
-            return Ok(());
+            return Ok(false);
         }
         let due = self.client.tick(now);
         print_time(page, now);
         remark_due(page, &self.client, due.as_slice());
-        send_due(&self.client, due.as_slice(), link)
+        send_due(&self.client, due.as_slice(), link)?;
+        Ok(true)
     }
 }
 
-/// Sends what a note says is sent, where there is one that does.
+// Returns how many turns are left after a turn: all again if the client got a time, otherwise this many.
+fn left_after(told: bool, left: u32) -> u32
+    ensures { result ≡ (if told then most_turns else left) }
+{
+    if told { most_turns() } else { left }
+}
+
+/// Sends the datagram of a note, if the note is on a send.
 pub(crate) fn send_any<L: Link>(note: Option<Note<'_>>, link: &mut L) -> Result<(), RunFault>
     requires { L.has_failed link.old ≡ false }
     ensures fault { L.has_failed link.new ≡ is_of_link result }
@@ -271,7 +296,7 @@ pub(crate) fn send_seek<L: Link>(to: Peer, octets: &[u8], link: &mut L) -> Resul
     Ok(())
 }
 
-// Sends what is due.
+// Sends the datagrams that are due.
 fn send_due<L: Link>(client: &Client, due: &[DueEntry], link: &mut L) -> Result<(), RunFault>
     requires { L.has_failed link.old ≡ false }
     ensures fault { L.has_failed link.new ≡ is_of_link result }

@@ -1,4 +1,5 @@
--- What the worked examples compute with, and what those of a device do: who unfolds `computed` unfolds all of it.
+-- The definitions that worked examples open to be computed, those of a device too: to unfold `computed` opens all of
+-- them.
 use Rattle.std.specs.{Fmt.digits, Str.{chars, is_utf8}}
 use Rattle.{hex.specs.Hex.{decode_pairs, encode_with}, bac_wire.specs.values_within}
 use Rattle.bac_pdu.specs.{ack_of, ValueReading.{introduction_of, who_is_of}}

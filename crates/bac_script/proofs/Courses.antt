@@ -1,5 +1,5 @@
--- The course of a script, line after line: its text is what the look-ahead gives, and a function of its octets; what
--- holds between two lines of a script, and where it stops.
+-- The course of a script, line after line: its text is that of the look-ahead and a function of its octets; the state
+-- between two lines, and where it stops.
 pub mod Chunks
 use Rattle.std.proofs.Common.{[], ap, append-nil, append_assoc, arith, Bool, drop, eqb-true, Err, false, IfOk, IfSome}
 use Rattle.std.proofs.Common.{if◌then◌else◌, inl, inr, length, length-append, List, MatchOption, nat_lt, None, Ok}
@@ -8,7 +8,7 @@ use Rattle.std.proofs.Common.{take-append-drop, true, zero, ℕ, ◌&&◌, ◌++
 use Rattle.std.proofs.lemmas.{Bool.{eqb-false, Decides.nat_tests}, List.append_cancel_right}
 use Rattle.std.specs.{List.AllByRecursion, Option.option_map_or, Prelude.⊤, Result.result_ok}
 use Rattle.{bac_pdu.specs.Station, bac_tsm.proofs.Laws.{back_late, begins, by_invoke_id, few_open, one_step}}
-use Rattle.bac_tsm.specs.{client_rules, Event, keeping, Note, State, state_at, Stepped, Client.Client}
+use Rattle.bac_tsm.specs.{client_rules, Event, keeping, new_client, Note, State, state_at, Stepped, Client.Client}
 use Rattle.bac_tsm.specs.{Laws.InvokeIdsComeBackLate, Limits.table_size, Lookahead.output}
 use Rattle.{bac_device.specs.{demo_points, DeviceState, replies_to, Write}, bac_text.specs.longest_line}
 use Rattle.bac_print.proofs.Printed.{all_written, finished, Gave-none, prints_nothing, ◌⨾◌}
@@ -17,23 +17,23 @@ use Rattle.bac_print.specs.{writer_of, Writes, Page.{laid_out, Wrote}}
 use Rattle.bac_script.specs.{all_said, AreAlike, arrivals_in, Asks, AtEnd, BadLine, Blank, Checked, empty_reads, EndsAs}
 use Rattle.bac_script.specs.{events_in, Failed, fault_at, fault_from, fault_or, first_fault, GaveFront, GaveSame}
 use Rattle.bac_script.specs.{Happens, HasNoFeed, is_nothing, IsFrontOf, IsLineCut, IsToldFirst, IsWrittenOf}
-use Rattle.bac_script.specs.{LastIsNeeded, line_room, LineFault, lines, LineTooLong, most_reads, new_client, notes_text}
+use Rattle.bac_script.specs.{LastIsNeeded, line_room, LineFault, lines, LineTooLong, most_reads, notes_text}
 use Rattle.bac_script.specs.{Open, Page, printed, ReaderStands, ReadFailed, ReadForLine, Reading, ReadsNoMore, Remark}
 use Rattle.bac_script.specs.{requests_in, ScriptRuns, Said, said, said_by, said_from, said_in, Settings, small_device}
 use Rattle.bac_script.specs.{TakesAndKeeps, text, text_of, text_of_line, TraceEnd, TraceFault, Traces, WriteFailed}
 use Rattle.bac_script.specs.Inner.{device_with, HasNotEnded, ran, RunsOn, ScriptStage, Stands, writes_with}
 use Chunks.*
 
--- What a script runs on before its first line.
+-- The state of a script before its first line.
 abbrev pub first_stage : ScriptStage
 first_stage = record { client = new_client 3000 3 0; writes = [] }
 
--- The text from a stage on for all lines.
+-- The text of all lines from a state on.
 abbrev pub text_from : ScriptStage → List Said → List ℕ
 text_from stage [] = []
 text_from stage (one ∷ later) = (ran stage one).text ++ text_from (ran stage one).after later
 
--- It is not a line of settings.
+-- The line does not have settings.
 abbrev pub IsOther : Said → Type 0
 IsOther Blank = Unit {0}
 IsOther Remark = Unit {0}
@@ -41,11 +41,11 @@ IsOther (Settings timeout retries first_ticket) = ⊥
 IsOther (Happens event) = Unit {0}
 IsOther (Asks arrival) = Unit {0}
 
--- No settings are said.
+-- No line has settings.
 abbrev pub NoSettings : List Said → Type 0
 NoSettings = AllByRecursion IsOther
 
--- Settings are said by nothing but the first that says something.
+-- Only the first line that is not blank or a remark has settings.
 abbrev pub SettingsFirst : List Said → Type 0
 SettingsFirst [] = Unit {0}
 SettingsFirst (Blank ∷ later) = SettingsFirst later
@@ -64,7 +64,7 @@ abbrev replies_after : List Write → List Said → List (Option (Station × Lis
 replies_after writes all = replies_to small_device demo_points writes (arrivals_in all)
 
 module _ (timeout retries first_ticket : ℕ) (events : List Event) where
-  -- The stage at a position of the events, after these writes.
+  -- The state at a position of the events, after these writes.
   abbrev stage_at : ℕ → List Write → ScriptStage
   stage_at n writes = record {
     client = record {
@@ -119,13 +119,13 @@ text_is (Happens event ∷ later) h =
     sym (prints_all 3000 3 0 (events_in (Happens event ∷ later)) (Happens event ∷ later) (tt, h) refl)
 text_is (Asks arrival ∷ later) h = sym (prints_all 3000 3 0 (events_in later) (Asks arrival ∷ later) (tt, h) refl)
 
--- Between two requests of a script with the same invoke id many others are accepted.
+-- Two requests of a script with the same invoke id have many others between them.
 pub requests_late : (all : List Said) → InvokeIdsComeBackLate table_size (requests_in all)
 requests_late all = grind (arith, back_late, few_open)
 
--- ---- settings are said by nothing but the first line that says something
+-- ---- only the first line that is not blank or a remark has settings
 
--- A line that was found, mapped to one that is not a line of settings.
+-- If an option is mapped to lines without settings, its line has no settings.
 mapped_other : {A : Type 0} (say : A → Said) (found : Option A) → ((a : A) → IsOther (say a))
     → IfSome (option_map say found) IsOther
 mapped_other _ None h = tt
@@ -149,7 +149,7 @@ other_then : (s : Result Said LineFault) (later : List Said) → IfOk s IsOther 
     → NoSettings (option_map_or (λ one. one ∷ later) (result_ok s) [])
 other_then = grind arith
 
--- Once something was said, no settings are.
+-- After the first line with a meaning, no line has settings.
 others_settled : (lines : List (List ℕ)) → NoSettings (said_from false lines)
 others_settled [] = tt
 others_settled (line ∷ lines) =
@@ -166,33 +166,33 @@ settings_first (line ∷ lines) = first_then (said true line) lines (settings_fi
 
 -- ---- the course of a script, line after line
 
--- The text, the fault of the first line that is bad or too long, and without one the number of all lines.
+-- The text, the fault of the first line that is bad or too long, and, if there is none, the number of all lines.
 pub record Course : Type 0 where
   pub text : List ℕ
   pub fault : Option TraceFault
   pub count : ℕ
 
--- The same after a text.
+-- A text, and then the course of the later lines.
 abbrev pub behind : List ℕ → Course → Course
 behind front later = record { text = front ++ later.text; fault = later.fault; count = later.count }
 
 pub behind_both : (xs ys : List ℕ) (later : Course) → behind xs (behind ys later) ≡ behind (xs ++ ys) later
 behind_both = grind (arith, append_assoc)
 
--- What a line says, and then the course of those after it.
+-- The text of one line, and then the course of the later lines.
 abbrev pub and_on : ScriptStage → ℕ → Result Said LineFault → (Said → Course) → Course
 and_on stage count (Ok one) later = behind (ran stage one).text (later one)
 and_on stage count (Err fault) later =
     record { text = []; fault = Some (fault_at (count + 1) fault); count = count }
 
--- The course of these lines from a stage on, after so many others.
+-- The course of these lines from a state on, if this number of lines came before them.
 abbrev pub course : ScriptStage → Bool → ℕ → List (List ℕ) → Course
 course stage is_first count [] = record { text = []; fault = None; count = count }
 course stage is_first count (line ∷ later) =
     and_on stage count (said is_first line)
     (λ one. course (ran stage one).after (is_first && is_nothing one) (count + 1) later)
 
--- The same after a line that says this.
+-- The course after a line with this meaning.
 abbrev pub course_on : ScriptStage → Bool → ℕ → List (List ℕ) → Said → Course
 course_on stage is_first count later one = course (ran stage one).after (is_first && is_nothing one) (count + 1) later
 
@@ -200,7 +200,7 @@ course_on stage is_first count later one = course (ran stage one).after (is_firs
 abbrev pub whole : List (List ℕ) → Course
 whole all = course first_stage true 0 all
 
--- What a course is, by what its lines say up to the first fault.
+-- A course in terms of the meanings of its lines up to the first fault.
 record IsCourse (stage : ScriptStage) (is_first : Bool) (count : ℕ) (all : List (List ℕ)) (says : List Said)
     (c : Course) : Type 0 where
   text : c.text ≡ text_from stage says
@@ -233,13 +233,13 @@ runs_text = grind (arith, is_course, first_stage, true, text_is, settings_first)
 pub fault_is : (all : List (List ℕ)) → (whole all).fault ≡ first_fault all
 fault_is all = (is_course all first_stage true 0).fault
 
--- The whole text was written, and the answer is the first fault, or how the input ended.
+-- The whole text was written, and the result is the first fault, or how the input ended.
 abbrev pub RunsWhole : List ℕ → Reading → List ℕ → Result TraceEnd TraceFault → Type 0
 RunsWhole octets reading written answer = (written ≡ text octets reading)
     × MatchOption (first_fault (lines octets reading)) (EndsAs reading (length (lines octets reading)) answer)
     (λ fault. answer ≡ Err fault)
 
--- A script whose course is this.
+-- A script with this course runs with its text and result.
 pub runs_as : (octets : List ℕ) (reading : Reading) (one : Course) (answer : Result TraceEnd TraceFault)
     → whole (lines octets reading) ≡ one →
     MatchOption one.fault (EndsAs reading one.count answer) (λ fault. answer ≡ Err fault)
@@ -273,7 +273,7 @@ first_line (x ∷ xs) = here (x == 10) refl (first_line xs)
           is = ap (λ (ys : List ℕ). x ∷ ys) f.is;
         })
 
--- From each stage on, the text of the first lines is the beginning of that of the others.
+-- From each state on, the text of the first lines is the beginning of the text of the others.
 abbrev FrontFrom : List (List ℕ) → List (List ℕ) → Type 0
 FrontFrom some all = (stage : ScriptStage) (is_first : Bool) (count : ℕ) →
     IsFrontOf (course stage is_first count some).text (course stage is_first count all).text
@@ -291,7 +291,7 @@ one_line line some all fronts stage is_first count = go (said is_first line)
         )
     go (Err _) = ([], refl)
 
--- Octets without a line feed have no text: they are no line yet, or one that is too long.
+-- Octets without a line feed have no text: they are not a line yet, or one that is too long.
 no_line : (octets : List ℕ) (all : List (List ℕ)) → HasNoFeed octets → FrontFrom (lines octets Open) all
 no_line [] all h stage is_first count = grind arith
 no_line (x ∷ xs) all h stage is_first count = go _ refl
@@ -338,7 +338,7 @@ text_front octets more reading =
 
 -- ---- a script is a function of its octets and of whether they ended
 
--- How often reading met the end.
+-- The number of times that reading met the end.
 abbrev ends : Reading → ℕ
 ends AtEnd = 1
 ends Open = 0
@@ -379,7 +379,7 @@ faults_of_lines is_first n [] = tt
 faults_of_lines is_first n (line ∷ later) =
     fault_of_line (said is_first line) n _ (λ one. faults_of_lines _ (n + 1) later)
 
--- A run ends with `ReadFailed` only where its reader failed or its reads are spent.
+-- A run ends with `ReadFailed` only if its reader failed or its reads are spent.
 pub read_fails : {R W : Type 0} {remaining : R → Option (List ℕ)} {contents : W → Option (List ℕ)}
     (reader reader' : Checked R) (writer writer' : Checked W)
     → Traces remaining contents reader reader' writer writer' (Err ReadFailed) →
@@ -419,7 +419,7 @@ module _ {R S V W : Type 0} {remaining : R → Option (List ℕ)} {remaining' : 
       → AreAlike (octets_of writer') answer (octets_of other_writer') other_answer
   traces_alike = grind (arith, ends_are, runs_alike)
 
-  -- A run whose reader gave less, and did not end, wrote a front of the other's text.
+  -- A run whose reader gave less, and did not end, wrote the beginning of the other's text.
   pub traces_front : GaveFront reader' other_reader' → (text : List ℕ) × IsFrontOf (octets_of writer') text
       × IsWrittenOf (octets_of other_writer') text other_answer
   traces_front less =
@@ -439,9 +439,9 @@ module _ {R S V W : Type 0} {remaining : R → Option (List ℕ)} {remaining' : 
         grind arith,
       )
 
--- ---- what holds between two lines of a script, and where it stops
+-- ---- the state between two lines of a script, and where it stops
 
--- Text that was printed on an empty page is out, or still held.
+-- Text that was printed on an empty page was written, or is still held.
 out_so_far : {W : Type 0} {contents : W → Option (List ℕ)} {page between : Page W} {printed : List ℕ}
     → Prints contents page between printed → on_page page ≡ [] → room_of page ≡ None
     → has_failed (writer_of between) ≡ false →
@@ -455,7 +455,7 @@ out_so_far {contents = contents} {page} {between} {printed} prints empty whole g
     same prints.wrote.writes in
     grind (arith, append_assoc, writes)
 
--- The course of each script that begins with these octets: this text, and then the course from this stage on.
+-- The course of each script that begins with these octets: this text, and then the course from this state on.
 abbrev GoesOn : List ℕ → List ℕ → ScriptStage → Bool → ℕ → Type 0
 GoesOn octets text stage is_first count =
     (more : List ℕ) (reading : Reading)
@@ -465,7 +465,7 @@ GoesOn octets text stage is_first count =
 abbrev IsNeeded : {R : Type 0} → Checked R → Checked R → List ℕ → Type 0
 IsNeeded reader reader' given = ((reader' ≡ reader) × (given ≡ [])) ⊎ LastIsNeeded reader reader' given
 
--- The lines so far were taken and run.
+-- The lines up to now were taken and run.
 pub record SoFar {R W : Type 0} (remaining : R → Option (List ℕ)) (contents : W → Option (List ℕ))
     (reader reader' : Checked R) (held : List ℕ)
     (page page' : Page W) (count : ℕ) (is_first : Bool) (client : Client) (device : DeviceState) : Type 0 where
@@ -485,7 +485,7 @@ pub record SoFar {R W : Type 0} (remaining : R → Option (List ℕ)) (contents 
   pub kept : Stands stage client device
   pub printed : Prints contents page page' text
 
--- The course where the line after those so far is this.
+-- The course of the whole script, from the course of its lines so far.
 goes_to : (octets line held text : List ℕ) (stage : ScriptStage) (is_first : Bool) (count : ℕ) (reading : Reading)
     (all : List (List ℕ)) → GoesOn octets text stage is_first count → lines (line ++ held) reading ≡ all
     → whole (lines ((octets ++ line) ++ held) reading) ≡ behind text (course stage is_first count all)
@@ -493,7 +493,7 @@ goes_to octets line held text stage is_first count reading _ goes_on are =
     ap (λ (os : List ℕ). whole (lines os reading)) (append_assoc octets line held) ∙ goes_on (line ++ held) reading
     ∙ ap (λ (ls : List (List ℕ)). behind text (course stage is_first count ls)) are
 
--- One more line.
+-- One more line is run.
 goes_further : (octets line text : List ℕ) (stage : ScriptStage) (is_first is_first' : Bool) (count : ℕ) (one : Said)
     → GoesOn octets text stage is_first count → IsLineCut Open line →
     said is_first line ≡ Ok one → is_first' ≡ (is_first && is_nothing one)
@@ -508,13 +508,13 @@ goes_further octets line text stage is_first _ count one goes_on (inl c) ok stil
     ok ∙ behind_both text (ran stage one).text (later one (is_first && is_nothing one))
     ∙ ap (λ (first : Bool). behind (text ++ (ran stage one).text) (later one first)) (sym still)
 
--- The line that was taken, as in the script.
+-- The line that was taken is the next line of the script.
 pub NextLine-from : {R : Type 0} (remaining : R → Option (List ℕ)) (reading : Reading) (before reader : Checked R)
     (line held : List ℕ) → IsLineCut reading line →
     ReaderStands remaining reading before reader held → reading ≢ Failed → 0 < length line → NextLine line held reading
 NextLine-from = grind (arith, next_ended, next_long, next_last)
 
--- How reading stands since the first line.
+-- The state of reading since the first line, from two parts.
 stands_more : {R : Type 0} (remaining : R → Option (List ℕ)) (reading : Reading) (first second third : Checked R)
     (held : List ℕ) → HasNotEnded first second →
     ReaderStands remaining reading second third held → ReaderStands remaining reading first third []
@@ -548,14 +548,14 @@ module _ {R W : Type 0} {remaining : R → Option (List ℕ)} {contents : W → 
   abbrev rest : List ℕ
   rest = drop n now
 
-  -- The lines so far, and what is held now.
+  -- The octets of the lines so far, and those held now.
   abbrev octets_now : List ℕ
   octets_now = (s.octets ++ line) ++ rest
 
   taken : TakesAndKeeps remaining reader reader' [] rest (s.octets ++ line)
   taken = Takes-more s.taken (Takes-front n q)
 
-  -- What the reader gave: the lines so far, and what is held now.
+  -- The reader gave the lines so far and the octets held now.
   given_is : taken.given ≡ s.octets ++ now
   given_is = grind (arith, taken, append_assoc, take-append-drop)
 
@@ -579,11 +579,11 @@ module _ {R W : Type 0} {remaining : R → Option (List ℕ)} {contents : W → 
     })
   ]
 
-  -- If no line is held, the text of the lines so far is all.
+  -- If no line is held, the text of the lines so far is the whole text.
   text_so_far : (more : List ℕ) → HasNoFeed more → length more < line_room → text (s.octets ++ more) Open ≡ s.text
   text_so_far = grind (arith, runs_text, behind, course, lines-rest, append-nil)
 
-  -- Before the last read it was written.
+  -- The text was written before the last read.
   told : IsToldFirst reader' (writer_of page) (writer_of kept) taken.given
   told = elim need [
     | inl same ↦ λ before split. further _ handed (s.told before (grind (arith, same, given_is)))
@@ -593,7 +593,7 @@ module _ {R W : Type 0} {remaining : R → Option (List ℕ)} {contents : W → 
         (both.turned_in.later, grind (arith, out_so_far, text_so_far, here))
   ]
 
-  -- The course where these lines are left.
+  -- The course of the lines that are left.
   left : (all : List (List ℕ)) → lines (line ++ rest) reading ≡ all
       → whole (lines ((s.octets ++ line) ++ rest) reading) ≡ behind s.text (course s.stage is_first count all)
   left = grind (arith, goes_to)
@@ -621,7 +621,7 @@ module _ {R W : Type 0} {remaining : R → Option (List ℕ)} {contents : W → 
       let said = runs_text (lines octets_now reading) in
       stops answer (prints_nothing kept) (s.printed ⨾ handed) (rw is (later, grind (arith, is_left, said, append-nil)))
 
-  -- It stops where the course of the lines that are left is this.
+  -- The run stops here if this is the course of the lines that are left.
   settles : {last : Page W} (all : List (List ℕ)) (later : Course) (answer : Result TraceEnd TraceFault)
       → lines (line ++ rest) reading ≡ all → course s.stage is_first count all ≡ later →
       Prints contents kept last later.text → answer ≢ Err WriteFailed
@@ -632,7 +632,7 @@ module _ {R W : Type 0} {remaining : R → Option (List ℕ)} {contents : W → 
       (runs_so octets_now reading (s.text ++ later.text) answer sound
       (runs_as octets_now reading (behind s.text later) answer (left _ are ∙ ap (behind s.text) is) ends))
 
-  -- The reader fails, or its reads are spent.
+  -- The run stops because the reader fails, or its reads are spent.
   pub unread : reading ≡ Failed → IsLineCut reading line
       → RunsOn remaining contents reader reader' page kept (Err ReadFailed)
   unread is cut =
@@ -641,7 +641,7 @@ module _ {R W : Type 0} {remaining : R → Option (List ℕ)} {contents : W → 
       settles [] _ (Err ReadFailed) (rw (is, h.empty, append-nil line) (lines-rest line c.no_feed c.short)) refl
       (prints_nothing kept) (grind arith) (rw is refl)
 
-  -- The input ends after a line feed.
+  -- The run stops because the input ends after a line feed.
   pub to_end : reading ≢ Failed → IsLineCut reading line → n ≡ 0
       → RunsOn remaining contents reader reader' page kept (Ok (record { lines = count }))
   to_end going cut none =
@@ -652,7 +652,7 @@ module _ {R W : Type 0} {remaining : R → Option (List ℕ)} {contents : W → 
       settles [] _ (Ok (record { lines = count })) (rw (empty, none_left) refl) refl (prints_nothing kept) (grind arith)
       (rw is refl)
 
-  -- A line stops it.
+  -- The run stops at a line with a fault.
   pub faulty : (fault : LineFault) → reading ≢ Failed → IsLineCut reading line → 0 < length line
       → said is_first line ≡ Err fault →
       RunsOn remaining contents reader reader' page kept (Err (fault_at (count + 1) fault))
@@ -664,7 +664,7 @@ module _ {R W : Type 0} {remaining : R → Option (List ℕ)} {contents : W → 
       (ap (λ (r : Result Said LineFault). and_on s.stage count r (course_on s.stage is_first count next.others))
       (next.same is_first ∙ bad)) (prints_nothing kept) (grind arith) refl
 
-  -- The input ends in a line without its line feed.
+  -- The run stops because the input ends in a line without its line feed.
   pub to_last : {last : Page W} (one : Said) → reading ≡ AtEnd → IsLineCut reading line → 0 < length line
       → said is_first line ≡ Ok one → Prints contents kept last (ran s.stage one).text
       → RunsOn remaining contents reader reader' page last (Ok (record { lines = count + 1 }))
@@ -703,7 +703,7 @@ module _ {R W : Type 0} {remaining : R → Option (List ℕ)} {contents : W → 
         printed = s.printed ⨾ handed ⨾ printed;
       }
 
--- If nothing was given, there was nothing to print.
+-- If no octets were given, there was no text to print.
 untold : {out : List ℕ} (before last : List ℕ) → [] ≡ before ++ last
     → (later : List ℕ) × (out ≡ (out ++ text before Open) ++ later)
 untold {out = out} [] _ _ = ([], sym (append-nil (out ++ []) ∙ append-nil out))
@@ -732,13 +732,13 @@ SoFar-none _ _ reader held page _ _ empty whole sound none fresh unwritten = rec
   printed = prints_nothing page;
 }
 
--- Of whatever is the text, or a front of it, a front is a front of the text.
+-- If a run's text is cut short, the run is one whose writer failed.
 pub front_runs : (octets : List ℕ) (reading : Reading) (printed taken rest : List ℕ)
     (answer : Result TraceEnd TraceFault) → ScriptRuns octets reading printed answer →
     printed ≡ taken ++ rest → ScriptRuns octets reading taken (Err WriteFailed)
 front_runs = grind (arith, append_assoc)
 
--- Text that was printed before the last read is out once the page is finished.
+-- Text that was printed before the last read is written once the page is finished.
 told_still : {R W : Type 0} {contents : W → Option (List ℕ)} (reader' : Checked R) (first last : Page W)
     {writer after : Checked W} {given : List ℕ} → writer_of first ≡ writer
     → IsToldFirst reader' (writer_of first) (writer_of last) given →
@@ -765,7 +765,7 @@ module _ {R W : Type 0} {remaining : R → Option (List ℕ)} {contents : W → 
         runs = s.runs;
       })
 
-  -- The same where the writer has failed.
+  -- The page of a run was finished, and the writer has failed.
   pub trace_cut : (told : Result TraceEnd TraceFault) → told ≡ Err WriteFailed → after ≡ back
       → RunsOn remaining contents reader reader' first last answer →
       writer_of first ≡ writer → on_page first ≡ [] → room_of first ≡ None

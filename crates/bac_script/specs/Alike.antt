@@ -1,4 +1,4 @@
--- That two runs of one script are alike.
+-- When two runs of one script are alike.
 use Rattle.std.specs.Prelude.{Err, List, Result, ℕ, ◌++◌, ◌≡◌, ◌≢◌}
 use Rattle.bac_print.specs.{ends_of, octets_of, declared.checked.Checked.Checked}
 use Rattle.bac_script.specs.declared.tracing.{TraceEnd.TraceEnd, TraceFault.{TraceFault, TheVariants.WriteFailed}}
@@ -12,17 +12,17 @@ pub record GaveSame {R S : Type 0} (reader : Checked R) (other : Checked S) : Ty
   pub octets : octets_of reader ≡ octets_of other
   pub ends : ends_of reader ≡ ends_of other
 
--- The first reader gave a front of what the second gave, and did not meet its end.
+-- The first reader gave only the first octets of the second, and did not meet its end.
 pub record GaveFront {R S : Type 0} (reader : Checked R) (other : Checked S) : Type 0 where
   pub front : IsFrontOf (octets_of reader) (octets_of other)
   pub unended : ends_of reader ≡ 0
 
--- With this answer this was written of a text: all of it; or, where the writer failed, a front of it.
+-- The octets that a run with this result wrote of a text: all of it, or the beginning of it if the writer failed.
 abbrev pub IsWrittenOf : (written text : List ℕ) → Result TraceEnd TraceFault → Type 0
 IsWrittenOf written text (Err WriteFailed) = IsFrontOf written text
 IsWrittenOf written text answer = written ≡ text
 
--- Both runs wrote one text, or a front of it if their writer failed. If neither failed, they ended alike.
+-- Both runs wrote one text, or the beginning of it if their writer failed. If neither failed, they returned the same.
 pub record AreAlike (written : List ℕ) (answer : Result TraceEnd TraceFault) (other : List ℕ)
     (other_answer : Result TraceEnd TraceFault) : Type 0 where
   pub text : List ℕ

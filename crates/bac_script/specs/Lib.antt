@@ -28,5 +28,4 @@ pub use Rattle.bac_script.specs.declared.input.Reading.{Reading, TheVariants.{At
 pub use Rattle.bac_script.specs.declared.{line.LineFault.LineFault, tracing.{TraceEnd.TraceEnd, TraceFault.TraceFault}}
 pub use Rattle.bac_script.specs.declared.tracing.TraceFault.TheVariants.{BadLine, LineTooLong, ReadFailed, WriteFailed}
 pub use Rattle.bac_script.specs.{Input.ReaderStands, Line.{Blank, Happens, Remark, Said, said, Settings}, Script.lines}
-pub use Rattle.bac_script.specs.Running.{new_client, step_of}
 pub use Rattle.bac_print.specs.declared.{checked.Checked.Checked, page.Page.Page}

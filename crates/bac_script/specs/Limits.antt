@@ -1,11 +1,11 @@
--- The limits of what is held of a script. The code has constants of the same numbers.
+-- The limits of the held octets of a script. The code has constants with the same numbers.
 use Rattle.std.specs.Prelude.{ℕ, ◌+◌}
 use Rattle.bac_text.specs.{longest_line}
 
--- The octets of the longest line, with its line feed. So many octets without a line feed among them are too long.
+-- The octets of the longest line, with its line feed. As many octets without a line feed are too long.
 abbrev pub line_room : ℕ
 line_room = longest_line + 1
 
--- The octets that are held at once, which is also the most that a read gives.
+-- The number of octets that are held at once, which is also the most that a read gives.
 abbrev pub chunk_room : ℕ
 chunk_room = 32768

@@ -1,4 +1,4 @@
--- The lines of a script, and what each says.
+-- The lines of a script, and their meanings.
 use Rattle.std.specs.Prelude.{[], Bool, bytes_eq, codes, Err, if◌then◌else◌, length, List, nat_lt, None, Ok, ok_or}
 use Rattle.std.specs.Prelude.{Option, option_map, Result, slice_index, Some, take, ℕ, ◌&&◌, ◌-◌, ◌==◌, ◌^◌, ◌∷◌}
 use Rattle.std.specs.{Result.result_ok, Str.{is_utf8, Lines.strip_carriage_return}}
@@ -8,8 +8,7 @@ use Rattle.bac_text.specs.{longest_line, plain_peer_of, whole_body_of, words_of,
 use Rattle.bac_text.specs.{Parameters.{priority_from, write_index_of}, Words.{at_end, next_as, number_up_to, octets_of}}
 use Rattle.bac_script.specs.declared.line.LineFault.{LineFault, TheVariants.{Bad, TooLong}}
 
--- What a line says: nothing, since it has no words or is a remark; the client's settings; an event of the client; or a
--- datagram that the device is asked with.
+-- The meaning of a line: blank, a remark, the client's settings, an event of the client, or a datagram for the device.
 pub data Said : Type 0 where
   Blank : Said
   Remark : Said
@@ -25,7 +24,7 @@ settings_of words = do
   (ticket, words) ← next_as (number_up_to (2 ^ 64 - 1)) words
   if nat_lt 0 timeout then at_end words (Settings timeout retries ticket) else None
 
--- The number that the next word is, where there is one.
+-- The number in the next word, if there is one.
 abbrev pub index_in : List (List ℕ) → Option (Option ℕ × List (List ℕ))
 index_in [] = Some (None, [])
 index_in (word ∷ others) = option_map (λ n. (Some n, others)) (number_up_to (2 ^ 32 - 1) word)
@@ -38,7 +37,7 @@ property_in words = do
   (property, words) ← next_as (number_up_to 4194303) words
   Some ((record { kind = kind; instance = instance }, property), words)
 
--- A ReadProperty request (service 12): PEER, a property of an object and, where there is one, INDEX.
+-- A ReadProperty request (service 12): PEER, a property of an object and, if given, INDEX.
 abbrev pub reading_of : List (List ℕ) → Option Event
 reading_of words = do
   (peer, words) ← next_as peer_of words
@@ -46,7 +45,7 @@ reading_of words = do
   (index, words) ← index_in words
   at_end words (Ask peer 12 (read_octets (record { object = object; property = property; index = index })))
 
--- The PRIORITY that a word says, 0 to 16.
+-- The PRIORITY in a word, 0 to 16.
 abbrev pub priority_of : List ℕ → Option (Option ℕ)
 priority_of word = option_map priority_from (number_up_to 16 word)
 
@@ -60,7 +59,7 @@ writing_of words = do
   (index, words) ← next_as write_index_of words
   option_map (Ask peer 15) (result_ok (whole_body_of object property index priority words))
 
--- A datagram that comes from a peer: PEER and HEX.
+-- A datagram from a peer: PEER and HEX.
 abbrev pub arrival_of : List (List ℕ) → Option Arrival
 arrival_of words = do
   (peer, words) ← next_as plain_peer_of words
@@ -73,8 +72,8 @@ tick_of words = do
   (now, words) ← next_as (number_up_to (2 ^ 64 - 1)) words
   at_end words (Tick now)
 
--- What the words of a line say, if they are in the language. The settings stand only on the first line that says
--- something; a first word that begins with # (35) makes a remark.
+-- The meaning of the words of a line, if they are in the language. Settings are allowed only on the first line that is
+-- not blank or a remark. A first word that begins with # (35) makes a remark.
 abbrev pub said_by : Bool → List (List ℕ) → Option Said
 said_by is_first [] = Some Blank
 said_by is_first (name ∷ others) =
@@ -95,8 +94,8 @@ ends_with_feed line = slice_index line (length line - 1) == 10
 abbrev pub without_feed : List ℕ → List ℕ
 without_feed line = if ends_with_feed line then take (length line - 1) line else line
 
--- The text of a line, if it has at most 4,096 octets without its line feed. A carriage return before the line feed is
--- dropped after that.
+-- The text of a line, if it has at most 4,096 octets without its line feed. Then a carriage return before the line feed
+-- is dropped too.
 abbrev pub text_of_line : List ℕ → Result (List ℕ) LineFault
 text_of_line line =
     if nat_lt longest_line (length (without_feed line)) then Err TooLong
@@ -106,6 +105,7 @@ abbrev pub said_in : Bool → Result (List ℕ) LineFault → Result Said LineFa
 said_in is_first (Ok text) = if is_utf8 text then ok_or (said_by is_first (words_of text)) Bad else Err Bad
 said_in is_first (Err fault) = Err fault
 
--- What a line says. Only the first line that says something may say settings; the flag says whether this may be it.
+-- The meaning of a line. Only the first line that is not blank or a remark may have settings; the flag says whether
+-- this line may.
 abbrev pub said : Bool → List ℕ → Result Said LineFault
 said is_first line = said_in is_first (text_of_line line)

@@ -1,4 +1,4 @@
--- A line as the program keeps it, and what it says.
+-- A line as the program keeps it, and its meaning.
 use Rattle.std.specs.Prelude.{List, ℕ}
 use Rattle.{bac_wire.specs.identifier, bac_pdu.specs.station, bac_tsm.specs.{Ask, Seen.event_seen}}
 use Rattle.{bac_device.specs.Arrival}

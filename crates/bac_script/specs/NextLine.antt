@@ -6,11 +6,11 @@ use Rattle.bac_print.specs.declared.{checked.Checked.Checked, page.Page.Page}
 use Rattle.bac_script.specs.declared.input.Reading.{Reading, TheVariants.{AtEnd, Failed, Open}}
 use Rattle.bac_script.specs.{Feeds.HasNoFeed, Input.{most_reads, ReaderStands}, Limits.{chunk_room, line_room}}
 
--- So many reads may still be made.
+-- The number of reads that may still be made.
 abbrev pub may_read : {R : Type 0} → Checked R → ℕ
 may_read reader = most_reads - reads_of reader
 
--- No more octets than this can still be taken: those held, and what the reads that may still be made give at most.
+-- The most octets that can still be taken: those held, and the most that the remaining reads can give.
 abbrev pub most_to_come : {R : Type 0} → Checked R → List ℕ → ℕ
 most_to_come reader held = chunk_room * may_read reader + length held
 
@@ -21,8 +21,8 @@ pub record TakesAndKeeps {R : Type 0} (remaining : R → Option (List ℕ)) (bef
   pub gave : Gave remaining before after given
   pub order : held ++ given ≡ taken ++ kept
 
--- What the last read gave ends what is held, and before that read no whole line was held. For each octet that the reads
--- before it gave there was at most one read, and there was one more.
+-- The octets of the last read are the last held ones, and before that read no whole line was held. There was at most
+-- one read for each octet that the earlier reads gave, and one more.
 pub record LastRead {R : Type 0} (reader reader' : Checked R) (held now : List ℕ) : Type 0 where
   pub before : List ℕ
   pub order : now ≡ (held ++ before) ++ last_of reader'
@@ -30,7 +30,7 @@ pub record LastRead {R : Type 0} (reader reader' : Checked R) (held now : List �
   pub no_feed : HasNoFeed (held ++ before)
   pub short : length (held ++ before) < line_room
 
--- The writer had not failed, and then took what the page held.
+-- The writer had not failed, and then took the octets that the page held.
 pub record IsTurnedIn {W : Type 0} (page page' : Page W) : Type 0 where
   pub sound : has_failed (writer_of page) ≡ false
   pub later : List ℕ
@@ -46,12 +46,12 @@ pub record IsReadOn {R W : Type 0} (reader reader' : Checked R) (page page' : Pa
   pub last : LastRead reader reader' held now
   pub turned_in : IsTurnedIn page page'
 
--- Nothing was read since then, or only for the next line.
+-- Nothing was read since then, or only to complete the next line.
 abbrev pub ReadForLine : {R W : Type 0} → Checked R → Checked R → Page W → Page W → List ℕ → List ℕ → Type 0
 ReadForLine reader reader' page page' held now =
     IsUnread reader reader' held now ⊎ IsReadOn reader reader' page page' held now
 
--- How many reads may have given nothing: none while reading is open, and one once it is over.
+-- The number of reads that may have given nothing: none while reading is open, and one once it is over.
 abbrev pub empty_reads : Reading → ℕ
 empty_reads Open = 0
 empty_reads AtEnd = 1
@@ -73,13 +73,13 @@ pub record HasNoLine (octets : List ℕ) : Type 0 where
   pub no_feed : HasNoFeed octets
   pub short : length octets < line_room
 
--- The line ends with a line feed, or is too long without one, or is all that was left where reading was over.
+-- The line ends with a line feed, or is too long without one, or is all that was left when reading was over.
 abbrev pub IsLineCut : Reading → List ℕ → Type 0
 IsLineCut Open line = EndsWithFeed line ⊎ IsTooLong line
 IsLineCut AtEnd line = HasNoLine line
 IsLineCut Failed line = HasNoLine line
 
--- The next line is the first so many of the octets that are held.
+-- The next line is at the beginning of the held octets, with this length.
 pub record IsNext {R : Type 0} (remaining : R → Option (List ℕ)) (before after : Checked R) (held : List ℕ)
     (reading : Reading) (count : ℕ) : Type 0 where
   pub within : count ≤ length held

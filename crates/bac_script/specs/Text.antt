@@ -9,7 +9,7 @@ refusal_text TooLong = codes "too-long"
 refusal_text TableFull = codes "full"
 refusal_text TicketsSpent = codes "spent"
 
--- The line that is printed of a note.
+-- The line that is printed for a note.
 abbrev pub note_text : Note → List ℕ
 note_text (Sent ticket peer octets) =
     codes "send " ++ (decimal ticket ++ 32 ∷ (peer_text peer ++ 32 ∷ (encode_lower octets ++ 10 ∷ [])))
@@ -21,7 +21,7 @@ note_text (TimedOut ticket) = codes "timeout " ++ (decimal ticket ++ 10 ∷ [])
 abbrev pub notes_text : List Note → List ℕ
 notes_text = flat_map note_text
 
--- The line that is printed of the device's reply to a datagram.
+-- The line that is printed for the device's reply to a datagram.
 abbrev pub reply_text : Option (Station × List ℕ) → List ℕ
 reply_text None = codes "silent" ++ 10 ∷ []
 reply_text (Some (to, octets)) = codes "reply " ++ (peer_text to ++ 32 ∷ (encode_lower octets ++ 10 ∷ []))

@@ -1,4 +1,4 @@
--- What a run read, and what it wrote and answered.
+-- The octets that a run read and wrote, and its result.
 use Rattle.std.specs.Prelude.{[], codes, decimal, length, List, None, Option, Result, ℕ, ◌++◌, ◌+◌, ◌≡◌, ◌≤◌, ◌⊎◌}
 use Rattle.bac_print.specs.{Gave, last_of, octets_of, reads_of, Took, declared.checked.Checked.Checked}
 use Rattle.bac_script.specs.declared.input.Reading.{Reading, TheVariants.Open}
@@ -6,15 +6,15 @@ use Rattle.bac_script.specs.declared.tracing.{TraceEnd.TraceEnd, TraceFault.Trac
 use Rattle.bac_script.specs.declared.tracing.TraceFault.TheVariants.{BadLine, LineTooLong, ReadFailed, WriteFailed}
 use Rattle.bac_script.specs.{Input.{ReaderStands, ReadsNoMore}, Script.{first_fault, lines, ScriptRuns, text}}
 
--- No line with a fault was among the octets that the reader gave before its last read: so that read was needed. It was
--- asked at most once for each of those octets, and once more.
+-- No line with a fault was among the octets before the last read, so that read was needed. There was at most one read
+-- for each of those octets, and one more.
 pub record LastIsNeeded {R : Type 0} (reader reader' : Checked R) (given : List ℕ) : Type 0 where
   pub before : List ℕ
   pub order : given ≡ before ++ last_of reader'
   pub asked : reads_of reader' ≤ reads_of reader + length before + 1
   pub going : first_fault (lines before Open) ≡ None
 
--- The reader gave these octets, and reading stopped so. Nothing was read, or the last read was needed.
+-- The reader gave these octets, and reading stopped in this way. Nothing was read, or the last read was needed.
 pub record HasRead {R : Type 0} (remaining : R → Option (List ℕ)) (reader reader' : Checked R) (given : List ℕ)
     (reading : Reading) : Type 0 where
   pub gave : Gave remaining reader reader' given
@@ -22,14 +22,14 @@ pub record HasRead {R : Type 0} (remaining : R → Option (List ℕ)) (reader re
   pub needed : ((reader' ≡ reader) × (given ≡ [])) ⊎ LastIsNeeded reader reader' given
   pub spared : ReadsNoMore reader reader'
 
--- However the run ended, the text of the lines that were whole before the last read was written. So it was out before
--- that read, or a write that failed later would have left it out; and no run knows which of its reads is the last.
+-- However the run ended, the text of the lines that were whole before the last read was written. It was written before
+-- that read: a run does not know which read is its last, and later text would be lost if the writer failed.
 abbrev pub IsToldFirst : {R W : Type 0} → Checked R → Checked W → Checked W → List ℕ → Type 0
 IsToldFirst reader' writer writer' given = (before : List ℕ) → given ≡ before ++ last_of reader' →
     (later : List ℕ) × (octets_of writer' ≡ (octets_of writer ++ text before Open) ++ later)
 
--- The written text and the answer are those of the script of the octets that the reader gave, and of how reading
--- stopped.
+-- The written text and the result are those of the script whose octets the reader gave, with reading stopped in this
+-- way.
 pub record Traces {R W : Type 0} (remaining : R → Option (List ℕ)) (contents : W → Option (List ℕ))
     (reader reader' : Checked R) (writer writer' : Checked W) (answer : Result TraceEnd TraceFault) : Type 0 where
   pub given : List ℕ

@@ -38,7 +38,7 @@ fn examples_of_a_device()
         ("ask 127.0.0.1:50000 810a000e010010080a03e81a04d2" ∷ "ask 127.0.0.1:50000 810a000e010010080a04d31a07d0" ∷ [])
         ("reply 127.0.0.1:50000 810a001501001000c4020004d22205c49103220104" ∷ "silent" ∷ []) (ended 2) }
 
-    // An object that it does not have: unknown-object (31).
+    // The device does not have this object: unknown-object (31).
     ensures unknown { IsTraced ("ask 127.0.0.1:50000 810a001101040005010c0c000000631955" ∷ [])
         ("reply 127.0.0.1:50000 810a000d010050010c9101911f" ∷ []) (ended 1) }
 
@@ -58,11 +58,11 @@ fn examples_of_ends()
     // Blank lines and remarks are counted, and a carriage return before the line feed is dropped.
     ensures silent { IsTraced ("# a remark" ∷ "" ∷ "tick 5\r" ∷ []) [] (ended 3) }
 
-    // The text of the lines before the first bad one is printed, even if more lines would have come.
+    // The text of the lines before the first bad one is printed, even if more lines follow.
     ensures bad { IsTraced (read ∷ "tick x" ∷ read ∷ []) (sent ∷ []) (Err (BadLine 2)) }
     ensures bad_at_once { ScriptRuns (codes "tick x\n") Open [] (Err (BadLine 1)) }
 
-    // A line of 4,097 octets is too long before it has ended.
+    // A line of 4,097 octets is too long before its line feed is read.
     ensures too_long { ScriptRuns (replicate 4097 35) Open [] (Err (LineTooLong 1)) }
 
     // The last line may lack its line feed. If reading failed, it is not a line.
@@ -70,7 +70,7 @@ fn examples_of_ends()
     ensures cut { ScriptRuns (codes "tick x") Failed [] (Err ReadFailed) }
 {}
 
-// Lines that say nothing. A remark begins with # (35), after spaces and tabs (9). A line without words is blank.
+// Lines without effect. A remark begins with # (35), after spaces and tabs (9). A line without words is blank.
 #[tactic(auto, unfolding(crate::proofs::Computed::computed))]
 fn examples_of_nothing()
     ensures remark { said false (codes "# x") ≡ Ok Remark }
@@ -81,7 +81,7 @@ fn examples_of_nothing()
     ensures after_a_word { said false (codes "x #") ≡ Err Bad }
 {}
 
-// Two scripts that are alike, and the limit of reads.
+// Scripts that are alike, and the limit of reads.
 #[tactic(none)]
 fn examples_of_limits()
     ensures reads { most_reads ≡ 4294967295 }
@@ -139,7 +139,7 @@ fn examples_of_lines()
         ≡ record { position = 1; request = request_of (client_rules 3000 3) 0 desk 12 [] 1 } ∷ [] }
 {}
 
-// Whole runs: of no line, and of one that is bad.
+// Whole runs: of an empty script, and of a bad line.
 #[tactic(none)]
 fn examples_of_traces()
     ensures empty { Traces unknown unknown unasked (gave []) unasked unasked (ended 0) }
@@ -149,7 +149,8 @@ fn examples_of_traces()
     ensures bad { Traces unknown unknown unasked (gave (120 ∷ 10 ∷ [])) unasked unasked (Err (BadLine 1)) }
     ensures untold { Traces unknown unknown unasked (gave (120 ∷ 10 ∷ [])) unasked unasked (ended 1) → ⊥ }
 
-    // A request is in the first of two reads, and the writer fails. Its text is out before the second read.
+    // A request is in the first of two reads, and the writer fails. The request's text is written before the second
+    // read.
     ensures out_first { Traces unknown unknown unasked (gave_more (lined (read ∷ []))) unasked
         (full_after (lined (sent ∷ []))) (Err WriteFailed) }
     ensures read_too_soon { Traces unknown unknown unasked (gave_more (lined (read ∷ []))) unasked (refusing 1)

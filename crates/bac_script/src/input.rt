@@ -11,11 +11,10 @@ use bac_text::{Delimiter, LONGEST_LINE, position_of_end};
 use std::io::{Read, Write};
 use std::marker::Model;
 
-// Room for what is held: a line that isn't whole yet, and what a read gives after it.
+// The octets that a chunk can hold: a line that is not whole yet, and the result of a read after it.
 const CHUNK_ROOM: usize = 32_768;
 
-// The octets of the longest line with its line feed. So many without a line feed among them are a line that is too
-// long.
+// The octets of the longest line with its line feed. As many octets without a line feed are a line that is too long.
 const LINE_ROOM: usize = LONGEST_LINE + 1;
 
 /// Octets that were read and not yet taken.
@@ -26,17 +25,17 @@ pub struct Chunk {
     end: usize,
 }
 
-/// The next line is so many of the first octets that are held. If reading is over, it is all that was left.
+/// The next line has this many octets. If reading is over, the line is all that was left.
 #[derive(Clone, Copy)]
 pub struct Next {
     pub reading: Reading,
     pub length: usize,
 }
 
-/// How reading stands.
+/// Whether more can be read.
 #[derive(Clone, Copy, PartialEq, Eq)]
 pub enum Reading {
-    /// More may come.
+    /// More octets may come.
     Open,
     /// A read gave nothing.
     AtEnd,
@@ -56,7 +55,7 @@ impl Model for Chunk {
 }
 
 impl Chunk {
-    /// A chunk that holds nothing.
+    /// Returns an empty chunk.
     pub fn new() -> Self
         ensures { result ≡ [] }
     {
@@ -67,12 +66,12 @@ impl Chunk {
         }
     }
 
-    /// Finds the next line, and reads until it is held. Before each read the page is turned in, so that nobody waits
-    /// for text that was printed.
+    /// Finds the next line, and reads until the whole line is held. Before each read the held text of the page is
+    /// written, so that nobody waits for it.
     ///
     /// # Errors
     ///
-    /// `WriteFailed` where the page has failed before a read that would be needed.
+    /// `WriteFailed` if the page has failed and more must be read.
     #[inline(always)]
     pub fn next_line<R: Read, W: Write>(
         &mut self,
@@ -112,7 +111,7 @@ impl Chunk {
         }
     }
 
-    /// The first octets that are held.
+    /// Returns the first held octets.
     pub fn front(&self, count: usize) -> &[u8]
         requires { count ≤ length self.now }
         ensures { result.now ≡ take count self.now }
@@ -120,7 +119,7 @@ impl Chunk {
         &self.octets[self.start..self.start + count]
     }
 
-    /// Takes the first octets away.
+    /// Removes the first octets.
     #[tactic(auto, using(crate::proofs::range_skipped))]
     pub fn skip(&mut self, count: usize)
         requires { count ≤ length self.old }
@@ -129,8 +128,8 @@ impl Chunk {
         self.start += count;
     }
 
-    // Returns how many octets the next line has, if it is whole among those that are held. So many of the first were
-    // searched before, and aren't searched again. If none is whole, all have been searched.
+    // Returns the number of octets of the next line, if the whole line is held. The first `searched` octets have no
+    // line feed, and aren't searched again. If no whole line is held, all octets have been searched.
     #[tactic(auto, using(crate::proofs::range_size, crate::proofs::none_held))]
     fn line_length(&self, searched: &mut usize) -> Option<usize>
         requires within { searched.old ≤ length self.now }
@@ -152,7 +151,7 @@ impl Chunk {
         }
     }
 
-    // Reads once more after what is held.
+    // Reads once, and puts the octets after the held ones.
     fn read_more<R: Read>(&mut self, reader: &mut Checked<R>) -> Reading
         requires reader { has_failed reader.old ≡ false }
         requires short { length self.old < LINE_ROOM }
@@ -185,7 +184,7 @@ impl Chunk {
         Reading::Open
     }
 
-    // Returns how many octets are held.
+    // Returns the number of held octets.
     fn len(&self) -> usize
         ensures { result ≡ length self.now }
     {
@@ -193,7 +192,7 @@ impl Chunk {
     }
 }
 
-// The position of the first line feed.
+// Returns the position of the first line feed.
 fn feed_position(octets: &[u8]) -> Option<usize>
     ensures { result ≡ position (λ octet. octet == 10) octets.now }
 {

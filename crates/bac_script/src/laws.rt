@@ -1,5 +1,4 @@
-//! What holds of the definitions that the contracts cite. Each function has an empty body, and its clauses are
-//! the laws.
+//! Laws of the definitions that the contracts cite. Each function has an empty body, and its clauses are the laws.
 ghost use Rattle.std.specs.Prelude.{List, Result, true, ℕ, ◌≡◌, ◌≤◌, ◌⊎◌};
 ghost use Rattle.bac_print.specs.{fresh, has_failed, octets_of, reads_of, declared.checked.Checked.Checked};
 ghost use Rattle.bac_tsm.specs.{Laws.InvokeIdsComeBackLate, Limits.table_size};
@@ -12,9 +11,9 @@ use crate::tracing::{TraceEnd, TraceFault};
 use std::io::{Read, Write};
 
 /// A script is a function of its octets. Two runs whose readers gave the same octets, and met their end as often, write
-/// one text and answer the same; if a writer failed, its run wrote a front of that text. If one reader gave a front of
-/// what the other gave and did not meet its end, as in a run whose writer failed, its run wrote a front of the other's
-/// text.
+/// the same text and return the same; if a writer failed, its run wrote the beginning of that text. If one reader gave
+/// only the first octets of the other and did not meet its end, for example because its writer failed, its run wrote
+/// the beginning of the other's text.
 pub fn a_script_is_a_function<R: Read, S: Read, V: Write, W: Write>()
     ensures alike { (reader : R) (other_reader : S) (reader' : Checked R) (other_reader' : Checked S)
         (writer : V) (other_writer : W) (writer' : Checked V) (other_writer' : Checked W)
@@ -31,7 +30,7 @@ pub fn a_script_is_a_function<R: Read, S: Read, V: Write, W: Write>()
         × IsWrittenOf (octets_of other_writer') text other }
 {}
 
-/// A script ends with `ReadFailed` only where its reader failed or its reads are spent.
+/// A script ends with `ReadFailed` only if its reader failed or its reads are spent.
 pub fn a_failed_read_has_a_cause<R: Read, W: Write>()
     ensures { (reader reader' : Checked R) (writer writer' : Checked W)
         → Traces R.remaining W.contents reader reader' writer writer' (Err TraceFault.ReadFailed)
@@ -45,7 +44,7 @@ pub fn invoke_ids_come_back_late()
         → InvokeIdsComeBackLate table_size (requests_in (all_said (lines octets reading))) }
 {}
 
-/// A clone is what it was cloned from, and takes no memory.
+/// A clone equals its original, and allocates no memory.
 pub fn clones<'a>()
     ensures next { MakesCopies ⟦<Next as Clone>⟧.is_clone ⟦<Next as Clone>⟧.is_infallible }
     ensures reading { MakesCopies ⟦<ReadingState as Clone>⟧.is_clone ⟦<ReadingState as Clone>⟧.is_infallible }
@@ -55,7 +54,7 @@ pub fn clones<'a>()
     ensures fault { MakesCopies ⟦<TraceFault as Clone>⟧.is_clone ⟦<TraceFault as Clone>⟧.is_infallible }
 {}
 
-/// What `==` compares: how reading stands, and all that a fault of a line, or an end or a fault of a script says.
+/// `==` compares the state of reading, and all that a fault of a line, or an end or a fault of a script says.
 pub fn equals()
     ensures reading { EqualsBy (λ reading. reading) ⟦<ReadingState as PartialEq>⟧.eq }
     ensures line_fault { EqualsBy (λ fault. fault) ⟦<LineFault as PartialEq>⟧.eq }

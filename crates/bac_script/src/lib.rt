@@ -1,18 +1,19 @@
-//! The script of `bactrace`: a client and a device over its lines, and what is printed of them.
+//! The script of `bactrace`: its lines, a client and a device that run them, and the text that is printed.
 //!
-//! [`trace`] runs a script from a reader to a writer, and answers a [`TraceEnd`] or the [`TraceFault`] that stopped it.
-//! `specs/Line.antt` says what a line says, and `specs/Script.antt` what is printed of the lines together. [`laws`] has
-//! that a script is a function of its octets.
+//! [`trace`] runs a script from a reader to a writer, and returns a [`TraceEnd`] or the [`TraceFault`] that stopped it.
+//! `specs/Line.antt` defines the meaning of a line, and `specs/Script.antt` the text of a whole script. One of the
+//! [`laws`] is that a script is a function of its octets.
 //!
-//! Of `examples_of_a_client` in `src/examples.rt`, which is proved: two lines of a script, the two that are printed,
-//! and its end after two lines.
+//! From `examples_of_a_client` in `src/examples.rt`, which is proved: two lines of a script, the two lines that are
+//! printed, and its end after two lines.
 //!
 //! ```text
 //! ensures answered { IsTraced (read ∷ answer ∷ []) (sent ∷ "done 0 value 4290999a" ∷ []) (ended 2) }
 //! ```
 //!
-//! The caller keeps to this: the reader and the writer that it hands on have not failed yet. So does `run_words` of
-//! `bac_tools` (`src/program.rt`), where it is proved which status and which fault come of what [`trace`] answers.
+//! The caller must keep to one condition: the reader and the writer have not failed yet. `run_words` of `bac_tools`
+//! (`src/program.rt`) keeps to it, and there it is proved which status and which fault follow from the result of
+//! [`trace`].
 #![tactic(auto)]
 
 mod examples;

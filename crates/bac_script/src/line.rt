@@ -17,12 +17,12 @@ use bac_tsm::{Config, Event};
 use bac_wire::ObjectId;
 use std::str;
 
-/// What a line says. Its octets lie in the room that was lent to read it.
+/// The meaning of a line. Its octets are in the room that was lent to read it.
 #[derive(Drop)]
 pub enum Line<'a> {
-    /// Nothing: it has no words.
+    /// The line has no words.
     Blank,
-    /// Nothing: it is a remark.
+    /// The line is a remark.
     Remark,
     /// The client's settings and its first ticket.
     Client(Config, u64),
@@ -30,12 +30,12 @@ pub enum Line<'a> {
     Happens(Event<'a>),
     /// A request to write whose service body is too long to be sent.
     LongWrite(LongWrite<'a>),
-    /// A datagram that the device is asked with.
+    /// A datagram for the device.
     Ask(Received<'a>),
 }
 
 impl Line<'_> {
-    /// Returns whether the line says nothing.
+    /// Returns whether the line is blank or a remark.
     pub fn is_skipped(&self) -> bool
         ensures { result ≡ is_nothing (line_seen self.now) }
     {
@@ -43,14 +43,14 @@ impl Line<'_> {
     }
 }
 
-/// A datagram, and whom it comes from.
+/// A datagram, and its sender.
 #[derive(Clone, Copy)]
 pub struct Received<'a> {
     pub from: Peer,
     pub datagram: &'a [u8],
 }
 
-/// Room for the octets that a line says, which is used again for the next line.
+/// Room for the octets of a line, which is used again for the next line.
 #[derive(Drop)]
 pub struct LineRoom {
     datagram: [u8; LONGEST_DATAGRAM],
@@ -69,13 +69,14 @@ impl LineRoom {
 /// Why a line can't be run.
 #[derive(Clone, Copy, PartialEq, Eq)]
 pub enum LineFault {
-    /// It is not a line of the language.
+    /// The line is not in the language.
     Bad,
-    /// It has more octets than a line may have.
+    /// The line has more octets than a line may have.
     TooLong,
 }
 
-/// What a line says, which may end with a line feed. `is_first` says whether no line before it said anything.
+/// Returns the meaning of a line, which may end with a line feed. `is_first` says whether all lines before it were
+/// blank or remarks.
 #[inline(always)]
 pub fn read_line<'a>(
     line: &'a [u8],
@@ -91,7 +92,7 @@ pub fn read_line<'a>(
     read_words(Words::new(text), is_first, room).ok_or(LineFault::Bad)
 }
 
-/// The octets of a line without its line feed and a carriage return before that.
+/// Returns the octets of a line without its line feed and a carriage return before that.
 pub fn line_text(line: &[u8]) -> Result<&[u8], LineFault>
     ensures { MatchResult result (λ text. text_of_line line.now ≡ Ok text.now)
         (λ fault. text_of_line line.now ≡ Err fault) }
@@ -109,7 +110,7 @@ pub fn line_text(line: &[u8]) -> Result<&[u8], LineFault>
     }
 }
 
-// Returns whether the octets are UTF-8. Of most lines all are ASCII, which is seen sooner.
+// Returns whether the octets are UTF-8. Most lines are all ASCII, which is checked first because it is faster.
 fn is_text(octets: &[u8]) -> bool
     ensures { result ≡ is_utf8 octets.now }
 {
@@ -230,7 +231,7 @@ fn next_peer(words: &mut Words<'_>) -> Option<Peer>
     peer_in(word)
 }
 
-// The property of an object that the next three words name.
+// Returns the property of an object that the next three words name.
 fn next_property(words: &mut Words<'_>) -> Option<(ObjectId, u32)>
     ensures { MatchOption result (property_in words.old ≡ None)
         (λ named. property_in words.old ≡ Some ((identifier named.0, named.1), words.new)) }
@@ -242,7 +243,7 @@ fn next_property(words: &mut Words<'_>) -> Option<(ObjectId, u32)>
     Some((object, property as u32))
 }
 
-// The number of an element, if a word is left.
+// Returns the number of an element, if a word is left.
 fn next_index(words: &mut Words<'_>) -> Option<Option<u32>>
     ensures { MatchOption result (index_in words.old ≡ None) (λ index. index_in words.old ≡ Some (index, words.new)) }
 {
@@ -253,7 +254,7 @@ fn next_index(words: &mut Words<'_>) -> Option<Option<u32>>
     Some(Some(index as u32))
 }
 
-// The priority, where the number is not 0.
+// Returns the priority, if the number is not 0.
 fn next_priority(words: &mut Words<'_>) -> Option<Option<u8>>
     ensures value { MatchOption result (next_as priority_of words.old ≡ None)
         (λ priority. next_as priority_of words.old ≡ Some (priority, words.new)) }
@@ -263,7 +264,7 @@ fn next_priority(words: &mut Words<'_>) -> Option<Option<u8>>
     Some(priority_from(number as u8))
 }
 
-// The number of an element, where the word is not -1.
+// Returns the number of an element, if the word is not -1.
 fn next_write_index(words: &mut Words<'_>) -> Option<Option<u32>>
     ensures { MatchOption result (next_as write_index_of words.old ≡ None)
         (λ index. next_as write_index_of words.old ≡ Some (index, words.new)) }
@@ -293,7 +294,7 @@ fn next_datagram<'a>(
     read_datagram(word, room)
 }
 
-// Something, if no word is left.
+// Returns Some if no word is left.
 fn ended(mut words: Words<'_>) -> Option<()>
     ensures { MatchOption result (IsLeft words.entry) (λ _. words.entry ≡ []) }
 {

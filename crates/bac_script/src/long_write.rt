@@ -7,7 +7,7 @@ use bac_pdu::Peer;
 use bac_text::Words;
 use bac_wire::ObjectId;
 
-/// A request to write as a line says it, if its service body has more octets than a client sends.
+/// A request to write that a line asks for, if its service body has more octets than a client sends.
 #[derive(Drop)]
 pub struct LongWrite<'a> {
     pub peer: Peer,

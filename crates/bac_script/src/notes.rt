@@ -25,7 +25,7 @@ pub fn print_note<W: Write>(page: &mut Page<'_, W>, note: Note<'_>)
     }
 }
 
-/// Prints the line of a note, where there is one.
+/// Prints the line of a note, if there is one.
 #[tactic(auto, using(bac_print::proofs::Printed::printing, std::proofs::lemmas::Grind::common_steps))]
 #[inline(always)]
 pub(crate) fn print_any<W: Write>(page: &mut Page<'_, W>, note: Option<Note<'_>>)
@@ -37,7 +37,7 @@ pub(crate) fn print_any<W: Write>(page: &mut Page<'_, W>, note: Option<Note<'_>>
     }
 }
 
-/// Prints what became of the requests that were due, in their order.
+/// Prints the entries of a tick, in their order.
 #[tactic(auto, using(bac_print::proofs::Printed::printing, std::proofs::lemmas::Grind::common_steps, std::proofs::lemmas::List::take_more))]
 pub(crate) fn print_due<W: Write>(page: &mut Page<'_, W>, client: &Client, due: &[DueEntry])
     ensures { Prints W.contents page.old page.new (notes_text (flat_map (due_notes client.now.state) due.now)) }
@@ -47,7 +47,7 @@ pub(crate) fn print_due<W: Write>(page: &mut Page<'_, W>, client: &Client, due: 
     }
 }
 
-/// Prints what the device answers: its reply, or that it is silent.
+/// Prints the device's answer: its reply, or that it is silent.
 #[tactic(auto, using(bac_print::proofs::Printed::printing))]
 pub(crate) fn print_answer<W: Write>(page: &mut Page<'_, W>, to: Option<Peer>, octets: &[u8])
     ensures { Prints W.contents page.old page.new (reply_text (option_map (λ peer. (station peer, octets.now)) to)) }
@@ -61,7 +61,7 @@ pub(crate) fn print_answer<W: Write>(page: &mut Page<'_, W>, to: Option<Peer>, o
     }
 }
 
-/// Prints whom a datagram is for or from, and its octets.
+/// Prints a peer and the octets of a datagram to or from this peer.
 #[inline(always)]
 #[tactic(auto, using(bac_print::proofs::Printed::printing))]
 pub fn print_datagram<W: Write>(page: &mut Page<'_, W>, peer: Peer, octets: &[u8])

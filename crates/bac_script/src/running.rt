@@ -1,8 +1,8 @@
 //! The lines of a script, run on its client and its device one after another.
 
 ghost use Rattle.std.specs.Prelude.{[], List, ◌≡◌};
-ghost use Rattle.{bac_device.specs.Write, bac_print.specs.Prints, bac_tsm.specs.{keeping, Seen.event_seen}};
-ghost use Rattle.bac_script.specs.{arrival_seen, line_seen, notes_text, step_of};
+ghost use Rattle.{bac_device.specs.Write, bac_print.specs.Prints, bac_tsm.specs.{keeping, step_of, Seen.event_seen}};
+ghost use Rattle.bac_script.specs.{arrival_seen, line_seen, notes_text};
 ghost use Rattle.bac_script.specs.Inner.{device_with, ran, reply_after, ScriptStage, Stands, writes_with};
 
 use crate::line::{Line, Received};
@@ -14,7 +14,7 @@ use bac_wire::Frame;
 use bac_work::begin;
 use std::io::Write;
 
-/// Runs a line on the client and the device, and prints what comes of it. The device's reply is put into the frame.
+/// Runs a line on the client and the device, and prints the result. The device's reply is written into the frame.
 #[tactic(auto, using(bac_print::proofs::Printed::no_print))]
 pub(crate) fn run_line<W: Write>(
     client: &mut Client,
@@ -37,7 +37,7 @@ pub(crate) fn run_line<W: Write>(
     }
 }
 
-/// The device that a script asks: the demonstration device under a number and a name of its own.
+/// Returns the device of a script: the demonstration device with this number and name.
 pub(crate) fn small_device() -> Device
     ensures { result ≡ device_with [] }
 {
@@ -45,7 +45,7 @@ pub(crate) fn small_device() -> Device
     demo(info)
 }
 
-// Hands the client an event, and prints its notes.
+// Passes the client an event, and prints its notes.
 fn take<W: Write>(client: &mut Client, event: Event<'_>, page: &mut Page<'_, W>)
     ensures client { client.new ≡ keeping client.old (step_of client.old (event_seen event.entry)).after }
     ensures text { Prints W.contents page.old page.new
@@ -67,7 +67,7 @@ fn take<W: Write>(client: &mut Client, event: Event<'_>, page: &mut Page<'_, W>)
     }
 }
 
-// Asks the device with a datagram. Its reply is put into the frame.
+// Passes the device a datagram, and prints its reply, which is written into the frame.
 fn ask<W: Write>(
     device: &mut Device,
     received: Received<'_>,

@@ -2,12 +2,12 @@
 
 ghost use Rattle.std.specs.Prelude.{[], Err, false, true, ◌↔◌, ◌≡◌};
 ghost use Rattle.bac_print.specs.{has_failed, held, message_text, room_of, writer_of};
-ghost use Rattle.bac_script.specs.{fault_at, new_client, trace_fault_text, Traces, Inner.RunsOn};
+ghost use Rattle.{bac_tsm.specs.new_client, bac_script.specs.{fault_at, trace_fault_text, Traces, Inner.RunsOn}};
 
 use crate::input::{Chunk, Reading};
 use crate::line::{LineFault, LineRoom, read_line};
 use crate::running::{run_line, small_device};
-use bac_print::{Checked, Message, Page, WriteFailed};
+use bac_print::{Checked, FaultMessage, Page, WriteFailed};
 use bac_tsm::{Client, Config};
 use bac_wire::Frame;
 use std::io::{Read, Write};
@@ -16,34 +16,34 @@ use thiserror::Error;
 /// A script that ran to its end.
 #[derive(Clone, Copy, Debug, PartialEq, Eq)]
 pub struct TraceEnd {
-    /// The lines, skipped ones included.
+    /// The number of lines, skipped ones included.
     pub lines: u64,
 }
 
-/// Why a script stopped. What the lines before that print was printed, as far as the writer took it.
+/// Why a script stopped. The text of the lines before was printed, as far as the writer took it.
 #[derive(Clone, Copy, Debug, PartialEq, Eq, Error)]
 #[error("{}", self.message())]
 pub enum TraceFault {
-    /// The line with this number, from 1, is not a line of the language: its writer's fault.
+    /// The line with this number, from 1, is not in the language. This is the fault of the script's author.
     BadLine(u64),
-    /// The line with this number, from 1, has more than 4,096 octets: the fault of who wrote it.
+    /// The line with this number, from 1, has more than 4,096 octets. This is the fault of the script's author.
     LineTooLong(u64),
-    /// The reader failed, or its reads are spent: no fault of the script.
+    /// The reader failed, or its reads are spent. This is not a fault of the script.
     ReadFailed,
-    /// The writer failed, or took no octet: no fault of the script.
+    /// The writer failed, or took no octet. This is not a fault of the script.
     WriteFailed,
 }
 
 impl TraceFault {
-    /// Its message.
-    pub fn message(&self) -> Message
+    /// Returns the message.
+    pub fn message(&self) -> FaultMessage
         ensures { message_text result ≡ trace_fault_text self.now }
     {
         match self {
-            TraceFault::BadLine(line) => Message::Numbered("line ", *line, ": bad line"),
-            TraceFault::LineTooLong(line) => Message::Numbered("line ", *line, ": too long"),
-            TraceFault::ReadFailed => Message::Text("reading failed"),
-            TraceFault::WriteFailed => Message::Text("writing failed"),
+            TraceFault::BadLine(line) => FaultMessage::Numbered("line ", *line, ": bad line"),
+            TraceFault::LineTooLong(line) => FaultMessage::Numbered("line ", *line, ": too long"),
+            TraceFault::ReadFailed => FaultMessage::Text("reading failed"),
+            TraceFault::WriteFailed => FaultMessage::Text("writing failed"),
         }
     }
 }
@@ -58,7 +58,7 @@ impl From<WriteFailed> for TraceFault {
     }
 }
 
-/// Runs each line of a script on a client and a device. The text is written before the reader is asked for more.
+/// Runs each line of a script on a client and a device. The text is written before each read.
 pub fn trace<R: Read, W: Write>(
     reader: &mut Checked<R>,
     writer: &mut Checked<W>,
@@ -74,8 +74,7 @@ pub fn trace<R: Read, W: Write>(
     answer
 }
 
-// Runs each line of a script. The text goes to the writer before more is read; in the end some of it may still be on
-// the page.
+// Runs each line of a script. The text is written before each read; at the end some of it may still be on the page.
 fn run_script<R: Read, W: Write>(
     reader: &mut Checked<R>,
     page: &mut Page<'_, W>,
@@ -115,7 +114,7 @@ fn run_script<R: Read, W: Write>(
     }
 }
 
-// The client of a script that says no settings: it waits for three seconds, and sends three times again.
+// Returns the client of a script without settings: its timeout is three seconds, and it sends up to three times again.
 fn usual_client() -> Client
     ensures { result ≡ new_client 3000 3 0 }
 {
@@ -126,7 +125,7 @@ fn usual_client() -> Client
     Client::new(config, 0)
 }
 
-// The fault of the line with this number.
+// Returns the fault of the line with this number.
 fn fault_in_line(fault: LineFault, number: u64) -> TraceFault
     ensures { result ≡ fault_at number fault }
 {

@@ -1,4 +1,4 @@
--- Numbers and octets in digits, read digit by digit and by lanes.
+-- Numbers and octets in digits, read digit by digit and in lanes.
 use Rattle.std.proofs.Common.{[], add-one, ap, arith, bit_and, bit_or, Bool, cond, drop, Err, false, get_or}
 use Rattle.std.proofs.Common.{get_or-take, if◌then◌else◌, is_ok, IsTrue, length, length-take-le, List, map, nat_le}
 use Rattle.std.proofs.Common.{nat_lt, None, not, Ok, position, refl, Result, Some, subst, suc, sym, take, take_all}
@@ -44,7 +44,7 @@ pub value_next : (word : List ℕ) (i number : ℕ) → i < length word → is_a
     → number * 10 + (get_or word i 0 - 48) ≡ digits_value 10 (take (i + 1) word)
 value_next = grind (arith, digits_value_more)
 
--- A word that is not a number, since one of its octets is not a digit.
+-- A word with an octet that is not a digit is not a number.
 pub not_number : (most : ℕ) (word : List ℕ) → all_ascii_digits word ≡ false → number_up_to most word ≡ None
 not_number = grind arith
 
@@ -98,7 +98,7 @@ module _ (q : ℕ → Bool) (d : List ℕ) (i n r : ℕ) (z : List ℕ) (room : 
       subst (λ x. stops x ≡ false) at
       (not-true _ (prefix_len_passes (λ x. not (stops x)) _ (k - i) 0 (omega (arith, counted))))
 
-  -- A lane stops exactly where the test passes.
+  -- The run of a load ends exactly where the test passes.
   pub run_in : IsRunIn q d i n r
   run_in = grind (arith, counted, long, prefix_len-le-length, goes_on, get_or-chunk, prefix_len_stops)
 
@@ -114,7 +114,7 @@ position_none p xs before =
     position_or_len_is p _ _ 0 (omega arith) before (λ less. absurd (omega arith)) in
     grind arith
 
--- The octets before a load, and those of it.
+-- The octets before a load, and those of the load, fail the test.
 pub all_before : (p : ℕ → Bool) (xs : List ℕ) (start at n run : ℕ) → at ≤ start
     → ((k : ℕ) → k < start → p (get_or xs k 0) ≡ false) →
     IsRunIn p xs at n run → (k : ℕ) → k < at + run → p (get_or xs k 0) ≡ false
@@ -130,7 +130,7 @@ most_with (suc n) = most_with n * 10 + 9
 pub most_next : (n number digit : ℕ) → number ≤ most_with n → digit ≤ 9 → number * 10 + digit ≤ most_with (n + 1)
 most_next n _ digit h d = rw add-one (omega arith)
 
--- A short text that is not a number as a whole.
+-- A short text that is not only a number.
 module _ (text : List ℕ) (digits limit number count : ℕ) (l : IsLeading text digits number count) where
   pub short_long : count < length text → None ≡ short_number digits limit text
   short_long = grind (arith, others_are)
@@ -141,7 +141,7 @@ module _ (text : List ℕ) (digits limit number count : ℕ) (l : IsLeading text
   pub short_big : limit < number → None ≡ short_number digits limit text
   short_big = grind (arith, others_are, take_all)
 
--- This many digits at the front write the number.
+-- The first `count` octets are digits, and spell the number.
 record Digits (text : List ℕ) (count number : ℕ) : Type 0 where
   all : all_ascii_digits (take count text) ≡ true
   value : number ≡ digits_value 10 (take count text)
@@ -237,7 +237,7 @@ others_refused word others = go (decode_of word) refl
 pub octets_of_others : (word : List ℕ) → list_all is_ascii_hexdigit word ≡ false → None ≡ octets_of word
 octets_of_others = grind (arith, others_refused)
 
--- Two digits write an octet.
+-- Two digits are one octet.
 pub length-octets_in : (digits : List ℕ) → IsTrue (is_ok (decode_of digits))
     → length digits ≡ 2 * length (octets_in digits)
 length-octets_in = grind (arith, decode_of-ok)
@@ -255,14 +255,14 @@ number_is : (digit : ℕ)
     → (bit_and digit 15 + cond (top 7 (cond (nat_lt 63 digit) 255 0)) 9 0) % 256 ≡ number_by_lane digit
 number_is _ = rw (and_mask _ 4, lane_is _) (grind arith)
 
--- The octet of two digits, as in a lane.
+-- The octet of two digits, as computed in a lane.
 pub octet_is : (high low : ℕ) →
     ((bit_and high 15 + cond (top 7 (cond (nat_lt 63 high) 255 0)) 9 0) % 256 * 16 % 256
     + (bit_and low 15 + cond (top 7 (cond (nat_lt 63 low) 255 0)) 9 0) % 256) % 256
     ≡ (number_by_lane high * 16 + number_by_lane low) % 256
 octet_is _ _ = rw (number_is _, number_is _) (omega arith)
 
--- Whether an octet is not a digit, as in a lane.
+-- Whether an octet is not a digit, as computed in a lane.
 abbrev past : ℕ → ℕ → ℕ
 past a b = cond (nat_lt a b) 255 0
 
@@ -314,14 +314,14 @@ read_on digits _ at start before within room size read =
     (λ more. octets_by_lanes-append _ _ even) (omega (arith, length-octets_by_lanes _ even))
     (omega (arith, length-octets_by_lanes (chunk (2 * at) 16 digits) (omega arith))) room read)
 
--- A digit's number.
+-- The number of a digit is the same in both definitions.
 abbrev IsNumber : ℕ → Type 0
 IsNumber digit = (hex_digit_value digit ≡ Some (number_by_lane digit)) × (number_by_lane digit ≤ 15)
 
 number_of : (digit : ℕ) → not (is_hex_digit digit) ≡ false → IsNumber digit
 number_of _ e = (grind arith, grind arith)
 
--- Digits alone are read as their octets.
+-- A text of only digits is read as their octets.
 pub digits_read : (i : ℕ) (digits : List ℕ) → length digits % 2 ≡ 0
     → ((k : ℕ) → k < length digits → not (is_hex_digit (get_or digits k 0)) ≡ false) →
     decode_pairs i digits ≡ Ok (octets_by_lanes digits)

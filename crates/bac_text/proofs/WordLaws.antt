@@ -1,4 +1,4 @@
--- The words of a text, and the values and bodies that they write.
+-- The words of a text, and their values and bodies.
 use Rattle.std.proofs.Common.{[], ap, append-nil, append_assoc, arith, Bool, drop, drop-cons, drop-drop, Err, false}
 use Rattle.std.proofs.Common.{filter, flat_map, get_or, get_or-take, IfOk, IfSome, if◌then◌else◌, inl, length}
 use Rattle.std.proofs.Common.{length-append, length-take-le, List, map, MatchResult, None, not, Ok, Option, option_map}
@@ -28,7 +28,7 @@ use Rattle.bac_text.specs.declared.value_words.ValueFault.TheVariants as faults
 use Rattle.bac_wire.specs.Datum as values
 use Rattle.bac_pdu.specs.Parameter as parameters
 
--- how many blanks come first, and how many other octets
+-- the number of blanks at the front, and of other octets
 abbrev blanks : List ℕ → ℕ
 blanks text = position_or_len (λ octet. not (is_blank octet)) text
 
@@ -78,7 +78,7 @@ keeps : (word : List ℕ) (rest all : List (List ℕ)) → is_not_empty word ≡
     → filter is_not_empty (word ∷ rest) ≡ word ∷ all
 keeps _ _ _ some same = rw (some, same) refl
 
--- if no blank comes first, the first word does
+-- if the first octet is not a blank, the first word begins there
 words-first : (x : ℕ) (xs : List ℕ) → is_blank x ≡ false
     → words_of (x ∷ xs) ≡ take (others (x ∷ xs)) (x ∷ xs) ∷ words_of (drop (others (x ∷ xs)) (x ∷ xs))
 words-first x xs e =
@@ -110,20 +110,20 @@ words_some text rest start end h cut last =
 pub end_within : (rest : List ℕ) (end : ℕ) → end ≡ unwrap_or (position is_blank rest) (length rest) → end ≤ length rest
 end_within = grind (arith, prefix_len-le-length)
 
--- there are no more words than octets and one
+-- there are at most as many words as octets, and one more
 pub words_fewer : (text : List ℕ) → length (words_of text) ≤ length text + 1
 words_fewer = grind (arith, length-filter, count_by-le-length, length-slice_split)
 
 pub ruleset first_words = (words_none, words_some, end_within, take_rest)
 
--- ---- the number that the first word of a text writes
+-- ---- the number in the first word of a text
 
 module _ (rest : List ℕ) (number count : ℕ) (l : IsLeading rest 5 number count) where
   -- No digit is a blank.
   no_blank : (k : ℕ) → k < count → is_blank (get_or rest k 0) ≡ false
   no_blank k below = let digit = digit_in _ _ k l.within l.digits below in grind arith
 
-  -- The digits are the whole word.
+  -- The digits are the whole first word.
   word_ends : (count < length rest → is_blank (get_or rest count 0) ≡ true)
       → count ≡ unwrap_or (position is_blank rest) (length rest)
   word_ends = grind (arith, position_is, no_blank, position_none)
@@ -140,9 +140,9 @@ module _ (rest : List ℕ) (number count : ℕ) (l : IsLeading rest 5 number cou
         rw (not_empty, l.digits, value) refl;
   }
 
--- ---- what is appended of a value, and the words of each kind
+-- ---- the appended octets of a value, and the words of each kind
 
--- A list with no more octets than it may have is as it was.
+-- A list within the limit is unchanged.
 pub at_most_found : {E : Type 0} (fault : E) (most : ℕ) (octets found : List ℕ) → at_most fault most octets ≡ Ok found →
     (found ≡ octets) × (length octets ≤ most)
 at_most_found = grind arith
@@ -151,7 +151,7 @@ pub appended-full : (old : List ℕ) (value : Datum) → 1497 < length old + len
     → appended old (Some value) ≡ Err TooLong
 appended-full = grind (arith, length-append)
 
--- A spelling has the contents in it.
+-- A spelling is at least as long as its contents.
 pub plain_length : (value : Datum) → length (plain_contents value) ≤ length (plain value)
 unfolding plain
 plain_length = grind (arith, length-append)
@@ -195,7 +195,7 @@ bits-long region digits bits long =
     let count = length-map-range_with_len (λ k. bits_octet (drop (8 * k) digits)) 0 (div_ceil (length digits) 8) in
     rw bits (appended-full region value (omega arith))
 
--- ---- the values that words write are within the ranges of their kinds, so they have spellings
+-- ---- the values of words are within the ranges of their kinds, so they have spellings
 
 either : (b : Bool) (x y : Option Datum) → IfSome x InRange → IfSome y InRange → IfSome (if b then x else y) InRange
 either = grind arith
@@ -297,11 +297,11 @@ stands-long : (b : Bool) (region : List ℕ) (values : List Datum) (value : Datu
     1497 < length (flat_map plain (values ++ value ∷ []))
 stands-long = grind (arith, flat_map-more, length-append)
 
--- No pair was taken yet.
+-- No pair was read yet.
 pub progress-first : (all : List (List ℕ)) → Progress all all 1 [] false
 progress-first = grind arith
 
--- The words after the pair that is next.
+-- The words after the next pair.
 pub pair_behind : (all words left : List (List ℕ)) (n : ℕ) (tag word region : List ℕ) (b : Bool)
     → Progress all words n region b → words ≡ tag ∷ word ∷ left →
     left ≡ drop (2 * n) all
@@ -340,7 +340,7 @@ pub progress-long : (all left : List (List ℕ)) (n : ℕ) (tag word region new 
     appended region (value_in tag word) ≡ Err faults.TooLong → Progress all left (n + 1) new true
 progress-long = grind (arith, progress-on, stands-long)
 
--- ---- what the region is in the end
+-- ---- the region at the end
 
 said-all : (values : List Datum) (n : ℕ) (left : List (List ℕ)) → left ≡ []
     → then_values values (pairs_from n left) ≡ Ok values
@@ -353,7 +353,7 @@ plain_some = omega arith
 none_said : (words : List (List ℕ)) → pairs_from 1 words ≡ Ok [] → words ≡ []
 none_said = grind arith
 
--- No value is spelled by no octets, so if nothing was appended there was no pair.
+-- Each value has an octet, so if nothing was appended there was no pair.
 pub progress-none : (all left : List (List ℕ)) (n : ℕ) (region : List ℕ) → Progress all left n region false → left ≡ []
     → region ≡ [] → all ≡ []
 progress-none = grind (arith, said-all, none_said, plain_some)
@@ -398,9 +398,9 @@ values_are_region (value ∷ others) _ (_, first, later) =
       counted = contents_counted _ _ spelled.held;
     })) (values_are_region others _ later))
 
--- ---- the body of a WriteProperty request, by the region in it
+-- ---- the body of a WriteProperty request, from its region
 
--- The body that orders the values that were found, if it can be sent.
+-- The body that orders the found values, if it can be sent.
 abbrev pub body_with : Identifier → ℕ → Option ℕ → Option ℕ → Result (List Datum) ℕ → Result (List ℕ) PairFault
 body_with object property index priority found =
     sendable (result_seen (λ values. write_octets (order_of object property index priority (flat_map plain values)))
@@ -413,7 +413,7 @@ parameters_within [] behind region = grind (arith, length-append)
 parameters_within (first ∷ others) behind region =
     grind (arith, length-append, parameters_within others behind region)
 
--- A body has its region in it.
+-- A body is at least as long as its region.
 pub region_within : (o : Order) → length o.value ≤ length (write_octets o)
 region_within = search (arith, parameters_within)
 
@@ -435,16 +435,16 @@ body-fault object property index priority words fault e = go (values_in words) e
     go (Err n) e = e
     go (Ok values) e = long values e
 
--- ---- the body of words orders the values that they write, in the standard's words
+-- ---- the body from words orders their values, in the standard's words
 
--- A region is the spellings of the values that the words write, one after another, and is read as these values.
+-- A region is the spellings of the words' values, one after another, and is read as these values.
 pub record AreWritten (words : List (List ℕ)) (region : List ℕ) : Type 0 where
   pub values : List Datum
   pub said : values_in words ≡ Ok values
   pub spelled : SpellsAll Spells region values
   pub read : values_of region ≡ Some values
 
--- The values of words whose spellings fit a frame, one after another.
+-- The values of words whose spellings fit a frame are written one after another.
 values_written : (words : List (List ℕ)) (values : List Datum) → values_in words ≡ Ok values
     → length (flat_map plain values) ≤ 1497 → AreWritten words (flat_map plain values)
 values_written words values said fits =
@@ -452,7 +452,7 @@ values_written words values said fits =
     let spelled = whole_spell _ _ _ plain_spells _ (values_spelled _ range fits) in
     record { values = values; said = said; spelled = spelled; read = read_all _ _ spelled }
 
--- A region that was read of words.
+-- A region that was read from words is written from them.
 pub region_written : (words : List (List ℕ)) (region : List ℕ) → region_of words ≡ Ok region → AreWritten words region
 region_written = grind (arith, at_most_found, values_written)
 

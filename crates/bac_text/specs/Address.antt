@@ -1,14 +1,14 @@
--- A peer as it is written: four numbers joined by dots, a port after a colon, and a route after a slash.
+-- A peer as text: four numbers joined by dots, a port after a colon, and a route after a slash.
 use Rattle.std.specs.{Option.option_map_or, Prelude.{bytes_eq, codes, drop, if◌then◌else◌, length, List, nat_le}}
 use Rattle.std.specs.Prelude.{nat_lt, None, Option, option_map, position, Some, take, unwrap_or, ℕ, ◌*◌, ◌+◌, ◌==◌}
 use Rattle.{bac_pdu.specs.{NetworkAddress, Station, DatagramReading.is_routable}, bac_wire.specs.◌>>=◌}
 use Rattle.bac_text.specs.Words.{number_up_to, octets_of}
 
--- The octets before and after the first such octet, if there is one.
+-- The octets before and after the first octet with this value, if there is one.
 abbrev pub cut_at : ℕ → List ℕ → Option (List ℕ × List ℕ)
 cut_at octet text = option_map (λ i. (take i text, drop (i + 1) text)) (position (λ o. o == octet) text)
 
--- The number of a word of at most this many digits, up to a limit.
+-- The number in a word of at most this many digits, up to a limit.
 abbrev pub short_number : ℕ → ℕ → List ℕ → Option ℕ
 short_number digits limit text = if nat_le (length text) digits then number_up_to limit text else None
 
@@ -61,7 +61,7 @@ routed_peer_of (plain, behind) = do
 abbrev pub peer_of : List ℕ → Option Station
 peer_of text = option_map_or routed_peer_of (cut_at 47 text) (plain_peer_of text)
 
--- The network whose stations a word names: a number 1 to 65534, or a star (42), all networks (65535).
+-- The network that a word names: a number 1 to 65534, or a star (42) for all networks (65535).
 abbrev pub network_of : List ℕ → Option ℕ
 network_of word =
     if bytes_eq word (codes "*") then Some 65535 else (do

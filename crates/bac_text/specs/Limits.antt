@@ -1,4 +1,4 @@
--- The limit of lines. The code has a constant of the same number.
+-- The limit of lines. The code has a constant with the same number.
 use Rattle.std.specs.Prelude.{ℕ}
 
 -- The octets of the longest line of a script, without its line feed.

@@ -1,4 +1,4 @@
--- The value that two words write: the number of its application tag, and a word that is read by that number.
+-- The value of two words: the number of its application tag, and a word that is read as this type.
 use Rattle.std.specs.{Bool.then_some, Int.{div_ceil, Digits.number_from_digits}, List.{list_all, range_with_len}}
 use Rattle.std.specs.Prelude.{Bool, bytes_eq, codes, drop, false, if◌then◌else◌, length, List, map, neg_ℤ, None, Option}
 use Rattle.std.specs.Prelude.{option_map, pos, slice_index, Some, true, ℕ, ℤ, ◌*◌, ◌-◌, ◌==◌, ◌^◌, ◌||◌}
@@ -21,11 +21,11 @@ signed_in word =
     if starts_with_minus word then option_map (λ n. neg_ℤ (pos n)) (number_up_to (2 ^ 63) (drop 1 word))
     else option_map pos (number_up_to (2 ^ 63 - 1) word)
 
--- The octet of the first eight bits, the first of them the highest; if there are fewer, the others are 0.
+-- The octet of the first eight bits, the highest first; missing bits are 0.
 abbrev pub bits_octet : List ℕ → ℕ
 bits_octet digits = number_from_digits 2 (map (λ i. if slice_index digits i == 49 then 1 else 0) (range_with_len 0 8))
 
--- The octets of bits, eight to each, as many as it takes to hold them.
+-- The octets of bits, eight bits in each.
 abbrev pub bits_octets : List ℕ → List ℕ
 bits_octets digits = map (λ i. bits_octet (drop (8 * i) digits)) (range_with_len 0 (div_ceil (length digits) 8))
 
@@ -42,9 +42,8 @@ object_in word = do
   instance ← number_up_to 4194303 instance
   Some (record { kind = kind; instance = instance })
 
--- The value that a word writes under the application tag of a number (clause 20.2.1.4). An even number of hexadecimal
--- digits write octets: as many as there are, if any, for an octet string, and else four or eight. A text is in UTF-8,
--- set 0.
+-- The value of a word with the application tag of this number (clause 20.2.1.4). Octets are an even number of
+-- hexadecimal digits: any number of octets for an octet string, otherwise four or eight. A text is in UTF-8, set 0.
 unfoldable pub value_under : ℕ → List ℕ → Option Datum
 value_under number word =
     if number == 0 then Some null
@@ -62,6 +61,6 @@ value_under number word =
     else if number == 12 then option_map object (object_in word)
     else None
 
--- The value that a pair of words writes.
+-- The value of a pair of words.
 abbrev pub value_in : List ℕ → List ℕ → Option Datum
 value_in tag word = number_up_to 12 tag >>= (λ number. value_under number word)

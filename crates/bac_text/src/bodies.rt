@@ -8,7 +8,7 @@ use crate::words::WordSource;
 use bac_pdu::{LONGEST_BODY, ReadRequest, WriteRequest, write_read, write_write};
 use bac_wire::{Frame, ObjectId};
 
-/// Room for one service body, which may be used again for the next.
+/// Room for one service body, which is used again for the next.
 #[derive(Drop)]
 pub struct BodyRoom {
     values: Frame,
@@ -16,7 +16,7 @@ pub struct BodyRoom {
 }
 
 impl BodyRoom {
-    /// Room with nothing in it.
+    /// Returns empty room.
     pub fn new() -> Self {
         BodyRoom {
             values: Frame::new(),
@@ -34,13 +34,14 @@ impl BodyRoom {
         self.body.as_slice()
     }
 
-    /// Returns the body of the WriteProperty request that gives a property the values of the words (clause 15.9). They
-    /// are all taken, or those up to the first pair that is bad.
+    /// Returns the body of the WriteProperty request that gives a property the values of the words (clause 15.9). All
+    /// words are read, or those up to the first bad pair.
     ///
     /// # Errors
     ///
-    /// `Bad` with the number of the first pair whose words are no tag and a value of it, or which lacks its value, or
-    /// with 1 if there is no word; and then `TooLong` if the body would have more than `LONGEST_BODY` octets.
+    /// `Bad` with the number of the first pair whose words are not a tag and a value of that type, or whose value is
+    /// missing, or with 1 if there is no word; otherwise `TooLong` if the body would have more than `LONGEST_BODY`
+    /// octets.
     pub fn body_of_write<'a, S: WordSource<'a>>(
         &mut self,
         object: ObjectId,

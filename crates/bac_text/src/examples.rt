@@ -6,7 +6,7 @@ ghost use Rattle.bac_text.specs.PairsInWords.{IsWritten};
 ghost use Rattle.bac_text.specs.Inner.{WritesPair, device, far_device, body_with_words};
 ghost use Rattle.bac_text.specs.Inner.Examples.{minus_five, value};
 
-// A value of each kind: the number of its tag and a word, and the octets that they write (ANSI/ASHRAE 135, 20.2).
+// A value of each kind: the number of its tag and a word, and its octets (ANSI/ASHRAE 135, 20.2).
 #[tactic(none)]
 fn examples_of_values()
     ensures null { WritesPair "0" "any" (0x00 ∷ []) }
@@ -26,12 +26,12 @@ fn examples_of_values()
     ensures object { WritesPair "12" "3:15" (0xc4 ∷ 0x00 ∷ 0xc0 ∷ 0x00 ∷ 0x0f ∷ []) }
 {}
 
-// What the words of a line write.
+// The meanings of the words of a line.
 #[tactic(none)]
 fn examples_of_words()
     ensures words { words_of (codes " tick\t 5 ") ≡ codes "tick" ∷ codes "5" ∷ [] }
 
-    // The usual port may be left out.
+    // The usual port may be omitted.
     ensures peer { peer_of (codes "127.0.0.1") ≡ Some device }
     ensures routed { peer_of (codes "127.0.0.1/5/07") ≡ Some far_device }
     ensures three_numbers { peer_of (codes "1.2.3") ≡ None }
@@ -59,7 +59,7 @@ fn examples_of_limits()
     ensures whole { words_behind {A = ℕ} (Ok 0) (codes "2" ∷ []) ≡ [] }
 {}
 
-// What the words order, in the standard's words: that the present value of analog-value 2 is -5, at priority 16.
+// The write that words order, in the standard's words: the present value of analog-value 2 is -5, at priority 16.
 #[tactic(none)]
 fn examples_of_writes()
     ensures written { IsWritten value 85 None (Some 16) (codes "3" ∷ codes "-5" ∷ []) minus_five }

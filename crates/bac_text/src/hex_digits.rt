@@ -8,7 +8,7 @@ use crate::hex_lanes::octets_from;
 /// The octets of the longest line of a script, without its line feed.
 pub const LONGEST_LINE: usize = 4096;
 
-/// Room for the octets of any datagram in a line, which spends two digits on each.
+/// Room for the octets of any datagram in a line: each octet has two digits.
 pub const LONGEST_DATAGRAM: usize = LONGEST_LINE / 2;
 
 /// Octets, as a positive even number of hexadecimal digits.
@@ -20,8 +20,8 @@ pub(crate) struct HexDigits<'a> {
     ghost read: { IsTrue (is_ok (decode_of digits.now)) },
 }
 
-/// Returns the octets of a datagram that a word writes, as a positive even number of hexadecimal digits. They lie in
-/// the room.
+/// Reads a word as a datagram: a positive even number of hexadecimal digits. Puts its octets into the room, and returns
+/// them; `None` if the word is no datagram.
 pub fn read_datagram<'r>(word: &[u8], room: &'r mut [u8; LONGEST_DATAGRAM]) -> Option<&'r [u8]>
     ensures { option_map (λ octets. octets.now) result ≡ octets_of word.now }
 {
@@ -36,7 +36,7 @@ pub fn read_datagram<'r>(word: &[u8], room: &'r mut [u8; LONGEST_DATAGRAM]) -> O
     Some(octets)
 }
 
-/// Returns the digits of a word, if it is nothing else.
+/// Returns the digits of a word, if it is only digits.
 #[tactic(auto, using(crate::proofs::digits_of_words))]
 pub(crate) fn read_hex(word: &[u8]) -> Option<HexDigits<'_>>
     ensures { option_map (λ hex. octets_in hex.digits.now) result ≡ octets_of word.now }

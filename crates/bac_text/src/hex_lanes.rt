@@ -5,13 +5,13 @@ ghost use Rattle.{hex.specs.Hex.{decode_of, is_hex_digit}, bac_text.specs.Inner.
 use crate::search::first_set;
 use std::simd::prelude::*;
 
-// The octets that are taken at a time.
+// How many octets are read at a time.
 const OCTETS: usize = 8;
 
 // The digits of this many octets.
 const DIGITS: usize = 16;
 
-/// Puts the octets that the digits write into room for just these, if they are digits.
+/// Writes the octets of these digits into the room, which fits them exactly, if they are digits.
 pub(crate) fn octets_from(digits: &[u8], octets: &mut [u8]) -> Option<()>
     requires { length digits.now ≡ 2 * length octets.old }
     ensures { MatchOption result (result_ok (decode_of digits.now) ≡ None)
@@ -22,7 +22,7 @@ pub(crate) fn octets_from(digits: &[u8], octets: &mut [u8]) -> Option<()>
     }
     let mut start = 0;
     while start < octets.len() {
-        // The last load goes back over some that were read.
+        // The last load repeats some octets that were read.
         let at = start.min(octets.len() - OCTETS);
         if run_of_digits(digits, 2 * at) < DIGITS {
             return None;
@@ -33,7 +33,7 @@ pub(crate) fn octets_from(digits: &[u8], octets: &mut [u8]) -> Option<()>
     Some(())
 }
 
-// Returns how many of the octets that one load takes come before the first that is not a digit.
+// Returns how many octets of one load come before the first that is not a digit.
 #[inline(always)]
 fn run_of_digits(digits: &[u8], at: usize) -> usize
     requires { at + DIGITS ≤ length digits.now }
@@ -46,7 +46,7 @@ fn run_of_digits(digits: &[u8], at: usize) -> usize
     first_set(others.to_bitmask(), DIGITS)
 }
 
-// Returns the octets that the digits of one load write.
+// Returns the octets in the digits of one load.
 #[inline(always)]
 fn eight_octets(digits: &[u8], at: usize) -> u8x8
     requires { at + DIGITS ≤ length digits.now }

@@ -18,20 +18,20 @@ pub fn bodies_in_words()
         body_of object property index priority words ≡ Ok body → IsWritten object property index priority words body }
 {}
 
-/// The limits that the code names are those of the definitions: a datagram has two digits for each octet.
+/// The limits in the code are the limits in the definitions: a datagram has two digits for each octet.
 pub fn limits()
     ensures line { LONGEST_LINE ≡ longest_line }
     ensures datagram { 2 * LONGEST_DATAGRAM ≡ longest_line }
 {}
 
-/// A clone is what it was cloned from, and needs no memory.
+/// A clone equals its original, and allocates no memory.
 pub fn clones()
     ensures end { MakesCopies ⟦<Delimiter as Clone>⟧.is_clone ⟦<Delimiter as Clone>⟧.is_infallible }
     ensures pair { MakesCopies ⟦<PairFault as Clone>⟧.is_clone ⟦<PairFault as Clone>⟧.is_infallible }
     ensures reach { MakesCopies ⟦<Reach as Clone>⟧.is_clone ⟦<Reach as Clone>⟧.is_infallible }
 {}
 
-/// `==` compares which fault of a pair it is.
+/// `==` compares the faults of a pair.
 pub fn equals()
     ensures pair { EqualsBy (λ pair. pair) ⟦<PairFault as PartialEq>⟧.eq }
 {}

@@ -1,19 +1,18 @@
-//! Words that are read, of a line of a script or of a command line: numbers, octets, peers, values, and the service
-//! bodies that are made of these. Printing is in `bac_print`.
+//! Reading the words of a line of a script or of a command line: numbers, octets, peers, values, and service bodies
+//! made from these. Printing is in `bac_print`.
 //!
-//! [`Words`] takes a line apart, and [`read_number`], [`read_datagram`] and [`peer_in`] read its words. [`BodyRoom`]
-//! makes service bodies of them. `specs/ValueWords.antt` says which value a word writes. [`Job`] is what the words of a
+//! [`Words`] splits a line into words, and [`read_number`], [`read_datagram`] and [`peer_in`] read them. [`BodyRoom`]
+//! makes service bodies from words. `specs/ValueWords.antt` defines the value of a word. [`Job`] is what the words of a
 //! command line ask for.
 //!
-//! From `examples_of_values` in `src/examples.rt`, which is proved: a tag's number and a word, and the octets that they
-//! write.
+//! From `examples_of_values` in `src/examples.rt`, which is proved: a tag's number and a word, and their octets.
 //!
 //! ```text
 //! ensures real { WritesPair "4" "4290999A" (0x44 ∷ 0x42 ∷ 0x90 ∷ 0x99 ∷ 0x9a ∷ []) }
 //! ensures octet_string { WritesPair "6" "1234ff" (0x63 ∷ 0x12 ∷ 0x34 ∷ 0xff ∷ []) }
 //! ```
 //!
-//! The caller must keep to this: the priority of a write is 1 to 16. Words and texts may be any.
+//! The caller must keep to one condition: the priority of a write is 1 to 16. Words and texts may be any.
 #![tactic(auto)]
 
 mod bodies;

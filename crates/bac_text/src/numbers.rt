@@ -2,7 +2,7 @@
 ghost use Rattle.std.specs.Prelude.{◌-◌, ◌^◌, ◌≡◌, ◌≤◌, IfSome};
 ghost use Rattle.bac_text.specs.{number_up_to, Inner.IsLeading};
 
-/// Returns the number that a word of one or more decimal digits writes, if it is at most `most`.
+/// Returns the number in a word of one or more decimal digits, if it is at most `most`.
 pub fn read_number(word: &[u8], most: u64) -> Option<u64>
     ensures value { result ≡ number_up_to most word.now }
     ensures most { IfSome result (λ number. number ≤ most) }
@@ -14,7 +14,7 @@ pub fn read_number(word: &[u8], most: u64) -> Option<u64>
     Some(number)
 }
 
-/// Returns the number that the first digits write, and how many these are. At most `most` of them are looked at.
+/// Returns the number in the first digits, and how many these are. At most `most` digits are looked at.
 #[inline(always)]
 #[tactic(auto, using(crate::proofs::leading_numbers))]
 pub(crate) fn leading_number(text: &[u8], most: usize) -> (u32, usize)

@@ -9,19 +9,19 @@ use bac_wire::Frame;
 /// Why the values of words cannot be written.
 #[derive(Clone, Copy, Debug, PartialEq, Eq)]
 pub enum PairFault {
-    /// The pair with this number, from 1, is not a tag and a value of it, or it lacks its value.
+    /// The pair with this number, from 1, is not a tag and a value of that type, or its value is missing.
     Bad(u64),
-    /// There is no room for their octets.
+    /// There is no room for the octets of the values.
     TooLong,
 }
 
-/// Puts the values of the words into the region, spelled one after another. A word that cannot be read is found however
-/// long the others are.
+/// Appends the values of the words to the region, one after another. A word that cannot be read is found however long
+/// the others are.
 ///
 /// # Errors
 ///
-/// `Bad` with the number of the first pair whose words are no tag and a value of it, or which lacks its value, or with
-/// 1 if there is no word; and then `TooLong` if a frame has no room for the values.
+/// `Bad` with the number of the first pair whose words are not a tag and a value of that type, or whose value is
+/// missing, or with 1 if there is no word; otherwise `TooLong` if a frame has no room for the values.
 #[tactic(auto, using(crate::proofs::progress))]
 pub(crate) fn read_pairs<'a, S: WordSource<'a>>(
     words: &mut S,
@@ -47,7 +47,7 @@ pub(crate) fn read_pairs<'a, S: WordSource<'a>>(
     if is_too_long {
         return Err(PairFault::TooLong);
     }
-    // Each value is spelled by at least one octet, so an empty region means that there was no pair.
+    // Each value has at least one octet, so an empty region means that there was no pair.
     if region.is_empty() {
         return Err(PairFault::Bad(1));
     }

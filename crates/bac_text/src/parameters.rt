@@ -1,4 +1,4 @@
-//! The parameters of a request, as words give them.
+//! The parameters of a request, from words.
 ghost use Rattle.std.specs.Prelude.{◌≡◌};
 ghost use Rattle.bac_text.specs.{priority_from, write_index_of};
 

@@ -1,4 +1,4 @@
-//! A peer as it is written.
+//! A peer as text.
 ghost use Rattle.std.specs.Prelude.{IfSome, option_map, ◌<◌, ◌≡◌, ◌≤◌};
 ghost use Rattle.{bac_pdu.specs.{network_address, station}, bac_text.specs.{address_of, cut_at, number_before_dot}};
 ghost use Rattle.bac_text.specs.{network_at, network_of, peer_of, plain_peer_of, reach_of, reach_seen, routable};
@@ -10,20 +10,20 @@ use crate::numbers::{leading_number, read_number};
 use crate::search::{Delimiter, position_of_end};
 use bac_pdu::{ADDRESS_OCTETS, Peer, Route};
 
-// The port of BACnet/IP, which is meant if none is written (Annex J.1.2).
+// The port of BACnet/IP, which is the default (Annex J.1.2).
 const USUAL_PORT: u16 = 47_808;
 
 /// Returns the peer that a text names, such as `127.0.0.1`, `127.0.0.1:47808` or `127.0.0.1:47808/5/07`: the last is
-/// the station with the address 07 in network 5, behind the router at this address and port. `None` if the text names
-/// no peer.
+/// the station with the address 07 in network 5, behind the router at this address and port. Returns `None` if the text
+/// names no peer.
 pub fn read_peer(text: &str) -> Option<Peer>
     ensures { option_map station result ≡ peer_of text.now }
 {
     peer_in(text.as_bytes())
 }
 
-/// Returns the peer that octets name: an IP address in dotted decimal, then, if it is not the usual one, `:` and the
-/// port, and for a station of another network `/`, the number of the network, `/` and the address there in hexadecimal
+/// Returns the peer that octets name: an IP address in dotted decimal, then `:` and the port, if it is not the usual
+/// one, and for a station of another network `/`, the number of the network, `/` and the address there in hexadecimal
 /// digits.
 pub fn peer_in(text: &[u8]) -> Option<Peer>
     ensures { option_map station result ≡ peer_of text.now }
@@ -63,9 +63,9 @@ pub fn plain_peer_in(text: &[u8]) -> Option<Peer>
 /// The receivers of a Who-Is.
 #[derive(Clone, Copy)]
 pub struct Reach {
-    /// The peer that it is sent to.
+    /// The peer that the Who-Is is sent to.
     pub to: Peer,
-    /// The network in which it is broadcast by the router there; 65535 is all networks. `None` if it is for the peer.
+    /// The network in which the router there broadcasts it; 65535 is all networks. `None` if it is only for the peer.
     pub network: Option<u16>,
 }
 
@@ -90,7 +90,7 @@ pub fn reach_in(text: &[u8]) -> Option<Reach>
     }
 }
 
-/// Returns the octets before and after the first such octet.
+/// Returns the octets before and after the first octet with this value.
 #[tactic(auto, using(std::proofs::lemmas::List::take_rest))]
 pub(crate) fn cut(text: &[u8], octet: u8) -> Option<(&[u8], &[u8])>
     ensures { option_map (λ parts. (parts.0.now, parts.1.now)) result ≡ cut_at octet text.now }
@@ -130,7 +130,7 @@ fn number_before_dot(text: &[u8]) -> Option<(u32, &[u8])>
     }
 }
 
-// Returns the number that a decimal digit writes.
+// Returns the number of a decimal digit.
 #[inline(always)]
 fn digit(octet: u8) -> Option<u32>
     ensures value { result ≡ digit octet }
@@ -189,7 +189,7 @@ fn read_network(word: &[u8]) -> Option<u16>
     Some(number as u16)
 }
 
-// Returns a number of at most this many digits, up to a limit.
+// Returns a number with at most this many digits, up to a limit.
 fn short_number(text: &[u8], digits: usize, limit: u32) -> Option<u32>
     requires { digits ≤ 5 }
     ensures value { result ≡ short_number digits limit text.now }

@@ -5,19 +5,19 @@ ghost use Rattle.bac_text.specs.{ends_at, Inner.{first_set, IsRunIn}};
 use crate::words::is_blank;
 use std::simd::prelude::*;
 
-// The octets that are compared at a time, and fewer for a short text.
+// The octets that are compared at a time; fewer are compared in a short text.
 const LANES: usize = 16;
 
 const FEW_LANES: usize = 8;
 
-/// What ends a piece of text.
+/// The ends of a piece of text.
 #[derive(Clone, Copy)]
 pub enum Delimiter {
     /// A space or a tab.
     Blank,
     /// This octet.
     At(u8),
-    /// An octet past 127, which is not ASCII.
+    /// An octet above 127, which is not ASCII.
     PastAscii,
 }
 
@@ -63,7 +63,7 @@ fn position_by<const N: usize>(octets: &[u8], end: Delimiter) -> Option<usize>
         }
         at += N;
     }
-    // The last load goes back over some that were seen.
+    // The last load repeats some octets that were seen.
     let run = run_before::<N>(octets, last, end);
     if run != N { Some(last + run) } else { None }
 }
@@ -78,7 +78,7 @@ fn ends_at(octet: u8, end: Delimiter) -> bool
     }
 }
 
-// Returns how many of the octets that one load takes come before the first that ends a piece.
+// Returns how many octets of one load come before the first that ends a piece.
 #[inline(always)]
 fn run_before<const N: usize>(octets: &[u8], at: usize, end: Delimiter) -> usize
     requires most { N ≤ 64 }

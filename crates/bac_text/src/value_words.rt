@@ -1,4 +1,4 @@
-//! A value as two words: the number of its application tag, and the value by that number.
+//! A value as two words: the number of its application tag, and a word that is read as this type.
 ghost use Rattle.std.specs.{List.list_all, Prelude.{IfSome, if◌then◌else◌, MatchResult, OnErr, option_map}};
 ghost use Rattle.std.specs.{Prelude.{slice_index, ◌==◌, ◌||◌, ◌≡◌, ◌≢◌, ◌≤◌}, Result.result_ok};
 ghost use Rattle.bac_wire.specs.{datum, identifier, IsSound, octet_string};
@@ -13,18 +13,18 @@ use bac_wire::{FRAME_OCTETS, Frame, ObjectId, Value, write_value};
 /// Why the value of a tag and a word cannot be written.
 #[derive(Clone, Copy)]
 pub(crate) enum ValueFault {
-    /// The first word is not a tag, or the second is not a value of it.
+    /// The first word is not a tag, or the second is not a value of that type.
     Bad,
-    /// There is no room for its octets.
+    /// There is no room for the octets of the value.
     TooLong,
 }
 
-/// Appends the shortest spelling of the value that a tag and a word write. If it fails, the region is as it was.
+/// Appends the shortest spelling of the value of a tag and a word. If this fails, the region is unchanged.
 ///
 /// # Errors
 ///
-/// `Bad` if the tag is not a number up to 12 or the word is not a value of it, and then `TooLong` if the frame has no
-/// room.
+/// `Bad` if the tag is not a number up to 12 or the word is not a value of that type; otherwise `TooLong` if the frame
+/// has no room.
 #[tactic(auto, unfolding(crate::specs::value_under))]
 pub(crate) fn append_pair(region: &mut Frame, tag: &[u8], word: &[u8]) -> Result<(), ValueFault>
     ensures value { MatchResult result
@@ -42,7 +42,7 @@ pub(crate) fn append_pair(region: &mut Frame, tag: &[u8], word: &[u8]) -> Result
     }
 }
 
-// Returns the value of a word under any tag but those of octet strings and bit strings, whose octets need room.
+// Returns the value of a word with any tag except those of octet strings and bit strings, whose octets need room.
 #[tactic(auto, unfolding(crate::specs::value_under))]
 fn read_value_word(number: u64, word: &[u8]) -> Option<Value<'_>>
     requires not_octets { number ≢ 6 }
@@ -104,7 +104,7 @@ fn read_object(word: &[u8]) -> Option<ObjectId>
     ObjectId::new(kind as u16, instance as u32)
 }
 
-// Appends an octet string of hexadecimal digits.
+// Appends an octet string, from hexadecimal digits.
 fn append_octets(region: &mut Frame, digits: &[u8]) -> Result<(), ValueFault>
     ensures value { MatchResult result
         (λ _. appended region.old (option_map octet_string (result_ok (decode_of digits.now))) ≡ Ok region.new)
@@ -124,7 +124,7 @@ fn append_octets(region: &mut Frame, digits: &[u8]) -> Result<(), ValueFault>
     append_value(region, &Value::Octets(octets))
 }
 
-// Appends a bit string of digits 0 and 1, the first bit first.
+// Appends a bit string, from digits 0 and 1, the first bit first.
 fn append_bits(region: &mut Frame, digits: &[u8]) -> Result<(), ValueFault>
     ensures value { MatchResult result
         (λ _. appended region.old (bits_in digits.now) ≡ Ok region.new)
@@ -161,7 +161,7 @@ fn bits_octet(digits: &[u8]) -> u8
     high + middle + 2 * bit_at(digits, 6) + bit_at(digits, 7)
 }
 
-// Returns the bit that the digit at this position writes, and 0 if there is none.
+// Returns the bit of the digit at this position, or 0 if there is no digit.
 fn bit_at(digits: &[u8], position: usize) -> u8
     ensures value { result ≡ (if slice_index digits.now position == 49 then 1 else 0) }
     ensures bit { result ≤ 1 }

@@ -1,4 +1,4 @@
-//! Words that are taken one after another.
+//! Words that are read one after another.
 ghost use Rattle.std.specs.Prelude.{[], ◌<◌, ◌^◌, ◌∷◌, ◌≡◌, ◌≤◌, drop, IfSome, length, List, MatchOption, not};
 ghost use Rattle.std.specs.Prelude.{option_map, position, ℕ};
 ghost use Rattle.bac_text.specs.{Words.{is_blank, next_as, number_up_to, words_of}, Inner.Words.IsFirstNumber};
@@ -7,7 +7,7 @@ use crate::numbers::{leading_number, read_number};
 use crate::search::{Delimiter, position_of_end};
 use std::marker::Model;
 
-/// Words that are taken one after another.
+/// Words that are read one after another.
 pub trait WordSource<'a> {
     /// The words that are left.
     ghost left: { Self → List (List ℕ) };
@@ -45,8 +45,8 @@ impl<'a> Words<'a> {
         Words { rest: text }
     }
 
-    /// Takes the next word and reads it as a number, if it is one of decimal digits and at most `most`. A word that is
-    /// not such a number is taken too.
+    /// Takes the next word and reads it as a number, if it is decimal digits and at most `most`. A word that is not
+    /// such a number is skipped too.
     pub fn next_number(&mut self, most: u64) -> Option<u64>
         ensures value { next_as (number_up_to most) self.old ≡ option_map (λ number. (number, self.new)) result }
         ensures most { IfSome result (λ number. number ≤ most) }
@@ -100,7 +100,7 @@ pub(crate) fn is_blank(octet: u8) -> bool
     octet == b' ' || octet == b'\t'
 }
 
-// Returns the first word and what follows it.
+// Returns the first word and the octets after it.
 #[tactic(auto, using(crate::proofs::first_words))]
 fn first_word(text: &[u8]) -> Option<(&[u8], &[u8])>
     ensures { MatchOption result (words_of text.now ≡ [])
@@ -112,7 +112,7 @@ fn first_word(text: &[u8]) -> Option<(&[u8], &[u8])>
     Some(text.split_at(end))
 }
 
-// Returns the number that the first word writes, if it has at most five digits, and what follows it.
+// Returns the number in the first word, if it has at most five digits, and the octets after it.
 #[inline(always)]
 fn first_number(text: &[u8]) -> Option<(u32, &[u8])>
     ensures { IfSome result (λ found. IsFirstNumber text.now found.0 found.1.now) }

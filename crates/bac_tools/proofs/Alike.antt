@@ -1,13 +1,13 @@
--- Two runs of the program with the same words, and their sessions, are alike.
+-- Two runs of the program with the same words, and their journals, are alike.
 use Rattle.std.proofs.Common.{[], ap, arith, Err, inl, inr, is_some, IsErrAnd, IsTrue, List, None, Ok, Option}
 use Rattle.std.proofs.Common.{option_and_then, refl, Result, Some, subst, sym, ℕ, ◌++◌, ◌<◌, ◌∙◌, ◌∷◌, ◌≡◌, ◌≢◌, ◌⊎◌}
 use Rattle.std.specs.Result.{result_ok}
 use Rattle.{clap.specs.Words.{fault_of, Text}, bac_tsm.specs.declared.config.Config.Config}
 use Rattle.{bac_text.specs.declared.jobs.Call.Call, bac_print.specs.{fresh, octets_of}}
 use Rattle.bac_tools.specs.{AreAlike, AreGivenAlike, asked_by, Batch, Checked, Device, EndAlike, Exit, Gained, Help}
-use Rattle.bac_tools.specs.{is_socket, IsCutOff, IsCutShort, IsGiven, IsPrinted, IsSessionOf, Job, Link, Memory}
+use Rattle.bac_tools.specs.{is_socket, IsCutOff, IsCutShort, IsGiven, IsPrinted, IsSetupOf, Job, Link, Memory}
 use Rattle.bac_tools.specs.{PrintAlike, ProgramRun, Read, Reading, report_of, Run, run_report, RunFault}
-use Rattle.bac_tools.specs.{RunsAsRead, RunsBatch, RunsOver, RunsScript, Script, Session, Tool, tool_report, ToolFault}
+use Rattle.bac_tools.specs.{RunsAsRead, RunsBatch, RunsOver, RunsScript, Script, Setup, Tool, tool_report, ToolFault}
 use Rattle.bac_tools.specs.{ToolRuns, Trace, TraceEnd, UsageFault, Use, WhoIs, Write, WriteFailed, Writing}
 use Rattle.bac_tools.specs.{declared.{program.Binding.Binding, report.Report.Report}, Outside.Outside, Runs.JobRuns}
 use Rattle.bac_script.{proofs.Courses.{traces_alike, traces_front}, specs.GaveSame}
@@ -22,7 +22,7 @@ use denote.Struct.Props.{props}
 use Rattle.bac_script.specs.declared.tracing.TraceFault.TheVariants as stops
 use Rattle.bac_tools.specs.declared.report.Fault.TheVariants as faults
 
--- Settings with the same numbers are the same.
+-- Settings with the same numbers are equal.
 abbrev config_of : (timeout retries : ℕ) → 0 < timeout → Config
 config_of timeout retries positive = record { timeout = timeout; retries = retries; positive = positive }
 
@@ -36,19 +36,19 @@ one_config config other is same =
     positive_prop : IsProp (0 < config.timeout)
     positive_prop = hlevel props
 
-abbrev session_of : Config → (window : ℕ) → 0 < window → Session
-session_of config window some = record { config = config; window = window; some = some }
+abbrev setup_of : Config → (window : ℕ) → 0 < window → Setup
+setup_of config window some = record { config = config; window = window; some = some }
 
-pub one_session : (batch : Batch) (session other : Session) → IsSessionOf batch session → IsSessionOf batch other
-    → session ≡ other
-one_session batch session other one two =
-    subst (λ (n : ℕ). (some : 0 < n) → session ≡ session_of other.config n some) (one.window ∙ sym two.window)
-    (λ some. ap (λ (c : Config). session_of c session.window session.some)
-    (one_config session.config other.config (one.timeout ∙ sym two.timeout) (one.retries ∙ sym two.retries))
-    ∙ ap (λ (p : 0 < session.window). session_of other.config session.window p) (some_prop session.some some))
+pub one_setup : (batch : Batch) (setup other : Setup) → IsSetupOf batch setup → IsSetupOf batch other
+    → setup ≡ other
+one_setup batch setup other one two =
+    subst (λ (n : ℕ). (some : 0 < n) → setup ≡ setup_of other.config n some) (one.window ∙ sym two.window)
+    (λ some. ap (λ (c : Config). setup_of c setup.window setup.some)
+    (one_config setup.config other.config (one.timeout ∙ sym two.timeout) (one.retries ∙ sym two.retries))
+    ∙ ap (λ (p : 0 < setup.window). setup_of other.config setup.window p) (some_prop setup.some some))
     other.some
   where
-    some_prop : IsProp (0 < session.window)
+    some_prop : IsProp (0 < setup.window)
     some_prop = hlevel props
 
 -- ---- how runs go on
@@ -64,7 +64,7 @@ module _ {A B : Type 0} (IsCut : A → Type 0) (Ended Printed' : A → A → Typ
 
 -- ---- two tools over their links
 
--- A report with this fault says that the writer of many requests failed.
+-- The report with this fault says that the writer of many requests failed.
 cut_write : (answer : Result TraceEnd RunFault) → IsCutOff (run_report answer) → answer ≡ Err write_failed
 cut_write (Ok end) cut = absurd cut
 cut_write (Err (Script stops.WriteFailed)) cut = refl
@@ -204,12 +204,12 @@ module _ {N Origin L F R W M Other K G S V : Type 0} {gives : N → Binding → 
   abbrev Alike : Type 0
   Alike = (first ≡ first') × GoesOn one.ran.report other.ran.report rest rest'
 
-  -- Neither asked anything.
+  -- Neither run made a call.
   none_asked : one.gained ≡ [] → other.gained ≡ [] → EndAlike one other one.ran.report other.ran.report
       → PrintAlike one other one.ran.report other.ran.report → Alike
   none_asked e f ends prints = grind (arith, none_both)
 
-  -- One was cut off before it asked or printed anything.
+  -- One run was cut off before it made a call or printed anything.
   cut_here : one.gained ≡ [] → IsCutOff one.ran.report → octets_of one.writer' ≡ [] → Alike
   cut_here e cut unprinted =
       let (none, none_later) = none_both first rest (sym h.gained ∙ e) in (
@@ -302,7 +302,7 @@ module _ {N Origin L F R W M Other K G S V : Type 0} {gives : N → Binding → 
       left' → (out.seen left).history ≡ (out.seen link).history ++ one.gained
       → (out'.seen left').history ≡ (out'.seen link').history ++ other.gained → Alike
   batch_over batch asks asks' link left link' left' r s gains gains' =
-      let (asked, on) = runs_on session one.reader other.reader one.reader' other.reader' (fresh one.writer) one.writer'
+      let (asked, on) = runs_on setup one.reader other.reader one.reader' other.reader' (fresh one.writer) one.writer'
       (fresh other.writer) other.writer' (out.seen link) (out.seen left) (out'.seen link') (out'.seen left') r.answer
       s.answer first rest first' rest' r.runs.requested runs' (read h.read)
       (gains ∙ ap (λ (xs : List Entry). (out.seen link).history ++ xs) h.gained)
@@ -313,19 +313,19 @@ module _ {N Origin L F R W M Other K G S V : Type 0} {gives : N → Binding → 
             one.ran.report other.ran.report cut cut' ends prints rest rest' on,
       )
     where
-      session : Session
-      session = r.runs.session
+      setup : Setup
+      setup = r.runs.setup
 
-      r₁ : Requested out.remaining out.contents session (fresh one.reader) one.reader' (fresh one.writer) one.writer'
+      r₁ : Requested out.remaining out.contents setup (fresh one.reader) one.reader' (fresh one.writer) one.writer'
           (out.seen link) (out.seen left) r.answer
       r₁ = r.runs.requested
 
-      runs' : Requested out'.remaining out'.contents session (fresh other.reader) other.reader' (fresh other.writer)
+      runs' : Requested out'.remaining out'.contents setup (fresh other.reader) other.reader' (fresh other.writer)
           other.writer' (out'.seen link') (out'.seen left') s.answer
       runs' =
-          subst (λ (x : Session). Requested out'.remaining out'.contents x (fresh other.reader) other.reader'
+          subst (λ (x : Setup). Requested out'.remaining out'.contents x (fresh other.reader) other.reader'
           (fresh other.writer) other.writer' (out'.seen link') (out'.seen left') s.answer)
-          (one_session batch s.runs.session r.runs.session s.runs.of_batch r.runs.of_batch) s.runs.requested
+          (one_setup batch s.runs.setup r.runs.setup s.runs.of_batch r.runs.of_batch) s.runs.requested
 
       cut : r.answer ≡ Err write_failed → IsCutOff one.ran.report
       cut is = rw (r.reported, is) tt
@@ -359,10 +359,10 @@ module _ {N Origin L F R W M Other K G S V : Type 0} {gives : N → Binding → 
 
       prints : Meets r₁.acts runs'.acts r.answer s.answer → PrintAlike one other one.ran.report other.ran.report
       prints meet =
-          let (text, took, took') = one_journal session r₁.acts runs'.acts r.answer s.answer (octets_of one.writer')
+          let (text, took, took') = one_journal setup r₁.acts runs'.acts r.answer s.answer (octets_of one.writer')
           (octets_of other.writer') meet
-          (taken out.contents one.writer one.writer' (journal_of session r₁.acts) r.answer r₁.printed r.write_fault)
-          (taken out'.contents other.writer other.writer' (journal_of session runs'.acts) s.answer runs'.printed
+          (taken out.contents one.writer one.writer' (journal_of setup r₁.acts) r.answer r₁.printed r.write_fault)
+          (taken out'.contents other.writer other.writer' (journal_of setup runs'.acts) s.answer runs'.printed
           s.write_fault) in
           (text, printed one.ran.report cut took, printed other.ran.report cut' took')
 

@@ -16,7 +16,7 @@ use Rattle.bac_links.specs.{declared.fault.ToolFault.TheVariants.{SendFailed, Tu
 use Rattle.{bac_links.specs.SystemCall.SystemCall, bac_words.specs.{Answers, IsRefusal, words_called}}
 use Rattle.bac_tools.specs.declared.report.Fault.TheVariants as faults
 
--- The status of this report is that of its fault.
+-- The status of this report belongs to its fault.
 abbrev HasStatus : Report → Type 0
 HasStatus report = IsStatusOf report.fault report.status
 
@@ -57,9 +57,9 @@ module _ {N Origin L F R W : Type 0} (gives : N → Binding → Result L F → T
       rw run.reported (given_status run.report.fault (has_failed writer') run.report
       (called_status run.unhelped (record ran { report = run.report }) typed run.called))
 
--- ---- a run over a socket is the calls of the system for it
+-- ---- the calls of the system of a run over a socket
 
--- What a job leaves of a link was made of the same.
+-- A job leaves the origin of its link unchanged.
 made_same : {Origin W : Type 0} (contents : W → Option (List ℕ)) (writer writer' : Checked W)
     (seen left : Account Origin) (answer : Result Exit ToolFault) (tool : Tool)
     → ToolRuns contents writer writer' seen left answer tool → left.made ≡ seen.made
@@ -72,7 +72,7 @@ batch_made_same : {Origin R W : Type 0} (remaining : R → Option (List ℕ)) (c
 batch_made_same remaining contents batch reader reader' writer writer' seen left answer runs =
     rw runs.requested.asks.gains refl
 
--- A job asks for no help, and its report stays.
+-- A job does not ask for help, so its report stays.
 unhelped : {W : Type 0} (contents : W → Option (List ℕ)) (before after : Checked W) (answer : Result Exit ToolFault)
     → IsTold contents before after (on_output (tool_report answer).fault) → after ≡ before
 unhelped = grind arith
@@ -103,11 +103,11 @@ module _ {N Origin L F R W E : Type 0} {gives : N → Binding → Result L F →
     {error_contents : E → Option (List ℕ)} {network : N} {reader reader' : Checked R} {writer writer' : Checked W}
     {errors errors' : Checked E} {ran : Ran N L F} {typed : List Text}
     (run : IsRun gives out error_contents network reader reader' writer writer' errors errors' ran (Ok typed)) where
-  -- What a job did with a socket that it had, or with none.
+  -- The effect of a job with a socket, or without one.
   abbrev Did : Job → Result L F → Result L F → Type 0
   Did job given left = JobRuns out reader reader' writer run.unhelped run.report job (Some given) (Some left)
 
-  -- The words asked for a job that has a socket, for which the network gave this, and this was left.
+  -- The words asked for a job with a socket. The network gave the first result, and the second was left.
   record HadJob (left : Result L F) : Type 0 where
     job : Job
     answered : Answers (words_called typed) (Ok job)
@@ -153,7 +153,7 @@ module _ {N Origin L F R W E : Type 0} {gives : N → Binding → Result L F →
       | inr only ↦ grind arith
     ]
 
-  -- The results of a job, except its calls.
+  -- The results of a job, except its calls of the system.
   record Came (job : Job) (link link' : L) : Type 0 where
     same : (out.seen link').made ≡ (out.seen link).made
     called : (out.seen link ≡ record { made = (out.seen link').made; history = [] })
@@ -249,7 +249,7 @@ module _ {N Origin L F R W E : Type 0} {gives : N → Binding → Result L F →
 module _ {N Origin L F R W E : Type 0} (gives : N → Binding → Result L F → Type 0) (out : Outside Origin L R W)
     (error_contents : E → Option (List ℕ)) (network : N) (reader reader' : Checked R) (writer writer' : Checked W)
     (errors errors' : Checked E) (ran : Ran N L F) where
-  -- What a run does that asks for no socket.
+  -- A run that asks for no socket.
   abbrev Unasked : Result (List Text) ErrorKind → Type 0
   Unasked typed =
       RunsUnasked out.remaining out.contents error_contents network reader reader' writer writer' errors errors' ran
@@ -309,9 +309,9 @@ module _ {N Origin L F R W E : Type 0} (gives : N → Binding → Result L F →
   ]
   run_unasked (Err kind) run none = only_so _ run _ refl run.called
 
--- ---- a call of the program runs the words that it was called with
+-- ---- a call of the program runs the words of the call
 
--- What the history of a link gained.
+-- Entries were added to the history of a link.
 pub record HasGained {Origin : Type 0} (seen left : Account Origin) : Type 0 where
   pub gained : List Entry
   pub gains : GainsAll gained seen left
@@ -342,7 +342,7 @@ module _ {Origin W : Type 0} (contents : W → Option (List ℕ)) (before after 
   tool_gains (Device serve) answer runs =
       let plays = runs.0.serves.plays in record { gained = plays.gained; gains = plays.gains }
 
--- What the socket of a run was asked and answered since it was given.
+-- Entries were added to the history of the socket of a run.
 abbrev pub SocketGained : {Origin L F : Type 0} → (L → Account Origin) → (opened opened' : Option (Result L F))
     → Type 0
 SocketGained seen opened opened' = (gained : List Entry) × Gained seen opened opened' gained
@@ -376,7 +376,7 @@ module _ {N Origin L F R W : Type 0} (gives : N → Binding → Result L F → T
       over_gains (RunsOver out reader reader' writer writer' ran.report tool) (λ link link' runs.
       tool_gains out.contents writer writer' _ _ tool runs.answer runs.runs) opened _ ends
 
-  -- What the socket of a program was asked and answered since it was given.
+  -- The program adds entries to the history of its socket.
   pub program_gains : {words : List Text} → (p : Program gives out network reader reader' writer writer' ran words)
       → SocketGained out.seen p.opened ran.socket
   program_gains p = run_gains p.answer p.opened p.given p.ends
@@ -386,7 +386,7 @@ module _ {N Origin L F R W E : Type 0} (gives : N → Binding → Result L F →
     (errors errors' : Checked E) (ran : Ran N L F) (typed : List Text)
     (run : IsRun gives out contents network (fresh reader) reader' (fresh writer) writer' errors errors' ran (Ok typed))
   where
-    -- How the words were run: the report is that of the words.
+    -- The result of the words, with their report.
     abbrev there : Ran N L F
     there = record ran { report = run.report }
 

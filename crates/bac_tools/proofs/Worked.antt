@@ -1,4 +1,4 @@
--- What examples of runs have in common.
+-- Lemmas for the examples of runs.
 use Rattle.std.proofs.Common.{[], ap, arith, false, inr, length, List, Ok, Option, refl, Some, subst, sym, ℕ}
 use Rattle.std.proofs.Common.{◌++◌, ◌∷◌, ◌≡◌, ◌≢◌}
 use Rattle.std.specs.declared.io.Error.{Error}
@@ -20,22 +20,22 @@ given text some passed whole all = record {
   stopped = λ stopped. grind arith;
 }
 
--- A writer that was asked for nothing got no line.
+-- A writer without a call got no line.
 pub silent : (text : List ℕ) → IsTold no_contents unasked unasked (Some (Line text)) → ⊥
 silent text (octets, are, w) =
     let passed = w.took.passed in let whole = w.whole in let kept = (w.sound refl).1 in grind arith
 
--- A run over a link that had been asked for nothing is over if its history says so.
+-- A run over a new link is over if its history says so.
 pub ends : {R : Type 0} {move : List Entry → Option Entry → Move R} {h : List Entry} {result : R}
     → Plays move (asked_so []) (asked_so h) result → next_move move h ≡ Over result
 ends {move = move} {result = result} p =
     subst (λ g. next_move move g ≡ Over result) (sym (ap (λ account. account.history) p.gains)) p.over
 
--- Nor did it take any.
+-- A writer without a call took no octet.
 pub untaken : (text : List ℕ) → having text ≡ unasked → ⊥
 untaken text e = let calls = ap calls_of e in grind arith
 
--- A script of no octets prints nothing.
+-- An empty script prints nothing.
 told_none : IsToldFirst drained unasked unasked []
 unfolding computed
 told_none [] e = ([], refl)

@@ -1,4 +1,4 @@
--- That two runs of the program with the same words are alike.
+-- When two runs of the program with the same words are alike.
 use Rattle.std.specs.{declared.io.ErrorKind.ErrorKind, Prelude.{[], Bool, false, is_some, IsErrAnd, IsTrue, List, Ok}}
 use Rattle.std.specs.{Prelude.{Option, option_and_then, Result, Some, ℕ, ⊤, ◌++◌, ◌<◌, ◌≡◌, ◌⊎◌}, Result.result_ok}
 use Rattle.clap.specs.Words.{Text}
@@ -17,7 +17,7 @@ use Rattle.bac_tools.specs.declared.report.Fault.TheVariants as faults
 abbrev pub is_socket : {L F : Type 0} → Option (Result L F) → Bool
 is_socket opened = is_some (option_and_then result_ok opened)
 
--- What the socket that the network gave was asked and answered since then.
+-- The entries that were added to the history of the socket.
 abbrev pub Gained : {Origin L F : Type 0} → (L → Account Origin) → Option (Result L F) → Option (Result L F)
     → List Entry → Type 0
 Gained seen (Some (Ok link)) (Some (Ok link')) gained = (seen link').history ≡ (seen link).history ++ gained
@@ -31,15 +31,15 @@ CutsOff (Some (faults.Trace stops.WriteFailed)) = ⊤
 CutsOff (Some (faults.Run (Script stops.WriteFailed))) = ⊤
 CutsOff _ = ⊥
 
--- The run with this report was.
+-- The run with this report was cut off.
 abbrev pub IsCutOff : Report → Type 0
 IsCutOff report = CutsOff report.fault
 
--- With this report these octets of a text were printed: all of it, or, if the run was cut off, a front of it.
+-- A run with this report printed these octets of a text: all of it, or the beginning of it if the run was cut off.
 abbrev pub IsPrinted : (printed text : List ℕ) → Report → Type 0
 IsPrinted printed text report = (printed ≡ text) ⊎ (IsCutOff report × IsFrontOf printed text)
 
--- A whole run with these words, and what its socket was asked and answered.
+-- A whole run with these words, and the calls and answers of its socket.
 pub record ProgramRun {N Origin L F R W : Type 0} (gives : N → Binding → Result L F → Type 0)
     (out : Outside Origin L R W) (words : List Text) : Type 0 where
   pub network : N
@@ -61,7 +61,7 @@ IsBatch _ = ⊥
 abbrev pub IsReadable : {R : Type 0} → Checked R → Type 0
 IsReadable reader = (has_failed reader ≡ false) × (reads_of reader < most_reads)
 
--- A run was cut off. Its reader gave a front of what the other's gave, and did not meet its end. For many requests,
+-- A run was cut off. Its reader gave only the first octets of the other reader, and has not ended. For many requests,
 -- which wait if a reader fails, the reader could also be read on.
 pub record IsCutShort {R S : Type 0} (report : Report) (answer : Result Job UsageFault) (reader : Checked R)
     (other : Checked S) : Type 0 where
@@ -87,21 +87,22 @@ module _ {N Origin L F R W M Other K G S V : Type 0} {gives : N → Binding → 
     {out : Outside Origin L R W} {gives' : M → Binding → Result K G → Type 0} {out' : Outside Other K S V}
     {words : List Text}
     (one : ProgramRun gives out words) (other : ProgramRun gives' out' words) where
-  -- If neither was cut off, they have the same report. But if `clap` does not accept the words, each reports help, or
-  -- refused words, with an error that `clap` may give for these words.
+  -- If neither run was cut off, they have the same report. If `clap` does not accept the words, each reports help or
+  -- refused words instead, with an error that `clap` may give for these words.
   abbrev pub EndAlike : Report → Report → Type 0
   EndAlike report other_report = (IsCutOff report → ⊥) → (IsCutOff other_report → ⊥) →
       (report ≡ other_report) ⊎ (IsErrAnd one.program.answer (IsRefusal words)
       × IsErrAnd other.program.answer (IsRefusal words))
 
-  -- Both printed one text, or a front of it if they were cut off.
+  -- Both printed one text, or the beginning of it if they were cut off.
   abbrev pub PrintAlike : Report → Report → Type 0
   PrintAlike report other_report = (text : List ℕ) × IsPrinted (octets_of one.writer') text report
       × IsPrinted (octets_of other.writer') text other_report
 
   module _ (first rest other_first other_rest : List Entry) where
-    -- If both asked for a socket, both had one or neither; so far the sockets were answered alike; and the readers
-    -- gave the same octets and met their end as often, or the reader of a run that was cut off gave a front.
+    -- Three facts about two runs. If both asked for a socket, both had one or neither had. The sockets were answered
+    -- alike so far. The readers gave the same octets and met their end as often, or the reader of a run that was cut
+    -- off gave the first of these octets.
     pub record AreGivenAlike : Type 0 where
       pub socket : IsTrue (is_some one.program.opened) → IsTrue (is_some other.program.opened)
           → is_socket one.program.opened ≡ is_socket other.program.opened
@@ -112,7 +113,7 @@ module _ {N Origin L F R W M Other K G S V : Type 0} {gives : N → Binding → 
           ⊎ IsCutShort one.ran.report one.program.answer one.reader' other.reader'
           ⊎ IsCutShort other.ran.report other.program.answer other.reader' one.reader'
 
-    -- So far they asked and sent the same; and they go on alike.
+    -- The runs made the same calls and sends so far, and go on alike.
     pub record AreAlike : Type 0 where
       pub asked : first ≡ other_first
       pub goes_on : GoOnAlike IsCutOff EndAlike PrintAlike one.ran.report other.ran.report rest other_rest

@@ -6,7 +6,7 @@ use Rattle.bac_print.specs.{has_failed, declared.checked.Checked.Checked}
 use Rattle.bac_script.specs.{declared.tracing.{TraceEnd.TraceEnd, TraceFault.TraceFault}, Tracing.Traces}
 use Rattle.bac_links.specs.{Account, Bind, Binds, BindsAtMost, Entry}
 use Rattle.bac_links.specs.declared.{exit.Exit.Exit, fault.ToolFault.ToolFault}
-use Rattle.bac_links.specs.{Socket.{AreCallsFor, IsAddressOf, Logs}, SystemCall.SystemCall}
+use Rattle.bac_links.specs.{Socket.{AreCallsFor, endless, IsAddressOf, Logs}, SystemCall.SystemCall}
 use Rattle.bac_run.specs.declared.fault.RunFault.{RunFault}
 use Rattle.bac_words.specs.{Answers, IsRefusal, words_called, declared.faults.UsageFault.UsageFault}
 use Rattle.bac_words.specs.declared.job.{Batch.Batch, Job.{Job, TheVariants.{Run, Trace, Use}}, Tool.Tool}
@@ -15,18 +15,18 @@ use Rattle.bac_tools.specs.Report.{report_of, run_report, tool_report, trace_rep
 use Rattle.bac_tools.specs.{Runs.{BatchRuns, ToolRuns}, Telling.{IsTold, on_error, on_output, once_given}}
 use Rattle.bac_tools.specs.declared.report.Fault.TheVariants as faults
 
--- A network gives sockets. If it gives a link, the system was asked for a socket at the address, and for nothing else,
--- and the link for nothing yet. For each later link of the same origin, the system was asked since then for the
--- entries of its history, one after another, and for nothing else. (`∥ ∥₁`: there is a way to part the calls so.)
+-- A network gives sockets. If it gives a link, the system was asked for a socket at the address and for nothing else,
+-- and the link is new. For each later state of the link, the calls of the system since then are those for the entries
+-- of its history, one after another, and no others. (`∥ ∥₁`: the calls can be divided in this way.)
 abbrev pub GivesSockets : {N Origin L F : Type 0} → (N → Binding → Result L F → Type 0) → (L → Account Origin)
     → (L → List SystemCall) → Type 0
 GivesSockets {N} {Origin} {L} gives seen log = (network : N) (binding : Binding) (link : L)
     → gives network binding (Ok link) → Binds binding.at (log link) × ((seen link).history ≡ [])
     × ((later : L) → (seen later).made ≡ (seen link).made
-    → ∥ Logs (AreCallsFor binding.refused 0 0 (seen later).history) (log link) (log later) ∥₁)
+    → ∥ Logs (AreCallsFor binding.refused endless 0 (seen later).history) (log link) (log later) ∥₁)
 
--- A network that has no socket to give is kept as it was. It asks the system for one at the address, or for nothing,
--- and for nothing else.
+-- A network without a socket to give is kept unchanged. It asks the system for at most one socket, at the address, and
+-- for nothing else.
 abbrev pub AsksAtMostOnce : {N L F : Type 0} → (N → Binding → Result L F → Type 0) → (kept : F → N)
     → (log : F → List SystemCall) → Type 0
 AsksAtMostOnce {N} {F} gives kept log = (network : N) (binding : Binding) (none : F)
@@ -34,29 +34,29 @@ AsksAtMostOnce {N} {F} gives kept log = (network : N) (binding : Binding) (none 
 
 module _ {Origin R W : Type 0} (remaining : R → Option (List ℕ)) (contents : W → Option (List ℕ))
     (reader reader' : Checked R) (writer writer' : Checked W) (seen left : Account Origin) (report : Report) where
-  -- A tool ran over a link: its writer was given its lines, the reader was not read, and the report says how it ended.
+  -- A tool ran over a link: its lines were written, the reader was not read, and the report says how the tool ended.
   pub record ToolCalled (tool : Tool) : Type 0 where
     pub answer : Result Exit ToolFault
     pub runs : ToolRuns contents writer writer' seen left answer tool
     pub unread : reader' ≡ reader
     pub reported : report ≡ tool_report answer
 
-  -- Many requests were made over a link, as the reader's lines ask: the writer was given their journal, and the report
-  -- says how they ended.
+  -- Many requests were made over a link, from the reader's lines: their journal was written, and the report says how
+  -- they ended.
   pub record BatchCalled (batch : Batch) : Type 0 where
     pub answer : Result TraceEnd RunFault
     pub runs : BatchRuns remaining contents batch reader reader' writer writer' seen left answer
     pub reported : report ≡ run_report answer
 
-  -- A job that has a socket.
+  -- A job with a socket was run.
   abbrev pub JobCalled : Job → Type 0
   JobCalled Trace = ⊥
   JobCalled (Run batch) = BatchCalled batch
   JobCalled (Use tool) = ToolCalled tool
 
--- These words asked for a job that has a socket, which ran over a link. Its writer was given its lines, `errors` the
--- message of its fault, and the report says how it ended. The system was asked for one socket, at the address that
--- the job needs; then for the calls of the job to its link, one after another; and for nothing else.
+-- These words asked for a job with a socket, which ran over a link. Its lines were written, `errors` was given the
+-- message of its fault, and the report says how it ended. The calls of the system are: one for a socket, at the address
+-- that the job needs; then those for the job's calls of its link, one after another; and no others.
 pub record RunsAsCalls (Origin : Type 0) {R W E : Type 0} (remaining : R → Option (List ℕ))
     (contents : W → Option (List ℕ)) (error_contents : E → Option (List ℕ)) (reader reader' : Checked R)
     (writer writer' : Checked W) (errors errors' : Checked E) (report : Report) (words : List Text)
@@ -72,11 +72,11 @@ pub record RunsAsCalls (Origin : Type 0) {R W E : Type 0} (remaining : R → Opt
   pub wanted : asked_by job ≡ Some binding
   pub address : SocketAddr
   pub at : IsAddressOf (station binding.at) address
-  pub asked : ∥ Logs (AreCallsFor binding.refused 0 0 history) (Bind address ∷ []) log ∥₁
+  pub asked : ∥ Logs (AreCallsFor binding.refused endless 0 history) (Bind address ∷ []) log ∥₁
 
--- These words asked for a job, but no socket was available. Nothing was read or printed, `errors` was given the message
--- of that fault, and the system was asked for one socket at most, at the address that the job needs, and for nothing
--- else: the network that was kept is that of the run, so it gave nobody a socket.
+-- These words asked for a job, but no socket was available. Nothing was read or printed, and `errors` was given the
+-- message of that fault. The system was asked for at most one socket, at the address that the job needs, and for
+-- nothing else: the network was kept, so it gave nobody a socket.
 pub record RunsWithout {N R W E : Type 0} (error_contents : E → Option (List ℕ)) (network kept : N)
     (reader reader' : Checked R) (writer writer' : Checked W) (errors errors' : Checked E) (report : Report)
     (words : List Text) (log : List SystemCall) : Type 0 where
@@ -96,8 +96,8 @@ abbrev pub AskForScript : Result (List Text) ErrorKind → Type 0
 AskForScript (Ok typed) = Answers (words_called typed) (Ok Trace)
 AskForScript (Err kind) = ⊥
 
--- The report of words that give no job: they could not be read; memory ran out, or `clap` asks for help or refuses
--- them; or their first fault.
+-- The report of words that give no job: they could not be read; memory ran out; `clap` asks for help or refuses them;
+-- or they have a first fault.
 abbrev pub GiveNoJob : Result (List Text) ErrorKind → Report → Type 0
 GiveNoJob (Ok typed) report =
     (fault : UsageFault) × (IsRefusal (words_called typed) fault ⊎ Answers (words_called typed) (Err fault))
@@ -112,15 +112,15 @@ module _ {R W : Type 0} (remaining : R → Option (List ℕ)) (contents : W → 
     pub script : Traces remaining contents reader reader' writer writer' answer
     pub reported : report ≡ trace_report answer
 
-  -- Nothing was read, and nothing printed except help that was asked for. This is the report, if such help could be
+  -- Nothing was read, and nothing printed except help that was asked for. This is the report, if the help could be
   -- written.
   pub record OnlyReported (reports : Report) : Type 0 where
     pub unread : reader' ≡ reader
     pub helped : IsTold contents writer writer' (on_output reports.fault)
     pub reported : report ≡ once_given reports.fault (has_failed writer') reports
 
--- These words asked for no socket: the network is unchanged, so it asked the system for nothing. Either they asked for
--- a script, which was run; or they gave no job, and nothing was done except to report it. `errors` was given the
+-- These words asked for no socket, and the network is unchanged, so it asked the system for nothing. Either they asked
+-- for a script, which was run; or they gave no job, and nothing was done except to report why. `errors` was given the
 -- message of the fault.
 pub record RunsUnasked {N L F R W E : Type 0} (remaining : R → Option (List ℕ)) (contents : W → Option (List ℕ))
     (error_contents : E → Option (List ℕ)) (network : N) (reader reader' : Checked R) (writer writer' : Checked W)

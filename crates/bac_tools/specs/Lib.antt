@@ -26,4 +26,4 @@ pub use Rattle.bac_links.specs.declared.udp.OnRefusal.TheVariants.{IsLost}
 pub use Rattle.bac_script.specs.declared.tracing.{TraceEnd.TraceEnd, TraceFault.TraceFault}
 pub use Rattle.bac_print.specs.declared.checked.Checked.{Checked}
 pub use Rattle.bac_tools.specs.declared.{program.Ran.Ran, report.Fault.TheVariants.Usage}
-pub use Rattle.bac_run.specs.declared.{fault.RunFault.{RunFault, TheVariants.{Link, Script}}, session.Session.Session}
+pub use Rattle.bac_run.specs.declared.{fault.RunFault.{RunFault, TheVariants.{Link, Script}}, setup.Setup.Setup}

@@ -1,4 +1,4 @@
--- From the words to what is asked of the socket, what is printed, and the status.
+-- From the words to the calls of the socket, the printed text, and the status.
 use Rattle.std.specs.declared.{io.{Error.Error, ErrorKind.ErrorKind}, string.String.String, vec.IntoIter.IntoIter}
 use Rattle.std.specs.{IoError.error_kind, Prelude.{Err, IfNone, IsErrAnd, IsSomeAnd, List, map, None, Ok, Option}}
 use Rattle.std.specs.Prelude.{option_and_then, Result, Some, ℕ, ◌≡◌, ◌⊎◌}
@@ -16,13 +16,13 @@ abbrev pub texts_of : {Z : Type 0} → Result (IntoIter (String Z) Z) Error → 
 texts_of typed = result_map_both (λ words. map string_bytes (into_iter_items words)) error_kind typed
 
 module _ {N Origin L F R W : Type 0} (gives : N → Binding → Result L F → Type 0) (out : Outside Origin L R W) where
-  -- What the network gives if a socket is asked for.
+  -- The network's result if a socket is asked for; otherwise none.
   abbrev pub IsGiven : N → Option Binding → Option (Result L F) → Type 0
   IsGiven network None opened = opened ≡ None
   IsGiven network (Some binding) opened = IsSomeAnd opened (gives network binding)
 
   module _ (network : N) (reader reader' : Checked R) (writer writer' : Checked W) (ran : Ran N L F) where
-    -- Nothing is read, printed or asked for, and this is reported.
+    -- Nothing is read, printed or asked for, and this report is returned.
     abbrev pub Only : Report → Type 0
     Only report = (reader' ≡ reader) × (writer' ≡ writer)
         × (ran ≡ record { report = report; socket = None; unasked = Some network })
@@ -32,9 +32,9 @@ module _ {N Origin L F R W : Type 0} (gives : N → Binding → Result L F → T
     RunsAsRead (Ok job) opened = JobRuns out reader reader' writer writer' ran.report job opened ran.socket
     RunsAsRead (Err fault) opened = Only (report_of (faults.Usage fault))
 
-    -- The words are answered by a job, or by what is wrong with them: memory ran out, `clap` asks for help or refuses
-    -- them, or they have a first fault. The program asks for the socket of the job, and ends as this answer says. If it
-    -- asks for none, the network is handed back.
+    -- The words give a job, or a fault: memory ran out, `clap` asks for help or refuses them, or they have a first
+    -- fault. The program asks for the socket of the job, and ends as the job or the fault says. If it asks for no
+    -- socket, the network is handed back.
     pub record Program (words : List Text) : Type 0 where
       pub answer : Result Job UsageFault
       pub answered : IsErrAnd answer (IsRefusal words) ⊎ Answers words answer
@@ -43,16 +43,16 @@ module _ {N Origin L F R W : Type 0} (gives : N → Binding → Result L F → T
       pub ends : RunsAsRead answer opened
       pub unasked : IfNone opened (ran.unasked ≡ Some network)
 
-    -- The words that the program was called with are run, unless there is no memory for them. If the system gave no
-    -- words, the report says why.
+    -- The words of the call are run, unless there is no memory for them. If the system gave no words, the report says
+    -- why.
     abbrev pub IsCalled : Result (List Text) ErrorKind → Type 0
     IsCalled (Ok typed) = Program (words_called typed) ⊎ Only (report_of (faults.Usage Memory))
     IsCalled (Err kind) = Only (unread_report kind)
 
   module _ {E : Type 0} (contents : E → Option (List ℕ)) (network : N) (reader reader' : Checked R)
       (writer writer' : Checked W) (errors errors' : Checked E) (ran : Ran N L F) where
-    -- The words are run, then the writer is given the help that was asked for, and `errors` the message of any other
-    -- fault. The report is that of the words, unless the help could not be written.
+    -- The words are run. Then help that was asked for is written to the writer, and the message of any other fault to
+    -- `errors`. The report is that of the words, unless the help could not be written.
     pub record IsRun (typed : Result (List Text) ErrorKind) : Type 0 where
       pub unhelped : Checked W
       pub report : Report

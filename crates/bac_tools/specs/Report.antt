@@ -18,7 +18,7 @@ IsStatusOf (Some fault) status = status ≡ fault_status fault
 abbrev pub report_of : Fault → Report
 report_of fault = record { status = fault_status fault; fault = Some fault }
 
--- The report if the words were not available: memory ran out, or they are not texts.
+-- The report if the words could not be read: memory ran out, or they are not UTF-8.
 abbrev pub unread_report : ErrorKind → Report
 unread_report OutOfMemory = report_of (faults.Usage Memory)
 unread_report kind = report_of faults.NoText

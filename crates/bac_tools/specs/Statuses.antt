@@ -1,4 +1,4 @@
--- The status with which the program ends: of each end of a job, and of each fault.
+-- The status of the program: after each end of a job, and after each fault.
 use Rattle.std.specs.Prelude.{ℕ, Result, Ok, Err}
 use Rattle.bac_links.specs.declared.{exit.Exit.{Exit, TheVariants.{Good, Bad}}, fault.ToolFault.ToolFault}
 use Rattle.bac_script.specs.declared.tracing.TraceEnd.{TraceEnd}
@@ -8,33 +8,33 @@ use Rattle.bac_words.specs.declared.faults.UsageFault.{UsageFault, TheVariants.{
 use Rattle.bac_tools.specs.declared.report.Fault.{Fault}
 use Rattle.bac_tools.specs.declared.report.Fault.TheVariants as faults
 
--- After a tool.
+-- The status after a tool.
 abbrev pub status_of : Result Exit ToolFault → ℕ
 status_of (Ok Good) = 0
 status_of (Ok Bad) = 1
 status_of (Err fault) = 3
 
--- After a script: at its end, after a bad or too long line, and where a reader or a writer failed.
+-- The status after a script: at its end, after a bad or too long line, and if a reader or a writer failed.
 abbrev pub trace_status_of : Result TraceEnd TraceFault → ℕ
 trace_status_of (Ok end) = 0
 trace_status_of (Err (BadLine n)) = 2
 trace_status_of (Err (LineTooLong n)) = 2
 trace_status_of _ = 3
 
--- After many requests: as after a script, and where the link failed.
+-- The status after many requests: as after a script, or if the link failed.
 abbrev pub run_status_of : Result TraceEnd RunFault → ℕ
 run_status_of (Ok end) = 0
 run_status_of (Err (Script fault)) = trace_status_of (Err fault)
 run_status_of (Err (Link fault)) = 3
 
--- After words that give no job: help that was asked for, no memory, or words that are wrong.
+-- The status after words that give no job: help was asked for, memory ran out, or the words are wrong.
 abbrev pub usage_status_of : UsageFault → ℕ
 usage_status_of (Help e) = 0
 usage_status_of Memory = 4
 usage_status_of _ = 2
 
--- Of each fault: 0 if help was asked for; 2 if words, or a line of a script or of requests, are wrong; 3 if a socket, a
--- reader, a writer or the turns gave out; 4 without memory.
+-- The status of each fault: 0 if help was asked for; 2 if words, or a line of a script or of requests, are wrong; 3 if
+-- a socket, a reader or a writer failed or the turns were spent; 4 without memory.
 abbrev pub fault_status : Fault → ℕ
 fault_status faults.NoText = 2
 fault_status (faults.Usage fault) = usage_status_of fault

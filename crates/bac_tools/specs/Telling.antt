@@ -1,4 +1,4 @@
--- What the standard streams are given, by the fault of a report.
+-- The texts on the standard streams, from the fault of a report.
 use Rattle.std.specs.Prelude.{[], Bool, codes, Err, List, None, Option, Some, true, ℕ, ⊤, ◌++◌, ◌≡◌}
 use Rattle.{bac_print.specs.{Writes, declared.checked.Checked.Checked}, bac_script.specs.Tracing.trace_fault_text}
 use Rattle.bac_links.specs.{declared.fault.ToolFault.TheVariants.WriteFailed, Fault.{link_fault_text, tool_fault_text}}
@@ -27,18 +27,18 @@ on_error None = None
 on_error (Some (faults.Usage (Help message))) = None
 on_error (Some fault) = Some (fault_told fault)
 
--- The report after standard output was given this, and has failed or not. If it has failed, and should have taken help,
--- that is the fault.
+-- The report after standard output was given its text. If the output failed and was to have help, the report has that
+-- fault.
 abbrev pub once_given : Option Fault → (failed : Bool) → Report → Report
 once_given (Some (faults.Usage (Help message))) true report = tool_report (Err WriteFailed)
 once_given _ _ report = report
 
--- The octets of the message: a line after the name of the program. Those of a text of `clap` are its own.
+-- The octets of a message: the program's name and a line. The octets of a text of `clap` are not specified.
 abbrev pub AreOctetsOf : Told → List ℕ → Type 0
 AreOctetsOf (Text message) octets = ⊤
 AreOctetsOf (Line text) octets = octets ≡ codes "bactool: " ++ (text ++ codes "\n")
 
--- The writer is given the message, as far as it accepts it. If there is no message, the writer is not asked.
+-- The writer is given the message, unless it fails. If there is no message, the writer is not used.
 abbrev pub IsTold : {W : Type 0} → (W → Option (List ℕ)) → (before after : Checked W) → Option Told → Type 0
 IsTold contents before after None = after ≡ before
 IsTold contents before after (Some told) = (octets : List ℕ) × AreOctetsOf told octets

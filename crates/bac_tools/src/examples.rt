@@ -25,8 +25,8 @@ ghost use Rattle.bac_words.specs.{Called.tool_named, declared.faults.UsageFault.
 ghost use Rattle.bac_words.specs.Telling.{Line};
 ghost use Rattle.bac_tools.specs.declared.report.Fault.TheVariants as faults;
 
-// Two runs that lacked memory for their words: they asked for nothing, so they were given alike and are alike. They
-// did not ask the time.
+// Two runs that had no memory for their words asked for nothing, so their sockets were answered alike and they are
+// alike. They did not ask the time.
 #[tactic(none)]
 fn examples_of_runs()
     ensures given { AreGivenAlike forgotten forgotten [] [] [] [] }
@@ -35,8 +35,8 @@ fn examples_of_runs()
     ensures alike { AreAlike forgotten forgotten [] [] [] [] }
     ensures not_alike { AreAlike forgotten forgotten one_time [] [] [] → ⊥ }
 
-    // Two runs that asked as often and asked something else are not alike. Nor are two given alike whose first answers
-    // are the same and whose second differ.
+    // Two runs that made as many calls, but other calls, are not alike. Two runs whose first answers are the same and
+    // whose second answers differ were not answered alike.
     ensures asked_otherwise { AreAlike forgotten forgotten one_time [] one_wait [] → ⊥ }
     ensures goes_on_otherwise { AreAlike forgotten forgotten [] one_time [] one_wait → ⊥ }
     ensures answered_otherwise { (out : Outside ℕ ℕ ℕ ℕ) (words : List Text)
@@ -51,13 +51,14 @@ fn examples_of_runs()
         (none : ℕ) → one.program.opened ≡ Some (Ok 0) → other.program.opened ≡ Some (Err none)
         → AreGivenAlike one other [] [] [] [] → ⊥ }
 
-    // Two runs that report two faults of one status did not end alike.
+    // Two runs that report two different faults with one status did not end alike.
     ensures same_end { EndAlike forgotten forgotten no_text no_text }
     ensures other_end { (out : Outside ℕ ℕ ℕ ℕ) (words : List Text) (one other : ProgramRun gives_any out words)
         → one.program.answer ≡ Err BadMac
         → EndAlike one other (report_of (Usage BadMac)) (report_of (Usage BadIndex)) → ⊥ }
 
-    // A whole text was printed, or a front of it by a run that was cut off; no other text of its length.
+    // A run printed the whole text, or its beginning if the run was cut off; it did not print another text of that
+    // length.
     ensures printed { IsPrinted (1 ∷ 2 ∷ []) (1 ∷ 2 ∷ []) no_text }
     ensures printed_other { IsPrinted (1 ∷ 3 ∷ []) (1 ∷ 2 ∷ []) no_text → ⊥ }
     ensures printed_less { IsPrinted (1 ∷ []) (1 ∷ 2 ∷ []) no_text → ⊥ }
@@ -65,7 +66,7 @@ fn examples_of_runs()
     ensures cut_off_otherwise { IsPrinted (2 ∷ []) (1 ∷ 2 ∷ []) (report_of (Usage Memory)) → ⊥ }
 {}
 
-// Words that ask for a script, or give no job; and what a script prints.
+// Words that ask for a script, or give no job; and the text of a script.
 #[tactic(none)]
 fn examples_of_scripts()
     ensures script { (program : Text) → tool_named program ≡ Some (codes "bactrace")
@@ -74,7 +75,8 @@ fn examples_of_scripts()
         → AskForScript (Ok (program ∷ codes "1234" ∷ [])) → ⊥ }
     ensures no_words { AskForScript (Err NotFound) → ⊥ }
 
-    // Their first fault, and no other fault of its status; a job, which has no fault; and no words.
+    // Bad words give their first fault, and no other fault with the same status. Words with a job give no fault, and
+    // neither does an empty command line.
     ensures no_job { (program : Text) → tool_named program ≡ Some (codes "bacrp")
         → GiveNoJob (Ok (program ∷ bad_words)) (report_of (Usage BadMac)) }
     ensures other_fault { (program : Text) → tool_named program ≡ Some (codes "bacrp")
@@ -84,7 +86,7 @@ fn examples_of_scripts()
     ensures unread { GiveNoJob (Err NotFound) no_text }
     ensures unread_otherwise { GiveNoJob (Err NotFound) (report_of (Usage BadMac)) → ⊥ }
 
-    // A script of no line prints nothing, and ends well.
+    // An empty script prints nothing, and ends well.
     ensures called { ScriptCalled no_contents no_contents unasked drained unasked unasked well }
     ensures prints { ScriptCalled no_contents no_contents unasked drained unasked (having (codes "x")) well → ⊥ }
     ensures reports { ScriptCalled no_contents no_contents unasked drained unasked unasked no_text → ⊥ }
@@ -117,7 +119,7 @@ fn examples_of_statuses()
     ensures kept { once_given (Some NoText) true (report_of NoText) ≡ report_of NoText }
 {}
 
-// The program without words from the system.
+// The program if the system gives no words.
 #[tactic(none)]
 fn examples_of_no_words()
     // The report has this fault, and its message is on standard error.
@@ -135,7 +137,7 @@ fn examples_of_no_words()
     ensures otherwise { (run : CalledRun gives_none unknown no_contents (Err NotFound)) → run.ran.report ≡ no_socket
         → ⊥ }
 
-    // No network was asked for a socket.
+    // The network was not asked for a socket.
     ensures no_call { RunsUnasked no_contents no_contents no_contents 0 unasked unasked unasked unasked unasked
         told_no_text (ran_without no_text (Some 0)) (Err NotFound) }
     ensures other_network { RunsUnasked no_contents no_contents no_contents 0 unasked unasked unasked unasked unasked
@@ -157,7 +159,7 @@ fn examples_of_no_words()
         (ran_without no_text (Some 0)) [] → ⊥ }
     ensures no_run { (run : ProgramRun gives_none unknown []) → run.ran.report ≡ no_text → ⊥ }
 
-    // The whole line is printed; without a line nothing is.
+    // The whole line is printed; without a line nothing is printed.
     ensures told { IsTold no_contents unasked (having (codes "bactool: x\n")) (Some (Line (codes "x"))) }
     ensures not_told { IsTold no_contents unasked unasked (Some (Line (codes "x"))) → ⊥ }
     ensures nothing { IsTold no_contents unasked unasked None }
@@ -167,25 +169,25 @@ fn examples_of_no_words()
 // The program with words of a script, of a read and of a device.
 #[tactic(none)]
 fn examples_of_programs()
-    // A script of no line asks for no socket, so the network is handed back: it, and no other.
+    // A script without lines asks for no socket, so this network, and no other, is handed back.
     ensures scripted { Program gives_none unknown 0 unasked drained unasked unasked (ran_without well (Some 0))
         script_words }
     ensures network_changed { Program gives_none unknown 0 unasked drained unasked unasked (ran_without well (Some 1))
         script_words → ⊥ }
 
-    // The first fault of these words is reported, and no other of its status.
+    // The first fault of these words is reported, and no other with the same status.
     ensures misread { Program gives_none unknown 0 unasked unasked unasked unasked
         (ran_without (report_of (Usage BadMac)) (Some 0)) bad_read_words }
     ensures misread_otherwise { Program gives_none unknown 0 unasked unasked unasked unasked
         (ran_without (report_of (Usage BadIndex)) (Some 0)) bad_read_words → ⊥ }
 
-    // A device asks its network for a socket. There is none, and what the network gave in its place is handed back.
+    // A device asks its network for a socket. There is none, and the network's reason is handed back.
     ensures refused { Program (FailsAfter []) unknown 0 unasked unasked unasked unasked (ran_in_vain 0) device_words }
     ensures refused_by_another { Program (FailsAfter []) unknown 0 unasked unasked unasked unasked (ran_in_vain 1)
         device_words → ⊥ }
 {}
 
-// A device whose first wait fails, its calls of the system, and those if there is no socket.
+// A device whose first wait fails, its calls of the system, and its calls if there is no socket.
 #[tactic(none)]
 fn examples_of_a_device()
     ensures runs { ToolRuns no_contents unasked unasked (asked_so []) (asked_so deaf) (Err ReceiveFailed) device }
@@ -231,7 +233,7 @@ fn examples_of_a_device()
         no_socket [] [] → ⊥ }
 {}
 
-// The calls of the system by networks.
+// The calls of the system that networks make.
 #[tactic(none)]
 fn examples_of_networks()
     ensures gives { GivesSockets GivesThat nothing_asked one_bind }
@@ -243,7 +245,7 @@ fn examples_of_networks()
     ensures not_kept { AsksAtMostOnce (FailsAfter []) (λ none. suc none.kept) (λ none. none.log) → ⊥ }
 {}
 
-// A run without requests: the settings are printed, and the link is asked for nothing.
+// A run without requests: the settings are printed, and the link is not used.
 #[tactic(none)]
 fn examples_of_many_requests()
     ensures none { BatchRuns no_contents no_contents (batch_of 3000) unasked drained unasked settings_told (asked_so [])

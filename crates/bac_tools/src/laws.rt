@@ -1,5 +1,5 @@
-//! Laws of the definitions that the contracts cite, and of the public types: the clause of a function with an empty
-//! body is the law.
+//! Laws of the definitions that the contracts cite, and of the public types. Each function has an empty body, and its
+//! clauses are the laws.
 ghost use Rattle.std.specs.{declared.io.ErrorKind.ErrorKind, Prelude.{Err, List, None, Ok, Result, Some, ◌≡◌, ◌⊎◌}};
 ghost use Rattle.{clap.specs.Words.Text, bac_wire.specs.MakesCopies, bac_print.specs.{fresh, has_failed}};
 ghost use Rattle.bac_tools.specs.{AreAlike, AreGivenAlike, AsksAtMostOnce, CalledRun, Checked, GivesSockets, IsRun};
@@ -10,15 +10,15 @@ ghost use Rattle.{bac_links.specs.{Entry, SystemCall.SystemCall}, bac_words.spec
 use crate::program::{Binding, Network};
 use std::io::{Read, Write};
 
-/// The program is a function of its words, of the answers to its socket and of what it reads. Take two runs with the
-/// same words. If both asked for a socket, both had one or neither. The readers gave the same octets, and met their end
-/// as often; or one run was cut off, its reader gave a front of what the other's gave and did not meet its end (and if
-/// that run is one of many requests, its reader could be read on).
+/// The program is a function of its words, of the answers to its socket and of the octets that it reads. Take two runs
+/// with the same words. If both asked for a socket, both had one or neither had. The readers gave the same octets, and
+/// met their end as often; or one run was cut off, and its reader gave only the first octets of the other's and did not
+/// meet its end (and if that run is one of many requests, its reader could be read on).
 ///
-/// As far as the sockets were answered alike, the runs asked and sent the same. Then they ask the same next; or both
-/// are over with the same report; or one was cut off, since there was no memory for its words, or its writer failed. If
-/// one or both are over, both printed one text, or a front of it if they were cut off. If `clap` does not accept the
-/// words, each report has an error that `clap` may give for these words.
+/// As long as the sockets were answered alike, the runs made the same calls and sends. Then their next calls are the
+/// same; or both are over with the same report; or one was cut off, because there was no memory for its words or its
+/// writer failed. If a run is over, both printed the same text, or the beginning of it if they were cut off. If `clap`
+/// does not accept the words, each report has an error that `clap` may give for these words.
 ///
 /// Two calls with the same `typed` run the same words, `words_called typed`, or lack memory for them (law
 /// [`a_call_runs_its_words`]). The last report of the program that is called with words is a function of the report of
@@ -55,9 +55,9 @@ pub fn the_program_is_a_function<
         → one.ran.report ≡ other.ran.report }
 {}
 
-/// A call that was given words runs `words_called` of them, or lacks memory for them. So two calls with the same
-/// `typed` run the same words, and the clause `words` of [`the_program_is_a_function`] is about these: over the
-/// network, the reader and the writer of the call, up to where help is given.
+/// A call with these words runs `words_called` of them, or lacks memory for them. So two calls with the same `typed`
+/// run the same words, and the clause `words` of [`the_program_is_a_function`] is about these words, up to the point
+/// where help is printed.
 pub fn a_call_runs_its_words<N: Network, R: Read, W: Write, E: Write>()
     ensures { (network : N) (reader : R) (reader' : Checked R) (writer : W) (writer' : Checked W)
         (errors errors' : Checked E) (ran : Ran N N.Socket N.NoSocket) (typed : List Text)
@@ -75,7 +75,7 @@ pub fn a_call_runs_its_words<N: Network, R: Read, W: Write, E: Write>()
         (report_of (Usage Memory)) }
 {}
 
-/// However the words are run, the status is that of the reported fault, and 0 or 1 without a fault.
+/// The status is that of the reported fault, or 0 or 1 without a fault, whatever the words are.
 pub fn the_status_is_that_of_the_fault<N: Network, R: Read, W: Write, E: Write>()
     ensures run { (network : N) (reader reader' : Checked R) (writer writer' : Checked W) (errors errors' : Checked E)
         (ran : Ran N N.Socket N.NoSocket) (typed : Result (List Text) ErrorKind)
@@ -92,14 +92,15 @@ pub fn the_status_is_that_of_the_fault<N: Network, R: Read, W: Write, E: Write>(
 
 /// From the words to the calls of the system, over any network that gives sockets.
 ///
-/// If the program had a socket, its words asked for a tool or for many requests. It printed, put on `errors` and
-/// reported what its definition says; for a tool the reader was not read. The system was asked for one socket, at the
-/// address that the job needs; then for the calls to the link, one after another; and for nothing else.
+/// If the program had a socket, its words asked for a tool or for many requests. It printed and reported what the job's
+/// definition says, and wrote the message of a fault to `errors`; for a tool the reader was not read. The calls of the
+/// system are: one for a socket, at the address that the job needs; then those for the calls of the link, one after
+/// another; and no others.
 ///
-/// If no socket was available, nothing was read or printed, and the system was asked for one socket at most, and for
+/// If no socket was available, nothing was read or printed. The system was asked for at most one socket, and for
 /// nothing else: the network was kept, and gave nobody a socket.
 ///
-/// If no socket was asked for, the network is handed back as it was: a script was run, or nothing was done except to
+/// If no socket was asked for, the network is handed back unchanged: a script was run, or nothing was done except to
 /// report why the words give no job.
 pub fn a_run_is_its_calls<N: Network, R: Read, W: Write, E: Write>()
     ensures had { (log : N.Socket → List SystemCall) (network : N) (reader reader' : Checked R)
@@ -129,7 +130,7 @@ pub fn a_run_is_its_calls<N: Network, R: Read, W: Write, E: Write>()
         → RunsUnasked R.remaining W.contents E.contents network reader reader' writer writer' errors errors' ran typed }
 {}
 
-/// A clone is what it was cloned from, and needs no memory.
+/// A clone equals its original, and allocates no memory.
 pub fn clones()
     ensures binding { MakesCopies ⟦<Binding as Clone>⟧.is_clone ⟦<Binding as Clone>⟧.is_infallible }
 {}

@@ -1,15 +1,14 @@
-//! The tools, from the words that ask for them to the status of the program. Here is every name that a program needs.
+//! The tools, from their words to the status of the program. This crate has every name that a program needs.
 //!
-//! [`run_program`] does all of it: it takes the words that the program was called with ([`words_of`]), reads them
-//! ([`parse_words`]), asks a [`Network`] for the one socket that the job wants, runs the job, and answers a [`Report`]
-//! with the status and the fault that is told. [`run_words`] does this for words that one has already.
+//! [`run_program`] does everything: it takes the words that the program was called with ([`words_of`]), reads them
+//! ([`parse_words`]), asks a [`Network`] for the one socket that the job needs, runs the job, and returns a [`Report`]
+//! with the status and the reported fault. [`run_words`] does this for given words.
 //!
-//! [`run_tool`] runs a tool over a link that one has already; [`binding_for`] says which socket a tool asks for.
-//! [`run_batch`] makes many requests over one.
-//! `specs/Program.antt` says what comes of the words. The other names are of the crates below, where each is said and
-//! proved.
+//! [`run_tool`] runs a tool over a given link; [`binding_for`] says which socket a tool needs. [`run_batch`] makes many
+//! requests over one link. `specs/Program.antt` defines the effect of the words. The other names are from the crates
+//! below, which define and prove them.
 //!
-//! Whole runs, from the words to the status, are tests of `tool_trials` (`src/tests/tools.rt`).
+//! Tests of whole runs, from the words to the status, are in `tool_trials` (`src/tests/tools.rt`).
 #![tactic(auto)]
 
 mod examples;
@@ -24,8 +23,8 @@ pub use bac_links::{
     DATAGRAM_OCTETS, Datagram, Exit, Link, LinkFault, MemoryLink, NoSocket, OnRefusal, Socket,
     Sockets, Step, SystemSocket, ToolFault, UdpLink, run_read, run_whois, run_write, serve,
 };
-pub use bac_print::{Checked, Message, WriteFailed, show_outcome, show_value};
-pub use bac_run::{RunFault, Session, run_requests};
+pub use bac_print::{Checked, FaultMessage, WriteFailed, show_outcome, show_value};
+pub use bac_run::{RunFault, Setup, run_requests};
 pub use bac_script::{TraceEnd, TraceFault, trace};
 pub use bac_text::{Call, Search, read_peer};
 pub use bac_words::{Batch, Job, Serve, Telling, Tool, UsageFault, parse_words, words_of};

@@ -17,12 +17,12 @@ use std::alloc::Global;
 use std::env;
 use std::io::{self, Read, Write};
 
-/// The address of a socket, and what becomes of a datagram that the system refuses to send from it.
+/// The address of a socket, and how it treats a datagram that the system refuses to send.
 #[derive(Clone, Copy, Debug)]
 pub struct Binding {
     /// The address and the port; the port 0 is any.
     pub at: Peer,
-    /// What becomes of a refused datagram.
+    /// How a refused datagram is treated.
     pub refused: OnRefusal,
 }
 
@@ -30,13 +30,13 @@ pub struct Binding {
 pub trait Network {
     type Socket: Link + Drop;
 
-    /// The value that says that no socket is available, and keeps the network.
+    /// The reason why no socket is available, with the network.
     type NoSocket: Drop;
 
-    // The possible results of asking for a socket.
+    // The possible results of a request for a socket.
     ghost gives: { Self → Binding → Result Self.Socket Self.NoSocket → Type 0 };
 
-    /// Binds a socket at this address, which has not failed. This consumes the network, so no second one is asked for.
+    /// Binds a socket at this address; it has not failed. This consumes the network, so no second socket is asked for.
     ///
     /// # Errors
     ///
@@ -46,8 +46,8 @@ pub trait Network {
         ensures sound { IfOk result (λ socket. Self.Socket.has_failed socket ≡ false) };
 }
 
-/// The result of running words over a network `N` of sockets `L`: the report, and the socket that they had, or `F` if
-/// none was available; `None` if they asked for none.
+/// The result of words that were run over a network `N` with sockets `L`: the report, and the socket, or `F` if none
+/// was available, or `None` if none was asked for.
 #[derive(Drop)]
 pub struct Ran<N: Drop, L: Drop, F: Drop> {
     pub report: Report,
@@ -65,10 +65,10 @@ pub struct Finished<N: Drop, L: Drop, F: Drop, R: Drop, W: Drop, E: Drop> {
     pub errors: Checked<E>,
 }
 
-/// Runs the program with the words that it was called with, or with the error of reading them. At its end it gives the
-/// writer the help that was asked for, or `errors` the message of a fault.
+/// Runs the program with the words of its call, or with the error of reading them. At the end it writes help that was
+/// asked for to the writer, or the message of a fault to `errors`.
 ///
-/// The network, the reader and the two writers are all that it has of the world.
+/// The program uses only this network, this reader and these two writers.
 pub fn run_program<N: Network + Drop, R: Read + Drop, W: Write + Drop, E: Write + Drop>(
     alloc: Global,
     typed: io::Result<env::Args>,
@@ -97,11 +97,11 @@ pub fn run_program<N: Network + Drop, R: Read + Drop, W: Write + Drop, E: Write 
     }
 }
 
-/// Runs what the words ask for, the first of which is the program's name.
+/// Runs the job that the words ask for. The first word is the program's name.
 ///
-/// If the words give no job, the report says why: help, what `clap` refuses, or their first fault; nothing is read,
-/// printed or sent then. Any other words ask for a job, which is run over the reader and the writer, and over the one
-/// socket that it asks for, if it asks for one.
+/// If the words give no job, the report says why: help was asked for, `clap` refuses the words, or they have a first
+/// fault; then nothing is read, printed or sent. All other words ask for a job, which is run over the reader, the
+/// writer, and one socket if it needs one.
 pub fn run_words<N: Network + Drop, R: Read, W: Write>(
     alloc: Global,
     words: &[&str],
@@ -120,7 +120,7 @@ pub fn run_words<N: Network + Drop, R: Read, W: Write>(
     }
 }
 
-/// Returns the socket that a tool asks for.
+/// Returns the socket that a tool needs.
 pub fn binding_for(tool: &Tool) -> Binding
     ensures { result ≡ binding_of tool.now }
 {
@@ -134,7 +134,7 @@ pub fn binding_for(tool: &Tool) -> Binding
     }
 }
 
-// Runs a job over the socket that it asks for, if it asks for one, or reports that there is none.
+// Runs a job over the socket that it needs, if it needs one, or reports that there is none.
 fn run_job<N: Network + Drop, R: Read, W: Write>(
     job: Job,
     network: N,
@@ -164,7 +164,7 @@ fn run_job<N: Network + Drop, R: Read, W: Write>(
     }
 }
 
-// Returns the socket that a job asks for, if it asks for one.
+// Returns the socket that a job needs, if it needs one.
 fn asked_by(job: &Job) -> Option<Binding>
     ensures { result ≡ asked_by job.now }
 {
@@ -175,7 +175,7 @@ fn asked_by(job: &Job) -> Option<Binding>
     }
 }
 
-// Returns a client's socket: every address of this machine; the port 0 is any free one.
+// Returns a client's socket: at every address of this machine; the port 0 is any free one.
 fn client_at(port: u16) -> Binding
     ensures { result ≡ client_at port }
 {
@@ -189,7 +189,7 @@ fn client_at(port: u16) -> Binding
     }
 }
 
-// Runs the words that the program was called with, or reports why they could not be read.
+// Runs the words of the program's call, or reports why they could not be read.
 fn run_called<N: Network + Drop, R: Read, W: Write>(
     alloc: Global,
     typed: io::Result<env::Args>,

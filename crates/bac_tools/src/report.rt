@@ -7,24 +7,24 @@ ghost use Rattle.bac_tools.specs.{unread_report, usage_status_of};
 
 use crate::telling::print_telling;
 use bac_links::{Exit, LinkFault, ToolFault};
-use bac_print::{Checked, Message, Page};
+use bac_print::{Checked, FaultMessage, Page};
 use bac_run::RunFault;
 use bac_script::{TraceEnd, TraceFault};
 use bac_words::{Telling, UsageFault};
 use std::io::{self, ErrorKind, Write};
 use thiserror::Error;
 
-/// The faults that the program reports when it could not go on.
+/// The faults that the program reports.
 #[derive(Debug, Drop, Error)]
 #[error("{}", self.telling())]
 pub enum Fault {
-    /// The words are not texts.
+    /// The words are not UTF-8.
     NoText,
-    /// The words give no job. Help that was asked for is among these.
+    /// The words give no job, for this reason. Help that was asked for is one of them.
     Usage(UsageFault),
     /// No socket was available.
     Link(LinkFault),
-    /// A tool could not go on.
+    /// A tool failed.
     Tool(ToolFault),
     /// A script stopped.
     Trace(TraceFault),
@@ -35,9 +35,9 @@ pub enum Fault {
 /// The status with which the program ends, and the fault that it reports.
 #[derive(Debug, Drop)]
 pub struct Report {
-    /// 0 to 4.
+    /// The status, 0 to 4.
     pub status: u8,
-    /// `None` if there is nothing to report.
+    /// The fault, or `None` if there is nothing to report.
     pub fault: Option<Fault>,
 }
 
@@ -61,7 +61,7 @@ impl Fault {
         ensures { told_by result ≡ fault_told self.now }
     {
         Telling::Line(match self {
-            Fault::NoText => Message::Text("words that are not UTF-8"),
+            Fault::NoText => FaultMessage::Text("words that are not UTF-8"),
             Fault::Usage(fault) => return fault.telling(),
             Fault::Link(fault) => fault.message(),
             Fault::Tool(fault) => fault.message(),
@@ -92,8 +92,8 @@ impl Report {
         }
     }
 
-    /// Gives standard output the help that was asked for, and standard error the message of any other fault. If the
-    /// help could not be written, that is the fault, and the returned report says so.
+    /// Writes help that was asked for to standard output, and the message of any other fault to standard error. If the
+    /// help could not be written, the returned report has that fault.
     pub(crate) fn told<W: Write, E: Write>(
         self,
         writer: &mut Checked<W>,
@@ -109,8 +109,8 @@ impl Report {
         report
     }
 
-    /// Returns the report after standard output was given its text, and has failed or not. If it has failed, and should
-    /// have taken help, that is the fault.
+    /// Returns the report after standard output was given its text. If the output failed and was to have help, the
+    /// report has that fault.
     pub fn after_output(self, failed: bool) -> Report
         ensures { result ≡ once_given self.fault failed self }
     {
@@ -123,7 +123,7 @@ impl Report {
     }
 }
 
-/// Gives the writer the message, as far as it accepts it.
+/// Writes the message, unless the writer fails.
 pub fn tell<W: Write>(telling: Option<Telling<'_>>, writer: &mut Checked<W>)
     ensures { IsTold W.contents writer.old writer.new (option_map told_by telling.entry) }
 {
@@ -145,7 +145,7 @@ pub fn status(answer: &Result<Exit, ToolFault>) -> u8
     }
 }
 
-/// Returns the status after a script: 0 at its end, 2 after a line that is bad or too long, 3 if reading or writing
+/// Returns the status after a script: 0 at its end, 2 after a line that is bad or too long, 3 if a read or a write
 /// failed.
 pub fn trace_status(answer: &Result<TraceEnd, TraceFault>) -> u8
     ensures { result ≡ trace_status_of answer.now }
@@ -157,8 +157,8 @@ pub fn trace_status(answer: &Result<TraceEnd, TraceFault>) -> u8
     }
 }
 
-/// Returns the status after many requests: 0 at the end of the input, as after a script if it stopped at a line or at a
-/// stream, and 3 if the link failed.
+/// Returns the status after many requests: 0 at the end of the input, 3 if the link failed, and otherwise as after a
+/// script.
 pub fn run_status(answer: &Result<TraceEnd, RunFault>) -> u8
     ensures { result ≡ run_status_of answer.now }
 {

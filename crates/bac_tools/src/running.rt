@@ -2,21 +2,21 @@
 ghost use Rattle.std.specs.Prelude.{Err, false, IsSomeAnd, true, ⊤, ◌↔◌, ◌≡◌, ◌≢◌};
 ghost use Rattle.{bac_print.specs.has_failed, bac_links.specs.Fault.{is_link_fault, is_write_fault}};
 ghost use Rattle.{bac_run.specs.Fault.{is_of_link, write_failed}, bac_words.specs.Job.{CanOpen, CanRun, IsReady}};
-ghost use Rattle.bac_tools.specs.{asked_by, BatchRuns, DevicePlays, IsSessionOf, outside, ToolRuns};
+ghost use Rattle.bac_tools.specs.{asked_by, BatchRuns, DevicePlays, IsSetupOf, outside, ToolRuns};
 ghost use Rattle.bac_tools.specs.Inner.{RunsLinked};
 
 use crate::report::Report;
 use bac_device::demo;
 use bac_links::{Exit, Link, ToolFault, run_read, run_whois, run_write, serve};
 use bac_print::Checked;
-use bac_run::{RunFault, Session, run_requests};
+use bac_run::{RunFault, Setup, run_requests};
 use bac_script::TraceEnd;
 use bac_tsm::Config;
 use bac_words::{Batch, Job, Serve, Tool};
 use std::io::{Read, Write};
 
-/// Runs a tool over its link: what is printed, what is sent, and the answer are those that the definition of the tool
-/// gives for what the link gave.
+/// Runs a tool over its link. The printed text, the sent datagrams and the answer are those of the tool's definition,
+/// for what the link received.
 pub fn run_tool<L: Link, W: Write>(
     tool: Tool,
     link: &mut L,
@@ -53,7 +53,7 @@ pub fn run_batch<L: Link, R: Read, W: Write>(
     ensures link_fault { result ≢ Err write_failed → L.has_failed link.new ≡ is_of_link result }
     ensures write_fault { (has_failed writer.new ≡ true) ↔ (result ≡ Err write_failed) }
 {
-    run_requests(session_of(batch), link, reader, writer)
+    run_requests(setup_of(batch), link, reader, writer)
 }
 
 /// Runs a job that asks for a socket over the link that it got.
@@ -79,11 +79,11 @@ pub(crate) fn run_over<L: Link, R: Read, W: Write>(
 }
 
 // Returns the settings of a batch.
-fn session_of(batch: &Batch) -> Session
+fn setup_of(batch: &Batch) -> Setup
     requires { CanOpen batch.now }
-    ensures { IsSessionOf batch.now result }
+    ensures { IsSetupOf batch.now result }
 {
-    Session {
+    Setup {
         config: Config {
             timeout: batch.timeout,
             retries: batch.retries,

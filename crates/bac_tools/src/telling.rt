@@ -3,12 +3,12 @@ ghost use Rattle.std.specs.Prelude.{codes, List, ℕ, ◌++◌};
 ghost use Rattle.{bac_print.specs.{message_text, Prints}, bac_words.specs.Telling.told_by, bac_tools.specs.AreOctetsOf};
 
 use arrayvec::ArrayVec;
-use bac_print::{Message, Page};
+use bac_print::{FaultMessage, Page};
 use bac_words::Telling;
 use std::fmt::{self, Write as _};
 use std::io::Write;
 
-// The octets of a text of `clap` that are printed at a time.
+// The number of octets of a text of `clap` that are printed at a time.
 const PIECE_ROOM: usize = 4_096;
 
 /// Prints the message.
@@ -23,7 +23,7 @@ pub(crate) fn print_telling<W: Write>(telling: Telling<'_>, page: &mut Page<'_, 
 }
 
 #[tactic(auto, using(bac_print::proofs::Printed::printing))]
-fn print_line<W: Write>(message: Message, page: &mut Page<'_, W>)
+fn print_line<W: Write>(message: FaultMessage, page: &mut Page<'_, W>)
     ensures { Prints W.contents page.old page.new (codes "bactool: " ++ (message_text message ++ codes "\n")) }
 {
     page.print(b"bactool: ");
@@ -44,7 +44,7 @@ fn print_text<W: Write>(text: &clap::Error, page: &mut Page<'_, W>)
         let _ = write!(piece, "{text}");
         let octets = piece.octets.as_slice();
         page.print(octets);
-        // A piece that is not full is the last.
+        // A piece with room left is the last one.
         if octets.len() < PIECE_ROOM || told > usize::MAX - PIECE_ROOM {
             return;
         }
@@ -52,7 +52,7 @@ fn print_text<W: Write>(text: &clap::Error, page: &mut Page<'_, W>)
     }
 }
 
-// Returns a piece of a text: the octets after this many, as far as there is room.
+// Returns a piece of a text: the octets after `passed`, as many as there is room for.
 #[derive(Drop)]
 struct Piece {
     passed: usize,

@@ -1,4 +1,4 @@
-//! Worked rows of each crate that only a call can say, and hostile octets through the reader of datagrams, the client
+//! Worked rows of each crate that scripts cannot express, and damaged octets for the reader of datagrams, the client
 //! and the device. Cases that scripts can express are in tests/program/rows.
 
 mod client;
@@ -16,14 +16,14 @@ use bac_wire::{Frame, ObjectId};
 use bac_work::begin;
 use std::process::Abort;
 
-/// 127.0.0.1:47808, which the client asks.
+/// 127.0.0.1:47808, the peer of the client's requests.
 const CONTROLLER: Peer = Peer {
     ip: 0x7f00_0001,
     port: 47808,
     route: None,
 };
 
-/// 127.0.0.1:50000, which asks the device.
+/// 127.0.0.1:50000, the sender of requests to the device.
 const ASKER: Peer = Peer {
     port: 50000,
     ..CONTROLLER
@@ -39,10 +39,10 @@ fn routed(router: Peer, network: u16, address: &[u8]) -> Peer {
 
 const READ_PROPERTY: u8 = 12;
 
-/// The body that asks for the present value of analog-input 5.
+/// The body of a request for the present value of analog-input 5.
 const BODY: [u8; 7] = [0x0c, 0x00, 0x00, 0x00, 0x05, 0x19, 0x55];
 
-/// Returns the datagram that the client sends for it under this invoke id.
+/// Returns the datagram in which the client sends `BODY` with this invoke id.
 fn request(invoke_id: u8) -> [u8; 17] {
     [
         0x81, 0x0a, 0x00, 0x11, 0x01, 0x04, 0x00, 0x05, invoke_id, 0x0c, 0x0c, 0x00, 0x00, 0x00,
@@ -50,7 +50,7 @@ fn request(invoke_id: u8) -> [u8; 17] {
     ]
 }
 
-/// Returns the octets that a text of hexadecimal digits spells. Any other text ends the test.
+/// Returns the octets of a text of hexadecimal digits. Any other text ends the test.
 fn octets<H: Abort + AllocGlobal>(rt: &H, text: &str) -> Vec<u8> {
     match hex::decode(rt.alloc(), text) {
         Ok(octets) => octets,
@@ -67,14 +67,14 @@ const USUAL: Config = Config {
     retries: 3,
 };
 
-/// Returns a client that has asked the controller, under the ticket 0 and the invoke id 1.
+/// Returns a client with one request to the controller open, with the ticket 0 and the invoke id 1.
 fn asking() -> Client {
     let mut client = Client::new(USUAL, 0);
     let _ = client.submit(CONTROLLER, READ_PROPERTY, &BODY);
     client
 }
 
-/// Returns whether the client is as it was when it had asked.
+/// Returns whether the client is as `asking` returned it.
 fn is_asking(client: &Client) -> bool {
     let sent = match client.to_send(0) {
         Some((peer, octets)) => peer == CONTROLLER && octets == request(1).as_slice(),
@@ -103,7 +103,7 @@ fn is_fresh(device: &Device) -> bool {
     true
 }
 
-/// Returns whether the device is silent, leaves the frame empty, and is like a fresh one.
+/// Returns whether the device is silent, leaves the frame empty, and stays like a fresh one.
 fn is_silent(device: &mut Device, datagram: &[u8]) -> bool {
     let mut frame = Frame::new();
     let to = device.answer(ASKER, datagram, &mut frame, &mut begin());

@@ -27,7 +27,7 @@ invoke_id_is : (request : Request) (read : Option Answer)
 unfolding is_answer_to
 invoke_id_is = grind (arith, false≢true)
 
--- The rules that a client goes by have this.
+-- The rules of a client satisfy AnswersByInvokeId.
 pub by_invoke_id : (timeout retries : ℕ) → AnswersByInvokeId (client_rules timeout retries)
 by_invoke_id _ _ a b peer bytes h k = cc (invoke_id_is a _ h, invoke_id_is b _ k)
 
@@ -35,7 +35,7 @@ by_invoke_id _ _ a b peer bytes h k = cc (invoke_id_is a _ h, invoke_id_is b _ k
 pub few_open : table_size ≤ 255
 few_open = omega arith
 
--- ---- the test of two stations is true exactly where they are one
+-- ---- the test of two stations is true exactly if they are equal
 
 pub same_station_is : (a b : Station) → same_station a b ≡ true → a ≡ b
 unfolding same_station
@@ -57,7 +57,7 @@ agrees : (request : Request) (answer : Answer) (outcome : Outcome) → outcome_o
 unfolding is_answer_to
 agrees = grind (arith, same_station_is)
 
--- The answer that names the request's service, or none, gives its outcome.
+-- An answer that names the request's service, or none, gives its outcome.
 is_to : (request : Request) (service : Option ℕ) (outcome : Outcome)
     → option_map_or (λ service. request.service == service) service true ≡ true → outcome_of_answer request
     (record { peer = request.peer; invoke_id = request.invoke_id; service = service; outcome = outcome }) ≡ Some outcome
@@ -71,7 +71,7 @@ error_ends _ _ _ None e =
     failed_unreadably _ (λ class code h. none-some (class, code) (sym e ∙ (error_is _ _).1 h))
 error_ends _ _ _ (Some (class, code)) e = failed _ _ code ((error_is _ _).0 e)
 
--- What the table gives is what the relation says.
+-- If the table gives an outcome, the relation has it too.
 ends : (request : Request) (peer : Station) (message : Message) (outcome : Outcome) →
     option_and_then (outcome_of_answer request) (answer_in_apdu peer message) ≡ Some outcome →
     (peer ≡ request.peer) × Ends request.invoke_id request.service message outcome
@@ -87,17 +87,17 @@ ends _ _ (reject id reason) _ h = let a = agrees _ _ _ h in (a.peer, rw (a.invok
 ends _ _ (abort true id reason) _ h = let a = agrees _ _ _ h in (a.peer, rw (a.invoke_id, sym a.gives) (aborted _))
 ends _ _ _ _ h = cc
 
--- The request's own service is named.
+-- A service equals itself.
 own : (request : Request) → (request.service == request.service) ≡ true
 own _ = eq-eqb _ _ refl
 
--- An Error that no class and code begin.
+-- If a body does not begin with a class and a code, an Error with this body has none.
 none_read : (body : List ℕ) → ((class code : ℕ) → IsErrorBody body (class, code) → ⊥) → (read : Option (ℕ × ℕ))
     → error_of body ≡ read → read ≡ None
 none_read _ _ None e = refl
 none_read _ unread (Some (class, code)) e = absurd (unread _ code ((error_is _ _).0 e))
 
--- What the relation says is what the table gives.
+-- If the relation has an outcome, the table gives it too.
 ended : (request : Request) (message : Message) (outcome : Outcome)
     → Ends request.invoke_id request.service message outcome →
     option_and_then (outcome_of_answer request) (answer_in_apdu request.peer message) ≡ Some outcome
@@ -130,7 +130,7 @@ pub answered : (request : Request) (from : Station) (datagram : List ℕ) (outco
 unfolding answer_in_datagram
 answered _ _ _ _ a = rw ((carried_is _ _ _).1 a.carried, (apdu_is _ _).1 a.laid_out, a.peer) (ended _ _ _ a.ends)
 
--- ---- what the calls answer, turned into notes: each send is that of the open request with the ticket
+-- ---- the answers of the calls as notes: each send is that of the open request with the ticket
 
 pub pairs_head : {A : Type 0} (R : A → A → Type 0) (x : A) (xs : List A) → AllPairs R (x ∷ xs) → All (R x) xs
 pairs_head R x xs h k d lt = h zero (suc k) d (omega arith) (omega arith)
@@ -143,11 +143,11 @@ pub pairs_map : {A B : Type 0} (R : B → B → Type 0) (f : A → B) (xs : List
 pairs_map R f [] h = λ i j d lt below. absurd (omega arith)
 pairs_map R f (x ∷ xs) h = λ i j d lt below. grind (arith, get_or-map, length-map, h i j x)
 
--- Each has a greater ticket than those before it.
+-- Each request has a greater ticket than those before it.
 abbrev pub TicketsRise : List Waiting → Type 0
 TicketsRise ws = AllPairs (λ v w. v.request.ticket < w.request.ticket) ws
 
--- The tickets of these differ from t.
+-- The ticket of this request is not t.
 abbrev NotTicket : ℕ → Waiting → Type 0
 NotTicket t w = w.request.ticket ≡ t → ⊥
 
@@ -170,13 +170,13 @@ flat_each {A} h f k (x ∷ xs) each =
     grind (arith, flat_map-append, All-head P x xs, flat_each h f k xs (All-tail P x xs each))
 
 module _ (rules : Rules) where
-  -- A fact that holds of the kept state of a request holds of each.
+  -- If a property holds of a request that is kept after a tick, it holds of each kept request.
   pub kept_of_one : (P : Waiting → Type 0) (now : ℕ) (w : Waiting) → (is_due rules now w ≡ false → P w)
-      → P (record { request = w.request; base = now; count = suc w.count }) → All P (kept rules now w)
+      → P (record { request = w.request; last_sent = now; resends = suc w.resends }) → All P (kept rules now w)
   kept_of_one = grind arith
 
   pub kept_of_all : (P : Waiting → Type 0) (now : ℕ)
-      → ((w : Waiting) → P w → P (record { request = w.request; base = now; count = suc w.count })) →
+      → ((w : Waiting) → P w → P (record { request = w.request; last_sent = now; resends = suc w.resends })) →
       (ws : List Waiting) → All P ws → All P (flat_map (kept rules now) ws)
   kept_of_all P _ _ [] h = All-nil P
   kept_of_all P now again (w ∷ ws) h =
@@ -184,7 +184,7 @@ module _ (rules : Rules) where
       All-append P _ _ (kept_of_one P now w (λ f. first) (again w first))
       (kept_of_all P now again ws (All-tail P w ws h))
 
-  -- A search among those that are kept finds what is kept of the one with the ticket.
+  -- A search among the kept requests finds the one with the ticket.
   abbrev FoundAmong : ℕ → List Waiting → Waiting → Type 0
   FoundAmong now ws w =
       find (by_ticket w.request.ticket) (flat_map (kept rules now) ws)
@@ -201,7 +201,7 @@ module _ (rules : Rules) where
       find_past _ _ _ (kept_of_one (NotTicket _) now w (λ f q. omega arith) (λ q. omega arith))
       ∙ found_each now ws (pairs_tail R w ws rise) k d lt)
 
-  -- The notes on a tick are those of each request's turn.
+  -- The notes on a tick are the notes on each request in turn.
   pub tick_told : (now : ℕ) (after : State) (ws : List Waiting) → after.waiting ≡ flat_map (kept rules now) ws
       → TicketsRise ws →
       flat_map (due_notes after) (flat_map (due_answer rules now) ws) ≡ flat_map (turn_notes rules now) ws
@@ -234,7 +234,7 @@ ticked = grind arith
 pub timely-filter : (p : Waiting → Bool) (clock next : ℕ) (ws : List Waiting) → IsTimely clock next ws
     → IsTimely clock next (filter p ws)
 timely-filter p clock next ws (tickets, sent) =
-    (All-filter p (λ w. w.request.ticket < next) ws tickets, All-filter p (λ w. w.base ≤ clock) ws sent)
+    (All-filter p (λ w. w.request.ticket < next) ws tickets, All-filter p (λ w. w.last_sent ≤ clock) ws sent)
 
 module _ (clock next : ℕ) (ws : List Waiting) (t : IsTimely clock next ws) (now later : ℕ) (is : later ≡ max now clock)
   where
@@ -242,10 +242,10 @@ module _ (clock next : ℕ) (ws : List Waiting) (t : IsTimely clock next ws) (no
         → IsTimely later next after
     timely-tick rules _ to = let (tickets, _) = t in rw to (
       kept_of_all rules (λ w. w.request.ticket < next) _ (λ w lt. lt) ws tickets,
-      kept_of_all rules (λ w. w.base ≤ later) _ (λ w le. omega arith) ws (grind arith),
+      kept_of_all rules (λ w. w.last_sent ≤ later) _ (λ w le. omega arith) ws (grind arith),
     )
 
--- ---- what a datagram answers and leaves
+-- ---- the answer of a datagram, and the requests that stay
 
 -- The ticket of a request, with an outcome.
 abbrev ended_with : Outcome → Waiting → ℕ × Outcome
@@ -273,7 +273,7 @@ delivers_nothing : (f : Request → Option Outcome) → ((r : Request) → f r �
 delivers_nothing f _ [] = refl
 delivers_nothing f none (w ∷ ws) = grind (arith, delivers_nothing f none ws)
 
--- What a datagram answers and leaves.
+-- The answer of a datagram, and the client after it.
 abbrev Delivers : Client → Station → List ℕ → Option (ℕ × Outcome) → Client → Type 0
 Delivers old peer bytes = TakesStep old (datagram (rules_of old) old.state peer bytes)
 
@@ -291,7 +291,7 @@ pub no_answer : (client : Client) (peer : Station) (bytes : List ℕ) → answer
     → Delivers client peer bytes None client
 no_answer _ _ _ e = delivers_by _ _ _ _ _ (delivers_nothing _ (λ r. rw e) _)
 
--- At most one request, by its ticket.
+-- If at most one request ends, it is listed by its ticket.
 few_of_one : (ws : List Waiting) → (ended : Option ℕ) → option_to_list ended ≡ map ticket_in ws → (outcome : Outcome) →
     (length ws ≤ 1) × (option_map (ended_with outcome) (slice_get ws 0) ≡ option_map (λ t. (t, outcome)) ended)
 few_of_one [] None _ _ = (omega arith, refl)
@@ -322,8 +322,8 @@ opened_next : (rules : Rules) (state : State) (peer : Station) (service : ℕ) (
 unfolding next_invoke_id refusal_of
 opened_next = grind (arith, nat_tests)
 
--- A request is opened under the next ticket and the next invoke id if there is room and no open request has that id; so
--- also if no request is open.
+-- A request is opened with the next ticket and the next invoke id if there is room and no open request has that id, in
+-- particular if no request is open.
 pub opens : {known client after : Client} {answer : Result ℕ SubmitFault}
     (peer : Station) (service : ℕ) (body : List ℕ) → client ≡ known
     → TakesStep client (submit (rules_of client) client.state peer service body) answer after
@@ -338,7 +338,7 @@ opens {known} _ _ _ is done short room left free =
     let now = rw is at done in
     rw (opened_next (rules_of _) known.state _ _ _ short room left free) at now
 
--- No two of these requests have one invoke id.
+-- No two of these requests have the same invoke id.
 abbrev pub AreApart : List Waiting → Type 0
 AreApart [] = ⊤
 AreApart (w ∷ ws) = (list_any (nat_eq w.request.invoke_id) (map invoke_id_in ws) ≡ false) × AreApart ws
@@ -357,7 +357,7 @@ module _ (f : Request → Option Outcome)
   others [] _ = refl
   others (w ∷ ws) apart = grind (arith, none_answered, others ws)
 
--- If a datagram was heard, a tick has the same notes on the requests that it does not answer as before.
+-- After a datagram, a tick has the same notes on each request that the datagram does not answer.
 pub told_unless_answered : {known client after : Client} {told : List DueEntry}
     (from : Station) (heard : List ℕ) (now : ℕ) → client ≡ known → AreApart known.state.waiting
     → after ≡ keeping client (datagram (rules_of client) client.state from heard).after

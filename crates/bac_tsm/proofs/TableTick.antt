@@ -13,14 +13,14 @@ use Rattle.std.proofs.lemmas.List.{Sorted.sum_by-IsPermutation, Sums.{count_by-l
 use Rattle.std.proofs.lemmas.Option.{get_or_from_slice_get, slice_get_within}
 use Rattle.std.specs.List.{list_any, refill, Sorted.{IsNonDecreasingBy, IsPermutation}}
 use Rattle.bac_tsm.{proofs.Calls.{kept_of_one, pairs_map, TicketsRise}, specs.{AreBySend, due_answer, due_entry}}
-use Rattle.bac_tsm.specs.{DueEntry, held_at, is_due, IsTable, IsWhole, kept, nothing, open_slots, Resend, Rules}
+use Rattle.bac_tsm.specs.{DueEntry, held_at, is_due, IsTable, IsInOrder, kept, nothing, open_slots, Resend, Rules}
 use Rattle.bac_tsm.specs.{table_size, times_of_slot, declared.due.DueEntry.TheVariants.TimedOut as Expired}
 use Rattle.bac_tsm.specs.{Inner.{IsPassed, IsRankOf, Leaves, sent_at, ticket_of, waiting_in}, Machine.Waiting}
 use TableLaws.*
 
--- ---- a list whose keys rise is what any sort by the key makes of its elements
+-- ---- a list whose keys rise is the result of any sort of its elements by the key
 
--- How many pass a test, where the first n do, and where only they may.
+-- The number of elements that pass a test, if the first n pass, and if only those may pass.
 module _ {A : Type 0} (p : A → Bool) (d : A) where
   at_least : (xs : List A) (n : ℕ) → n ≤ length xs → ((i : ℕ) → i < n → p (get_or xs i d) ≡ true) → n ≤ count_by p xs
   at_least (x ∷ xs) (suc n) le all =
@@ -41,7 +41,7 @@ module _ {A : Type 0} (key : A → ℕ) where
   abbrev Rise : List A → Type 0
   Rise = AllPairs (λ a b. key a < key b)
 
-  -- As many keys are lower than one in either list, and as many no higher, so it stands at one slot in both.
+  -- If keys rise in xs, any sorted permutation of xs equals xs.
   pub sorted_rising : (xs ys : List A) → IsPermutation xs ys → Rise xs → IsNonDecreasingBy key ys → ys ≡ xs
   sorted_rising xs ys moved rise up = sym (same_lists xs ys (sym (length_permutation xs ys moved)) here)
     where
@@ -60,7 +60,7 @@ module _ {A : Type 0} (key : A → ℕ) where
           let more = sum_by-IsPermutation (λ y. if up_to y then 1 else 0) xs ys moved in
           let same : j ≡ k = omega arith in sym (rw same at is)
 
--- A sort in slot leaves what it sorts to.
+-- A list that is filled anew with as many entries equals these entries.
 pub refilled : (xs ys : List DueEntry) → length ys ≡ length xs → refill (length xs) xs ys ≡ ys
 refilled = grind (arith, drop_all, append-nil, take_all)
 
@@ -71,20 +71,20 @@ module _ (rules : Rules) (clock : ℕ) where
   abbrev pub kept_of : List Waiting → List Waiting
   kept_of = flat_map (kept rules clock)
 
-  -- Some of the requests that were due have gone on to the clock: these are all the entries, those so far, and what is
-  -- kept.
+  -- If some of the due requests are brought to the clock, their entries and the open requests agree with the whole
+  -- tick.
   pub record HasTicked (all : List DueEntry) (kept_in_all : List Waiting) (entries : List DueEntry) (ws : List Waiting)
       : Type 0 where
     pub told : IsPermutation all (entries ++ due_of ws)
     pub stay : kept_of ws ≡ kept_in_all
-    pub past : All (λ w. w.base ≤ clock) ws
+    pub past : All (λ w. w.last_sent ≤ clock) ws
 
   pub nothing_due : (ws : List Waiting) → list_any (is_due rules clock) ws ≡ false → (due_of ws ≡ [])
       × (kept_of ws ≡ ws)
   nothing_due [] _ = (refl, refl)
   nothing_due (w ∷ ws) young = grind (arith, nothing_due ws)
 
-  -- A request that was sent now is not due.
+  -- A request that was just sent is not due.
   again : 0 < rules.timeout → (w : Waiting) → is_due rules clock w ≡ true →
       (due_of (kept rules clock w) ≡ []) × (kept_of (kept rules clock w) ≡ kept rules clock w)
   again = grind (arith, nothing_due, kept_of_one)
@@ -103,7 +103,7 @@ module _ (rules : Rules) (clock : ℕ) where
 
   module _ (some : 0 < rules.timeout) {all : List DueEntry} {kept_in_all : List Waiting} {entries : List DueEntry}
       {ws : List Waiting} (h : HasTicked all kept_in_all entries ws) where
-    -- One more has gone on.
+    -- One more request is brought to the clock.
     one_more : (entry : DueEntry) (after : List Waiting) (rank : ℕ) (w : Waiting) → rank < length ws
         → get_or ws rank nothing ≡ w → is_due rules clock w ≡ true → entry ≡ due_entry rules w →
         after ≡ take rank ws ++ (kept rules clock w ++ drop (suc rank) ws)
@@ -115,10 +115,11 @@ module _ (rules : Rules) (clock : ℕ) where
       stay = simp (to, flat_map-append, stays)
           (simp flat_map-append at (ap kept_of (sym split) ∙ h.stay));
       past =
-          rw to (All-append (λ v. v.base ≤ clock) _ _ (All-take (λ v. v.base ≤ clock) _ ws h.past)
-          (All-append (λ v. v.base ≤ clock) _ _
-          (kept_of_one rules (λ v. v.base ≤ clock) _ w (λ young. absurd (false≢true (sym young ∙ due))) (omega arith))
-          (All-drop (λ v. v.base ≤ clock) (suc _) ws h.past)));
+          rw to (All-append (λ v. v.last_sent ≤ clock) _ _ (All-take (λ v. v.last_sent ≤ clock) _ ws h.past)
+          (All-append (λ v. v.last_sent ≤ clock) _ _
+          (kept_of_one rules (λ v. v.last_sent ≤ clock) _ w (λ young. absurd (false≢true (sym young ∙ due)))
+          (omega arith))
+          (All-drop (λ v. v.last_sent ≤ clock) (suc _) ws h.past)));
     }
       where
         split : ws ≡ take rank ws ++ (w ∷ drop (suc rank) ws)
@@ -135,7 +136,7 @@ module _ (rules : Rules) (clock : ℕ) where
         → HasTicked all kept_in_all (entries ++ entry ∷ []) after
     is_passed _ _ (rank, lt, due, is, to) = one_more _ _ _ _ lt refl due is to
 
-    -- There is room for an entry, and fewer requests are due then.
+    -- There is room for one more entry, and fewer requests are due after it.
     pub record LeavesFewer (after : List Waiting) : Type 0 where
       pub room : length entries < length all
       pub fewer : length (due_of after) < length (due_of ws)
@@ -147,7 +148,7 @@ module _ (rules : Rules) (clock : ℕ) where
         let one = length-append entries (entry ∷ []) in
         record { room = omega arith; fewer = omega arith }
 
-    -- All have their notes, and the kept list is that of all.
+    -- All due requests have entries, and the kept requests are those of the whole tick.
     pub record IsDone : Type 0 where
       pub told : IsPermutation all entries
       pub kept : ws ≡ kept_in_all
@@ -155,28 +156,28 @@ module _ (rules : Rules) (clock : ℕ) where
     pub all_passed : list_any (is_due rules clock) ws ≡ false → IsDone
     all_passed = grind (arith, nothing_due, append-nil)
 
--- ---- a request that is due goes on, and where the first to have been sent is not due, none is
+-- ---- a request that is due is brought to the clock; if the first one sent is not due, none is
 
 younger : (timeout clock early late : ℕ) → nat_le timeout (clock - early) ≡ false → early ≤ late
     → nat_le timeout (clock - late) ≡ false
 younger = grind arith
 
--- If some request is due, some was sent.
+-- If some request is due, the list of sends is not empty.
 pub some_sent : {slots : List Waiting} {invoke_ids : List (Option ℕ)} {order tickets sends : List ℕ}
-    → IsWhole slots invoke_ids order tickets sends → (ws : List Waiting) → waiting_in slots order tickets ≡ ws
+    → IsInOrder slots invoke_ids order tickets sends → (ws : List Waiting) → waiting_in slots order tickets ≡ ws
     → (rules : Rules) (clock : ℕ) → list_any (is_due rules clock) ws ≡ true → 0 < length sends
 some_sent = grind arith
 
 module _ (rules : Rules) (clock : ℕ) (w : Waiting) where
-  is_again : (ticket : ℕ) → due_entry rules w ≡ Resend ticket → nat_lt w.count rules.retries ≡ true
+  is_again : (ticket : ℕ) → due_entry rules w ≡ Resend ticket → nat_lt w.resends rules.retries ≡ true
   is_again = grind arith
 
-  is_over : (ticket : ℕ) → due_entry rules w ≡ Expired ticket → (nat_lt w.count rules.retries ≡ false)
+  is_over : (ticket : ℕ) → due_entry rules w ≡ Expired ticket → (nat_lt w.resends rules.retries ≡ false)
       × (w.request.ticket ≡ ticket)
   is_over = grind arith
 
 module _ {slots : List Waiting} {invoke_ids : List (Option ℕ)} {order tickets sends : List ℕ}
-    (whole : IsWhole slots invoke_ids order tickets sends) (ws : List Waiting)
+    (whole : IsInOrder slots invoke_ids order tickets sends) (ws : List Waiting)
     (view : waiting_in slots order tickets ≡ ws) (slot : ℕ) (front : Some slot ≡ slice_get sends 0) where
   abbrev t : IsTable slots invoke_ids order tickets
   t = whole.table
@@ -209,14 +210,14 @@ module _ {slots : List Waiting} {invoke_ids : List (Option ℕ)} {order tickets 
     none_due : is_due rules clock w ≡ false → All (λ v. is_due rules clock v ≡ false) ws
     none_due young =
         rw view at (all_opened q (λ v. is_due rules clock v ≡ false)
-        (λ k e lt. younger _ _ (get_or (held_at _ sends) 0 e).base (get_or _ k e).base (rw (here e) young)
+        (λ k e lt. younger _ _ (get_or (held_at _ sends) 0 e).last_sent (get_or _ k e).last_sent (rw (here e) young)
         (later k e lt)))
       where
         here : (e : Waiting) → get_or (held_at slots sends) 0 e ≡ w
         here e = get_or_default (held_at _ sends) 0 e _ (rw length-map sent) ∙ held_got _ _ 0 _ sent first ∙ sym reads
 
         later : (k : ℕ) (e : Waiting) → k < length (held_at slots sends)
-            → (get_or (held_at slots sends) 0 e).base ≤ (get_or (held_at slots sends) k e).base
+            → (get_or (held_at slots sends) 0 e).last_sent ≤ (get_or (held_at slots sends) k e).last_sent
         later k e lt = grind (arith, q.by_send 0 k e)
 
     pub some_due : is_due rules clock w ≡ list_any (is_due rules clock) ws
@@ -229,7 +230,7 @@ module _ {slots : List Waiting} {invoke_ids : List (Option ℕ)} {order tickets 
       due_there : is_due rules clock (get_or ws i nothing) ≡ true
       due_there = cc (read, some_due)
 
-      pub sent_again : All (λ v. v.base ≤ clock) ws → (ticket : ℕ) → due_entry rules w ≡ Resend ticket
+      pub sent_again : All (λ v. v.last_sent ≤ clock) ws → (ticket : ℕ) → due_entry rules w ≡ Resend ticket
           → (changed : List Waiting) (rest after : List ℕ) →
           changed ≡ set slots slot (sent_at clock (get_or slots slot nothing)) → rest ≡ remove sends 0
           → after ≡ rest ++ slot ∷ []

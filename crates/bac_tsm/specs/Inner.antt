@@ -1,4 +1,4 @@
--- What only private clauses say. No promise of this crate rests on it.
+-- Definitions that only private contracts use. No promise of this crate rests on them.
 pub mod Answers
 pub mod Client
 pub mod Machine

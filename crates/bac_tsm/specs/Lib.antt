@@ -33,7 +33,7 @@ unfoldable pub use Rule.*
 unfoldable pub use Waiting.*
 unfoldable pub use Table.*
 unfoldable pub use Progress.*
-pub use Rattle.bac_tsm.specs.Client.{client_rules, keeping, outcome_seen, rules_of}
+pub use Rattle.bac_tsm.specs.Client.{client_rules, keeping, new_client, outcome_seen, rules_of, step_of}
 pub use Rattle.bac_tsm.specs.declared.{client.SubmitFault.SubmitFault, due.DueEntry.{DueEntry, TheVariants.Resend}}
 pub use Rattle.bac_tsm.specs.Events.{Ask, Data, Done, Dropped, Event, Note, Outcome, Refused, Rules, Sent, Simple, Tick}
 pub use Rattle.bac_tsm.specs.{Laws.{outputs, state_at}, Lookahead.{Accepted, clock, end}}

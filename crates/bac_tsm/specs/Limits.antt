@@ -1,4 +1,4 @@
--- The limit of a client. The code has a constant of the same number.
+-- The limit of a client. The code has a constant with the same number.
 use Rattle.std.specs.Prelude.{ℕ}
 
 -- The requests that may be open at once.

@@ -27,10 +27,10 @@ abbrev pub is_tick : Option Event → Bool
 is_tick (Some (Tick now)) = true
 is_tick _ = false
 
--- There is such a position, and it comes before i.
+-- A position is given, and it comes before i.
 abbrev pub has_come : ℕ → Option ℕ → Bool
 has_come i position = option_map_or (λ j. nat_lt j i) position false
 
--- Position i comes before this one, or there is none.
+-- Position i comes before the given one, or none is given.
 abbrev pub is_before : ℕ → Option ℕ → Bool
 is_before i j = option_map_or (nat_lt i) j true

@@ -9,7 +9,7 @@ pub record Accepted : Type 0 where
   pub position : ℕ
   pub request : Request
 
--- If a request ends, and the outcome of the answer that ends it; no outcome is a timeout.
+-- The position at which a request ends, and the outcome of the answer that ends it. A timeout has no outcome.
 pub record End : Type 0 where
   pub position : ℕ
   pub outcome : Option Outcome
@@ -20,7 +20,7 @@ earlier_end None late = late
 earlier_end (Some early) None = Some early
 earlier_end (Some early) (Some late) = if nat_lt early.position late.position then Some early else Some late
 
--- The outcome that the event gives to a request, if it is an answer to it.
+-- The outcome that the event gives to a request, if it answers the request.
 abbrev pub outcome_of_event : Rules → Request → Option Event → Option Outcome
 outcome_of_event rules request (Some (Data peer bytes)) = rules.outcome_of request peer bytes
 outcome_of_event rules request _ = None
@@ -33,22 +33,22 @@ last_invoke_id requests = fold (λ last a. a.request.invoke_id) 0 requests
 abbrev pub invoke_ids_of : List Accepted → List ℕ
 invoke_ids_of requests = map (λ a. a.request.invoke_id) requests
 
--- The request, where there is no reason to refuse it.
+-- The request, unless there is a reason to refuse it.
 abbrev pub unless_refused : Option SubmitFault → Accepted → Result Accepted SubmitFault
 unless_refused refusal request = option_map_or Err refusal (Ok request)
 
--- The note on an end, if it is at position i: the outcome, or that the time ran out where there is none.
+-- The note on an end at position i: its outcome, or a timeout if it has no outcome.
 abbrev pub end_notes : ℕ → Request → Option End → List Note
 end_notes i request None = []
 end_notes i request (Some e) =
     if nat_eq e.position i then option_map_or (Done request.ticket) e.outcome (TimedOut request.ticket) ∷ [] else []
 
--- These notes, or that the datagram was dropped.
+-- These notes, or the note that the datagram was dropped if there are none.
 abbrev pub or_dropped : List Note → List Note
 or_dropped [] = Dropped ∷ []
 or_dropped (note ∷ notes) = note ∷ notes
 
--- The note on what an Ask comes to.
+-- The note on the result of an Ask.
 abbrev pub ask_notes : Result Accepted SubmitFault → List Note
 ask_notes (Ok a) = Sent a.request.ticket a.request.peer a.request.octets ∷ []
 ask_notes (Err why) = Refused why ∷ []

@@ -18,18 +18,19 @@ use std::marker::Model;
 /// Why a request was not accepted.
 #[derive(Clone, Copy, Debug, PartialEq, Eq)]
 pub enum SubmitFault {
-    /// The service body has more than [`LONGEST_BODY`] octets: the caller's fault.
+    /// The service body has more than [`LONGEST_BODY`] octets. This is the caller's fault.
     TooLong,
-    /// [`PLACES`] requests are open: nobody's fault. There is room again once one of them ends.
+    /// [`PLACES`] requests are open. This is nobody's fault, and there is room again once one of them ends.
     TableFull,
-    /// The next ticket would be `u64::MAX`: the fault of whoever chose the first ticket. Only a new client has more.
+    /// The next ticket would be `u64::MAX`, because the caller chose so high a first ticket. Only a new client has more
+    /// tickets.
     TicketsSpent,
 }
 
 /// A client: its settings, its clock, and the requests that are open.
 ///
-/// It has a fixed size, takes no memory, and sends nothing itself: after a [`Client::submit`] that answers a ticket,
-/// and at each [`DueEntry::Resend`] of a tick, the caller sends what [`Client::to_send`] lends.
+/// A client has a fixed size, allocates no memory, and sends nothing itself. The caller sends what [`Client::to_send`]
+/// lends: after a [`Client::submit`] that returns a ticket, and at each [`DueEntry::Resend`] of a tick.
 #[derive(Drop)]
 pub struct Client {
     config: Config,
@@ -52,13 +53,13 @@ impl Model for Client {
       waiting = c.table;
     }) };
 
-    // Of the open requests the tickets are below the next one, and each was last sent before now, or now.
+    // Each open request has a ticket below the next one, and was last sent at the present clock or before.
     ghost invariant = { λ c. All (λ w. w.request.ticket < c.next_ticket) c.table
-        × All (λ w. w.base ≤ c.clock) c.table };
+        × All (λ w. w.last_sent ≤ c.clock) c.table };
 }
 
 impl Client {
-    /// A client with no request open, whose clock is 0. Its tickets count up from the first.
+    /// A client with no request open, whose clock is 0. Its tickets count up from `first_ticket`.
     pub fn new(config: Config, first_ticket: u64) -> Self
         ensures { result ≡ client_of config (initial first_ticket) }
     {
@@ -71,12 +72,12 @@ impl Client {
         }
     }
 
-    /// Opens a request for this service (clause 21, BACnetConfirmedServiceChoice) with this body, and answers its
-    /// ticket. It gets the first invoke id after the last one given that no open request has. The caller is to send it
-    /// at once.
+    /// Opens a request for this service (clause 21, BACnetConfirmedServiceChoice) with this body, and returns its
+    /// ticket. The request gets the first free invoke id after the one given last. The caller sends the request at
+    /// once.
     ///
-    /// A request that is refused leaves the client as it was. The first fault in the order of [`SubmitFault`] is
-    /// answered.
+    /// A request that is refused leaves the client as it was. If several faults apply, the first in the order of
+    /// [`SubmitFault`] is returned.
     #[tactic(auto, using(crate::proofs::invoke_id_unused), unfolding(crate::specs::refusal_of))]
     pub fn submit(&mut self, peer: Peer, service: u8, body: &[u8]) -> Result<u64, SubmitFault>
         ensures { TakesStep self.old
@@ -100,7 +101,8 @@ impl Client {
         Ok(ticket)
     }
 
-    /// Ends the open request that the datagram answers. None if it answers none, and then nothing changes.
+    /// Ends the open request that the datagram answers. Returns None if the datagram answers none, and then nothing
+    /// changes.
     pub fn datagram<'d>(&mut self, peer: Peer, bytes: &'d [u8]) -> Option<Ended<'d>>
         ensures { TakesStep self.old (datagram (rules_of self.old) self.old.state (station peer) bytes.now)
             (option_map end_seen result) self.new }
@@ -113,8 +115,8 @@ impl Client {
         })
     }
 
-    /// Moves the clock on to `now`, in milliseconds; it never goes back. Each request whose timeout has passed since it
-    /// was last sent is to be sent again, or ends where it was sent again as often as the settings allow.
+    /// Moves the clock on to `now`, in milliseconds; the clock never goes back. Each request whose timeout has passed
+    /// since it was last sent is due: it is sent again, or ends if it was sent again as often as the settings allow.
     #[inline]
     pub fn tick(&mut self, now: u64) -> Due
         ensures { TakesStep self.old (tick (rules_of self.old) self.old.state now) result self.new }
@@ -131,7 +133,7 @@ impl Client {
         }
     }
 
-    /// The peer of the request with this ticket, and its datagram. None if no open request has the ticket.
+    /// Returns the peer of the request with this ticket, and its datagram, or None if no open request has the ticket.
     pub fn to_send(&self, ticket: u64) -> Option<(Peer, &[u8])>
         ensures { option_map (λ to. (station to.0, to.1.now)) result ≡ to_send self.now.state ticket }
     {
@@ -139,7 +141,7 @@ impl Client {
         Some((open.peer, open.datagram.as_slice()))
     }
 
-    /// The note that the request with this ticket is sent. None if no open request has the ticket.
+    /// Returns the note that the request with this ticket is sent, or None if no open request has the ticket.
     pub fn sent(&self, ticket: u64) -> Option<Note<'_>>
         ensures { option_to_list (option_map note_seen result) ≡ sent self.now.state ticket }
     {
@@ -147,7 +149,7 @@ impl Client {
         Some(Note::Sent(ticket, to, octets))
     }
 
-    /// The note on an entry of a tick: that the request is sent again, or has ended.
+    /// Returns the note on an entry of a tick: the request is sent again, or has ended.
     pub fn due(&self, entry: DueEntry) -> Option<Note<'_>>
         ensures { option_to_list (option_map note_seen result) ≡ due_notes self.now.state entry }
     {
@@ -165,7 +167,7 @@ impl Client {
         self.table.len()
     }
 
-    /// The invoke id of the request with this ticket. None if no open request has the ticket.
+    /// Returns the invoke id of the request with this ticket, or None if no open request has the ticket.
     pub fn number_of(&self, ticket: u64) -> Option<u8>
         ensures { result ≡ option_map (λ w. w.request.invoke_id) (open_under self.now.state ticket) }
     {
@@ -173,14 +175,14 @@ impl Client {
         Some(open.invoke_id)
     }
 
-    /// The greatest time that a tick told, 0 before the first.
+    /// Returns the greatest time that was given to a tick, or 0 before the first tick.
     pub fn clock(&self) -> u64
         ensures { result ≡ self.now.state.clock }
     {
         self.clock
     }
 
-    // The first reason against a request with this body.
+    // Returns the first reason to refuse a request with this body.
     #[tactic(auto, unfolding(crate::specs::refusal_of))]
     fn refusal(&self, body: &[u8]) -> Option<SubmitFault>
         ensures { result

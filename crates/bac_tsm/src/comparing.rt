@@ -1,4 +1,4 @@
-//! What holds of the public types and constants: the limits that the code names, clones, and what `==` compares. Each
+//! Laws of the public types and constants: the limits that the code names, clones, and what `==` compares. Each
 //! function has an empty body, and its clauses are the laws.
 
 ghost use Rattle.std.specs.Prelude.{◌≡◌};
@@ -11,12 +11,12 @@ use crate::event::{Event, Note};
 use crate::limits::PLACES;
 use crate::outcome::{Ended, Outcome};
 
-/// The limit that the code names is that of the definitions.
+/// The limit in the code is the limit in the definitions.
 pub fn constants_are_limits()
     ensures places { PLACES ≡ table_size }
 {}
 
-/// A clone is what it was cloned from, and takes no memory.
+/// A clone equals its original, and allocates no memory.
 pub fn clones<'a>()
     ensures fault { MakesCopies ⟦<SubmitFault as Clone>⟧.is_clone ⟦<SubmitFault as Clone>⟧.is_infallible }
     ensures config { MakesCopies ⟦<Config as Clone>⟧.is_clone ⟦<Config as Clone>⟧.is_infallible }
@@ -27,8 +27,8 @@ pub fn clones<'a>()
     ensures entry { MakesCopies ⟦<DueEntry as Clone>⟧.is_clone ⟦<DueEntry as Clone>⟧.is_infallible }
 {}
 
-/// What `==` compares: all that a fault or an entry says, and what an outcome or an end says with the octets that it
-/// lends, wherever these lie.
+/// `==` compares all that a fault or an entry says. For an outcome or an end it also compares the lent octets, but not
+/// where they lie.
 pub fn equals<'a>()
     ensures fault { EqualsBy (λ fault. fault) ⟦<SubmitFault as PartialEq>⟧.eq }
     ensures entry { EqualsBy (λ entry. entry) ⟦<DueEntry as PartialEq>⟧.eq }

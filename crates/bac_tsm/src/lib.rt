@@ -1,16 +1,16 @@
 //! The client's side of BACnet transactions, without sockets: which requests are open, when each is sent, and how it
-//! ends. The caller hands in requests, datagrams and the time, and sends what the client tells it to send.
+//! ends. The caller hands in requests, datagrams and the time, and sends what the client returns to be sent.
 //!
-//! [`Config::new`] has the timeout and the retries, and [`Client::new`] makes a client of it. [`Client::submit`] opens
-//! a request and answers its ticket; [`Client::to_send`] lends the datagram that the caller sends. [`Client::datagram`]
-//! is handed what comes, and says which request that ends. [`Client::tick`] is handed the time, and says which requests
-//! are to be sent again and which have ended.
+//! [`Config::new`] has the timeout and the retries, and [`Client::new`] makes a client with these settings.
+//! [`Client::submit`] opens a request and returns its ticket; [`Client::to_send`] lends the datagram that the caller
+//! sends. [`Client::datagram`] is called with each datagram that comes, and says which request it ends.
+//! [`Client::tick`] is called with the time, and says which requests are to be sent again and which have ended.
 //!
-//! Each call of [`Client`] is one step of a machine that `specs/Machine.antt` defines, and `specs/Lookahead.antt` says
-//! what comes of a whole list of calls without a machine. [`run_is_lookahead`] states that these two agree.
+//! Each call of [`Client`] is one step of a machine that `specs/Machine.antt` defines. `specs/Lookahead.antt` defines
+//! the result of a whole list of calls without a machine. [`run_is_lookahead`] states that these two agree.
 //!
-//! Of `examples_of_a_request` in `src/examples.rt`, which is proved: the notes on a read under ticket 0 and invoke id
-//! 1, each time with the position of the event.
+//! From `examples_of_a_request` in `src/examples.rt`, which is proved: the notes on a read with ticket 0 and invoke id
+//! 1, each note with the position of its event.
 //!
 //! ```text
 //! // No answer comes.
@@ -18,12 +18,12 @@
 //!     (0, sent 0 1) ∷ (2, sent 0 1) ∷ (3, sent 0 1) ∷ (4, sent 0 1) ∷ (5, TimedOut 0) ∷ [] }
 //! ```
 //!
-//! The caller keeps to this: it sends what [`Client::to_send`] lends, once a request is opened and at each
-//! [`DueEntry::Resend`], and it tells the time again and again, since nothing is due but at a tick. No call of
-//! [`Client`] has a condition.
+//! The caller does two things. It sends what [`Client::to_send`] lends, once a request is opened and at each
+//! [`DueEntry::Resend`]. It calls [`Client::tick`] again and again, since only a tick finds what is due. No call of
+//! [`Client`] has a precondition.
 //!
-//! Calls, of `two_reads` of `bac_uses` (`src/client.rt`), where it is proved that each read is to be sent again exactly
-//! where what was heard is no answer to it:
+//! The calls of `two_reads` in `bac_uses` (`src/client.rt`). There it is proved that a read is sent again exactly if
+//! the received datagram does not answer it:
 //!
 //! ```rust
 //! let mut client = Client::new(config, 0);

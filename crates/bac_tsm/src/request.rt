@@ -15,11 +15,10 @@ use std::marker::Model;
 // A datagram that is kept to be sent.
 type Datagram = ArrayVec<u8, LONGEST_DATAGRAM>;
 
-// The code of the greatest APDU that a client takes, 1476 octets (clause 20.1.2.5).
+// The code of the longest APDU that a client accepts, 1476 octets (clause 20.1.2.5).
 const GREATEST_APDU_CODE: u8 = 5;
 
-/// What a request is opened with: its ticket, whom it goes to, its service, its invoke id, and the clock at which it is
-/// sent.
+/// The parts of a new request: its ticket, its peer, its service, its invoke id, and the clock at which it is sent.
 #[derive(Clone, Copy)]
 pub(crate) struct Asked {
     pub(crate) ticket: u64,
@@ -29,15 +28,15 @@ pub(crate) struct Asked {
     pub(crate) clock: u64,
 }
 
-/// A request that is open, the clock when it was last sent, and how many times it was sent again.
+/// An open request, with the clock when it was last sent and how many times it was sent again.
 #[derive(Drop)]
 pub(crate) struct OpenRequest {
     pub(crate) ticket: u64,
     pub(crate) peer: Peer,
     pub(crate) service: u8,
     pub(crate) invoke_id: u8,
-    pub(crate) base: u64,
-    pub(crate) count: u8,
+    pub(crate) last_sent: u64,
+    pub(crate) resends: u8,
     pub(crate) datagram: Datagram,
 }
 
@@ -54,8 +53,8 @@ impl Model for OpenRequest {
         invoke_id = r.invoke_id;
         octets = r.datagram.items;
       };
-      base = r.base;
-      count = r.count;
+      last_sent = r.last_sent;
+      resends = r.resends;
     } };
 }
 
@@ -73,15 +72,15 @@ impl Default for OpenRequest {
             },
             service: 0,
             invoke_id: 0,
-            base: 0,
-            count: 0,
+            last_sent: 0,
+            resends: 0,
             datagram: Datagram::new(),
         }
     }
 }
 
 impl OpenRequest {
-    /// Makes it a new request with this body, whose datagram is written in the frame.
+    /// Makes this a new request with this body, and writes its datagram in the frame.
     pub(crate) fn begin(&mut self, asked: Asked, body: &[u8], frame: &mut Frame)
         requires { length body.now ≤ longest_body }
         ensures { self.new ≡ begun asked body.now }
@@ -90,55 +89,55 @@ impl OpenRequest {
         self.peer = asked.peer;
         self.service = asked.service;
         self.invoke_id = asked.invoke_id;
-        self.base = asked.clock;
-        self.count = 0;
+        self.last_sent = asked.clock;
+        self.resends = 0;
         write_request(&mut self.datagram, asked, body, frame);
     }
 
-    /// Its ticket.
+    /// Returns the ticket.
     pub(crate) fn ticket(&self) -> u64
         ensures { result ≡ self.now.request.ticket }
     {
         self.ticket
     }
 
-    /// Its invoke id.
+    /// Returns the invoke id.
     pub(crate) fn invoke_id(&self) -> u8
         ensures { result ≡ self.now.request.invoke_id }
     {
         self.invoke_id
     }
 
-    /// The timeout has passed since the request was last sent.
+    /// Returns whether the timeout has passed since the request was last sent.
     pub(crate) fn is_due(&self, clock: u64, config: Config) -> bool
         ensures { result ≡ is_due (client_rules config.timeout config.retries) clock self.now }
     {
-        clock.saturating_sub(self.base) >= u64::from(config.timeout)
+        clock.saturating_sub(self.last_sent) >= u64::from(config.timeout)
     }
 
-    /// What becomes of the request when it is due.
+    /// Returns what becomes of the request when it is due.
     pub(crate) fn due_entry(&self, config: Config) -> DueEntry
         ensures { result ≡ due_entry (client_rules config.timeout config.retries) self.now }
     {
-        if self.count < config.retries {
+        if self.resends < config.retries {
             DueEntry::Resend(self.ticket)
         } else {
             DueEntry::TimedOut(self.ticket)
         }
     }
 
-    /// Makes it one that is sent again now.
+    /// Records that the request is sent again now.
     pub(crate) fn send_again(&mut self, clock: u64, config: Config)
-        requires { self.old.count < config.retries }
-        ensures { self.new ≡ record { request = self.old.request; base = clock; count = suc self.old.count } }
+        requires { self.old.resends < config.retries }
+        ensures { self.new ≡ record { request = self.old.request; last_sent = clock; resends = suc self.old.resends } }
     {
-        self.base = clock;
-        self.count += 1;
+        self.last_sent = clock;
+        self.resends += 1;
     }
 }
 
-// Makes the octets the datagram of a request (clause 20.1.2, after the headers of Annex J and clause 6), which is
-// written in the frame. There is room for any route.
+// Writes the datagram of a request into the octets (clause 20.1.2, after the headers of Annex J and clause 6), by way
+// of the frame. There is room for any route.
 fn write_request(datagram: &mut Datagram, asked: Asked, body: &[u8], frame: &mut Frame)
     requires { length body.now ≤ longest_body }
     ensures { datagram.new.items ≡ octets_of (station asked.peer) asked.service body.now asked.invoke_id }

@@ -19,43 +19,43 @@ use std::marker::Model;
 
 /// The open requests, in the order of their tickets.
 ///
-/// A request stays at its slot until it ends. All slots are in one order, first those of the open requests, by ticket,
-/// and then the free ones. The tickets are in a list of their own, so that one is found without a look at the slots,
-/// and the slot of each invoke id is in a table. The slots of the open requests are listed once more in the order of
-/// their last sends, so that a tick looks at those that are due, and at the first that isn't. Each datagram is written
-/// in one frame, and then kept at its slot.
+/// A request stays at its slot until it ends. `order` lists all slots: first those of the open requests, by ticket, and
+/// then the free ones. `tickets` lists the tickets, and a ticket is found there without a look at the slots.
+/// `invoke_ids` has the slot of each invoke id. `sends` lists the slots of the open requests in the order of their last
+/// sends: a tick looks only at those that are due, and at the first one that isn't. Each datagram is written in
+/// `draft`, and then kept at its slot.
 #[derive(Drop)]
 pub(crate) struct Table {
     slots: [OpenRequest; PLACES],
     invoke_ids: [Option<u8>; 256],
-    order: ArrayVec<u8, PLACES>,
+    ticket_order: ArrayVec<u8, PLACES>,
     tickets: ArrayVec<u64, PLACES>,
-    sends: ArrayVec<u8, PLACES>,
+    send_order: ArrayVec<u8, PLACES>,
     draft: Frame,
 }
 
 impl Model for Table {
     ghost use Rattle.std.specs.Prelude.{List};
-    ghost use Rattle.bac_tsm.specs.{held_at, IsWhole, open_slots, Machine.Waiting};
+    ghost use Rattle.bac_tsm.specs.{held_at, IsInOrder, open_slots, Machine.Waiting};
 
     ghost Value = { List Waiting };
 
-    ghost view = { λ t. held_at t.slots (open_slots t.order.items t.tickets.items) };
+    ghost view = { λ t. held_at t.slots (open_slots t.ticket_order.items t.tickets.items) };
 
-    ghost invariant = { λ t. IsWhole t.slots t.invoke_ids t.order.items t.tickets.items t.sends.items };
+    ghost invariant = { λ t. IsInOrder t.slots t.invoke_ids t.ticket_order.items t.tickets.items t.send_order.items };
 }
 
 impl Table {
-    /// A table with no request open.
+    /// Returns a table with no request open.
     pub(crate) fn new() -> Self
         ensures { result ≡ [] }
     {
         Table {
             slots: no_requests(),
             invoke_ids: no_invoke_ids(),
-            order: every_slot(),
+            ticket_order: every_slot(),
             tickets: ArrayVec::new(),
-            sends: ArrayVec::new(),
+            send_order: ArrayVec::new(),
             draft: Frame::new(),
         }
     }
@@ -68,7 +68,7 @@ impl Table {
         self.tickets.len()
     }
 
-    /// The request with this ticket.
+    /// Returns the request with this ticket.
     pub(crate) fn find(&self, ticket: u64) -> Option<&OpenRequest>
         ensures { option_copied result ≡ find (λ w. nat_eq w.request.ticket ticket) self.now }
     {
@@ -76,7 +76,7 @@ impl Table {
         Some(self.at(rank))
     }
 
-    /// The first invoke id of the cycle after the last one that no open request has.
+    /// Returns the first invoke id in the cycle after `last` that no open request has.
     #[tactic(auto, using(crate::proofs::free_is, crate::proofs::taken_on, crate::proofs::last_is))]
     pub(crate) fn free_invoke_id(&self, last: u8) -> u8
         ensures { result ≡ next_invoke_id last (map (λ w. w.request.invoke_id) self.now) }
@@ -90,24 +90,24 @@ impl Table {
         last
     }
 
-    /// Opens a request with this body, at a slot that is free.
+    /// Opens a request with this body at a free slot.
     pub(crate) fn open(&mut self, asked: Asked, body: &[u8])
         requires room { length self.old < table_size }
         requires unused { times invoke_id_in asked.invoke_id self.old ≡ 0 }
         requires latest { All (λ w. w.request.ticket < asked.ticket) self.old }
-        requires past { All (λ w. w.base ≤ asked.clock) self.old }
+        requires past { All (λ w. w.last_sent ≤ asked.clock) self.old }
         requires short { length body.now ≤ longest_body }
         ensures { self.new ≡ self.old ++ begun asked body.now ∷ [] }
     {
-        let slot = self.order[self.tickets.len()];
+        let slot = self.ticket_order[self.tickets.len()];
         self.invoke_ids[usize::from(asked.invoke_id)] = Some(slot);
         begin_at(&mut self.slots, slot, asked, body, &mut self.draft);
         self.tickets.push(asked.ticket);
-        put_last(&mut self.sends, slot);
+        put_last(&mut self.send_order, slot);
     }
 
-    /// Ends the request that the answer is to, and answers its ticket. Only the request with the answer's invoke id is
-    /// looked at.
+    /// Ends the request that this answers, and returns the ticket of that request. Only the request with the answer's
+    /// invoke id is looked at.
     pub(crate) fn close(&mut self, answer: &Answer<'_>) -> Option<u64>
         ensures told { option_to_list result
             ≡ map ticket_in (filter (λ w. is_answer_to w.request (answer_seen answer.now)) self.old) }
@@ -124,24 +124,24 @@ impl Table {
         Some(ticket)
     }
 
-    /// Some request is due at this clock, and then the one that was sent longest ago is.
+    /// Returns whether some request is due at this clock. If so, the one that was sent longest ago is due.
     pub(crate) fn is_due(&self, clock: u64, config: Config) -> bool
         ensures due { result ≡ list_any (is_due (client_rules config.timeout config.retries) clock) self.now }
         ensures few { length self.now ≤ table_size }
         ensures rising { AllPairs (λ v w. v.request.ticket < w.request.ticket) self.now }
     {
-        match self.sends.first() {
+        match self.send_order.first() {
             Some(slot) => held(&self.slots, *slot).is_due(clock, config),
             None => false,
         }
     }
 
-    /// Brings each request that is due to this clock, and takes down what becomes of it, in the order of tickets. It
-    /// stands alone, so that a tick at which nothing is due is a comparison at its caller.
+    /// Brings each request that is due to this clock, and lists what becomes of each, in the order of tickets. It is a
+    /// function of its own, so that a tick at which nothing is due costs only one comparison.
     #[inline(never)]
     pub(crate) fn pass_all(&mut self, clock: u64, config: Config, entries: &mut Entries)
         requires due { list_any (is_due (client_rules config.timeout config.retries) clock) self.old ≡ true }
-        requires past { All (λ w. w.base ≤ clock) self.old }
+        requires past { All (λ w. w.last_sent ≤ clock) self.old }
         requires empty { entries.old.items ≡ [] }
         requires few { length self.old ≤ table_size }
         ensures told { IsPermutation (flat_map (due_answer (client_rules config.timeout config.retries) clock) self.old)
@@ -158,35 +158,35 @@ impl Table {
         sort_by_ticket(entries.as_mut_slice());
     }
 
-    // The request at this rank.
+    // Returns the request at this rank.
     #[tactic(auto, using(crate::proofs::read_within, crate::proofs::read_held, crate::proofs::rank_within))]
     fn at(&self, rank: usize) -> &OpenRequest
         requires { rank < length self.now }
         ensures { result.now ≡ get_or self.now rank nothing }
     {
-        held(&self.slots, self.order[rank])
+        held(&self.slots, self.ticket_order[rank])
     }
 
-    // Some open request has this invoke id.
+    // Returns whether some open request has this invoke id.
     fn is_taken(&self, invoke_id: u8) -> bool
         ensures { result ≡ list_any (λ w. nat_eq invoke_id w.request.invoke_id) self.now }
     {
         self.invoke_ids[usize::from(invoke_id)].is_some()
     }
 
-    // Brings the request that was sent longest ago to this clock, and answers what becomes of it.
+    // Brings the request that was sent longest ago to this clock, and returns what becomes of it.
     fn pass(&mut self, clock: u64, config: Config) -> DueEntry
         requires due { list_any (is_due (client_rules config.timeout config.retries) clock) self.old ≡ true }
-        requires past { All (λ w. w.base ≤ clock) self.old }
+        requires past { All (λ w. w.last_sent ≤ clock) self.old }
         ensures { IsPassed (client_rules config.timeout config.retries) clock self.old result self.new }
     {
-        let slot = first_sent(&self.sends);
+        let slot = first_sent(&self.send_order);
         let entry = held(&self.slots, slot).due_entry(config);
         match entry {
             DueEntry::Resend(_) => {
                 send_again_at(&mut self.slots, slot, clock, config);
-                self.sends.remove(0);
-                self.sends.push(slot);
+                self.send_order.remove(0);
+                self.send_order.push(slot);
             }
             DueEntry::TimedOut(ticket) => {
                 if let Some(rank) = self.rank_of(ticket) {
@@ -197,8 +197,8 @@ impl Table {
         entry
     }
 
-    // The rank of the request with this ticket: its index in the order. The place that it has if no request between it
-    // and the last has ended is looked at first.
+    // Returns the rank of the request with this ticket: its index in the order. The first rank tried is the one that
+    // the request has if no request between it and the last one has ended.
     fn rank_of(&self, ticket: u64) -> Option<usize>
         ensures { IsRankOf ticket self.now result }
     {
@@ -211,35 +211,35 @@ impl Table {
         self.tickets.as_slice().binary_search(&ticket).ok()
     }
 
-    // Ends the request at this rank: its slot is the last of the free ones.
+    // Ends the request at this rank, and puts its slot after the other free slots.
     fn end(&mut self, rank: usize)
         requires { rank < length self.old }
         ensures { self.new ≡ remove self.old rank }
     {
-        let slot = self.order.remove(rank);
+        let slot = self.ticket_order.remove(rank);
         let invoke_id = held(&self.slots, slot).invoke_id();
         self.invoke_ids[usize::from(invoke_id)] = None;
-        self.order.push(slot);
+        self.ticket_order.push(slot);
         self.tickets.remove(rank);
-        take_out(&mut self.sends, slot, rank);
+        take_out(&mut self.send_order, slot, rank);
     }
 }
 
-// A blank request at each slot.
+// Returns a blank request for each slot.
 fn no_requests() -> [OpenRequest; PLACES]
     ensures { length result ≡ table_size }
 {
     Default::default()
 }
 
-// A table in which no invoke id is taken.
+// Returns a table in which no invoke id is taken.
 fn no_invoke_ids() -> [Option<u8>; 256]
     ensures { result ≡ replicate 256 None }
 {
     [None; 256]
 }
 
-// Every slot.
+// Returns a list of every slot.
 fn every_slot() -> ArrayVec<u8, PLACES>
     ensures whole { length result.items ≡ table_size }
     ensures within { (slot : ℕ) → table_size ≤ slot → times_of_slot slot result.items ≡ 0 }
@@ -267,7 +267,7 @@ fn begin_at(
     slots[usize::from(slot)].begin(asked, body, frame);
 }
 
-// Puts the item after the others.
+// Appends the item.
 fn put_last<T: Copy + Default>(items: &mut ArrayVec<T, PLACES>, item: T)
     requires { length items.old.items < table_size }
     ensures { items.new.items ≡ items.old.items ++ item ∷ [] }
@@ -275,7 +275,7 @@ fn put_last<T: Copy + Default>(items: &mut ArrayVec<T, PLACES>, item: T)
     items.push(item);
 }
 
-// The request at this slot.
+// Returns the request at this slot.
 fn held(slots: &[OpenRequest; PLACES], slot: u8) -> &OpenRequest
     requires { slot < table_size }
     ensures { result.now ≡ get_or slots.now slot nothing }
@@ -283,7 +283,7 @@ fn held(slots: &[OpenRequest; PLACES], slot: u8) -> &OpenRequest
     &slots[usize::from(slot)]
 }
 
-// The answer is to the request.
+// Returns whether the answer is to the request.
 #[tactic(auto, using(bac_pdu::proofs::DatagramLaws::peer_decides, crate::proofs::same_station_is, crate::proofs::same_station_refl), unfolding(crate::specs::is_answer_to))]
 fn is_answered_by(request: &OpenRequest, answer: &Answer<'_>) -> bool
     ensures { result ≡ is_answer_to request.now.request (answer_seen answer.now) }
@@ -295,7 +295,7 @@ fn is_answered_by(request: &OpenRequest, answer: &Answer<'_>) -> bool
             .is_none_or(|service| request.service == service)
 }
 
-// The slot that was sent longest ago.
+// Returns the slot whose request was sent longest ago.
 fn first_sent(sends: &ArrayVec<u8, PLACES>) -> u8
     requires { 0 < length sends.now.items }
     ensures { Some result ≡ slice_get sends.now.items 0 }
@@ -303,16 +303,16 @@ fn first_sent(sends: &ArrayVec<u8, PLACES>) -> u8
     sends[0]
 }
 
-// Makes the request at this slot one that is sent again now.
+// Records that the request at this slot is sent again now.
 fn send_again_at(slots: &mut [OpenRequest; PLACES], slot: u8, clock: u64, config: Config)
     requires within { slot < table_size }
-    requires left { (get_or slots.old slot nothing).count < config.retries }
+    requires left { (get_or slots.old slot nothing).resends < config.retries }
     ensures { slots.new ≡ set slots.old slot (sent_at clock (get_or slots.old slot nothing)) }
 {
     slots[usize::from(slot)].send_again(clock, config);
 }
 
-// Takes a slot out. The likely rank is looked at first.
+// Removes a slot from the list. The likely rank is looked at first.
 fn take_out(slots: &mut ArrayVec<u8, PLACES>, slot: u8, likely: usize)
     requires { 0 < times_of_slot slot slots.old.items }
     ensures { IsTakenOut slot slots.old.items slots.new.items }
@@ -324,7 +324,7 @@ fn take_out(slots: &mut ArrayVec<u8, PLACES>, slot: u8, likely: usize)
     }
 }
 
-// The first rank at which the slot stands.
+// Returns the first rank of the slot in the list.
 fn rank_of_slot(slots: &[u8], slot: u8) -> Option<usize>
     ensures { result ≡ position (λ other. nat_eq other slot) slots.now }
 {

@@ -7,14 +7,15 @@ ghost use Rattle.bac_tsm.specs.{accepted, AnswersByInvokeId, client_rules, due, 
 ghost use Rattle.bac_tsm.specs.{IsAnsweredBy, last_of, MachineIsLookahead, open_among, open_at, Outcome, outcome_of};
 ghost use Rattle.bac_tsm.specs.{output, PassedAreHeld, Request, Rules, same_station, sends, TimeoutsPass};
 
-/// The machine tells, at each position, the notes that the look-ahead gives there, and keeps what it says is open: for
-/// any rules by which at most 255 requests may be open, and those that one datagram answers have the same invoke id.
+/// At each position the machine gives the notes of the look-ahead, and keeps the requests that are open by the
+/// look-ahead. This holds for any rules by which at most 255 requests may be open, and one datagram answers only
+/// requests with the same invoke id.
 pub fn run_is_lookahead()
     ensures { (rules : Rules) (first_ticket : ℕ) (events : List Event) →
         AnswersByInvokeId rules → rules.most_open ≤ 255 → MachineIsLookahead rules first_ticket events }
 {}
 
-/// The same of the rules that a client goes by.
+/// The machine of a client agrees with the look-ahead, for any timeout and retries.
 pub fn client_is_lookahead()
     ensures { (timeout retries first_ticket : ℕ) (events : List Event) →
         MachineIsLookahead (client_rules timeout retries) first_ticket events }
@@ -25,20 +26,20 @@ pub fn answers_are_by_invoke_id()
     ensures { (timeout retries : ℕ) → AnswersByInvokeId (client_rules timeout retries) }
 {}
 
-/// The table of answers takes two stations for the same exactly where address, port and route are.
+/// The table of answers treats two stations as the same exactly if their addresses, ports and routes are the same.
 #[tactic(auto, using(crate::proofs::same_station_is, crate::proofs::same_station_refl))]
 pub fn stations_are_compared_whole()
     ensures { (a b : Station) → (same_station a b ≡ true) ↔ (a ≡ b) }
 {}
 
-/// A datagram gives a request an outcome exactly where it answers it so, in the standard's words.
+/// A datagram gives a request an outcome exactly if it answers the request with this outcome in the standard's words.
 pub fn answers_in_words()
     ensures { (request : Request) (from : Station) (datagram : List ℕ) (outcome : Outcome) →
         (outcome_of request from datagram ≡ Some outcome) ↔ IsAnsweredBy request from datagram outcome }
 {}
 
-/// At each position at most as many requests are open as may be, under different invoke ids and in the order of their
-/// tickets; each is sent at most once more than the retries.
+/// At each position the open requests keep to the limit, have different invoke ids, and are in the order of their
+/// tickets. Each request is sent at most once more than the retries.
 #[tactic(auto, using(crate::proofs::roomy, crate::proofs::tickets_rise, crate::proofs::few_sends))]
 pub fn table_is_bounded()
     ensures few { (rules : Rules) (first_ticket : ℕ) (events : List Event) (n : ℕ) →
@@ -51,7 +52,7 @@ pub fn table_is_bounded()
         length (sends rules events a) ≤ 1 + rules.retries }
 {}
 
-/// The notes at a position rest on nothing that comes after it.
+/// The notes at a position depend on nothing that comes after it.
 #[tactic(auto, using(crate::proofs::looks_back, crate::proofs::reaches))]
 pub fn output_looks_back()
     ensures { (rules : Rules) (first_ticket : ℕ) (events others : List Event) (n : ℕ) →
@@ -59,23 +60,24 @@ pub fn output_looks_back()
         output rules first_ticket events n ≡ output rules first_ticket others n }
 {}
 
-/// Between two requests with the same invoke id, at least 256 others are accepted, less as many as may be open at once.
+/// Between two requests with the same invoke id, at least 256 minus the limit of open requests other requests are
+/// accepted.
 #[tactic(auto, using(crate::proofs::back_late))]
 pub fn invoke_ids_come_back_late()
     ensures { (rules : Rules) (first_ticket : ℕ) (events : List Event) (n : ℕ) →
         rules.most_open ≤ 255 → InvokeIdsComeBackLate rules.most_open (accepted rules first_ticket events n) }
 {}
 
-/// Each invoke id that was passed since a request was accepted, given or skipped, is its own, or that of a request open
-/// then or accepted since.
+/// Take an accepted request. Each invoke id that was given or skipped since belongs to it, to a request that was open
+/// then, or to a request accepted since.
 pub fn passed_invoke_ids_are_held()
     ensures { (rules : Rules) (first_ticket : ℕ) (events : List Event) (n : ℕ) → rules.most_open ≤ 255 →
         (before since : List Accepted) (a : Accepted) → accepted rules first_ticket events n ≡ before ++ a ∷ since →
         PassedAreHeld a (open_among rules events a.position before) since }
 {}
 
-/// No request waits for ever: as often as the timeout passed, by ticks, it has been due, and once that is more often
-/// than it is sent again, it has ended (clause 5.4.4).
+/// No request waits for ever. It has been due as often as ticks came a timeout apart. Once it was due more often than
+/// it may be sent again, it has ended (clause 5.4.4).
 pub fn no_request_waits_for_ever()
     ensures due { (rules : Rules) (events : List Event) (i : ℕ) (ticks : List ℕ) → TimeoutsPass rules events i ticks →
         IsSomeAnd (due rules events i (length ticks)) (λ j. j ≤ last_of i ticks) }

@@ -1,13 +1,13 @@
--- Many requests over a link that were all asked, with a timeout of three seconds and three retries.
+-- Many requests over a link, all of which were made, with a timeout of three seconds and three retries.
 use Rattle.std.specs.{List.{AllByRecursion, concat, flat_map}, Prelude.{length, List, map, Option, ℕ, ◌≡◌}}
 use Rattle.{bac_tsm.specs.{client_rules, Note, outputs}, bac_print.specs.{Gave, Took, declared.checked.Checked.Checked}}
 use Rattle.bac_script.specs.{declared.input.Reading.TheVariants.AtEnd, Script.text, Text.notes_text}
 use Rattle.{bac_links.specs.{Account, Entry, GainsAll}, bac_run.specs.Input.{acts_or_none, inputs_in, IsGood}}
 use Rattle.bac_run.specs.{new_client, Journal.{Act, events_of}, Replay.{posted_in, sends_of}}
 
--- The reader gave lines of which none is bad, and nothing else; what they ask for was done, in their order. The client
--- told what the look-ahead gives for what it was handed. What the writer took is a script by which `bactrace` prints
--- that, and what the link sent is what it says.
+-- The reader gave only good lines, and all they ask for was done, in their order. The client's notes are those of the
+-- look-ahead for its events. The text that the writer took is a script from which `bactrace` prints these notes, and
+-- the sent datagrams are those of the notes.
 pub record AllRequested {Origin R W : Type 0} (remaining : R → Option (List ℕ)) (contents : W → Option (List ℕ))
     (reader reader' : Checked R) (before after : Checked W) (seen left : Account Origin) : Type 0 where
   pub lines : List (List ℕ)

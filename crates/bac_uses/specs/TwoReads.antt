@@ -1,4 +1,4 @@
--- Two reads of analog input 5, and what a tick says of each once a datagram was heard.
+-- Two reads of analog input 5, and the entry of a tick on each after a datagram was received.
 use Rattle.std.specs.{Option.option_map_or, Prelude.{[], List, ℕ, ◌+◌, ◌∷◌}}
 use Rattle.{bac_pdu.specs.Station, bac_tsm.specs.{client_rules, Rules, Answers.outcome_of}}
 use Rattle.bac_tsm.specs.{declared.due.DueEntry.{DueEntry, TheVariants.Resend}, Events.{Request, request_of}}
@@ -7,15 +7,15 @@ use Rattle.bac_tsm.specs.{declared.due.DueEntry.{DueEntry, TheVariants.Resend}, 
 abbrev pub usual : Rules
 usual = client_rules 3000 3
 
--- The body that asks for this property.
+-- The body of a request for this property.
 abbrev pub asking : ℕ → List ℕ
 asking property = 0x0c ∷ 0 ∷ 0 ∷ 0 ∷ 5 ∷ 0x19 ∷ property ∷ []
 
--- The request for it under this ticket, whose invoke id is one more.
+-- The request for this property with this ticket; its invoke id is the ticket plus one.
 abbrev pub read_of : Station → ℕ → ℕ → Request
 read_of device ticket property = request_of usual ticket device 12 (asking property) (ticket + 1)
 
--- It is to be sent again, unless this datagram from there is an answer to it.
+-- The request is to be sent again, unless this datagram from this station answers it.
 abbrev pub again_unless : Station → List ℕ → Request → List DueEntry
 again_unless from heard request =
     option_map_or (λ _. []) (outcome_of request from heard) (Resend request.ticket ∷ [])

@@ -6,14 +6,14 @@ ghost use Rattle.{bac_pdu.specs.station, bac_uses.specs.TwoReads.{again_unless, 
 use bac_pdu::{Peer, READ_PROPERTY};
 use bac_tsm::{Client, Config, Due};
 
-// The body that asks for the present value (85) of analog input 5.
+// The body of a request for the present value (85) of analog input 5.
 const VALUE: [u8; 7] = [0x0c, 0x00, 0x00, 0x00, 0x05, 0x19, 85];
 
-// The body that asks for its name (77).
+// The body of a request for the name (77) of analog input 5.
 const NAME: [u8; 7] = [0x0c, 0x00, 0x00, 0x00, 0x05, 0x19, 77];
 
-/// Asks a device for both, hands the client one datagram, whatever it is and whoever sent it, and then the time, three
-/// seconds later. The datagrams to send at once, and again, are those that `Client::to_send` lends.
+/// Asks a device for both properties, passes the client any datagram from any sender, and then a time three seconds
+/// later. The caller sends the datagrams that `Client::to_send` lends, at once and again.
 pub fn two_reads(device: Peer, from: Peer, heard: &[u8]) -> Due
     // Each read is to be sent again exactly if the datagram does not answer it, and none has ended without an answer.
     ensures { result ≡ flat_map (again_unless (station from) heard.now)

@@ -1,4 +1,4 @@
-//! A device with one valve, and what comes of a datagram.
+//! A device with one valve, and the effect of a datagram on it.
 
 ghost use Rattle.std.specs.{Option.option_map, Prelude.{[], Some, ◌∷◌, ◌≡◌}};
 ghost use Rattle.bac_pdu.specs.{station};
@@ -10,8 +10,8 @@ use bac_pdu::Peer;
 use bac_wire::{Frame, ObjectId};
 use bac_work::begin;
 
-/// Lets the device answer a datagram, whatever it is and whoever sent it. Returns the receiver of the reply in the
-/// frame, if there is one, and the valve's present value after it.
+/// Passes the device any datagram from any sender. Returns the receiver of the reply in the frame, if there is one, and
+/// the valve's present value after it.
 pub fn answered(from: Peer, datagram: &[u8], frame: &mut Frame) -> (Option<Peer>, u32)
     // The reply is that of the definition.
     ensures reply { option_map (λ peer. (station peer, frame.new)) result.0
@@ -26,7 +26,7 @@ pub fn answered(from: Peer, datagram: &[u8], frame: &mut Frame) -> (Option<Peer>
     (to, valve)
 }
 
-// Returns a device with one valve. None of these calls can fail, so no caller has to ask.
+// Returns a device with one valve. None of these calls can fail, so no caller has to check.
 #[tactic(auto, unfolding(bac_device::specs::Device::add_point, bac_device::specs::Point::description_of, bac_device::specs::Kind::kind_of))]
 fn one_valve() -> Device
     ensures { result ≡ device_after heating (valve ∷ []) [] }

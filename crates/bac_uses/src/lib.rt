@@ -1,4 +1,4 @@
-//! Examples of callers: functions that call the libraries, each proved with what its own caller may rely on. No other
+//! Examples of callers: functions that call the libraries, each proved with a contract for its own caller. No other
 //! crate uses this one.
 #![tactic(auto)]
 

@@ -1,4 +1,4 @@
-//! A read over a socket, and how it ended.
+//! A read over a socket, and its result.
 
 ghost use Rattle.std.specs.Prelude.{[], false, IfErr, IfOk, List, Option, ◌<◌, ◌≡◌};
 ghost use Rattle.{bac_tsm.specs.Outcome, bac_print.specs.{has_failed, Took}};
@@ -16,8 +16,8 @@ use std::io::Write;
 use std::net::Net;
 use std::time::Clock;
 
-/// Makes this read over one of these sockets, and hands back how it ended, and the link. It has no other sockets, and
-/// can give these up once.
+/// Makes this read over a socket, and returns its result and the link. The function can get only one socket, and only
+/// from `sockets`.
 ///
 /// # Errors
 ///
@@ -29,15 +29,15 @@ pub fn read_over_udp<R: Net + Clock + Clone + Drop, W: Write>(
 ) -> Result<(Result<Exit, ToolFault>, UdpLink<SystemSocket<R>>), NoSocket<R>>
     requires writer { has_failed writer.old ≡ false }
     requires timeout { 0 < call.now.timeout }
-    // If the read met no fault, the line of how it ended was printed, and the exit is that of this end: good if a value
-    // was read.
+    // If the read met no fault, the line of its end was printed, and the exit is that of this end: good if a value was
+    // read.
     ensures line { IfOk result (λ read. IfOk read.0 (λ exit. (ending : Option Outcome)
         × (exit ≡ exit_of Reading ending) × Took W.contents writer.old writer.new (ending_line Reading ending))) }
-    // The read was made over a link that had been asked for nothing, and for nothing else than its call asks for.
+    // The read was made over a new link, whose only calls are those of the read.
     ensures read { IfOk result (λ read. (calls : List SystemCall) × Binds anywhere calls
         × Tells Reading call.now W.contents writer.old writer.new (account_over Fails calls [])
         (⟦<UdpLink<SystemSocket<R>> as Link>⟧.seen read.1) read.0) }
-    // If there was no socket nothing else was asked for, and nothing printed.
+    // If there was no socket, no other call was made, and nothing printed.
     ensures none { IfErr result (λ none. (none.sockets ≡ sockets) × BindsAtMost anywhere none.log.items
         × (writer.new ≡ writer.old)) }
 {

@@ -5,8 +5,8 @@ ghost use Rattle.bac_wire.specs.{datum, frame_room, IsSound, plain};
 
 use bac_wire::{Frame, Full, Value, read_value, write_value};
 
-/// Makes a value the whole of a frame, and reads it back. Returns how many octets spell it, or `Full` only if the value
-/// is too long. That there is a value to read back needs no check.
+/// Writes a value into an empty frame, and reads it back. Returns how many octets spell it, or `Full` only if the value
+/// is too long. No check is needed that there is a value to read back.
 pub fn written_alone(frame: &mut Frame, value: &Value<'_>) -> Result<usize, Full>
     requires { IsSound (datum value.now) }
     ensures written { IfOk result (λ _. frame.new ≡ plain (datum value.now)) }

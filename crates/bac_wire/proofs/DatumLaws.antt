@@ -1,4 +1,4 @@
--- Values: what is read of one is what is spelled, what is written is the shortest spelling; and the values of a region.
+-- Values: reading finds the spelled value, writing appends the shortest spelling; and the values of a region.
 use Rattle.std.proofs.Common.{[], ap, append-nil, append_assoc, arith, Bool, cond, drop, drop_at, eqb, FitsSigned}
 use Rattle.std.proofs.Common.{get_or, inl, inr, length, length-append, length-take-le, List, ltb, map, negsuc, None}
 use Rattle.std.proofs.Common.{Option, option_map, pos, refl, slice_index_or, Some, subst, suc, sym, take, take-add}
@@ -26,7 +26,7 @@ same_below {X} d f g k n e h =
     sym (get_or-map-range_with_len f 0 k n n d h (omega arith)) ∙ ap (λ (xs : List X). get_or xs n d) e
     ∙ get_or-map-range_with_len g 0 k n n d h (omega arith)
 
--- One more piece of a part that is read and written piece by piece: it may begin before the place that was reached.
+-- One more piece of a part that is read and written piece by piece; the piece may begin before the end of the last one.
 module _ (f : List ℕ → List ℕ) (xs ys : List ℕ) (i j n k l m : ℕ) (before : i ≤ j) (below : k ≤ l)
     (apart : (more : List ℕ) → f (take i xs ++ more) ≡ f (take i xs) ++ f more)
     (size : length (f (take i xs)) ≡ k) (long : length (f (chunk i n xs)) ≡ m)
@@ -67,7 +67,7 @@ count_fits = grind arith
 pub count_four : (n : ℕ) → n < 2 ^ 32 → octet_count n ≤ 4
 count_four = grind arith
 
--- the octets of a number give it back
+-- a number is recovered from its octets
 pub number_back : (k n : ℕ) → n < 256 ^ k → n ≡ big_number (length (big_bytes k n)) (big_bytes k n)
 number_back k n fits =
     rw (length-bytes_high_first k n) (sym (ap (big_number k) (sym (append-nil _)) ∙ big_number-reads_back k n [] fits))
@@ -130,7 +130,7 @@ pub short_tagged : (number : ℕ) (contents : List ℕ) → number < 15 → leng
 unfolding tagged plain_tag
 short_tagged = grind arith
 
--- the tag of four octets, and these
+-- a tag of four octets of contents, and these
 pub four_tagged : (number : ℕ) (contents : List ℕ) → number < 15 → length contents ≡ 4
     → (16 * number + 4) ∷ slice_index_or contents 0 0 ∷ slice_index_or contents 1 0 ∷ slice_index_or contents 2 0
     ∷ slice_index_or contents 3 0 ∷ [] ≡ tagged number contents
@@ -150,7 +150,7 @@ cases_least k n low fits = grind (arith, cases_high)
 pub octet_count_least : (k n : ℕ) → 1 ≤ k → n < 256 ^ k → octet_count n ≤ k
 octet_count_least k n low fits = grind (arith, count_is, cases_least)
 
--- a bit less, doubled
+-- half a power of 256 is that power less one bit
 half_octets : (k : ℕ) → 1 ≤ k → 2 * 2 ^ (8 * k - 1) ≡ 256 ^ k
 half_octets = grind (arith, common_steps, pow256)
 
@@ -206,7 +206,7 @@ pub written_datum : (value : Datum) (before : ℕ) → InRange value → before 
 unfolding plain
 written_datum = grind (arith, length-append)
 
--- ---- the contents of a value are read again
+-- ---- the contents of a value are read back
 
 pub within_again : (most : ℕ) (contents : List ℕ) → 1 ≤ length contents → length contents ≤ most
     → number_within most contents ≡ Some (big_number (length contents) contents)
@@ -227,9 +227,9 @@ contents_again _ (bit_string unused x) _ h = bits_again _ _ x h
 contents_again _ (object id) other h = grind (arith, eq-eqb, same_identifier)
 contents_again _ _ other h = grind arith
 
--- ---- what is read are the contents of the value
+-- ---- the contents that are read are those of the value
 
--- contents and the value of this kind that they hold
+-- contents and the value of this kind in them
 abbrev Holding : ℕ → List ℕ → Datum → Type 0
 Holding number contents value = (tag_number value ≡ number) × StandsFor contents value
 
@@ -237,7 +237,7 @@ pub within_takes : (most : ℕ) (contents : List ℕ) (n : ℕ) → number_withi
     × (length contents ≤ most) × (n ≡ big_number (length contents) contents)
 within_takes = grind arith
 
--- the value under a function that was mapped
+-- the value before a function was applied to it
 mapped : {A B : Type 0} (f : A → B) (o : Option A) (y : B) → option_map f o ≡ Some y → (x : A) × (o ≡ Some x)
     × (f x ≡ y)
 mapped = grind arith
@@ -294,12 +294,12 @@ boolean_takes : (n : ℕ) (value : Datum) → boolean_of n ≡ Some value → (b
     × (n ≡ cond b 1 0)
 boolean_takes = grind arith
 
--- the number in the tag of contents that hold a value of another kind
+-- the number in the tag is the length, if the value is not a Boolean
 shape_number_is : (value : Datum) (n : ℕ) → (tag_number value ≡ 1 → ⊥) → shape_number value n ≡ n
 shape_number_is (boolean b) n other = absurd (other refl)
 shape_number_is _ n _ = refl
 
--- contents after a tag, and the value that they hold with it
+-- contents after a tag, and their value with the tag
 abbrev Behind : ℕ → ℕ → List ℕ → Datum → List ℕ → Type 0
 Behind number n after value rest = (contents : List ℕ) × (tag_number value ≡ number)
     × (shape_number value (length contents) ≡ n) × StandsFor contents value × (after ≡ contents ++ rest)
@@ -353,23 +353,23 @@ value_reader = reader_of _ _ value_takes value_again
 pub one_value : (a b u v : List ℕ) (x y : Datum) → Spells a x → Spells b y → a ++ u ≡ b ++ v → (a ≡ b) × (x ≡ y)
 one_value = one_front _ _ value_reader
 
--- what contents stand for is sound
+-- a value in contents is sound
 pub held_sound : (contents : List ℕ) (value : Datum) → StandsFor contents value → IsSound value
 held_sound _ (bit_string unused x) (_, bits) = bits
 held_sound _ _ h = tt
 
--- ---- the values that a region is, from its front
+-- ---- the values in a region, from its front
 
--- A value has an octet at least.
+-- A value has at least one octet.
 pub value-shorter : (octets : List ℕ) (value : Datum) (rest : List ℕ) → value_at octets ≡ Some (value, rest)
     → length rest < length octets
 value-shorter _ value _ e = let taken = value_reader.takes _ value _ e in grind (arith, common_steps)
 
--- The values of the octets after the first, after it.
+-- The first value, and then the values of the octets after it.
 abbrev then_others : ℕ → Option (Datum × List ℕ) → Option (List Datum)
 then_others count found = found >>= (λ (first, rest). values_within count rest >>= (λ others. Some (first ∷ others)))
 
--- Any count that is large enough gives the same values.
+-- Any large enough count gives the same values.
 enough : (count other : ℕ) (octets : List ℕ) → length octets ≤ count → length octets ≤ other
     → values_within count octets ≡ values_within other octets
 unfolding values_within
@@ -392,7 +392,7 @@ unfolding values_within
 values-none [] e h = absurd (omega arith)
 values-none (x ∷ xs) e h = ap (then_others (length xs)) e
 
--- The first value, and those after it.
+-- The first value, and then the values after it.
 pub values-first : (octets : List ℕ) (value : Datum) (rest : List ℕ) → value_at octets ≡ Some (value, rest) →
     values_of octets ≡ option_map (λ others. value ∷ others) (values_of rest)
 unfolding values_within
@@ -437,7 +437,7 @@ pub ruleset counted = (counted_none, counted_more, counted_stuck, counted_all, n
 
 -- ---- the values in the standard's words
 
--- what the values of octets are, they spell
+-- the values that are read from octets are spelled by them
 pub spelled : (values : List Datum) (octets : List ℕ) → values_of octets ≡ Some values → SpellsAll Spells octets values
 unfolding values_within
 spelled [] octets e = values-empty _ e
@@ -451,7 +451,7 @@ spelled (value ∷ others) (x ∷ xs) e =
         → option_map (λ more. first ∷ more) found ≡ Some (value ∷ others) → (first ≡ value) × (found ≡ Some others)
     parts first found h = grind arith
 
--- what octets spell, their values are
+-- the values that octets spell are read from them
 pub read_all : (values : List Datum) (octets : List ℕ) → SpellsAll Spells octets values → values_of octets ≡ Some values
 unfolding values_within
 read_all [] _ s = ap values_of s

@@ -1,4 +1,4 @@
--- Items, regions and parameters: what is read of them is what the relations say; and values that are read back.
+-- Items, regions and parameters: reading agrees with the relations; and values that are read back.
 use Rattle.std.proofs.Common.{[], ap, append-nil, append_assoc, arith, Bool, cond, drop, drop_at, eqb, false, inl, inr}
 use Rattle.std.proofs.Common.{length, length-append, length-take-le, List, None, Option, option_map, refl, Some, subst}
 use Rattle.std.proofs.Common.{suc, sym, take, take-append-drop, take_at, true, zero, ℕ, ◌++◌, ◌+◌, ◌-◌, ◌<◌, ◌^◌, ◌↔◌}
@@ -24,7 +24,7 @@ pub no_octets : tag_at [] ≡ None
 unfolding tag_at
 no_octets = refl
 
--- a tag has an octet at least
+-- a tag has at least one octet
 pub after_shorter : (octets : List ℕ) (tag : Tag) (after : List ℕ) → tag_at octets ≡ found_at tag after
     → length after < length octets
 after_shorter _ tag _ e = let taken = tag_reader.takes _ tag _ e in grind (arith, common_steps)
@@ -33,7 +33,7 @@ pub tag_parts : (tag : Tag) (number : ℕ) (shape : Shape) → tag.shape ≡ sha
     → tag ≡ record { number = number; shape = shape }
 tag_parts _ _ _ e f = rw (← e, ← f) refl
 
--- a tag and the octets after it, in front of a rest
+-- a tag and the octets after it are read in front of a rest
 pub tag_again : (front others rest : List ℕ) (tag : Tag) → Begins SpellsTag front tag others
     → tag_at (front ++ rest) ≡ found_at tag (others ++ rest)
 tag_again _ _ rest _ b = ap (λ (w : List ℕ). tag_at (w ++ rest)) b.whole
@@ -76,7 +76,7 @@ closed_again _ _ _ c = rw (closing_read _ _ _ c, eq-eqb _ _ refl) refl
 
 -- ---- one step
 
--- the octets after the item at the front; `items` reads those inside of it
+-- the octets after the item at the front; `items` reads those inside the item
 abbrev pub item_at : (ℕ → List ℕ → Option (List ℕ)) → ℕ → List ℕ → Option (List ℕ)
 item_at items depth octets = tag_at octets >>= λ (tag, after). behind_item items depth tag tag.shape after
 
@@ -106,11 +106,11 @@ pub one_step : (count depth : ℕ) (octets : List ℕ) (tag : Tag) (after : List
 unfolding behind_items
 one_step = grind (arith, going_on)
 
--- ---- what is read is there
+-- ---- what is read is spelled
 
--- what the reading of the items inside of an item does
-abbrev Takes : (ℕ → List ℕ → Option (List ℕ)) → Type 0
-Takes items = (depth : ℕ) (octets rest : List ℕ) → items depth octets ≡ Some rest → LeavesRest depth octets rest
+-- reading the items inside an item finds spelled items
+abbrev TakesRegion : (ℕ → List ℕ → Option (List ℕ)) → Type 0
+TakesRegion items = (depth : ℕ) (octets rest : List ℕ) → items depth octets ≡ Some rest → LeavesRest depth octets rest
 
 primitive_item : (depth : ℕ) (item : List ℕ) → IsPrimitive item → IsItem depth item
 primitive_item zero _ p = p
@@ -122,7 +122,7 @@ ended_leaves _ _ _ ended e =
     let same = same_Some _ _ e in
     record { front = []; region = none; whole = same; ended = subst HasEnded same ended }
 
--- after this tag
+-- the octets after this tag
 module _ (octets : List ℕ) (tag : Tag) (after : List ℕ) (e : tag_at octets ≡ found_at tag after) where
   counted_behind : (depth : ℕ) (contents rest : List ℕ) → after ≡ contents ++ rest
       → Counts tag.number tag.shape (length contents) → LeavesBehind depth octets rest
@@ -145,7 +145,7 @@ module _ (octets : List ℕ) (tag : Tag) (after : List ℕ) (e : tag_at octets �
       let line : after ≡ take count after ++ rest = grind (arith, take-append-drop, same_Some) in
       counted_behind _ _ _ line (counts _ (length-take-le _ _ (ltb-false _ _ room)))
 
-  module _ (items : ℕ → List ℕ → Option (List ℕ)) (takes : Takes items) where
+  module _ (items : ℕ → List ℕ → Option (List ℕ)) (takes : TakesRegion items) where
     item_takes : (depth : ℕ) (shape : Shape) (rest : List ℕ) → tag.shape ≡ shape
         → behind_item items depth tag shape after ≡ Some rest → LeavesBehind depth octets rest
     item_takes _ (App n) _ is f = elim (chosen (eqb tag.number 1) _ _ _ f) [
@@ -190,7 +190,7 @@ module _ (octets : List ℕ) (tag : Tag) (after : List ℕ) (e : tag_at octets �
           ended = l.ended;
         }
 
-module _ (items : ℕ → List ℕ → Option (List ℕ)) (takes : Takes items) (depth : ℕ) (octets rest : List ℕ) where
+module _ (items : ℕ → List ℕ → Option (List ℕ)) (takes : TakesRegion items) (depth : ℕ) (octets rest : List ℕ) where
   pub item_at_takes : item_at items depth octets ≡ Some rest → LeavesBehind depth octets rest
   item_at_takes = grind (arith, item_takes)
 
@@ -198,14 +198,14 @@ module _ (items : ℕ → List ℕ → Option (List ℕ)) (takes : Takes items) 
       → behind_tag_found items depth octets read ≡ Some rest → LeavesRest depth octets rest
   found_takes = grind (arith, ended_leaves, more_takes)
 
-pub items_take : (count : ℕ) → Takes (behind_items count)
+pub items_take : (count : ℕ) → TakesRegion (behind_items count)
 unfolding behind_items
 items_take zero _ _ _ e = absurd (none-some _ e)
 items_take (suc count) _ _ _ e = found_takes _ (items_take count) _ _ _ _ refl e
 
--- ---- what is there is read
+-- ---- what is spelled is read
 
--- what the reading of lists of fewer octets does
+-- reading lists of fewer octets finds the spelled items
 abbrev Again : (ℕ → List ℕ → Option (List ℕ)) → ℕ → Type 0
 Again items most = (depth top : ℕ) (front rest : List ℕ) → depth ≤ top → length (front ++ rest) < most
     → IsRegion depth front → HasEnded rest → items top (front ++ rest) ≡ Some rest
@@ -219,7 +219,7 @@ boolean_again : (b : Bool) (n : ℕ) (contents rest : List ℕ) → length conte
 boolean_again true n _ _ e = rw (nil_from_length _ e) refl
 boolean_again false n _ _ e = count_again n _ _ e
 
--- after an item, whatever reads the items inside of it
+-- the octets after an item, whichever function reads the items inside it
 module _ (items : ℕ → List ℕ → Option (List ℕ)) (rest : List ℕ) where
   counted_again : (top : ℕ) (tag : Tag) (shape : Shape) (contents : List ℕ)
       → Counts tag.number shape (length contents) → behind_item items top tag shape (contents ++ rest) ≡ Some rest
@@ -286,7 +286,7 @@ pub region_leaves : (depth number : ℕ) (octets front : List ℕ) (r : IsClosed
     → LeavesRest depth octets r.behind
 region_leaves = grind arith
 
--- an item in front of a rest is read, if as many octets are allowed
+-- an item before a rest is read, if the count allows as many octets
 pub item_read : (count depth top : ℕ) (octets item rest : List ℕ) → depth ≤ top → length octets < suc count
     → IsItem depth item
     → octets ≡ item ++ rest → item_at (behind_items count) top octets ≡ Some rest
@@ -311,7 +311,7 @@ pub item_opens : (depth number : ℕ) (item closing u v : List ℕ) → IsItem d
     → SpellsTag closing (closing_tag number) → item ++ u ≡ closing ++ v → ⊥
 item_opens = grind arith
 
--- ---- one region, and how deep it is
+-- ---- one region, and its depth
 
 pub one_region : (depth other number another : ℕ) (octets a b : List ℕ) → IsClosedRegion depth number octets a
     → IsClosedRegion other another octets b → (a ≡ b) × (number ≡ another)
@@ -321,7 +321,7 @@ one_region _ _ number _ _ a b r s =
     (sym (closing_read _ _ _ r.closed) ∙ ap tag_at same ∙ closing_read _ _ _ s.closed) in
     (grind (arith, append_cancel_right), ap (λ t. t.number) tags)
 
--- the items inside of an item
+-- the items inside an item
 inside_of : (count depth number : ℕ) (after next : List ℕ)
     → behind_item (behind_items count) depth (opening_tag number) Opening after ≡ Some next
     → (below : ℕ) × (depth ≡ suc below) × (mid : List ℕ) × LeavesRest below after mid
@@ -352,9 +352,9 @@ pub nesting : (depth count : ℕ) (octets front rest : List ℕ) → IsRegion de
     → octets ≡ front ++ rest → count ≤ depth
 nesting _ _ _ _ _ r o e = opens_within _ _ _ _ [] _ o r (inl refl) (append-nil _ ∙ e)
 
--- ---- what is read is what is found
+-- ---- the reading function and the relation agree
 
--- this takes such a rest, and finds again the one that there is
+-- a reading function returns a rest exactly if it is one in the relation
 pub record Reads (IsRest : List ℕ → Type 0) (read : Option (List ℕ)) : Type 0 where
   pub takes : (rest : List ℕ) → read ≡ Some rest → IsRest rest
   pub again : (rest : List ℕ) → IsRest rest → read ≡ Some rest
@@ -385,7 +385,7 @@ items_read _ _ _ short = record {
   again = λ rest l. left_again _ _ _ _ _ (omega arith) short l;
 }
 
--- the function and the relation say the same
+-- the function and the relation agree
 pub items_is : (depth : ℕ) (octets rest : List ℕ)
     → (behind_items (length octets + 1) depth octets ≡ Some rest) ↔ LeavesRest depth octets rest
 items_is _ _ _ =
@@ -405,7 +405,7 @@ whole_is = grind (arith, whole_region, items_is, region_whole)
 
 -- ---- the items of the code
 
--- what whole items at the front leave, with octets enough
+-- the octets after whole items at the front, with a large enough count
 abbrev pub rest_of : ℕ → List ℕ → Option (List ℕ)
 rest_of depth octets = behind_items (suc (length octets)) depth octets
 
@@ -413,7 +413,7 @@ pub rest_found : (depth : ℕ) (octets : List ℕ) (found : Option (List ℕ)) �
     → Finds (LeavesRest depth octets) found
 rest_found = grind (arith, finds_by, items_read)
 
--- no tag, and so no rest
+-- without a tag there is no rest
 pub rest_none : (depth : ℕ) (octets : List ℕ) → None ≡ tag_at octets → (octets ≡ [] → ⊥) → rest_of depth octets ≡ None
 unfolding behind_items
 rest_none _ [] e some = absurd (some refl)
@@ -422,9 +422,9 @@ rest_none _ (x ∷ xs) e some = cc
 pub behind_shorter : (depth : ℕ) (octets rest : List ℕ) → LeavesBehind depth octets rest → length rest < length octets
 behind_shorter _ _ _ l = rw l.whole (item_shorter _ _ _ l.item)
 
--- what the first tag leaves
+-- the octets after the first tag
 module _ (depth : ℕ) (octets : List ℕ) (tag : Tag) (after : List ℕ) (e : found_at tag after ≡ tag_at octets) where
-  -- an item was found, or none
+  -- the rest after an item that was found or not
   pub rest_step : (found : Option (List ℕ)) → (tag.shape ≡ Closing → ⊥) → Finds (LeavesBehind depth octets) found
       → rest_of depth octets ≡ (found >>= rest_of depth)
   rest_step None going finds =
@@ -434,7 +434,7 @@ module _ (depth : ℕ) (octets : List ℕ) (tag : Tag) (after : List ℕ) (e : f
       one_step _ _ _ _ _ (sym e) going ∙ rw (found_by _ (Some _) (item_reads (length octets) _ _ (omega arith)) finds)
       (found_by _ _ reads (rest_found _ _ _ refl))
 
-  -- as it is read
+  -- the item that was read is the item that was found
   pub item_found : (shape : Shape) (found : Option (List ℕ)) → tag.shape ≡ shape
       → behind_item (behind_items (length octets)) depth tag shape after ≡ found
       → Finds (LeavesBehind depth octets) found
@@ -442,7 +442,7 @@ module _ (depth : ℕ) (octets : List ℕ) (tag : Tag) (after : List ℕ) (e : f
       let read : item_at (behind_items (length octets)) depth octets ≡ found = cc in
       subst (Finds _) read (finds_by _ (item_reads (length octets) depth octets (omega arith)))
 
-  -- the items inside of an item were found, or none
+  -- the items inside an item were found or not
   pub opening_found : (below : ℕ) (inside found : Option (List ℕ)) → depth ≡ suc below → tag.shape ≡ Opening
       → Finds (LeavesRest below after) inside → (inside >>= behind_closing tag.number) ≡ found
       → Finds (LeavesBehind depth octets) found
@@ -640,7 +640,7 @@ enclosed_reader _ =
     rw (tag_again _ _ _ _ s.opened, eq-eqb _ _ refl)
     ((region_reader _).again _ _ _ (record { closing = s.closing; whole = refl; items = s.parts; closed = s.closed })))
 
--- items between tags are no number
+-- items between tags are not a number
 pub enclosed_no_number : (number other : ℕ) (octets front region rest : List ℕ) → SpellsEnclosed other front region
     → octets ≡ front ++ rest → number_at number octets ≡ None
 unfolding number_at context_at
@@ -649,7 +649,7 @@ enclosed_no_number _ _ _ _ _ _ s e =
 
 -- ---- values of one kind
 
--- what this function reads is spelled at the front as the thing that is made of it
+-- the result of the function is spelled at the front, as `made` of it
 pub record IsStep {A P : Type 0} (Spells : List ℕ → P → Type 0) (made : A → P)
     (at : List ℕ → Option (A × List ℕ)) : Type 0 where
   pub takes : (octets : List ℕ) (x : A) (rest : List ℕ) → at octets ≡ found_at x rest
@@ -701,9 +701,9 @@ pub enclosed_spells : (number : ℕ) (region : List ℕ) → number < 255 → Is
     → SpellsEnclosed number (enclosed_octets number region) region
 enclosed_spells = grind (arith, plain_tag_spells)
 
--- ---- what is read of a value that was written, for a crate above, by `IsReadBack` and `FindsFront`
+-- ---- written values are read back; crates above cite this with `IsReadBack` and `FindsFront`
 
--- what was found, without where its octets lie
+-- the value that was found, without where its octets lie
 abbrev pub found_seen : Option (Value × ℕ) → Option (Datum × ℕ)
 found_seen found = option_map (λ (value, count). (datum value, count)) found
 
@@ -711,12 +711,12 @@ found_seen found = option_map (λ (value, count). (datum value, count)) found
 abbrev pub IsFound : Option (Value × ℕ) → Datum → ℕ → Type 0
 IsFound found x count = (value : Value) × (found ≡ Some (value, count)) × (datum value ≡ x)
 
--- the octets begin with what was written
+-- the octets begin with the written ones
 pub value_back : (plain rest octets : List ℕ) (x : Datum) (found : Option (Value × ℕ)) → IsReadBack Spells plain x
     → octets ≡ plain ++ rest → FindsFront Spells octets (found_seen found) → IsFound found x (length plain)
 value_back _ rest _ x found back whole finds = grind arith
 
--- the octets are what was written, after nothing
+-- the octets are the written ones, after none
 pub value_alone : (first plain octets : List ℕ) (x : Datum) (found : Option (Value × ℕ)) → first ≡ []
     → octets ≡ first ++ plain → IsReadBack Spells plain x → FindsFront Spells octets (found_seen found)
     → IsFound found x (length octets)

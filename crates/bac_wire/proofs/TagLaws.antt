@@ -1,5 +1,5 @@
--- Readers and writers, one after another, and those of tags: what is read is what is spelled, and what is written is
--- the shortest spelling.
+-- Readers and writers in sequence, and those of tags: reading finds what is spelled, and writing appends the shortest
+-- spelling.
 use Rattle.std.proofs.Common.{[], ap, append-nil, append_assoc, arith, Bool, cond, eqb, Err, false, inl, inr, length}
 use Rattle.std.proofs.Common.{length-append, List, ltb, None, Ok, Option, refl, Result, Some, subst, suc, sym, take}
 use Rattle.std.proofs.Common.{take-take, take_all, take_at, true, ℕ, ◌++◌, ◌-◌, ◌<◌, ◌∙◌, ◌∷◌, ◌≡◌, ◌≤◌, ◌⊎◌}
@@ -10,19 +10,19 @@ use Rattle.bac_wire.specs.{IsReader, IsShortest, IsTag, length_at, long_length_a
 use Rattle.bac_wire.specs.{plain_tag, Shape, shape_at, SpellsLength, SpellsNumber, SpellsShape, SpellsTag, tag_at}
 use Rattle.bac_wire.specs.{tag_number_at, two_at, ◌>>=◌, declared.tag.Tag.Tag, Inner.AppendsFront}
 
--- the thing at the front, as the steps of a reader find it
+-- a spelling at the front, as the steps of a reader find it
 abbrev pub Took : {A : Type 0} → (List ℕ → A → Type 0) → List ℕ → A → List ℕ → Type 0
 Took Spells octets x rest = (front : List ℕ) × Spells front x × (octets ≡ front ++ rest)
 
 abbrev pub found_at : {A : Type 0} → A → List ℕ → Option (A × List ℕ)
 found_at x rest = Some (x, rest)
 
--- a front that was taken whole
+-- a spelling at the front that was read whole
 pub took : {A : Type 0} (Spells : List ℕ → A → Type 0) (front : List ℕ) (x y : A) (after rest : List ℕ)
     → found_at x after ≡ found_at y rest → Spells front x → Took Spells (front ++ after) y rest
 took = grind arith
 
--- a front that was taken as one thing, and spells another one
+-- a spelling at the front that was read as one value, and spells another
 pub took_as : {A B : Type 0} (As : List ℕ → A → Type 0) (Spells : List ℕ → B → Type 0) (octets : List ℕ) (a : A)
     (x y : B) (after rest : List ℕ)
     → Took As octets a after → found_at x after ≡ found_at y rest → ((front : List ℕ) → As front a → Spells front x)
@@ -35,7 +35,7 @@ pub reader_of : {A : Type 0} (Spells : List ℕ → A → Type 0) (at : List ℕ
     → IsReader Spells at
 reader_of = grind arith
 
--- a front, by the length of the octets after it
+-- the front, found from the length of the octets after it
 pub record IsFrontBefore (octets front rest : List ℕ) : Type 0 where
   pub within : length rest ≤ length octets
   pub count : length octets - length rest ≡ length front
@@ -49,12 +49,12 @@ pub chosen : {A : Type 0} (b : Bool) (x y z : A) → cond b x y ≡ z → ((b �
 chosen true x y z e = inl (refl, e)
 chosen false x y z e = inr (refl, e)
 
--- what was found if a test had to hold
+-- the result, if a test had to succeed for it
 pub only_if : {A : Type 0} (b : Bool) {x : Option A} {y : A} → cond b x None ≡ Some y → (b ≡ true) × (x ≡ Some y)
 only_if true e = (refl, e)
 only_if false e = absurd cc
 
--- what was found if a test had to fail
+-- the result, if a test had to fail for it
 pub unless : {A : Type 0} (b : Bool) {x : Option A} {y : A} → cond b None x ≡ Some y → (b ≡ false) × (x ≡ Some y)
 unless true e = absurd cc
 unless false e = (refl, e)
@@ -72,7 +72,7 @@ module _ {A : Type 0} (Spells : List ℕ → A → Type 0) (at : List ℕ → Op
         let line : a ++ v ≡ b ++ v = ap (λ (w : List ℕ). a ++ w) (sym rests) ∙ e in
         (append_cancel_right a b v line, same)
 
-    -- the thing that was read is spelled at the front
+    -- the value that was read is spelled at the front
     pub found_front : (octets : List ℕ) (x : A) (rest : List ℕ) → found_at x rest ≡ at octets
         → (length rest ≤ length octets) × FindsFront Spells octets (Some (x, length octets - length rest))
     found_front octets x rest e =
@@ -92,28 +92,28 @@ pub spelled_back : {A : Type 0} (Spells : List ℕ → A → Type 0) (front : Li
     → IsReadBack Spells front x
 spelled_back Spells _ x s = λ rest found finds. finds.all _ _ x s refl
 
--- ---- what a reader finds in octets that stand alone is what they spell, and nothing else; for examples
+-- ---- a reader finds in octets without a rest exactly what they spell; for examples
 
--- what is read of all the octets is spelled by them
+-- a value that is read from all octets is spelled by them
 pub is_spelled : {A : Type 0} {Spells : List ℕ → A → Type 0} {at : List ℕ → Option (A × List ℕ)} → IsReader Spells at
     → (octets : List ℕ) (x : A) → at octets ≡ Some (x, []) → Spells octets x
 is_spelled {Spells} reader octets x e =
     let begins = reader.takes octets x [] e in
     subst (λ w. Spells w x) (sym (begins.whole ∙ append-nil begins.front)) begins.spelled
 
--- what the octets spell is read of them
+-- a value that octets spell is read from them
 pub is_read : {A : Type 0} {Spells : List ℕ → A → Type 0} {at : List ℕ → Option (A × List ℕ)} → IsReader Spells at
     → (octets : List ℕ) (x : A) → Spells octets x → at octets ≡ Some (x, [])
 is_read {at} reader octets x s = subst (λ w. at w ≡ Some (x, [])) (append-nil octets) (reader.again octets x [] s)
 
 -- ---- one writer after another
 
--- a writer that appends all or nothing appends a front
+-- a writer that appends all or nothing meets the weaker condition too
 pub front : {A E : Type 0} {old octets new : List ℕ} {r : Result A E} → Appends old octets new r
     → AppendsFront old octets new r
 front = grind (arith, length-append, take_at, take_all)
 
--- then a second writer, after what the first one wrote
+-- a second writer appends after the first
 pub then_appends : {A B E F : Type 0} {old first mid second new : List ℕ} {x : A} {r : Result B F}
     → AppendsFront {E = E} old first mid (Ok x) → AppendsFront mid second new r
     → AppendsFront old (first ++ second) new r
@@ -128,15 +128,15 @@ pub stops_whole : {A B E F : Type 0} {old first new : List ℕ} {e : E} {r : Res
     → Appends {A = A} old first new (Err e) → Appends old (first ++ second) new r
 stops_whole = grind (arith, length-append)
 
--- the same octets in other words
+-- the same octets, written in another way
 pub written_as : {A E : Type 0} {old octets other new : List ℕ} {r : Result A E} → octets ≡ other
     → AppendsFront old octets new r → AppendsFront old other new r
 written_as {old} {new} {r} = subst (λ (l : List ℕ). AppendsFront _ l _ r)
 
--- what appends one part after another, if each has its room or stops there
+-- the rules for one part after another, each of which has room or stops
 pub ruleset in_parts = (front, then_appends, stops, stops_whole, append-nil)
 
--- ---- what is spelled is read again
+-- ---- a spelling is read
 
 number_again : (high : ℕ) (front : List ℕ) (n : ℕ) (rest : List ℕ) → SpellsNumber high front n
     → tag_number_at high (front ++ rest) ≡ Some (n, rest)
@@ -161,7 +161,7 @@ tag_again : (front : List ℕ) (tag : Tag) (rest : List ℕ) → SpellsTag front
 unfolding tag_at
 tag_again = grind (arith, number_again, shape_again, append_assoc)
 
--- ---- what is read is spelled
+-- ---- the result of reading is spelled
 
 pub bind_some : {A B : Type 0} (r : Option A) (f : A → Option B) (y : B) → (r >>= f) ≡ Some y → (x : A) × (r ≡ Some x)
     × (f x ≡ Some y)
@@ -263,7 +263,7 @@ one_tag = one_front _ _ tag_reader
 
 -- ---- the plain spelling
 
--- what holds of each branch of a test, if it is taken
+-- a property of each branch of a test, if the branch is taken
 by_test : {A : Type 0} (P : A → Type 0) (m n : ℕ) {x y : A} → (m < n → P x) → (n ≤ m → P y) → P (cond (ltb m n) x y)
 by_test = grind (arith, ltb-true)
 

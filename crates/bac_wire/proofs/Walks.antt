@@ -1,6 +1,7 @@
--- What walks by hand over ghost data share. The prover writes no proof that picks ghost data, so whoever makes a struct
--- of it has a `Proof.antt`, step by step: the arguments are taken, the struct is made, and the ghost data is named at
--- the return. Their form is that of the toolchain's own crates that keep such a list, `serde_json` and `http_server`.
+-- Lemmas for hand-written walks over ghost data. The prover writes no proof that chooses ghost data, so each function
+-- that makes such a struct has a `Proof.antt`, step by step: it takes the arguments, makes the struct, and names the
+-- ghost data at the return. The form is that of the toolchain's crates `serde_json` and `http_server`, which keep such
+-- lists.
 use denote.Struct.Struct.{Struct}
 use mir.Val.{Val, vnil, vstruct}
 use seplogic.Ra.Ura.{Ura}

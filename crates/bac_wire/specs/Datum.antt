@@ -6,7 +6,7 @@ use Rattle.bac_wire.specs.{declared.{tag.{Shape.TheVariants.App, Tag.Tag}, value
 use Rattle.bac_wire.specs.{Identifier.{Identifier, IsIdentifier, identifier, number_of}, Tag.{SpellsTag, plain_tag}}
 use Rattle.bac_wire.specs.declared.value.Value.TheVariants as values
 
--- What a value is, without where its octets lie in memory.
+-- A value, without where its octets lie in memory.
 pub data Datum : Type 0 where
   null : Datum
   boolean : Bool → Datum
@@ -22,7 +22,7 @@ pub data Datum : Type 0 where
   time : List ℕ → Datum
   object : Identifier → Datum
 
--- The datum that a `Value` of the code is.
+-- A `Value` of the code as a datum.
 abbrev pub datum : Value → Datum
 datum values.Null = null
 datum (values.Bool b) = boolean b
@@ -59,7 +59,7 @@ pub record AreBits (unused : ℕ) (x : List ℕ) : Type 0 where
   pub most : unused ≤ 7
   pub empty : x ≡ [] → unused ≡ 0
 
--- The contents that stand for a value. Numbers may have more octets than they need.
+-- The contents of a value. Numbers may have more octets than they need.
 abbrev pub StandsFor : List ℕ → Datum → Type 0
 StandsFor contents (unsigned n) = (1 ≤ length contents) × (length contents ≤ 8)
     × (n ≡ big_number (length contents) contents)
@@ -77,7 +77,7 @@ StandsFor contents (time t) = (length contents ≡ 4) × (contents ≡ t)
 StandsFor contents (object id) = (length contents ≡ 4) × (id.instance < 2 ^ 22) × (big_number 4 contents ≡ number_of id)
 StandsFor contents _ = contents ≡ []
 
--- The number that the tag holds: the length of the contents, or for a Boolean its value (20.2.3).
+-- The number in the tag: the length of the contents, or, for a Boolean, its value (20.2.3).
 abbrev pub shape_number : Datum → ℕ → ℕ
 shape_number (boolean b) n = if b then 1 else 0
 shape_number _ n = n
@@ -94,7 +94,7 @@ pub record Spells (spelling : List ℕ) (value : Datum) : Type 0 where
 
 -- ---- the shortest spelling
 
--- How many octets a number is written in: the first count from 1 to 7 whose octets hold it, else 8.
+-- The number of octets in which a number is written: the first count from 1 to 7 that is enough, or 8.
 abbrev pub octet_count : ℕ → ℕ
 octet_count n = unwrap_or (find (λ count. nat_lt n (256 ^ count)) (1 ∷ 2 ∷ 3 ∷ 4 ∷ 5 ∷ 6 ∷ 7 ∷ [])) 8
 
@@ -104,7 +104,7 @@ abbrev pub signed_count : ℤ → ℕ
 signed_count (pos n) = octet_count (2 * n)
 signed_count (negsuc n) = octet_count (2 * n)
 
--- The contents that are written: a number in the fewest octets, all else as it is.
+-- The contents that are written: a number in the fewest octets, all else unchanged.
 abbrev pub plain_contents : Datum → List ℕ
 plain_contents (unsigned n) = big_bytes (octet_count n) n
 plain_contents (signed z) = big_bytes (signed_count z) (low_bytes w64 (signed_count z) z)
@@ -119,7 +119,7 @@ plain_contents (time t) = t
 plain_contents (object id) = big_bytes 4 (number_of id)
 plain_contents _ = []
 
--- The spelling that is written of a value.
+-- The spelling that is written for a value.
 unfoldable pub plain : Datum → List ℕ
 plain value = plain_tag (tag_before value (length (plain_contents value))) ++ plain_contents value
 

@@ -1,4 +1,4 @@
--- Reading a value from left to right: by its tag, and then by the table of the kinds. `Spells` says what that means.
+-- Reading a value from left to right: its tag, and then the table of kinds. The relation is `Spells`.
 use Rattle.std.specs.Prelude.{ℕ, zero, suc, nat_lt, ◌==◌, true, false, if◌then◌else◌, List, [], ◌∷◌, length, take, drop}
 use Rattle.std.specs.Prelude.{Option, Some, None, option_map}
 use Rattle.byteorder.specs.Endian.{big_number, twos_complement}
@@ -10,7 +10,7 @@ use Rattle.bac_wire.specs.{Datum.{bit_string, enumerated, date, time, object}, S
 abbrev pub exactly : ℕ → List ℕ → Option (List ℕ)
 exactly n contents = if length contents == n then Some contents else None
 
--- The number that contents are, if they have from one octet up to this many.
+-- The number in the contents, if they have one octet to this many.
 abbrev pub number_within : ℕ → List ℕ → Option ℕ
 number_within most contents =
     if nat_lt 0 (length contents)
@@ -22,13 +22,13 @@ abbrev pub chars_of : List ℕ → Option Datum
 chars_of [] = None
 chars_of (set ∷ x) = Some (char_string set x)
 
--- A BitString: the first octet says how many bits of the last one are unused, the others are the bits.
+-- A BitString: the first octet is the number of unused bits at the end, the others are the bits.
 abbrev pub bits_of : List ℕ → Option Datum
 bits_of [] = None
 bits_of (unused ∷ []) = if unused == 0 then Some (bit_string unused []) else None
 bits_of (unused ∷ x ∷ xs) = if nat_lt 7 unused then None else Some (bit_string unused (x ∷ xs))
 
--- The value that contents stand for after an application tag of this number.
+-- The value in contents after an application tag with this number.
 unfoldable pub contents_of : ℕ → List ℕ → Option Datum
 contents_of number contents =
     if number == 0 then option_map (λ _. null) (exactly 0 contents)
@@ -45,11 +45,11 @@ contents_of number contents =
     else if number == 12 then option_map (λ c. object (identifier_of (big_number 4 c))) (exactly 4 contents)
     else None
 
--- The Boolean that the number in its tag says.
+-- The Boolean in a tag with this number.
 abbrev pub boolean_of : ℕ → Option Datum
 boolean_of n = if n == 0 then Some (boolean false) else if n == 1 then Some (boolean true) else None
 
--- The value after an application tag of this number and length, and the octets after it.
+-- The value after an application tag with this number and length, and the octets after it.
 abbrev pub behind_at : ℕ → ℕ → List ℕ → Option (Datum × List ℕ)
 behind_at number n rest =
     if number == 1 then boolean_of n >>= (λ value. Some (value, rest))
@@ -65,7 +65,7 @@ with_shape tag _ rest = None
 unfoldable pub value_at : List ℕ → Option (Datum × List ℕ)
 value_at spelling = tag_at spelling >>= (λ (tag, rest). with_shape tag tag.shape rest)
 
--- The values that the octets are, one after another, if there are at most this many octets.
+-- The values in the octets, one after another, if there are at most this many octets.
 unfoldable pub values_within : ℕ → List ℕ → Option (List Datum)
 values_within count [] = Some []
 values_within zero (octet ∷ octets) = None
@@ -74,6 +74,6 @@ values_within (suc count) (octet ∷ octets) = do
   others ← values_within count rest
   Some (first ∷ others)
 
--- The values that a region is, if it is nothing else. No value has less than one octet.
+-- The values in a region, if it is only values. Each has at least one octet.
 abbrev pub values_of : List ℕ → Option (List Datum)
 values_of region = values_within (length region) region

@@ -11,12 +11,12 @@ pub record Identifier : Type 0 where
 abbrev pub identifier : ObjectId → Identifier
 identifier id = record { kind = id.kind; instance = id.instance }
 
--- The identifiers that there are: ten bits of type and 22 of instance.
+-- The identifiers that exist: ten bits of type and 22 of instance.
 pub record IsIdentifier (id : Identifier) : Type 0 where
   pub kind : id.kind < 1024
   pub instance : id.instance < 2 ^ 22
 
--- The number that an identifier is on the wire: the type in the high bits, the instance in the low 22.
+-- The number of an identifier on the wire: the type in the high bits, the instance in the low 22.
 abbrev pub number_of : Identifier → ℕ
 number_of id = id.kind * 2 ^ 22 + id.instance
 

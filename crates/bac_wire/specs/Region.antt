@@ -1,37 +1,37 @@
--- Items, and regions: lists of whole items, as a parameter of any type holds them (ANSI/ASHRAE 135, 20.2.1.3.2,
--- 20.2.19).
+-- Items, and regions: lists of whole items, which are the contents of a parameter of any type (ANSI/ASHRAE 135,
+-- 20.2.1.3.2, 20.2.19).
 use Rattle.std.specs.Prelude.{[], IfSome, if◌then◌else◌, length, List, Option, Some, suc, take, zero, ℕ, ◌++◌, ◌==◌}
 use Rattle.std.specs.Prelude.{◌≡◌, ◌≤◌, ◌⊎◌}
 use Rattle.bac_wire.specs.declared.tag.{Shape.{Shape, TheVariants.{App, Closing, Context, Opening}}, Tag.Tag}
 use Rattle.bac_wire.specs.{Front.Begins, Limits.deepest, Tag.SpellsTag}
 
--- The opening tag of this number, which begins constructed data.
+-- The opening tag with this number, which begins constructed data.
 abbrev pub opening_tag : ℕ → Tag
 opening_tag number = record { number = number; shape = Opening }
 
--- The closing tag of this number, which ends it.
+-- The closing tag with this number, which ends constructed data.
 abbrev pub closing_tag : ℕ → Tag
 closing_tag number = record { number = number; shape = Closing }
 
--- How many octets a tag of this number and shape counts: an application Boolean has none.
+-- How many octets of contents a tag with this number and shape has: an application Boolean has none.
 abbrev pub Counts : ℕ → Shape → ℕ → Type 0
 Counts number (App n) count = count ≡ (if number == 1 then 0 else n)
 Counts number (Context n) count = count ≡ n
 Counts number _ count = ⊥
 
--- Primitive data: a tag and the octets that it counts.
+-- Primitive data: a tag and its contents.
 pub record IsPrimitive (octets : List ℕ) : Type 0 where
   pub tag : Tag
   pub contents : List ℕ
   pub tagged : Begins SpellsTag octets tag contents
   pub counted : Counts tag.number tag.shape (length contents)
 
--- Parts of this kind, one after the other, or none.
+-- Any number of these parts, one after the other.
 pub data IsSequence (Part : List ℕ → Type 0) : List ℕ → Type 0 where
   none : IsSequence Part []
   more : {first rest : List ℕ} → Part first → IsSequence Part rest → IsSequence Part (first ++ rest)
 
--- Constructed data: an opening tag of this number, inside a sequence, and the closing tag of the same number.
+-- Constructed data: an opening tag with this number, the sequence inside, and the closing tag with this number.
 pub record IsBracketed (Part : List ℕ → Type 0) (number : ℕ) (octets inside : List ℕ) : Type 0 where
   pub closing : List ℕ
   pub opened : Begins SpellsTag octets (opening_tag number) (inside ++ closing)
@@ -50,7 +50,7 @@ IsRegion depth octets = IsSequence (IsItem depth) octets
 
 -- ---- the octets after the items at the front
 
--- Nothing is left, or a closing tag begins what is left.
+-- The octets are empty, or begin with a closing tag.
 abbrev pub HasEnded : List ℕ → Type 0
 HasEnded octets = (octets ≡ []) ⊎ ((number : ℕ) × (rest : List ℕ) × Begins SpellsTag octets (closing_tag number) rest)
 
@@ -61,7 +61,7 @@ pub record LeavesRest (depth : ℕ) (octets rest : List ℕ) : Type 0 where
   pub whole : octets ≡ front ++ rest
   pub ended : HasEnded rest
 
--- The octets begin with this front, which is whole items, and a closing tag of this number follows.
+-- The octets begin with this front, which is whole items, and a closing tag with this number follows.
 pub record IsClosedRegion (depth number : ℕ) (octets front : List ℕ) : Type 0 where
   pub behind : List ℕ
   pub rest : List ℕ
@@ -69,21 +69,22 @@ pub record IsClosedRegion (depth number : ℕ) (octets front : List ℕ) : Type 
   pub whole : octets ≡ front ++ behind
   pub closed : Begins SpellsTag behind (closing_tag number) rest
 
--- A size that was found is that of a region that a closing tag of this number ends; if there is such a region, its
+-- The size that was found is that of a region before a closing tag with this number. If there is such a region, its
 -- size is found.
 pub record FindsRegion (depth number : ℕ) (octets : List ℕ) (size : Option ℕ) : Type 0 where
   pub within : IfSome size (λ k. k ≤ length octets)
   pub found : IfSome size (λ k. IsClosedRegion depth number octets (take k octets))
   pub all : (front : List ℕ) → IsClosedRegion depth number octets front → size ≡ Some (length front)
 
--- The whole list: a region, and the closing tag of this number.
+-- The whole list: a region, and the closing tag with this number.
 pub record SpellsClosed (number : ℕ) (octets region : List ℕ) : Type 0 where
   pub closing : List ℕ
   pub whole : octets ≡ region ++ closing
   pub items : IsRegion deepest region
   pub closed : SpellsTag closing (closing_tag number)
 
--- A front in which this many opening tags are open: whole items, and opening tags whose closing tags are still to come.
+-- The beginning of a list in which this many opening tags are open: whole items, and opening tags whose closing tags
+-- are still to come.
 pub data Opens : ℕ → List ℕ → Type 0 where
   here : Opens 0 []
   past : {count : ℕ} {rest : List ℕ} (depth : ℕ) (item : List ℕ) → IsItem depth item → Opens count rest

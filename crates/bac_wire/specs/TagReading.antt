@@ -1,4 +1,4 @@
--- Reading a tag from left to right: what was read, and the octets after it. `SpellsTag` says what that means.
+-- Reading a tag from left to right: the tag, and the octets after it. The relation is `SpellsTag`.
 use Rattle.std.specs.Prelude.{[], if◌then◌else◌, List, nat_lt, None, Option, Some, ℕ, ◌%◌, ◌-◌, ◌/◌, ◌==◌, ◌∷◌}
 use Rattle.byteorder.specs.Endian.{big_number}
 use Rattle.bac_wire.specs.declared.tag.{Shape.{Shape, TheVariants.{App, Closing, Context, Opening}}, Tag.Tag}
@@ -9,7 +9,7 @@ abbrev pub extended_number : List ℕ → Option (ℕ × List ℕ)
 extended_number [] = None
 extended_number (octet ∷ rest) = if nat_lt octet 255 then Some (octet, rest) else None
 
--- The tag's number, by the high half of the initial octet, and the octets after it.
+-- The tag's number, from the high half of the initial octet, and the octets after it.
 unfoldable pub tag_number_at : ℕ → List ℕ → Option (ℕ × List ℕ)
 tag_number_at high octets =
     if nat_lt high 15 then Some (high, octets) else if high == 15 then extended_number octets else None
@@ -30,11 +30,11 @@ long_length_at [] = None
 long_length_at (a ∷ rest) =
     if nat_lt a 254 then Some (a, rest) else if a == 254 then two_at rest else if a == 255 then four_at rest else None
 
--- The length, by the low bits of the initial octet.
+-- The length, from the low bits of the initial octet.
 unfoldable pub length_at : ℕ → List ℕ → Option (ℕ × List ℕ)
 length_at low octets = if nat_lt low 5 then Some (low, octets) else if low == 5 then long_length_at octets else None
 
--- Class and length, or the bracket, by the low half of the initial octet.
+-- Class and length, or the bracket, from the low half of the initial octet.
 unfoldable pub shape_at : ℕ → List ℕ → Option (Shape × List ℕ)
 shape_at low octets =
     if nat_lt low 8 then length_at low octets >>= (λ (n, rest). Some (App n, rest))

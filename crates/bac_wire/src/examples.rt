@@ -23,10 +23,10 @@ fn examples_of_octets()
     ensures signed { WritesValue (signed (negsuc 4)) (0x31 ∷ 0xfb ∷ []) }
     ensures enumerated { WritesValue (enumerated 3) (0x91 ∷ 0x03 ∷ []) }
 
-    // 72.3, by the four octets of its single precision.
+    // 72.3, in the four octets of a single-precision number.
     ensures real { WritesValue (real (0x42 ∷ 0x90 ∷ 0x99 ∷ 0x9a ∷ [])) (0x44 ∷ 0x42 ∷ 0x90 ∷ 0x99 ∷ 0x9a ∷ []) }
 
-    // "BACnet" in the character set 0. The length passes 4, so an octet of its own says it.
+    // "BACnet" in the character set 0. The length is above 4, so it has an octet of its own.
     ensures text { WritesValue (char_string 0 (0x42 ∷ 0x41 ∷ 0x43 ∷ 0x6e ∷ 0x65 ∷ 0x74 ∷ []))
         (0x75 ∷ 0x07 ∷ 0x00 ∷ 0x42 ∷ 0x41 ∷ 0x43 ∷ 0x6e ∷ 0x65 ∷ 0x74 ∷ []) }
 
@@ -48,7 +48,8 @@ fn examples_of_reading()
     ensures wide { value_at (0x22 ∷ 0x00 ∷ 0x05 ∷ []) ≡ Some (unsigned 5, []) }
     ensures long_tag { value_at (0x25 ∷ 0x01 ∷ 0x05 ∷ []) ≡ Some (unsigned 5, []) }
 
-    // No value: nothing, an octet too few, a Boolean that is neither 0 nor 1, and a tag of the context class.
+    // Octets that are not a value: none, an octet too few, a Boolean that is neither 0 nor 1, and a tag of the context
+    // class.
     ensures nothing { value_at [] ≡ None }
     ensures short { value_at (0x22 ∷ 0x05 ∷ []) ≡ None }
     ensures not_boolean { value_at (0x12 ∷ []) ≡ None }
@@ -69,13 +70,13 @@ fn examples_of_parameters()
     ensures value { enclosed_octets 3 (0x21 ∷ 0x05 ∷ []) ≡ 0x3e ∷ 0x21 ∷ 0x05 ∷ 0x3f ∷ [] }
     ensures value_read { enclosed_at 3 (0x3e ∷ 0x21 ∷ 0x05 ∷ 0x3f ∷ []) ≡ Some (0x21 ∷ 0x05 ∷ [], []) }
 
-    // An octet 3F among contents closes nothing; nor does the closing tag of another number.
+    // An octet 3F among contents closes nothing, and neither does the closing tag of another number.
     ensures contents { region_at 3 (0x21 ∷ 0x3f ∷ 0x3f ∷ []) ≡ Some (0x21 ∷ 0x3f ∷ [], []) }
     ensures inner { region_at 3 (0x1e ∷ 0x21 ∷ 0x05 ∷ 0x1f ∷ 0x3f ∷ []) ≡ Some (0x1e ∷ 0x21 ∷ 0x05 ∷ 0x1f ∷ [], []) }
     ensures other_end { region_at 3 (0x21 ∷ 0x05 ∷ 0x1f ∷ []) ≡ None }
 {}
 
-// Which octets spell a tag (20.2.1) or a value, and which tags, values and identifiers there are.
+// Which octets spell a tag (20.2.1) or a value, and which tags, values and identifiers exist.
 #[tactic(none)]
 fn examples_of_spellings()
     // The tag before a number of one octet, in its shortest form and in a longer one. A length in two octets or in four
@@ -94,14 +95,14 @@ fn examples_of_spellings()
     ensures mark { IsTag (record { number = 255; shape = App 1 }) → ⊥ }
     ensures five_octets { IsTag (unsigned_tag (2 ^ 32)) → ⊥ }
 
-    // The number 5, also in two octets; what has one octet too many; a Boolean of neither 0 nor 1.
+    // The number 5, also in two octets; a spelling with one octet too many; and a Boolean that is neither 0 nor 1.
     ensures value { Spells (0x21 ∷ 0x05 ∷ []) (unsigned 5) }
     ensures wide { Spells (0x22 ∷ 0x00 ∷ 0x05 ∷ []) (unsigned 5) }
     ensures other { Spells (0x21 ∷ 0x05 ∷ []) (unsigned 6) → ⊥ }
     ensures more { Spells (0x21 ∷ 0x05 ∷ 0x00 ∷ []) (unsigned 5) → ⊥ }
     ensures not_boolean { Spells (0x12 ∷ []) (boolean true) → ⊥ }
 
-    // The values that there are, and those that can be written.
+    // The values that exist, and those that can be written.
     ensures most { IsDatum (unsigned (2 ^ 64 - 1)) }
     ensures past { IsDatum (unsigned (2 ^ 64)) → ⊥ }
     ensures long { (octets : List ℕ) → length octets ≡ 2 ^ 32 → IsDatum (octet_string octets) → ⊥ }
@@ -122,12 +123,12 @@ fn examples_of_readers()
     ensures apart { IsPrefixFree SpellsOne }
     ensures begun { IsPrefixFree SpellsAny → ⊥ }
 
-    // A reader takes what is spelled, and nothing else.
+    // A reader accepts what is spelled, and nothing else.
     ensures reader { IsReader SpellsOne first_at }
     ensures takes_none { IsReader SpellsOne nothing_at → ⊥ }
     ensures takes_more { IsReader SpellsOne zero_at → ⊥ }
 
-    // The finding at the front, the number of its octets, and that a reader may not skip it.
+    // The result at the front, and the number of its octets; a reader may not skip a spelling.
     ensures found { FindsFront SpellsOne (7 ∷ 8 ∷ []) (Some (7, 1)) }
     ensures other_found { FindsFront SpellsOne (7 ∷ 8 ∷ []) (Some (8, 1)) → ⊥ }
     ensures more_found { FindsFront SpellsOne (7 ∷ 8 ∷ []) (Some (7, 2)) → ⊥ }
@@ -137,7 +138,7 @@ fn examples_of_readers()
     ensures all { SpellsAll SpellsOne (7 ∷ 8 ∷ []) (7 ∷ 8 ∷ []) }
     ensures left { SpellsAll SpellsOne (7 ∷ 8 ∷ []) (7 ∷ []) → ⊥ }
 
-    // The shortest spelling, and what is read back.
+    // The shortest spelling, and a spelling that is read back.
     ensures shortest { IsShortest SpellsTag (0x21 ∷ []) (unsigned_tag 1) }
     ensures longer { IsShortest SpellsTag (0x25 ∷ 0x01 ∷ []) (unsigned_tag 1) → ⊥ }
     ensures short_of_another { IsShortest SpellsTag (0x29 ∷ []) (unsigned_tag 1) → ⊥ }
@@ -159,7 +160,7 @@ fn examples_of_readers()
 // Items and regions (20.2.1.3.2), and parameters under context tags.
 #[tactic(none)]
 fn examples_of_regions()
-    // The number 5, and the same in brackets, one deep.
+    // The number 5, and the number 5 in brackets, one deep.
     ensures item { IsItem 0 (0x21 ∷ 0x05 ∷ []) }
     ensures bracketed { IsItem 1 (0x1e ∷ 0x21 ∷ 0x05 ∷ 0x1f ∷ []) }
     ensures too_short { IsItem 0 (0x22 ∷ 0x05 ∷ []) → ⊥ }
@@ -189,7 +190,7 @@ fn examples_of_regions()
     ensures no_size { FindsRegion 32 3 (0x21 ∷ 0x05 ∷ 0x3f ∷ []) None → ⊥ }
     ensures other_size { FindsRegion 32 3 (0x21 ∷ 0x05 ∷ 0x3f ∷ []) (Some 0) → ⊥ }
 
-    // Past the number 5 one bracket is open.
+    // After the number 5 one bracket is open.
     ensures opens { Opens 1 (0x1e ∷ 0x21 ∷ 0x05 ∷ []) }
     ensures opens_more { Opens 2 (0x1e ∷ 0x21 ∷ 0x05 ∷ []) → ⊥ }
 

@@ -6,11 +6,11 @@ ghost use Rattle.bac_wire.specs.{Appends, frame_room};
 use arrayvec::ArrayVec;
 use std::marker::Model;
 
-/// The octets that a frame has room for: the greatest APDU that a device can announce, which has 1,476 (ANSI/ASHRAE
-/// 135, 20.1.2.5), with the headers before it, which have 17 at most, and four octets more.
+/// The octets that a frame has room for: 1,476 of the longest APDU that a device can announce (ANSI/ASHRAE 135,
+/// 20.1.2.5), at most 17 of the headers before it, and four more.
 pub const FRAME_OCTETS: usize = 1497;
 
-/// The caller's octets do not all fit into the frame, which is as it was. The caller clears it first, or writes less.
+/// The caller's octets do not all fit into the frame, which is unchanged. The caller clears it first, or writes less.
 #[derive(Clone, Copy, Debug, PartialEq, Eq)]
 pub struct Full;
 
@@ -61,21 +61,21 @@ impl Frame {
         self.as_slice().is_empty()
     }
 
-    /// Takes all octets away.
+    /// Removes all octets.
     pub fn clear(&mut self)
         ensures { self.new ≡ [] }
     {
         self.octets.clear();
     }
 
-    /// Puts the octets after those that are there. If they do not all fit it is `Full`, and none is appended.
+    /// Appends the octets. If they do not all fit, returns `Full` and appends none.
     pub fn append(&mut self, octets: &[u8]) -> Result<(), Full>
         ensures { Appends self.old octets.now self.new result }
     {
         self.octets.try_extend_from_slice(octets).map_err(|_| Full)
     }
 
-    /// Puts the octets before those that are there. If they do not all fit it is `Full`, and the frame is as it was.
+    /// Puts the octets before the others. If they do not all fit, returns `Full` and leaves the frame unchanged.
     pub fn prepend(&mut self, octets: &[u8]) -> Result<(), Full>
         ensures ok { OnOk result (self.new ≡ octets.now ++ self.old) }
         ensures fits { OnOk result (length octets.now + length self.old ≤ frame_room) }
@@ -88,7 +88,7 @@ impl Frame {
         Ok(())
     }
 
-    /// Keeps the first `n` octets and takes the others away. The frame must have at least `n`.
+    /// Keeps the first `n` octets and removes the others. The frame must have at least `n`.
     pub fn truncate(&mut self, n: usize)
         requires { n ≤ length self.old }
         ensures { self.new ≡ take n self.old }
@@ -97,7 +97,7 @@ impl Frame {
     }
 }
 
-// Moves the first `count` octets to the end, and puts these before them. The slice has room for just both.
+// Moves the first `count` octets to the end, and puts `front` before them. The slice has room for exactly both.
 fn put_before(octets: &mut [u8], count: usize, front: &[u8])
     requires { length octets.old ≡ count + length front.now }
     ensures { octets.new ≡ front.now ++ take count octets.old }

@@ -1,4 +1,4 @@
-//! If the items of a service body end, skipped by their lengths.
+//! Where the items of a service body end; contents are skipped by their lengths.
 
 ghost use Rattle.std.specs.Prelude.{◌*◌, ◌+◌, ◌<◌, ◌↔◌, ◌≡◌, ◌≤◌, IfSome, IsTrue, length, List, option_map, ℕ};
 ghost use Rattle.bac_wire.specs.{behind_closing, deepest, FindsRegion, IsRegion, LeavesRest, tag_at};
@@ -7,15 +7,15 @@ ghost use Rattle.bac_wire.specs.Inner.{CountsBehind, Finds, LeavesBehind, ReadsT
 use crate::tag::{Shape, Tag, tag_and_rest};
 use crate::work::Work;
 
-/// The opening tags that may be open at once in a region.
+/// The most opening tags that may be open at once in a region.
 pub const NESTING: u8 = 32;
 
-// The number of the tags round a parameter's value, which are not counted among those.
+// The number of the tags around a parameter's value, which do not count for that limit.
 const REGION_END: u8 = 3;
 
-/// Returns how many octets at the front are whole items, up to a closing tag 3; `None` if no such tag stands after
-/// them, or if more than 32 opening tags are open at once in them. Contents are skipped by their length, so an octet in
-/// them ends nothing (ANSI/ASHRAE 135, 20.2.1.3). At most two tags are read for each octet, and two more.
+/// Returns how many octets at the front are whole items, up to a closing tag 3; `None` if no such tag follows them, or
+/// if more than 32 opening tags are open at once in them. Contents are skipped by their length, so no octet in them is
+/// taken for a tag (ANSI/ASHRAE 135, 20.2.1.3). At most two tags are read for each octet, and two more.
 pub fn region(octets: &[u8], work: &mut Work) -> Option<usize>
     ensures found { FindsRegion deepest 3 octets.now result }
     ensures walked_once { work.new.tags ≤ work.old.tags + 2 * length octets.now + 2 }
@@ -25,8 +25,8 @@ pub fn region(octets: &[u8], work: &mut Work) -> Option<usize>
     Some(octets.len() - rest.len())
 }
 
-/// Returns whether the octets are whole items and nothing else, with at most 32 opening tags open at once. No octets at
-/// all are that too. At most two tags are read for each octet, and one more.
+/// Returns whether the octets are only whole items, with at most 32 opening tags open at once. No octets at all count
+/// as whole items. At most two tags are read for each octet, and one more.
 pub fn is_region(octets: &[u8], work: &mut Work) -> bool
     ensures found { IsTrue result ↔ IsRegion deepest octets.now }
     ensures walked_once { work.new.tags ≤ work.old.tags + 2 * length octets.now + 1 }
@@ -53,7 +53,7 @@ fn behind_items<'a>(octets: &'a [u8], depth: u8, work: &mut Work) -> Option<&'a 
     if rest.is_empty() { Some(rest) } else { None }
 }
 
-// Returns the octets after the item that begins with this tag; `behind` is the octets after the tag.
+// Returns the octets after the item that begins with this tag; `behind` are the octets after the tag.
 #[cycle(nesting)]
 fn behind_item<'a>(tag: Tag, behind: &'a [u8], depth: u8, work: &mut Work) -> Option<&'a [u8]>
     ensures walked_once { ReadsTwice 2 work.old.tags work.new.tags behind.now (option_map (λ r. r.now) result) }
@@ -81,7 +81,7 @@ fn behind_octets(octets: &[u8], count: u32) -> Option<&[u8]>
     Some(rest)
 }
 
-// Returns the octets after the closing tag of this number.
+// Returns the octets after a closing tag with this number.
 #[tactic(auto, unfolding(crate::specs::behind_closing))]
 fn behind_closing<'a>(octets: &'a [u8], number: u8, work: &mut Work) -> Option<&'a [u8]>
     ensures found { option_map (λ r. r.now) result ≡ behind_closing number octets.now }
@@ -95,7 +95,7 @@ fn behind_closing<'a>(octets: &'a [u8], number: u8, work: &mut Work) -> Option<&
     }
 }
 
-// Returns the tag that begins the octets, and those after it, counted.
+// Returns the tag at the front, and the octets after it. Counts the tag.
 #[tactic(auto, using(crate::proofs::after_shorter))]
 #[inline(always)]
 fn next_tag<'a>(octets: &'a [u8], work: &mut Work) -> Option<(Tag, &'a [u8])>

@@ -16,8 +16,8 @@ use crate::object_id::ObjectId;
 use crate::tag::{Shape, Tag};
 use crate::value::Value;
 
-/// Tags: no spelling begins another, what `write_tag` appends is the shortest and is read back whatever follows, and
-/// `tag_at` reads from left to right what spells a tag, and nothing else.
+/// Laws of tags. No spelling begins another. `write_tag` appends the shortest one, which is read back whatever follows.
+/// `tag_at` reads from left to right exactly the spellings of a tag.
 pub fn tags()
     ensures one { IsPrefixFree SpellsTag }
     ensures shortest { (tag : Tag) → IsTag tag → IsShortest SpellsTag (plain_tag tag) tag }
@@ -25,8 +25,8 @@ pub fn tags()
     ensures reading { IsReader SpellsTag tag_at }
 {}
 
-/// Values: as for tags, with `write_value` and `value_at`. A value that has a spelling is sound, so a value that was
-/// read can be written.
+/// Laws of values: those of tags, for `write_value` and `value_at`. A value that has a spelling is sound, so a value
+/// that was read can be written.
 pub fn values()
     ensures one { IsPrefixFree Spells }
     ensures shortest { (value : Datum) → IsDatum value → IsShortest Spells (plain value) value }
@@ -35,15 +35,15 @@ pub fn values()
     ensures sound { (octets : List ℕ) (value : Datum) → Spells octets value → IsSound value }
 {}
 
-/// A region is read as the values whose spellings it is, one after another and nothing else (clause 20.2.1).
+/// A region is read as the values that it spells, one after another, if it is only values (clause 20.2.1).
 #[tactic(auto, using(crate::proofs::are_spelled))]
 pub fn values_in_words()
     ensures { (region : List ℕ) (values : List Datum) →
         (values_of region ≡ Some values) ↔ SpellsAll Spells region values }
 {}
 
-/// Items: none begins another, whatever depth is allowed to either, and none begins with a closing tag. In a region no
-/// more opening tags are open at once than its depth allows, wherever one stops to count.
+/// Laws of items. None begins another, whatever depth is allowed to either, and none begins with a closing tag. At no
+/// place in a region are more opening tags open at once than its depth allows.
 #[tactic(auto, using(crate::proofs::one_item, crate::proofs::item_opens, crate::proofs::nesting))]
 pub fn items()
     ensures one { (depth other : ℕ) (a b u v : List ℕ) → IsItem depth a → IsItem other b → a ++ u ≡ b ++ v → a ≡ b }
@@ -53,9 +53,9 @@ pub fn items()
         → octets ≡ front ++ rest → count ≤ depth }
 {}
 
-/// Regions: a body has one end of its region, whatever depth is allowed and whatever the closing tag's number.
-/// `behind_items` finds what whole items leave, and nothing if the whole list is a region; `region_at` reads the
-/// region that a closing tag of its number ends.
+/// Laws of regions. A body has only one end of its region, whatever depth is allowed and whatever the closing tag's
+/// number. `behind_items` finds the octets that whole items leave, and none if the whole list is a region; `region_at`
+/// reads the region up to a closing tag with its number.
 pub fn regions()
     ensures one { (depth other number another : ℕ) (octets a b : List ℕ) → IsClosedRegion depth number octets a
         → IsClosedRegion other another octets b → (a ≡ b) × (number ≡ another) }
@@ -66,8 +66,8 @@ pub fn regions()
     ensures reading { (number : ℕ) → IsReader (SpellsClosed number) (region_at number) }
 {}
 
-/// Parameters: each function reads the contents of a context tag of its number, or those between an opening and a
-/// closing tag of that number, and the written forms spell them.
+/// Laws of parameters. Each function reads the contents of a context tag with its number, or those between an opening
+/// and a closing tag, and the written forms spell them.
 pub fn parameters()
     ensures context { (number : ℕ) → IsReader (SpellsContext number) (context_at number) }
     ensures number { (number : ℕ) → IsReader (SpellsIn enumerated number) (number_at number) }
@@ -81,13 +81,13 @@ pub fn parameters()
         → SpellsEnclosed number (enclosed_octets number region) region }
 {}
 
-/// The limits that the code names are those of the definitions.
+/// The limits in the code are the limits in the definitions.
 pub fn limits()
     ensures frame { FRAME_OCTETS ≡ frame_room }
     ensures nesting { NESTING ≡ deepest }
 {}
 
-/// A clone is what it was cloned from, and needs no memory.
+/// A clone equals its original, and allocates no memory.
 pub fn clones()
     ensures full { MakesCopies ⟦<Full as Clone>⟧.is_clone ⟦<Full as Clone>⟧.is_infallible }
     ensures shape { MakesCopies ⟦<Shape as Clone>⟧.is_clone ⟦<Shape as Clone>⟧.is_infallible }
@@ -96,8 +96,8 @@ pub fn clones()
     ensures value { MakesCopies ⟦<Value<'static> as Clone>⟧.is_clone ⟦<Value<'static> as Clone>⟧.is_infallible }
 {}
 
-/// `==` compares all that a `Full`, a shape or a tag says, the type and the instance of an identifier, and the kind
-/// and the contents of values, wherever the octets that they borrow lie.
+/// `==` compares the contents of a shape or a tag, the type and the instance of an identifier, and the kind and the
+/// contents of values, wherever borrowed octets lie in memory.
 pub fn equals()
     ensures full { EqualsBy (λ full. full) ⟦<Full as PartialEq>⟧.eq }
     ensures shape { EqualsBy (λ shape. shape) ⟦<Shape as PartialEq>⟧.eq }

@@ -1,10 +1,10 @@
-//! Tags, values and regions of BACnet as octets (ANSI/ASHRAE 135, clause 20.2). Nothing is copied when they are read,
-//! and no memory is asked for.
+//! Tags, values and regions of BACnet as octets (ANSI/ASHRAE 135, clause 20.2). Reading copies nothing, and no memory
+//! is allocated.
 //!
-//! One meets first [`Value`], and [`Frame`], the room that is written to. [`write_value`] appends the shortest spelling
-//! of a value to a frame; [`read_value`] reads the value that begins the octets, in any of its spellings. [`region`]
-//! skips whole items up to a closing tag. [`read_tag`] and [`write_tag`] are for what these leave. `specs/Datum.antt`
-//! says what spells a value, and [`laws`] what holds of all spellings.
+//! Begin with [`Value`], and with [`Frame`], the buffer for writing. [`write_value`] appends the shortest spelling of a
+//! value to a frame; [`read_value`] reads a value from the front of octets, in any of its spellings. [`region`] skips
+//! whole items up to a closing tag. For everything else there are [`read_tag`] and [`write_tag`]. `specs/Datum.antt`
+//! defines the spellings of a value, and [`laws`] has laws of all spellings.
 //!
 //! From `examples_of_octets` in `src/examples.rt`, which is proved: a Real is the octets of its number, and a tag
 //! before them.
@@ -14,8 +14,8 @@
 //! ensures real { WritesValue (real (0x42 ∷ 0x90 ∷ 0x99 ∷ 0x9a ∷ [])) (0x44 ∷ 0x42 ∷ 0x90 ∷ 0x99 ∷ 0x9a ∷ []) }
 //! ```
 //!
-//! The caller must keep to this: a value that it writes is sound ([`Value::sound`]), the number of a tag at most 254,
-//! and [`Frame::truncate`] keeps no more octets than there are. Octets that are read may be any.
+//! The caller must keep to these conditions: a written value is sound ([`Value::sound`]), the number of a tag is at
+//! most 254, and [`Frame::truncate`] keeps no more octets than there are. Octets that are read may be any.
 //!
 //! A call, from `written_alone` of `bac_uses` (`src/wire.rt`), which proves that the written value can be read back:
 //!

@@ -2,10 +2,10 @@
 
 ghost use Rattle.std.specs.Prelude.{◌<◌, ◌^◌, ◌↔◌, ◌≡◌, IfSome, IsSome};
 
-// How many types of object there are: ten bits number them.
+// How many object types exist: they are numbered in ten bits.
 const TYPES: u16 = 1 << 10;
 
-// How many instances a type can have: 22 bits number them.
+// How many instances a type can have: they are numbered in 22 bits.
 const INSTANCES: u32 = 1 << 22;
 
 /// The identifier of an object: its type and its instance (ANSI/ASHRAE 135, 20.2.14 and 21).
@@ -48,7 +48,7 @@ impl ObjectId {
         self.instance
     }
 
-    /// Returns the number that the identifier is on the wire: the type in its ten high bits, the instance in the 22 low
+    /// Returns the number of the identifier on the wire: the type in its ten high bits, the instance in the 22 low
     /// ones.
     pub fn number(self) -> u32
         ensures value { result ≡ number_of (identifier self) }
@@ -58,7 +58,7 @@ impl ObjectId {
         u32::from(kind) * INSTANCES + instance
     }
 
-    /// Returns the identifier that this number is on the wire.
+    /// Returns the identifier with this number on the wire.
     pub fn of_number(number: u32) -> Self
         ensures { identifier result ≡ identifier_of number }
     {

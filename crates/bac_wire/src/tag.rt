@@ -8,30 +8,31 @@ use crate::frame::{Frame, Full};
 use arrayvec::ArrayVec;
 use byteorder::{BigEndian, ByteOrder};
 
-/// The class of a tag and what it says of the octets after it (ANSI/ASHRAE 135, 20.2.1).
+/// The class of a tag, and its length or bracket (ANSI/ASHRAE 135, 20.2.1).
 #[derive(Clone, Copy, Debug, PartialEq, Eq)]
 pub enum Shape {
-    /// Application class: the length of the contents, for a Boolean (number 1) its value.
+    /// Application class: the length of the contents, or, for a Boolean (number 1), its value.
     App(u32),
     /// Context class: the length of the contents.
     Context(u32),
-    /// Begins what the closing tag of the same number ends.
+    /// An opening tag; the closing tag with its number ends the contents.
     Opening,
-    /// Ends what the opening tag of the same number began.
+    /// A closing tag; the opening tag with its number began the contents.
     Closing,
 }
 
 /// A tag, which comes before the contents of each part of an APDU's body (ANSI/ASHRAE 135, 20.2.1).
 #[derive(Clone, Copy, Debug, PartialEq, Eq)]
 pub struct Tag {
-    /// 0 to 254. In the application class it is the kind of the value, otherwise it says which parameter this is.
+    /// The number, 0 to 254. In the application class it is the kind of the value, otherwise the number of the
+    /// parameter.
     pub number: u8,
-    /// Its class, and what it says of the octets after it.
+    /// The class, and the length or the bracket.
     pub shape: Shape,
 }
 
-/// Returns the tag that begins the input, and how many octets spell it; `None` only if no prefix is a spelling of a
-/// tag. Numbers and lengths in a longer form than needed are read too.
+/// Returns the tag at the front, and how many octets spell it; `None` only if no tag is spelled at the front. Numbers
+/// and lengths in a longer form than needed are read too.
 pub fn read_tag(octets: &[u8]) -> Option<(Tag, usize)>
     ensures { FindsFront SpellsTag octets.now result }
 {
@@ -39,7 +40,7 @@ pub fn read_tag(octets: &[u8]) -> Option<(Tag, usize)>
     Some((tag, octets.len() - rest.len()))
 }
 
-/// Returns the tag that begins the input, and the octets after it; `None` if `read_tag` gives `None`.
+/// Returns the tag at the front, and the octets after it; `None` if `read_tag` returns `None`.
 #[tactic(auto, unfolding(crate::specs::tag_at))]
 #[inline(always)]
 pub fn tag_and_rest(octets: &[u8]) -> Option<(Tag, &[u8])>
@@ -53,8 +54,8 @@ pub fn tag_and_rest(octets: &[u8]) -> Option<(Tag, &[u8])>
     Some((Tag { number, shape }, rest))
 }
 
-/// Appends the shortest spelling of the tag, whose number is at most 254. If it passes the frame's room it is `Full`,
-/// and the frame is as it was.
+/// Appends the shortest spelling of the tag, whose number is at most 254. If there is no room, returns `Full` and
+/// leaves the frame unchanged.
 pub fn write_tag(frame: &mut Frame, tag: Tag) -> Result<(), Full>
     requires { tag.number < 255 }
     ensures appended { Appends frame.old (plain_tag tag) frame.new result }
@@ -64,7 +65,7 @@ pub fn write_tag(frame: &mut Frame, tag: Tag) -> Result<(), Full>
     frame.append(shortest(tag).as_slice())
 }
 
-/// Room for a tag, which has seven octets at most, and for eight octets after it.
+/// Room for a tag, which has at most seven octets, and for eight octets after it.
 pub(crate) type Head = ArrayVec<u8, 15>;
 
 /// Returns the shortest spelling of the tag.
@@ -73,7 +74,7 @@ pub(crate) fn shortest(tag: Tag) -> Head
     requires { tag.number < 255 }
     ensures octets { result.items ≡ plain_tag tag }
     ensures short { length result.items ≤ 7 }
-    // This follows from the types of the fields. It is said for the caller's proof.
+    // This follows from the types of the fields. It is stated for the caller's proof.
     ensures range { IsTag tag }
 {
     let mut octets = ArrayVec::new();
@@ -94,7 +95,7 @@ pub(crate) fn shortest(tag: Tag) -> Head
     octets
 }
 
-// Returns the tag's number, by the high half of the initial octet: 15 there says that the next octet holds it.
+// Returns the tag's number from the high half of the initial octet. If the half is 15, the next octet has the number.
 #[tactic(auto, unfolding(crate::specs::tag_number_at))]
 fn number_and_rest(high: u8, octets: &[u8]) -> Option<(u8, &[u8])>
     requires { high < 16 }
@@ -109,7 +110,7 @@ fn number_and_rest(high: u8, octets: &[u8]) -> Option<(u8, &[u8])>
     }
 }
 
-// Returns the tag's shape, by the low half of the initial octet: 8 is the class bit, and the rest the length or a
+// Returns the tag's shape from the low half of the initial octet: 8 is the class bit, and the rest is the length or a
 // bracket.
 #[tactic(auto, unfolding(crate::specs::shape_at))]
 fn shape_and_rest(low: u8, octets: &[u8]) -> Option<(Shape, &[u8])>
@@ -130,7 +131,7 @@ fn shape_and_rest(low: u8, octets: &[u8]) -> Option<(Shape, &[u8])>
     }
 }
 
-// Returns the length, by the three low bits: 5 there says that it follows.
+// Returns the length from the three low bits. If they are 5, the length follows.
 #[tactic(auto, unfolding(crate::specs::length_at))]
 fn length_and_rest(low: u8, octets: &[u8]) -> Option<(u32, &[u8])>
     ensures { option_map (λ x. (x.0, x.1.now)) result ≡ length_at low octets.now }
@@ -157,7 +158,7 @@ fn long_length_and_rest(octets: &[u8]) -> Option<(u32, &[u8])>
     }
 }
 
-// Puts the octets of a length after those of the tag.
+// Appends the octets of a length to those of the tag.
 fn push_length(octets: &mut Head, count: u32)
     requires { length octets.old.items ≤ 2 }
     ensures items { octets.new.items ≡ octets.old.items ++ plain_length count }

@@ -11,8 +11,8 @@ use crate::object_id::ObjectId;
 use crate::tag::{Shape, Tag, shortest, tag_and_rest};
 use byteorder::{BigEndian, ByteOrder};
 
-/// A value that stands after an application tag (ANSI/ASHRAE 135, 20.2.2 to 20.2.14). Borrowed parts are slices of the
-/// octets that were read.
+/// A value after an application tag (ANSI/ASHRAE 135, 20.2.2 to 20.2.14). Borrowed parts are slices of the octets that
+/// were read.
 #[derive(Clone, Copy, Debug, PartialEq, Eq)]
 pub enum Value<'a> {
     Null,
@@ -52,8 +52,8 @@ impl Value<'_> {
     }
 }
 
-/// Returns the value that begins the input, and how many octets spell it; `None` only if no prefix is a spelling of a
-/// value: no tag, one of another number or class, too few octets after it, or contents that stand for no value of their
+/// Returns the value at the front, and how many octets spell it; `None` only if no value is spelled at the front: there
+/// is no tag, its number or class is another one, too few octets follow it, or its contents are not a value of their
 /// kind. Nothing is copied.
 pub fn read_value(octets: &[u8]) -> Option<(Value<'_>, usize)>
     ensures { FindsFront Spells octets.now (option_map (λ x. (datum x.0, x.1)) result) }
@@ -62,7 +62,7 @@ pub fn read_value(octets: &[u8]) -> Option<(Value<'_>, usize)>
     Some((value, octets.len() - rest.len()))
 }
 
-/// Returns the value that begins the input, and the octets after it; `None` if `read_value` gives `None`.
+/// Returns the value at the front, and the octets after it; `None` if `read_value` returns `None`.
 #[tactic(auto, unfolding(crate::specs::value_at))]
 pub fn value_and_rest(octets: &[u8]) -> Option<(Value<'_>, &[u8])>
     ensures { option_map (λ x. (datum x.0, x.1.now)) result ≡ value_at octets.now }
@@ -82,8 +82,8 @@ pub fn value_and_rest(octets: &[u8]) -> Option<(Value<'_>, &[u8])>
     Some((value_of(tag.number, contents)?, rest))
 }
 
-/// Appends the shortest spelling of the value, which is sound. If it passes the frame's room it is `Full`, and the
-/// frame is as it was.
+/// Appends the shortest spelling of the value, which must be sound. If there is no room, returns `Full` and leaves the
+/// frame unchanged.
 #[inline(always)]
 pub fn write_value(frame: &mut Frame, value: &Value<'_>) -> Result<(), Full>
     requires { IsSound (datum value.now) }
@@ -94,7 +94,7 @@ pub fn write_value(frame: &mut Frame, value: &Value<'_>) -> Result<(), Full>
     append_value(frame, value)
 }
 
-/// Returns the smallest number of octets that hold the number, at least one (ANSI/ASHRAE 135, 20.2.4).
+/// Returns how many octets the number needs, at least one (ANSI/ASHRAE 135, 20.2.4).
 pub fn octet_count(n: u64) -> usize
     ensures value { result ≡ octet_count n }
     ensures low { 1 ≤ result }
@@ -113,7 +113,7 @@ pub fn octet_count(n: u64) -> usize
     }
 }
 
-// Returns the value that the contents stand for, by the number of the tag before them.
+// Returns the value in the contents, from the number of the tag before them.
 #[tactic(auto, unfolding(crate::specs::contents_of))]
 fn value_of(number: u8, contents: &[u8]) -> Option<Value<'_>>
     ensures { option_map datum result ≡ contents_of number contents.now }
@@ -140,7 +140,7 @@ fn value_of(number: u8, contents: &[u8]) -> Option<Value<'_>>
     }
 }
 
-// Returns the number that the contents are, if they have from one octet up to `most`.
+// Returns the number in the contents, if they have one to `most` octets.
 fn unsigned_of(contents: &[u8], most: usize) -> Option<u64>
     requires { most ≤ 8 }
     ensures value { result ≡ number_within most contents.now }
@@ -152,7 +152,7 @@ fn unsigned_of(contents: &[u8], most: usize) -> Option<u64>
     Some(BigEndian::read_uint(contents, contents.len()))
 }
 
-// Returns the number that the contents are in two's complement, if they have one octet to eight.
+// Returns the number in the contents, in two's complement, if they have one to eight octets.
 fn signed_of(contents: &[u8]) -> Option<i64>
     ensures { result ≡ option_map (twos_complement (length contents.now)) (number_within 8 contents.now) }
 {
@@ -176,7 +176,7 @@ fn eight(contents: &[u8]) -> Option<[u8; 8]>
     contents.try_into().ok()
 }
 
-// Returns a BitString: how many bits are unused, and the octets. `None` if that is not sound.
+// Returns a BitString: how many bits are unused, and the octets. `None` if it is not sound.
 fn bits_of(contents: &[u8]) -> Option<Value<'_>>
     ensures { option_map datum result ≡ bits_of contents.now }
 {
@@ -191,7 +191,7 @@ fn bits_of(contents: &[u8]) -> Option<Value<'_>>
 #[inline(always)]
 fn append_value(frame: &mut Frame, value: &Value<'_>) -> Result<(), Full>
     requires { IsSound (datum value.now) }
-    // This follows from the types of the fields. It is said for the caller's proof.
+    // This follows from the types of the fields. It is stated for the caller's proof.
     ensures range { InRange (datum value.now) }
     ensures appended { Appends frame.old (plain (datum value.now)) frame.new result }
 {
@@ -239,7 +239,7 @@ fn append_number(frame: &mut Frame, number: u8, n: u64) -> Result<(), Full>
     append_tagged(frame, number, &contents[..count], &[])
 }
 
-// Appends a tag of one octet, and a number in one octet.
+// Appends a tag of one octet, and a number of one octet.
 #[tactic(auto, using(crate::proofs::one_tagged))]
 fn append_octet(frame: &mut Frame, number: u8, n: u8) -> Result<(), Full>
     requires { number < 15 }
@@ -259,7 +259,7 @@ fn append_signed(frame: &mut Frame, n: i64) -> Result<(), Full>
     append_tagged(frame, 3, &contents[..count], &[])
 }
 
-// Returns the smallest number of octets that hold the number in two's complement.
+// Returns how many octets the number needs in two's complement.
 fn signed_octet_count(n: i64) -> usize
     ensures value { result ≡ signed_count n }
     ensures low { 1 ≤ result }
@@ -277,12 +277,12 @@ fn append_object(frame: &mut Frame, id: ObjectId) -> Result<(), Full>
     append_four(frame, 12, &contents)
 }
 
-// Appends a tag of one octet, and the four octets that it counts.
+// Appends a tag of one octet, and four octets of contents.
 #[tactic(auto, using(crate::proofs::four_tagged))]
 #[inline(always)]
 fn append_four(frame: &mut Frame, number: u8, contents: &[u8; 4]) -> Result<(), Full>
     requires { number < 15 }
-    // This follows from the type of the contents. It is said for the caller's proof.
+    // This follows from the type of the contents. It is stated for the caller's proof.
     ensures four { length contents.now ≡ 4 }
     ensures appended { Appends frame.old (tagged number contents.now) frame.new result }
 {

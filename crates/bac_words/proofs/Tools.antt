@@ -1,4 +1,4 @@
--- From words that `clap` accepts to the tool that they name, with its numbers and its peer.
+-- From words that `clap` accepts to the tool that they name, its numbers and its peer.
 use Rattle.std.proofs.Common.{[], add-one, ap, arith, Bool, codes, drop, drop-cons, Err, false, find, get_or, IfSome}
 use Rattle.std.proofs.Common.{inl, inr, IsErrAnd, IsSomeAnd, length, length-drop, List, map, None, Ok, Option}
 use Rattle.std.proofs.Common.{option_map, refl, Result, Some, subst, sym, true, unwrap_or, ℕ, ◌+◌, ◌<◌, ◌∙◌, ◌∷◌, ◌≡◌}
@@ -27,13 +27,13 @@ one_found P p xs t all is =
     when_found p (λ xs. AllOf P xs → P t × (p t ≡ true)) t
     (λ xs passes (here, _). (here, passes)) (λ x xs fails is rest (_, later). rest later) xs is all
 
--- A tool that has the name accepts the words, if the name does not ask for help.
+-- A tool with this name accepts the words, if the name does not ask for help.
 abbrev Passed : Shape → Type 0
 Passed s = (name : Text) (words : List Text) → answers_to name (label_of s) ≡ true
     → asks_for_help (built bactool) name ≡ false →
     level_fault s [] nothing_held words false [] ≡ [] → IsTool (rows_at s words)
 
--- The name of `clap`'s own subcommand asks for help.
+-- The name of `clap`'s own subcommand `help` asks for help.
 asks : (name : Text) → answers_to name (codes "help", []) ≡ true → asks_for_help (built bactool) name ≡ true
 asks name answers =
     let is : codes "help" ≡ name = (bytes_eq-Decides (codes "help") name).0 (sym (or-false _) ∙ answers) in
@@ -96,7 +96,7 @@ refusal words e _ is h = elim h [
   )
 ]
 
--- an error of `clap` is passed up as a refusal
+-- an error of `clap` is reported as a refusal
 pub refused : (words marked : List Text) (e : Error) (r : Result Job UsageFault) → marked ≡ marked_words words
     → HasKind (fault_of bactool marked) e → IsErrAnd r (λ f. f ≡ fault_from e) → IsErrAnd r (IsRefusal words)
 refused _ _ e (Ok x) _ h is = absurd is
@@ -106,7 +106,7 @@ refused words _ e (Err f) same h is =
 
 -- ---- the numbers of an argument that several tools have, and the peer that a word names
 
--- What the getters of words read.
+-- The words that an argument has first.
 pub ruleset first_words = (first_value-rows)
 
 module _ (id : Text) (rows : List Row) where
@@ -130,7 +130,7 @@ module _ (id : Text) (rows : List Row) where
   of_client taken reads writes runs seeks fits =
       elim taken [ inl sender ↦ of_sender sender reads writes runs fits | inr search ↦ of_tool _ search seeks fits ]
 
-  -- An argument that is required.
+  -- A required argument is given.
   pub given_to_tool : (rules : List Rule) → IsTaken rules rows → is_needed rules id ≡ true → IsGiven id rows
   given_to_tool rules taken is = record { given = needed rules id rows taken is }
 
@@ -145,7 +145,7 @@ pub pairs_typed : (o : Option (Bor (List (Bor Text)))) (none : Bor (List (Bor Te
 pairs_typed None _ empty = rw empty refl
 pairs_typed (Some p) _ _ = refl
 
--- ---- the peer that a word names has no route, so it is what is seen of it
+-- ---- the peer in a word has no route, so the code's peer and the definition's agree
 
 abbrev IsPlain : Station → Type 0
 IsPlain to = to.route ≡ None
@@ -178,7 +178,7 @@ peer_named word p = go p (plain_peer_of word) (plain_at (unwrap_or (cut_at 58 wo
     go None (Some s) plain e = cc
     go (Some p) None plain e = cc
 
--- ---- the words that are left, from their front
+-- ---- the words that are left to read
 
 pub typed_next : (words : List (Bor Text)) (n : ℕ) (d : Bor Text) → n < length words →
     map unmarked (texts (drop n words)) ≡ unmarked (get_or words n d).now ∷ map unmarked (texts (drop (n + 1) words))
@@ -195,7 +195,7 @@ typed_fewer words n =
     let seen = length-map (drop n words) (λ (b : Bor Text). b.now) in
     let left = length-drop n words in omega arith
 
--- ---- words have one answer: one job, or one first fault
+-- ---- a command line has one result: one job, or one first fault
 
 pub one_answer : (words : List Text) (a b : Result Job UsageFault) → Answers words a → Answers words b → a ≡ b
 one_answer _ a b first second = same_Some a b (sym first.answer_is ∙ second.answer_is)

@@ -1,4 +1,4 @@
--- The command line of `bactool`, such as `clap` reads it: six tools, each with its words.
+-- The command line of `bactool` as `clap` reads it: six tools, each with its words.
 use Rattle.std.specs.{Prelude.{List, [], ◌∷◌, ◌++◌, codes}, List.fold}
 use Rattle.clap.specs.Words.{App, Rule, new_app, new_rule, with_rule, with_subcommand}
 use Rattle.clap_laws.specs.Commands.{number, needed, by_name, several, wanting}
@@ -47,7 +47,7 @@ bacrun = fold with_rule (new_app (codes "bacrun")) (timeout_rule ∷ retries_rul
 abbrev pub bactrace : App
 bactrace = new_app (codes "bactrace")
 
--- The program: one of the six tools is wanted. `help` before a tool's name asks for help.
+-- The program: one of the six tools is required. `help` before a tool's name asks for help.
 abbrev pub bactool : App
 bactool = with_subcommand (with_subcommand (with_subcommand (with_subcommand (with_subcommand
     (with_subcommand (wanting (new_app (codes "bactool"))) bacrp.top) bacwp.top) bacwi.top) bacdev.top) bacrun.top)

@@ -1,4 +1,4 @@
--- What the words of a tool ask for, and the first thing that is wrong with them.
+-- The job that the words of a tool ask for, and the first fault in them.
 use Rattle.std.specs.Prelude.{[], codes, if◌then◌else◌, List, map, None, Ok, ok_or, Option, option_and_then, option_map}
 use Rattle.std.specs.{Prelude.{Result, Some, unwrap_or, ℕ, ⊤, ◌<◌}, Result.result_map_both, Str.bytes_eq}
 use Rattle.{arrayvec.specs.ArrayVec.ArrayVec, bac_pdu.specs.{read_octets, Reference, ◌>>=◌}}
@@ -11,7 +11,7 @@ use Rattle.bac_words.specs.{declared.job.{Batch.Batch, Job.Job, Tool.Tool}, Faul
 use Rattle.bac_words.specs.declared.job.Job.TheVariants as job
 use Rattle.bac_words.specs.declared.job.Tool.TheVariants as tool
 
--- The number of a word that has to be there.
+-- The number in a word that is required.
 abbrev pub needed_number : Text → List Row → ℕ
 needed_number id rows = unwrap_or (number_of id rows) 0
 
@@ -19,13 +19,13 @@ needed_number id rows = unwrap_or (number_of id rows) 0
 abbrev pub typed_word : Text → List Row → Option Text
 typed_word id rows = option_map unmarked (first_of id rows)
 
--- ---- what the words say
+-- ---- the values in the words
 
--- The peer that a word says, which has no route.
+-- The peer in a word, which has no route.
 abbrev pub peer_in : Text → Option Peer
 peer_in word = option_map (λ to. record { ip = to.ip; port = to.port; route = None }) (plain_peer_of word)
 
--- The peer that `--mac` says.
+-- The peer of `--mac`.
 abbrev pub peer_given : List Row → Option Peer
 peer_given rows = option_and_then peer_in (first_of (codes "mac") rows)
 
@@ -68,7 +68,7 @@ read_order rows = do
   to ← ok_or (peer_given rows) BadMac
   Ok (job.Use (tool.Read (call_given to rows (record { items = read_octets (reference_given rows) }))))
 
--- The body of the request, by the same reading of pairs as that of a script.
+-- The body of the request. Its pairs are read as in a script.
 abbrev pub body_given : List Row → Option ℕ → Result (List ℕ) PairFault
 body_given rows index = body_of (object_given rows) (property_given rows) index
     (priority_from (needed_number (codes "priority") rows)) (pairs_given rows)
@@ -80,7 +80,7 @@ write_order rows = do
   result_map_both (λ body. job.Use (tool.Write (call_given to rows (record { items = body })))) usage_of
       (body_given rows index)
 
--- The limits of a search: one number is both of them; without a number there is no limit.
+-- The limits of a search: one number sets both; without a number there is no limit.
 abbrev pub limits : Option ℕ → Option ℕ → WhoIs
 limits None most = All
 limits (Some least) most = Range least (unwrap_or most least)
@@ -100,7 +100,7 @@ serve_order rows =
       count = unwrap_or (number_of (codes "count") rows) 65535;
     })))
 
--- Many requests: like those of one tool; at most one is open unless the words say otherwise.
+-- Many requests, with the options of one tool; at most one is open if no number is given.
 abbrev pub batch_given : List Row → Batch
 batch_given rows =
     record {
@@ -115,7 +115,7 @@ run_order rows = Ok (job.Run (batch_given rows))
 
 -- ---- the whole line
 
--- What the matches of a tool ask for.
+-- The job that the matches of a tool ask for.
 abbrev pub order_of : Text × List Row → Result Job UsageFault
 order_of (tool, rows) =
     if bytes_eq tool (codes "bacrp") then read_order rows
@@ -125,18 +125,18 @@ order_of (tool, rows) =
     else if bytes_eq tool (codes "bacrun") then run_order rows
     else Ok job.Trace
 
--- A tool can be run: a request and a search wait for some time, and a device accepts at least one datagram.
+-- A tool can be run: a request or a search has a timeout above 0, and a device accepts at least one datagram.
 abbrev pub IsReady : Tool → Type 0
 IsReady (tool.Read call) = 0 < call.timeout
 IsReady (tool.Write call) = 0 < call.timeout
 IsReady (tool.WhoIs search) = 0 < search.timeout
 IsReady (tool.Device serve) = 0 < serve.count
 
--- Many requests can be made: they wait for some time, and one may be open.
+-- Many requests can be made: the timeout is above 0, and at least one may be open.
 abbrev pub CanOpen : Batch → Type 0
 CanOpen batch = (0 < batch.timeout) × (0 < batch.window)
 
--- A job can be: a script always.
+-- A job can be run; a script always can.
 abbrev pub CanRun : Job → Type 0
 CanRun job.Trace = ⊤
 CanRun (job.Run batch) = CanOpen batch

@@ -214,7 +214,7 @@ fn own_instance_arg<'a>(alloc: Global) -> Arg<'a>
     needed_argument(alloc, "device-instance", 0, 4_194_302, help::OWN_INSTANCE)
 }
 
-// Returns the argument for a number that is given by its name.
+// Returns the argument for an optional number, which is given with its name.
 fn option<'a>(alloc: Global, id: &'a str, least: u32, most: u32, help: &'a str) -> Arg<'a>
     ensures rule { rule_of result ≡ by_name (number id.entry.now least most) }
     ensures local { result.global ≡ false }

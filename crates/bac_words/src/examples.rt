@@ -60,7 +60,7 @@ fn examples_of_other_tools()
     ensures some { IsOrdered (codes "bactool bacwi 1000 1999 --mac 192.0.2.7")
         (Ok (Use (WhoIs (record { to = at_port 47808; timeout = 3000; port = 0; who = Range 1000 1999 })))) }
 
-    // A device at the usual port, for 65,535 datagrams, many requests, one of which is open at most, and a script.
+    // A device at the usual port, for 65,535 datagrams; many requests, at most one of which is open; and a script.
     ensures device { IsOrdered (codes "bactool bacdev 1234")
         (Ok (Use (Device (record {
           info = record { instance = 1234; name = codes "Small device" };
@@ -85,12 +85,13 @@ fn examples_of_words()
     ensures no_tool { (program : List ℕ) → tool_named program ≡ None →
         words_called (program ∷ codes "1" ∷ []) ≡ program ∷ codes "1" ∷ [] }
 
-    // Memory may run out at any words. `clap` refuses no words by a fault of ours, and empty words have no such fault.
+    // Memory may run out for any words. `clap` does not refuse words with a fault of this program, and an empty command
+    // line has no such fault.
     ensures memory { IsRefusal [] Memory }
     ensures bad_mac { IsRefusal [] BadMac → ⊥ }
     ensures no_words { Answers [] (Err BadMac) → ⊥ }
 
-    // A device that is to answer something, and one that is to answer nothing.
+    // A device that accepts one datagram, and one that accepts none.
     ensures ready { (serve : Serve) → serve.count ≡ 1 → IsReady (Device serve) }
     ensures unready { (serve : Serve) → serve.count ≡ 0 → IsReady (Device serve) → ⊥ }
     ensures script { CanRun Trace }
@@ -127,7 +128,7 @@ fn examples_of_texts()
     ensures script { is_tool (codes "bactrace") ≡ true }
     ensures no_tool { is_tool (codes "bactool") ≡ false }
 
-    // A negative number, and a word with a mark of its own; neither an option nor the program's name.
+    // A negative number and a word with a mark of its own get a mark; an option and the program's name do not.
     ensures marked { marked_words (codes "-5" ∷ codes "-5" ∷ codes "~x" ∷ codes "--mac" ∷ codes "x~" ∷ [])
         ≡ codes "-5" ∷ codes "~-5" ∷ codes "~~x" ∷ codes "--mac" ∷ codes "x~" ∷ [] }
 

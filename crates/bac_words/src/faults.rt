@@ -5,27 +5,27 @@ ghost use Rattle.bac_words.specs.{told_by, usage_of, usage_told, declared.faults
 ghost use Rattle.bac_words.specs.Inner.{fault_from};
 
 use crate::telling::Telling;
-use bac_print::Message;
+use bac_print::FaultMessage;
 use bac_text::PairFault;
 use clap::error::ErrorKind;
 use std::alloc::AllocError;
 use thiserror::Error;
 
-/// Why the words give no job: the fault of who typed them, except `Memory` and `Help`.
+/// Why the words give no job: the user's fault, except `Memory` and `Help`.
 #[derive(Debug, Drop, Error)]
 #[error("{}", self.telling())]
 pub enum UsageFault {
     /// There is no memory for the words, which is nobody's fault.
     Memory,
-    /// The words ask for help, and this is the help; it is not a fault.
+    /// The words ask for help, and this is the help. It is not a fault.
     Help(clap::Error),
-    /// The words are not words of the program, as this error says.
+    /// `clap` does not accept the words, for this reason.
     Words(clap::Error),
     /// The word of `--mac` is not a peer, or is one with a route.
     BadMac,
     /// The index is neither a number nor `-1`.
     BadIndex,
-    /// The pair with this number, from 1, is not a tag and a value of it, or it lacks its value.
+    /// The pair with this number, from 1, is not a tag and a value of that type, or its value is missing.
     BadValue(u64),
     /// The body would be longer than a client sends.
     BodyTooLong,
@@ -37,12 +37,12 @@ impl UsageFault {
         ensures { told_by result ≡ usage_told self.now }
     {
         Telling::Line(match self {
-            UsageFault::Memory => Message::Text("out of memory"),
+            UsageFault::Memory => FaultMessage::Text("out of memory"),
             UsageFault::Help(text) | UsageFault::Words(text) => return Telling::Text(text),
-            UsageFault::BadMac => Message::Text("bad mac"),
-            UsageFault::BadIndex => Message::Text("bad index"),
-            UsageFault::BadValue(number) => Message::Numbered("bad value ", *number, ""),
-            UsageFault::BodyTooLong => Message::Text("body too long"),
+            UsageFault::BadMac => FaultMessage::Text("bad mac"),
+            UsageFault::BadIndex => FaultMessage::Text("bad index"),
+            UsageFault::BadValue(number) => FaultMessage::Numbered("bad value ", *number, ""),
+            UsageFault::BodyTooLong => FaultMessage::Text("body too long"),
         })
     }
 }

@@ -1,6 +1,6 @@
 //! The texts of the help, of the tools and of their words.
 
-/// The program and its version.
+/// The program and its version, for the help.
 pub(crate) const ABOUT: &str =
     "bactool 0.4.0: reads and writes properties of BACnet/IP controllers, finds devices, and plays a small device";
 

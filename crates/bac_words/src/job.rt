@@ -20,7 +20,7 @@ pub enum Tool {
     Read(Call),
     /// Writes a property: `bacwp`.
     Write(Call),
-    /// Looks for devices: `bacwi`.
+    /// Searches for devices: `bacwi`.
     WhoIs(Search),
     /// Plays a device: `bacdev`.
     Device(Serve),
@@ -31,21 +31,21 @@ pub enum Tool {
 pub struct Batch {
     /// Milliseconds until a request is sent again or given up, at least 1.
     pub timeout: u32,
-    /// How often it is sent again.
+    /// How often a request is sent again.
     pub retries: u8,
-    /// The port that they are sent from; 0 is any.
+    /// The port that requests are sent from; 0 is any.
     pub port: u16,
-    /// How many are open at most, at least 1.
+    /// How many requests are open at most, at least 1.
     pub window: u32,
 }
 
 /// A device to be run.
 #[derive(Drop)]
 pub struct Serve {
-    /// Its instance and its name.
+    /// The device's instance and name.
     pub info: DeviceInfo,
-    /// The port that it listens at; 0 is any.
+    /// The port that the device listens at; 0 is any.
     pub port: u16,
-    /// The datagrams after which it ends, at least 1.
+    /// The number of datagrams after which the device ends, at least 1.
     pub count: u32,
 }

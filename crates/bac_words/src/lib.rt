@@ -1,10 +1,10 @@
-//! The command line of `bactool`: what its words ask for.
+//! The command line of `bactool`, and the job that its words ask for.
 //!
 //! [`words_of`] puts the tool's name in front if the program was called by one. [`parse_words`] returns the [`Job`]
-//! that the words ask for, or the [`UsageFault`] that is wrong with them. [`bactool`] is the command that `clap` reads
-//! the words by. `specs/Command.antt` has its rules, and `specs/Job.antt` says what the words order.
+//! that the words ask for, or the [`UsageFault`] that is wrong with them. [`bactool`] is the command by which `clap`
+//! reads the words. `specs/Command.antt` has its rules, and `specs/Job.antt` defines the job of given words.
 //!
-//! From `examples_of_requests` in `src/examples.rt`, which is proved: the words order this read, of the present value
+//! From `examples_of_requests` in `src/examples.rt`, which is proved: these words ask for a read of the present value
 //! (85) of analog-input 5.
 //!
 //! ```text
@@ -12,8 +12,8 @@
 //!     (Ok (Use (Read (usual (0x0c ∷ 0x00 ∷ 0x00 ∷ 0x00 ∷ 0x05 ∷ 0x19 ∷ 0x55 ∷ []))))) }
 //! ```
 //!
-//! No call has a condition. `run_words` of `bac_tools` (`src/program.rt`) calls [`parse_words`] and runs the job that
-//! it answers; it is proved there that words without a job are reported, and that nothing else is done then.
+//! No call has a precondition. `run_words` of `bac_tools` (`src/program.rt`) calls [`parse_words`] and runs the job
+//! that it returns. It is proved there that words without a job are reported, and that nothing else is done then.
 #![tactic(auto)]
 
 mod command;

@@ -1,5 +1,5 @@
-//! The marks of words: put on before `clap` reads them, so that it reads none as an option, and taken off again. Each
-//! text of a word comes from here, except that of `--mac`, so that no mark is left on it.
+//! Marks are put on words before `clap` reads them, so that it does not take a word for an option, and are removed
+//! again. Each word is read through this module, except that of `--mac`, so no mark is left on a word.
 
 ghost use Rattle.std.specs.{Cow.cow_str_bytes, Prelude.{◌≡◌, drop, IfOk, map, option_map}};
 ghost use Rattle.clap.specs.{Walk.texts, Words.{found_of, rows_of}};
@@ -10,7 +10,7 @@ use clap::ArgMatches;
 use std::alloc::{AllocError, Global};
 use std::borrow::CowStr;
 
-/// Returns the words, each after the program's name with a mark if it needs one. Only those with a mark are copied.
+/// Returns the words, with a mark on each that needs one, except the program's name. Only marked words are copied.
 pub(crate) fn marked_words<'a>(
     alloc: Global,
     words: &[&'a str],
@@ -27,7 +27,7 @@ pub(crate) fn marked_words<'a>(
     Ok(seen)
 }
 
-/// Returns the word of an argument, as it was typed, if it is given.
+/// Returns the word of an argument as it was typed, if it is given.
 #[tactic(auto, using(crate::proofs::first_words))]
 pub(crate) fn typed_word<'a>(matches: &ArgMatches<'a>, id: &str) -> Option<&'a str>
     ensures { option_map (λ word. word.now) result ≡ typed_word id.now (rows_of (found_of matches.now)) }
@@ -35,11 +35,11 @@ pub(crate) fn typed_word<'a>(matches: &ArgMatches<'a>, id: &str) -> Option<&'a s
     Some(unmarked(matches.get_str(id)?))
 }
 
-/// Marked words, taken as they were typed.
+/// Marked words, read as they were typed.
 #[derive(Drop)]
 pub(crate) struct TypedWords<'w, 'a> {
     words: &'w [&'a str],
-    // The number of words that are taken.
+    // The number of words that are read.
     taken: usize,
 }
 

@@ -25,11 +25,11 @@ use bac_wire::{Frame, ObjectId};
 use clap::ArgMatches;
 use std::alloc::Global;
 
-/// Returns the job that the words ask for, the first of which is the program's name.
+/// Returns the job that the words ask for. The first word is the program's name.
 ///
 /// # Errors
 ///
-/// `Memory` if there is no memory, `Help` and `Words` if `clap` does not accept the words, and otherwise the first of
+/// `Memory` if there is no memory; `Help` or `Words` if `clap` does not accept the words; otherwise the first of
 /// `BadMac`, `BadIndex`, and `BadValue` or `BodyTooLong`.
 pub fn parse_words(alloc: Global, words: &[&str]) -> Result<Job, UsageFault>
     ensures answer { IsErrAnd result (IsRefusal (texts words.now)) ⊎ Answers (texts words.now) result }
@@ -184,7 +184,7 @@ fn write_body(
     Ok(copy_of(body))
 }
 
-// Returns a copy of the body, to be handed on.
+// Returns a copy of the body.
 fn copy_of(body: &[u8]) -> ArrayVec<u8, LONGEST_BODY>
     requires { length body.now ≤ LONGEST_BODY }
     ensures { result.items ≡ body.now }
@@ -194,7 +194,7 @@ fn copy_of(body: &[u8]) -> ArrayVec<u8, LONGEST_BODY>
     room
 }
 
-// Returns the limits of a search: one number is both of them; without a number there is no limit.
+// Returns the limits of a search: one number sets both; without a number there is no limit.
 fn limits(least: Option<u32>, most: Option<u32>) -> WhoIs
     ensures { result ≡ limits least most }
 {
@@ -207,7 +207,7 @@ fn limits(least: Option<u32>, most: Option<u32>) -> WhoIs
     }
 }
 
-// Returns the peer of `--mac`, which has no route. Nobody types a mark in front of one, so none is taken off.
+// Returns the peer of `--mac`, which has no route. No peer begins with a mark, so none is removed.
 #[tactic(auto, using(crate::proofs::first_words))]
 fn peer(matches: &ArgMatches<'_>) -> Option<Peer>
     ensures { result ≡ peer_given (rows_of (found_of matches.now)) }
@@ -215,7 +215,7 @@ fn peer(matches: &ArgMatches<'_>) -> Option<Peer>
     peer_of(matches.get_str("mac")?)
 }
 
-// Returns the peer that a word names, without taking a mark off.
+// Returns the peer that a word names, without removing a mark.
 #[tactic(auto, using(crate::proofs::peer_named))]
 fn peer_of(word: &str) -> Option<Peer>
     ensures { result ≡ peer_in word.now }
@@ -251,7 +251,7 @@ fn timeout(matches: &ArgMatches<'_>) -> u32
     number(matches, "apdu-timeout").unwrap_or(3_000)
 }
 
-// Returns how often a request is sent again, three times if the words do not say.
+// Returns how often a request is sent again: three times if no number is given.
 #[tactic(auto, using(crate::proofs::of_sender))]
 fn retries(matches: &ArgMatches<'_>) -> u8
     requires { IsSender (rows_of (found_of matches.now)) }

@@ -1,16 +1,16 @@
 //! The message of a fault.
 ghost use Rattle.bac_words.specs.{telling_octets};
 
-use bac_print::Message;
+use bac_print::FaultMessage;
 use std::fmt;
 
-/// The message of a fault. It needs no memory.
+/// The message of a fault. It allocates no memory.
 #[derive(Debug, Drop)]
 pub enum Telling<'f> {
     /// A text of `clap`: help, or why it does not accept the words.
     Text(&'f clap::Error),
-    /// A message of ours.
-    Line(Message),
+    /// A message of this program.
+    Line(FaultMessage),
 }
 
 impl fmt::Display for Telling<'_> {

@@ -7,8 +7,8 @@ ghost use Rattle.bac_words.specs.{is_tool, tool_named, words_called};
 use std::alloc::{AllocError, Global};
 use std::path::Path;
 
-/// Returns the words with the name of the tool in front, if the program is called by one. The program has no name then,
-/// so that help and usage begin with the tool's.
+/// Returns the words with the name of the tool in front, if the program is called by one. The program's own name is
+/// empty then, so that help and usage begin with the tool's name.
 pub fn words_of(alloc: Global, typed: &[String]) -> Result<Vec<&str>, AllocError>
     ensures { IfOk result (λ words. map (λ word. word.now) words.items ≡ words_called (map string_bytes typed.now)) }
 {

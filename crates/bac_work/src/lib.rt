@@ -1,7 +1,7 @@
 //! Begins a count of the tags that are read.
 //!
-//! No crate up to `bac_device` rests on this one. So a call there that walks over items counts in the count that it is
-//! handed, and its clause `work` bounds all its walks.
+//! No crate up to `bac_device` uses this one. So a call there that walks over items counts in the `Work` that it is
+//! given, and its clause `work` bounds all its walks.
 #![tactic(auto)]
 
 ghost use Rattle.std.specs.Prelude.{◌≡◌};

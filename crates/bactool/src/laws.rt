@@ -1,4 +1,4 @@
-//! What holds of the program over the sockets of this machine: the clause of a function with an empty body is the law.
+//! Laws of the program over the sockets of this machine. Each function has an empty body, and its clauses are the laws.
 ghost use Rattle.std.specs.{declared.io.ErrorKind.ErrorKind, Prelude.{Err, List, None, Ok, Result, Some, ℕ, ◌≡◌}};
 ghost use Rattle.bac_print.specs.declared.checked.Checked.{Checked};
 ghost use Rattle.{bac_links.specs.Socket.OverSocket, bac_words.specs.words_called};
@@ -9,14 +9,15 @@ use std::io::{Read, Write};
 use std::net::Net;
 use std::time::Clock;
 
-/// From the words to all that the streams and the system are given.
+/// From the words to all that is written to the streams and asked of the system.
 ///
-/// If the program had a socket, its words asked for a tool or for many requests. It printed, put on standard error and
-/// reported what its definition says; for a tool standard input was not read. The system was asked for one socket, at
-/// the address that the job needs; then for the calls to the link, one after another; and for nothing else.
+/// If the program had a socket, its words asked for a tool or for many requests. It printed and reported what the job's
+/// definition says, and wrote the message of a fault to standard error; for a tool standard input was not read. The
+/// calls of the system are: one for a socket, at the address that the job needs; then those for the calls of the link,
+/// one after another; and no others.
 ///
-/// If no socket was available, nothing was read or printed, and the system was asked for one socket at most, and for
-/// nothing else: the runtime was kept, and nobody had a socket of it.
+/// If no socket was available, nothing was read or printed. The system was asked for at most one socket, and for
+/// nothing else: the runtime was kept, and gave nobody a socket.
 ///
 /// If no socket was asked for, the runtime is unchanged: a script was run, or nothing was done except to report why the
 /// words give no job.

@@ -21,8 +21,8 @@ fn main(rt: HostRuntime) -> ExitCode {
     exit_code(run(alloc, typed, sockets, reader, writer, errors))
 }
 
-// The program over any sockets, reader and writers. By its type it has nothing else of the world, and of the runtime
-// nothing but what `Sockets` gives up for itself: one socket.
+// The program over any sockets, reader and writers. Its type gives it access to nothing else, and of the runtime only
+// to one socket, through `Sockets`.
 fn run<H: Net + Clock + Clone + Drop, R: Read + Drop, W: Write + Drop, E: Write + Drop>(
     alloc: Global,
     typed: io::Result<env::Args>,
@@ -39,7 +39,7 @@ fn run<H: Net + Clock + Clone + Drop, R: Read + Drop, W: Write + Drop, E: Write 
     run_program(alloc, typed, sockets, reader, writer, errors)
 }
 
-// The status with which the system ends the program.
+// Returns the status with which the program ends.
 fn exit_code<N: Drop, L: Drop, F: Drop, R: Drop, W: Drop, E: Drop>(
     ended: Finished<N, L, F, R, W, E>,
 ) -> ExitCode

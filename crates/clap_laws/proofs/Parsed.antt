@@ -1,4 +1,4 @@
--- What a simple command leaves of the words that `clap` accepts, and what the getters read of it.
+-- The entries that a simple command makes from accepted words, and the values that the getters read from them.
 use Rattle.std.{
   proofs.Common.{[], ap, ap₂, arith, Bool, codes, cond, drop, encode_utf8, false, find, fold, IfSome, if◌then◌else◌},
   proofs.Common.{is_some, length, length-append, List, map, nat_lt, None, not, Option, option_and_then, option_map},
@@ -33,7 +33,7 @@ use Rattle.clap.specs.Walk as w
 use Rattle.clap.specs.declared.builder.action.ArgAction.TheVariants as action
 use Rattle.clap.specs.declared.builder.value_parser.ValueParser.TheVariants as vp
 
--- A statement about the element that a search finds, by induction over the list.
+-- A property of the element that a search finds, by induction over the list.
 pub when_found : {X : Type 0} (p : X → Bool) (P : List X → Type 0) (a : X) → ((xs : List X) → p a ≡ true → P (a ∷ xs))
     → ((x : X) (xs : List X) → p x ≡ false → find p xs ≡ Some a → P xs → P (x ∷ xs)) → (xs : List X)
     → find p xs ≡ Some a → P xs
@@ -59,12 +59,12 @@ any_not q p c a none is =
     (λ xs passes none. let (here, _) = or_parts _ _ none in here)
     (λ x xs fails is rest none. let (_, others) = or_parts _ _ none in rest others) c is none
 
--- a plain rule, and the one of its id
+-- a plain rule, which is the only one with its id
 record IsOwn (c : List Rule) (a : Rule) : Type 0 where
   own : arg_by_id c a.id ≡ Some a
   plain : is_plain_rule a ≡ true
 
--- a search finds such a rule
+-- a search finds a plain rule
 owned : (p : Rule → Bool) (c : List Rule) (a : Rule) → find p c ≡ Some a → list_all is_plain_rule c ≡ true
     → has_distinct_ids c ≡ true → IsOwn c a
 owned p c a is =
@@ -88,7 +88,7 @@ append_pass : (c : List Rule) (xs ys : List Row) → RowsPass c xs → RowsPass 
 append_pass c [] ys h k = k
 append_pass c (x ∷ xs) ys (passes, others) k = (passes, append_pass c xs _ others k)
 
--- the row of an id is changed, or a row is added
+-- the row with an id is changed, or a row is added
 at_row_pass : (c : List Rule) (id : Text) (change : Row → List Row) (missing : List Row)
     → ((r : Row) → bytes_eq r.id id ≡ true → RowPasses c r → RowsPass c (change r)) → RowsPass c missing
     → (rows : List Row) → RowsPass c rows → RowsPass c (at_row id change missing rows)
@@ -124,7 +124,7 @@ values_taken : (a : Rule) (vs : List Text) → values_fault a vs ≡ [] → valu
 values_taken a [] e = refl
 values_taken a (v ∷ vs) e = grind (arith, values_taken a vs)
 
--- values that a use leaves pass, if it keeps them and has some, or asks for help
+-- the values of a use obey the rule, if the argument keeps them and has some, or asks for help
 used_as_pass : (c : List Rule) (a : Rule) (again : Bool) (x : ArgAction) (wants : Bool) (vs : List Text)
     (rows : List Row) → arg_by_id c a.id ≡ Some a
     → (is_request x || (keeps_values x && wants)) ≡ true → (wants ≡ true → 0 < length vs)
@@ -143,10 +143,10 @@ filled_by : (a : Rule) (least most : ℕ) (values : List Text) → range_kinds l
     → 0 < length (values_or_missing a values)
 filled_by a _ _ _ none wants = grind (arith, none, wants)
 
--- ---- a level: its rules, and whether a second use replaces the first
+-- ---- one level of arguments: its rules, and whether a second use replaces the first
 
 module _ (c : List Rule) (level : IsPlainLevel c) (again : Bool) where
-  -- If nothing is wrong, entries that passed stay so.
+  -- If there is no fault, entries that obey their rules still do.
   abbrev Keeps : Kinds → Held → Held → Type 0
   Keeps fault h after = fault ≡ [] → RowsPass c h.rows → RowsPass c after.rows
 
@@ -169,7 +169,7 @@ module _ (c : List Rule) (level : IsPlainLevel c) (again : Bool) where
       → Keeps (react_fault c again a values h) h (reacted c a values h)
   reacted_pass = grind (arith, none_fails, used_pass, settled_pass)
 
-  -- a use as an option with this value, or what else the word comes to
+  -- a use as an option with this value, or another meaning of the word
   option_or : (a : Rule) (v : Option Text) (h : Held) (fault : Kinds) (other : Held × Outcome) → IsOwn c a
       → KeepsMet fault h other
       → KeepsMet (cond (takes_values a) (option_fault c again a v h) fault) h
@@ -209,7 +209,7 @@ module _ (c : List Rule) (level : IsPlainLevel c) (again : Bool) where
 
 -- ---- a word
 
--- a word that is a flag or a plain word names no subcommand, and leaves the entries as they are
+-- a flag or a plain word does not name a subcommand, and leaves the entries unchanged
 abbrev pub IsElsewhere : (Text → Type 0) → Step → Type 0
 IsElsewhere P (w.subcommand name) = P name
 IsElsewhere P _ = Unit {0}
@@ -227,7 +227,7 @@ abbrev pub asks : Shape → Text → Bool
 asks s name = bytes_eq name (codes "help") && not s.disable_help_subcommand
 
 module _ (s : Shape) where
-  -- If nothing is wrong, entries that passed stay so, and the word does not ask for help.
+  -- If there is no fault, entries that obey their rules still do, and the word does not ask for help.
   abbrev Goes : Kinds → Held → Held × Step → Type 0
   Goes fault h (met, step) =
       fault ≡ [] → (IsPlainLevel s.rules → RowsPass s.rules h.rows → RowsPass s.rules met.rows)
@@ -260,9 +260,9 @@ module _ (s : Shape) where
       (word_met s.rules names is_trailing waiting position word h)
   word_goes = grind (arith, either, other_goes)
 
-  -- ---- the walk
+  -- ---- the walk over the words
 
-  -- The entries passed, and the subcommand that was met asks for no help.
+  -- The entries obey their rules, and the subcommand does not ask for help.
   abbrev pub Stands : Walk → Type 0
   Stands walk = (IsPlainLevel s.rules → RowsPass s.rules walk.held.rows)
       × IfSome walk.stopped (λ (name, _). asks s name ≡ false)
@@ -283,7 +283,7 @@ module _ (s : Shape) where
       go (Some a) none =
           (λ level. let passed = rows level in grind (arith, settled_pass s.rules level s.args_override_self h), tt)
 
-  -- What holds before the first word holds after the last.
+  -- A property that holds before the first word holds after the last.
   pub walk_goes : (names : Names) (walk : Walk) (words : List Text) → walk_fault s names walk words ≡ [] → Stands walk
       → Stands (fold (walked s.rules names) walk words)
   unfolding walk_fault walked
@@ -322,12 +322,12 @@ last_check : (wants_help wants_subcommand wants_argument : Bool)
     → check_kinds wants_help wants_subcommand wants_argument ≡ [] → wants_argument ≡ false
 last_check = grind arith
 
--- a level of a command that has no subcommand, if nothing is wrong
+-- one level of a command without a subcommand, if there is no fault
 pub level_taken : (s : Shape) (words : List Text) → IsPlainLevel s.rules → s.subcommand_negates_reqs ≡ false
     → level_fault s [] nothing_held words false [] ≡ [] → IsTaken s.rules (rows_after s.rules [] words)
 level_taken = grind (arith, last_check, walk_goes, defaults_pass, settled_pass)
 
--- ---- if a program needs a tool, the words name one other than `help`, and it takes the words after it
+-- ---- if a program requires a tool, the words name one other than `help`, and it accepts the words after it
 
 enters_by : (a : App) (words : List Text) (stop : Option (Text × List Text))
     → stop_after (built a).top.rules (names_of (built a)) (argument_words a words) ≡ stop
@@ -351,9 +351,9 @@ enters a words wanted none =
     unfaulted ((λ level. tt), tt) in
     enters_by a _ _ refl (grind arith) below other
 
--- ---- from the rules that the words passed to what the getters of the matches read
+-- ---- from the rules of the words to the values that the getters read
 
--- the entry of an id passed
+-- the entry with an id obeys its rule
 entry : (c : List Rule) (id : Text) (rows : List Row) (r : Row) → RowsPass c rows
     → find (λ r. bytes_eq r.id id) rows ≡ Some r
     → (r.id ≡ id) × RowPasses c r
@@ -362,7 +362,7 @@ entry c id rows r h is =
     (λ xs passes (entry, _). ((bytes_eq-Decides _ _).0 passes, entry))
     (λ x xs fails is rest (_, others). rest others) _ is h
 
--- the text of an argument is that of a value that passed
+-- the text of an argument is the text of a value that obeys the rule
 record IsText (a : Rule) (text : Text) : Type 0 where
   given : Text
   read : text ≡ read_as (reading_by a) given
@@ -378,7 +378,7 @@ head_text a r (v ∷ vs) how all _ = (
   record { given = v; read = ap (λ how. read_as how v) how; passed = let (first, _) = both _ _ all in first },
 )
 
--- such is the text of an argument, if it has one, and an argument that is given has one
+-- an argument that is given has a text, and each text of an argument is of this kind
 text_of : (c : List Rule) (a : Rule) (id : Text) (rows : List Row) → RowsPass c rows → arg_by_id c id ≡ Some a
     → IfSome (one_of id rows) (IsText a) × (is_given id rows ≡ true → is_some (one_of id rows) ≡ true)
 text_of c a id rows h is = go _ refl
@@ -394,7 +394,7 @@ text_of c a id rows h is = go _ refl
         head_text a r _ (passes.reading ∙ ap reading_by rule) (rw (← rule) passes.passed) passes.filled in
         rw read (text, λ given. refl {a = true})
 
--- what the getter of a `u32` reads a text by
+-- how the getter of a `u32` reads a text
 abbrev pub Parses : Text → Result ℕ ParseIntError → Type 0
 Parses bs r = ParsesUnsigned 32 10 bs r × ExplainsUnsignedError 10 bs r × HasUnsignedDigitsIfOk bs r
 
@@ -413,7 +413,7 @@ number_text a t r (vp.Signed (pos low) (pos high)) parser fits text reads =
     (is ∙ ap Some value, subst (λ o. IfSome o (IsWithin (Some (low, high)))) (sym is) (least, most))
 number_text a t r _ parser fits _ _ = absurd fits
 
--- the number of an argument is that of the words, and within its bounds
+-- the number of an argument is the one in the words, and within its bounds
 pub getter : (c : List Rule) (id : Text) (f : Found) (r : Option ℕ) → IsTaken c (rows_of f) → FitsWord (bounds_in c id)
     → (one_text f id ≡ None → r ≡ None) → ((t : Text) → one_text f id ≡ Some t → ReadsOne Parses t r)
     → (r ≡ number_of id (rows_of f)) × IfSome r (IsWithin (bounds_in c id))
@@ -433,7 +433,7 @@ getter c id f r taken fits none value = at_rule _ refl fits
     at_rule None is fits = absurd fits
     at_rule (Some a) is fits = let (text, _) = text_of _ _ _ _ taken.entries is in at_text a _ refl text fits
 
--- of an argument that is required there is one
+-- a required argument has a number
 pub needed : (c : List Rule) (id : Text) (rows : List Row) → IsTaken c rows → is_needed c id ≡ true
     → is_some (number_of id rows) ≡ true
 needed c id rows taken is = at_rule _ refl is
@@ -453,7 +453,7 @@ needed c id rows taken is = at_rule _ refl is
         some_number (one_of id rows)
         (some (subst (λ (t : Text). is_given t rows ≡ true) ((bytes_eq-Decides a.id id).0 same) given))
 
--- ---- a command grows by one argument or one tool, and stays the one that the rules say
+-- ---- a command with one more argument or tool still has the shape of its rules
 
 pub with_tool : {app tool : App} (old new sub : Command) → IsCommand old app → IsCommand sub tool
     → AddsSubcommand old sub new
@@ -463,7 +463,7 @@ with_tool _ _ _ is tool_is added = record {
   local = added.globals ∙ ap₂ (λ x y. x || y) is.local tool_is.local;
 }
 
--- arguments in turn
+-- several arguments, one after another
 pub in_turn : (args : List Arg) (app : App) (old new : Command) → IsCommand old app
     → list_any (λ a. a.global) args ≡ false → AddsInTurn AddsArg old args new
     → IsCommand new (fold with_rule app (map rule_of args))
@@ -476,7 +476,7 @@ in_turn (a ∷ rest) app _ _ is local (mid, added, chain) =
     } in
     in_turn rest _ _ _ next later chain
 
--- help leaves the rules as they are
+-- help does not change the rules
 pub helped : {app : App} {about after : Option (Bor Text)} (first second third : Command) → IsCommand first app
     → out-Command second ≡ record (out-Command first) { about = about }
     → out-Command third ≡ record (out-Command second) { after_help = after } → IsCommand third app
@@ -486,7 +486,7 @@ helped _ _ _ is about after = record {
       ∙ is.local;
 }
 
--- the program before its tools: one is wanted
+-- the program before its tools are added: one is required
 pub wanting_is : {app : App} (old new : Command) → IsCommand old app
     → out-Command new ≡ record (out-Command old) { subcommand_required = true }
     → IsCommand new (wanting app)

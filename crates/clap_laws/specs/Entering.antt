@@ -6,18 +6,18 @@ use Rattle.clap.specs.{Simple.{App, built, label_of, rows_at, Shape, subcommand_
 use Rattle.clap.specs.Walk.{action_of, answers_to, is_empty, nothing_held, Rule, Text}
 use Rattle.clap.specs.declared.builder.action.ArgAction.TheVariants as action
 
--- An argument that keeps one value or more of each use.
+-- The argument keeps at least one value of each use.
 abbrev pub keeps_values : ArgAction → Bool
 keeps_values action.Set = true
 keeps_values action.Append = true
 keeps_values _ = false
 
--- A word of the rule, or a request for help; and it has no default.
+-- The rule is for a word or for a request for help, and has no default.
 abbrev pub is_plain_rule : Rule → Bool
 is_plain_rule a = is_empty a.defaults && (is_request (action_of a)
     || (keeps_values (action_of a) && nat_lt 0 (unwrap_or_range a.range).start_inclusive))
 
--- No two rules have one id.
+-- No two rules have the same id.
 abbrev pub has_distinct_ids : List Rule → Bool
 has_distinct_ids [] = true
 has_distinct_ids (a ∷ rest) = not (list_any (λ b. bytes_eq a.id b.id) rest) && has_distinct_ids rest
@@ -30,7 +30,7 @@ pub record IsPlainLevel (c : List Rule) : Type 0 where
 abbrev pub asks_for_help : App → Text → Bool
 asks_for_help a name = bytes_eq name (codes "help") && not a.top.disable_help_subcommand
 
--- The words name a subcommand other than `help`, and the words after it pass its rules.
+-- The words name a subcommand other than `help`, and the words after it obey its rules.
 pub record Enters (a : App) (words : List Text) : Type 0 where
   pub tool : Shape
   pub name : Text

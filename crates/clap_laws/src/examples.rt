@@ -9,7 +9,7 @@ ghost use Rattle.clap_laws.specs.Entering.{Enters, IsPlainLevel};
 ghost use Rattle.clap_laws.specs.Passes.{IsTaken};
 ghost use Rattle.clap_laws.specs.Inner.Examples.{flag, helpful, named, needy, program, word};
 
-// A command is what its views say of it.
+// A command is determined by its views.
 #[tactic(none)]
 fn examples_of_commands()
     ensures command { (c : Command) → app_of c ≡ new_app (codes "x") → (out-Command c).has_globals ≡ false
@@ -22,13 +22,13 @@ fn examples_of_commands()
     ensures no_tool { Enters program (codes "program" ∷ codes "other" ∷ []) → ⊥ }
     ensures no_word { Enters program (codes "program" ∷ []) → ⊥ }
 
-    // A tool that needs a word is not entered without it, and one with the name `help` never is.
+    // A tool that requires a word is not entered without it, and a tool named `help` never is.
     ensures enters_by_word { Enters needy (codes "program" ∷ codes "tool" ∷ codes "1" ∷ []) }
     ensures lacks_its_word { Enters needy (codes "program" ∷ codes "tool" ∷ []) → ⊥ }
     ensures named_as_help { Enters helpful (codes "program" ∷ codes "help" ∷ []) → ⊥ }
 {}
 
-// Rules of a tool, and entries that they let pass.
+// Rules of a tool, and entries that pass them.
 #[tactic(none)]
 fn examples_of_levels()
     ensures plain { IsPlainLevel (word ∷ new_rule (codes "other") ∷ []) }

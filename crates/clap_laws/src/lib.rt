@@ -17,7 +17,7 @@ pub fn words_enter()
         → Enters a words }
 {}
 
-/// If a command without subcommands accepts words, each value passed its argument's rules, and each required argument
+/// If a command without subcommands accepts words, each value obeys its argument's rules, and each required argument
 /// was given.
 #[tactic(auto, using(crate::proofs::level_taken))]
 pub fn levels_pass()

@@ -14,20 +14,20 @@ use std::process::Abort;
 
 const LOCALHOST: u32 = 0x7f00_0001;
 
-/// 127.0.0.1:47808, which is asked.
+/// 127.0.0.1:47808, the peer of requests.
 const CONTROLLER: Peer = Peer {
     ip: LOCALHOST,
     port: 47_808,
     route: None,
 };
 
-/// 127.0.0.1:50000, which asks.
+/// 127.0.0.1:50000, another peer.
 const OTHER: Peer = Peer {
     port: 50_000,
     ..CONTROLLER
 };
 
-/// The present value of analog-input 5, as it is answered.
+/// An answer: the present value of analog-input 5.
 const VALUE: &[u8] =
     b"\x81\x0a\x00\x17\x01\x00\x30\x01\x0c\x0c\x00\x00\x00\x05\x19\x55\x3e\x44\x42\x90\x99\x9a\x3f";
 
@@ -37,7 +37,7 @@ const WHO_IS: &[u8] = b"\x81\x0a\x00\x08\x01\x00\x10\x08";
 const I_AM: &[u8] =
     b"\x81\x0a\x00\x15\x01\x00\x10\x00\xc4\x02\x00\x04\xd2\x22\x05\xc4\x91\x03\x22\x01\x04";
 
-/// Returns whether the octets are these digits.
+/// Returns whether the octets are written as these digits.
 fn are_digits(alloc: Global, octets: &[u8], digits: &str) -> bool {
     match hex::encode(alloc, octets) {
         Ok(written) => written.as_str() == digits,

@@ -21,12 +21,12 @@ ALL = COUNTS + MARKS
 
 
 def is_slow(talk: Talk, slow: int) -> bool:
-    """Returns whether the answer took so long."""
+    """Returns whether the answer took longer than this."""
     return talk.took is not None and talk.took >= slow
 
 
 def marks_of(talk: Talk, slow: int) -> Iterator[str]:
-    """Yields what a talk is counted as."""
+    """Yields the counts that a talk adds to."""
     is_ack = bool(talk.answers) and talk.answers[0].apdu.kind in (SIMPLE, COMPLEX)
     yield "answered" if is_ack else "refused" if talk.answers else "unanswered"
     holds = [talk.resends > 0, is_slow(talk, slow), talk.late is not None, len(talk.answers) > 1]
@@ -36,7 +36,7 @@ def marks_of(talk: Talk, slow: int) -> Iterator[str]:
 
 @dataclass
 class Group:
-    """The counts of the talks of a device, or of all."""
+    """The counts of the talks with one device, or with all devices."""
 
     marks: Counter[str] = field(default_factory=Counter)
     took: list[int] = field(default_factory=list)
@@ -47,7 +47,7 @@ class Group:
         self.took += [] if took is None else [took]
 
     def within(self, percent: int) -> int | None:
-        """Returns the time within which so many of a hundred answers came."""
+        """Returns the time within which this percentage of the answers came."""
         took = sorted(self.took)
         return took[max(0, -(-len(took) * percent // 100) - 1)] if took else None
 
@@ -129,14 +129,14 @@ class Tally:
 
 @dataclass
 class Capture:
-    """A capture that is read through once; `damage` says then why the rest can't be read."""
+    """A capture that is read once; then `damage` says why the rest can't be read."""
 
     file: BinaryIO
     passing: Passing = field(default_factory=Passing)
     damage: str = ""
 
     def messages(self) -> Iterator[Message]:
-        """The BACnet/IP messages, up to a damage."""
+        """The BACnet/IP messages before any damage."""
         try:
             for datagram in self.passing.datagrams(packets_of(self.file)):
                 yield message_of(datagram)
@@ -153,7 +153,7 @@ class Capture:
 
 
 def is_between(entry: Entry, choice: Choice) -> bool:
-    """Whether an entry is of the client and the device that are chosen."""
+    """Whether an entry is between the chosen client and the chosen device."""
     if isinstance(entry, Talk):
         return is_at(entry.client, choice.client) and is_at(entry.device, choice.device)
     ends = (entry.sender, entry.receiver)
@@ -161,7 +161,7 @@ def is_between(entry: Entry, choice: Choice) -> bool:
 
 
 def is_wanted(entry: Entry, only: str | None, slow: int) -> bool:
-    """Whether an entry is to be shown: all, or only what has failed or was slow."""
+    """Whether an entry is shown: all are, or only failed and slow ones."""
     if isinstance(entry, Talk):
         return not only or (entry.has_failed if only == "failed" else is_slow(entry, slow))
     return not only or (only == "failed" and entry.is_fault)

@@ -1,4 +1,4 @@
-"""The entries of a capture in words: a line of each, and the same as an object of JSON."""
+"""The entries of a capture in words: a line for each, or an object of JSON."""
 
 from __future__ import annotations
 
@@ -41,7 +41,7 @@ def named(number: int, table: dict[int, str]) -> str:
 
 
 class Asked(NamedTuple):
-    """A request in words; its body, and what it writes."""
+    """A request in words, its body, and the value that it writes."""
 
     words: str
     body: Body | None = None
@@ -103,7 +103,7 @@ def _other_words(service: int, octets: bytes) -> str:
 
 
 def _listed(texts: Sequence[str]) -> str:
-    """Returns the first of some texts, and how many more there are."""
+    """Returns the first of some texts, and the number of the others."""
     left = len(texts) - MOST_LISTED
     return ", ".join(texts[:MOST_LISTED]) + (f", and {left} more" if left > 0 else "")
 

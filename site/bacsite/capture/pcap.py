@@ -1,5 +1,5 @@
 """The packets of a capture file, pcap or pcapng, in both byte orders and any unit of time; and the
-BACnet/IP datagrams of them, whatever their ports. The rest is skipped and counted."""
+BACnet/IP datagrams in them, whatever their ports. Other packets are skipped and counted."""
 
 from __future__ import annotations
 
@@ -10,7 +10,7 @@ from typing import BinaryIO, Iterable, Iterator, NamedTuple, Sequence
 
 from ..messages import Datagram
 
-# By the first four octets of a pcap file: its byte order, and the nanoseconds of a unit of time.
+# The byte order of a pcap file, and the nanoseconds of its unit of time, by its first four octets.
 PCAP = {
     b"\xa1\xb2\xc3\xd4": (">", 1000),
     b"\xd4\xc3\xb2\xa1": ("<", 1000),
@@ -21,7 +21,7 @@ SECTION, INTERFACE, SIMPLE, PACKET = 0x0A0D0D0A, 1, 3, 6  # the blocks of pcapng
 ORDERS = {b"\x1a\x2b\x3c\x4d": ">", b"\x4d\x3c\x2b\x1a": "<"}
 TIME_UNIT, TIME_OFFSET = 9, 14  # options of an interface
 SECOND = 10**9  # in nanoseconds
-MOST = 1 << 24  # octets of a packet or a block: more is damage
+MOST = 1 << 24  # octets of a packet or a block: more means damage
 IPV4, UDP, BVLL = 0x0800, 17, 0x81
 VLAN = (0x8100, 0x88A8, 0x9100)
 FUNCTIONS = 13  # of the link layer: 0 to 12
@@ -46,14 +46,14 @@ class Packet(NamedTuple):
 
 @dataclass
 class Source:
-    """A file that is read on, or a pipe: how far, and what is read."""
+    """A file or a pipe that is read once: the position, and the octets."""
 
     file: BinaryIO
     at: int = 0
     what: str = "its first word"
 
     def take(self, count: int, may_end: bool = False) -> bytes:
-        """The next octets, so many; or none where the file may end here, and does."""
+        """The next octets, this many; or none if the file may end here and does."""
         octets = self.file.read(count)
         self.at += len(octets)
         if len(octets) < count and (octets or not may_end):
@@ -61,19 +61,19 @@ class Source:
         return octets
 
     def fields(self, form: str, octets: bytes) -> tuple[int, ...]:
-        """The numbers that begin there."""
+        """The numbers at the beginning of the octets."""
         size = struct.calcsize(form)
         if len(octets) < size:
             raise self.damage("is too short")
         return struct.unpack(form, octets[:size])
 
     def damage(self, why: str) -> Damage:
-        """The damage of the file that is read."""
+        """The damage at this place of the file."""
         return Damage(f"{self.what} {why}")
 
 
 def packets_of(file: BinaryIO) -> Iterator[Packet]:
-    """The packets of a file. All that stand before a damage come before it is raised."""
+    """The packets of a file. All packets before a damage come before it is raised."""
     source = Source(file)
     magic = source.take(4, may_end=True)
     if magic in PCAP:
@@ -112,7 +112,7 @@ class _Interface(NamedTuple):
 
 
 def _pcapng(source: Source) -> Iterator[Packet]:
-    """The packets of all sections; none has an interface of the section before.
+    """The packets of all sections. A section has only its own interfaces.
 
     A packet without a time has that of the packet before it.
     """
@@ -242,11 +242,11 @@ def datagram_of(packet: Packet) -> Datagram:
 
 @dataclass
 class Passing:
-    """Counts what is skipped, and copies of a datagram that another interface has shown."""
+    """Counts skipped packets, and copies of a datagram from another interface."""
 
     counts: Counter[str] = field(default_factory=Counter)
     packets: int = 0
-    cut: int = 0  # datagrams of which the capture has the first octets alone
+    cut: int = 0  # datagrams of which the capture has only the first octets
     last: int = 0
     seen: dict[tuple[str, str, bytes], tuple[int, bytes]] = field(default_factory=dict)
 
@@ -265,7 +265,7 @@ class Passing:
             yield datagram
 
     def _check_copy(self, datagram: Datagram, packet: Packet) -> None:
-        """Whether it is the same as one of another interface, less than a second before."""
+        """Whether another interface has the same datagram, less than a second before."""
         of_frame = packet.octets[4:8] if packet.link == COOKED_2 else b""
         interface = bytes([packet.interface & 255]) + of_frame
         key = (datagram.sender, datagram.receiver, datagram.octets)

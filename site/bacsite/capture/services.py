@@ -1,4 +1,4 @@
-"""What other services ask and tell: several reads at once, and changes of values (COV)."""
+"""Other services: reads of several properties, and changes of values (COV)."""
 
 from __future__ import annotations
 
@@ -9,11 +9,11 @@ from ..standard import ObjectId, PropertyRef
 
 NOTIFY, SUBSCRIBE, READ_MULTIPLE = 1, 5, 14  # confirmed
 UNCONFIRMED_NOTIFY = 2
-OBJECT, LIST = 0, 1  # the tags of an object, and of what is asked of it or told
+OBJECT, LIST = 0, 1  # the tags of an object, and of the properties asked for or reported
 
 
 class Told(NamedTuple):
-    """A property, and its value, or the class and code of why there is none."""
+    """A property, and its value, or the class and code of its error."""
 
     ref: PropertyRef
     value: bytes | None = None
@@ -21,7 +21,7 @@ class Told(NamedTuple):
 
 
 class Notice(NamedTuple):
-    """A notification of changed values: of which device, and what."""
+    """A notification of changed values: the device, and the values."""
 
     process: int
     device: int
@@ -29,7 +29,7 @@ class Notice(NamedTuple):
 
 
 class Subscription(NamedTuple):
-    """A request to be notified; without both it ends an earlier one."""
+    """A request for notifications; without both it ends an earlier one."""
 
     process: int
     object_id: ObjectId
@@ -47,7 +47,7 @@ def _object(item: Item) -> ObjectId | None:
 
 
 def _each(octets: bytes, first: int, count: int) -> list[Told] | None:
-    """Reads objects, and what is asked or told of each in the brackets after it."""
+    """Reads objects, each with the properties in the brackets after it."""
     items, every = _tagged(items_of(octets)) or [], []
     for head, body in zip(items[::2], items[1::2]):
         object_id = _object(head)
@@ -60,9 +60,9 @@ def _each(octets: bytes, first: int, count: int) -> list[Told] | None:
 
 
 def _properties(object_id: ObjectId, body: Item, first: int, count: int) -> list[Told] | None:
-    """Reads properties, each by the tag `first`, and an index, a value and an error by those after
-    it, as far as `count`. A notification may have a priority in place of the error: that is
-    skipped."""
+    """Reads properties: the tag `first` has the property, and the tags after it an index, a value
+    and an error, as far as `count`. A notification may have a priority in place of the error, which
+    is skipped."""
     items = _tagged(body.inner)
     found: list[Told] = []
     if items is None:
@@ -95,12 +95,12 @@ def asked_for(octets: bytes) -> list[PropertyRef] | None:
 
 
 def told_by(octets: bytes) -> list[Told] | None:
-    """Returns what the acknowledgement of a ReadPropertyMultiple tells."""
+    """Returns the values in the acknowledgement of a ReadPropertyMultiple."""
     return _all_told(_each(octets, first=2, count=4))
 
 
 def notice_of(octets: bytes) -> Notice | None:
-    """Returns what a notification of changed values tells."""
+    """Returns the contents of a notification of changed values."""
     items = _tagged(items_of(octets)) or []
     if [it.number for it in items] != [0, 1, 2, 3, 4]:
         return None

@@ -6,36 +6,23 @@ from collections import deque
 from dataclasses import dataclass, field
 from typing import Iterator, NamedTuple, Union
 
-from ..messages import (
-    ABORT,
-    COMPLEX,
-    CONFIRMED,
-    READ,
-    REJECT,
-    SEGMENT,
-    SIMPLE,
-    WRITE,
-    Apdu,
-    Message,
-    NetworkMessage,
-    is_about,
-    outcome_of,
-)
+from ..messages import ABORT, COMPLEX, CONFIRMED, READ, REJECT, SEGMENT, SIMPLE, WRITE
+from ..messages import Apdu, Message, NetworkMessage, is_about, outcome_of
 from ..bodies import read_ack, read_body
 from ..standard import PropertyRef
 
 MILLI = 10**6  # in nanoseconds
 MORE_FOLLOWS = 4  # a flag of an answer that comes in parts
-ROUND, NUMBERS = 192, 256  # between two requests with one invoke id lie at least so many others
+ROUND, NUMBERS = 192, 256  # 192 or more others are between two requests with one invoke id
 USUAL_WAIT = 3000 * MILLI
-OF_SERVER = 1  # a flag of who acknowledges a part
-GRACE = 50 * MILLI  # clients look at their clock so often; what comes again sooner is a copy
-WINDOW = 60_000 * MILLI  # after that long nothing more is awaited
+OF_SERVER = 1  # a flag of a part's acknowledgement: the server sent it
+GRACE = 50 * MILLI  # a repetition that comes sooner is a copy
+WINDOW = 60_000 * MILLI  # after this time no answer is awaited
 
 
 class Answer(NamedTuple):
-    """An answer: when it came, what it is, and how it ends a request, as bactrace says it; and its
-    parts, as far as they follow one another, if it came in parts."""
+    """An answer: its time, its APDU, and how it ends a request, in the words of bactrace; and its
+    parts so far, if it comes in parts."""
 
     nanos: int
     apdu: Apdu
@@ -44,7 +31,7 @@ class Answer(NamedTuple):
 
     @property
     def whole(self) -> Apdu | None:
-        """It, put together of its parts; nothing where some of them are missing."""
+        """The answer, put together from its parts; None if some of them are missing."""
         if self.apdu.part is None:
             return self.apdu
         is_whole = self.parts and not self.parts[-1].flags & MORE_FOLLOWS
@@ -53,7 +40,7 @@ class Answer(NamedTuple):
         return self.apdu._replace(part=None, body=b"".join(it.body for it in self.parts))
 
     def add(self, apdu: Apdu) -> None:
-        """Notes a part, unless it comes again, or another one is missing before it."""
+        """Notes a part, unless it is repeated, or an earlier one is missing."""
         if apdu.part == len(self.parts) % 256:
             self.parts.append(apdu)
 
@@ -67,21 +54,21 @@ class Talk:
     apdu: Apdu
     sends: list[int]
     order: int  # how many requests the client had made before
-    again: int | None = None  # when the same request had been answered before
+    again: int | None = None  # when an equal request had been answered before
     answers: list[Answer] = field(default_factory=list)
-    gap: int = 0  # how long the client had been seen to wait, when the first answer came
+    gap: int = 0  # how long the client usually waits, as far as known at the first answer
     is_over: bool = False
-    refused: str = ""  # what the router said of the network of the device
-    cut_off: int | None = None  # how long it was awaited when the capture ended
+    refused: str = ""  # the router's refusal of the device's network
+    cut_off: int | None = None  # how long the answer was awaited when the capture ended
 
     @property
     def nanos(self) -> int:
-        """When it was sent first."""
+        """When the request was first sent."""
         return self.sends[0]
 
     @property
     def outcome(self) -> str:
-        """How it ended, in the words of bactrace; empty if no answer came."""
+        """How the request ended, in the words of bactrace; empty if no answer came."""
         return self.answers[0].outcome if self.answers else ""
 
     @property
@@ -91,7 +78,7 @@ class Talk:
 
     @property
     def resends(self) -> int:
-        """How often it was sent again."""
+        """How often the request was sent again."""
         return len(self.sends) - 1
 
     @property
@@ -105,7 +92,7 @@ class Talk:
 
     @property
     def has_failed(self) -> bool:
-        """Whether it ended otherwise than with what was asked for, or too late."""
+        """Whether the request failed, or its answer came too late."""
         whole = self.answers[0].whole if self.answers else None
         if not self.answers or self.late or (whole and outcome_of(whole) == "bad-ack"):
             return True
@@ -123,16 +110,16 @@ class Talk:
         return None if not asked or not told or is_about(told.ref, asked.ref) else told.ref
 
     def has_settled(self, now: int) -> bool:
-        """Whether nothing more is awaited."""
+        """Whether no more answers are awaited."""
         last = max([self.sends[-1], *(it.nanos for it in self.answers[-1:])])
         return self.is_over or now - last > WINDOW
 
 
-Entry = Union[Talk, Message]  # a message that belongs to no talk stands for itself
+Entry = Union[Talk, Message]  # a message that is part of no talk is an entry by itself
 
 
 class Event(NamedTuple):
-    """What a message is: `request`, `resend`, `answer`, `second`, `part`, or `other`."""
+    """The role of a message: `request`, `resend`, `answer`, `second`, `part`, or `other`."""
 
     kind: str
     talk: Talk | None = None
@@ -143,13 +130,13 @@ class Pairing:
     """The talks so far, and the entries that are still awaited, in the order they began."""
 
     latest: dict[tuple[str, int], dict[str, Talk]] = field(default_factory=dict)
-    gaps: dict[str, int] = field(default_factory=dict)  # the least wait of each client
+    gaps: dict[str, int] = field(default_factory=dict)  # the shortest wait of each client
     made: dict[str, tuple[int, int]] = field(default_factory=dict)  # requests, the last number
     entries: deque[Entry] = field(default_factory=deque)
     now: int = 0
 
     def take(self, message: Message) -> Event:
-        """Says what a message is, and notes it."""
+        """Returns the role of a message, and notes it."""
         self.now = message.nanos
         apdu = message.apdu
         event = None
@@ -167,7 +154,7 @@ class Pairing:
         return event or Event("other")
 
     def _refuse(self, message: Message, said: NetworkMessage) -> None:
-        """Notes what a router says of networks at the open requests to stations there."""
+        """Notes a router's refusal of networks at the open requests to stations there."""
         routes = tuple(f"/{it}/" for it in said.networks) or ("/",)
         router = message.sender.partition(":")[0] + ":"
         for (client, _), talks in self.latest.items():
@@ -201,8 +188,8 @@ class Pairing:
     def _is_new(self, message: Message, apdu: Apdu, talk: Talk) -> bool:
         """Whether this is another request than the latest one with its number.
 
-        The same octets are, where the numbers of the client have gone round and this one is next:
-        those between the last one and this one have no answer yet.
+        A request with the same octets is new if the client's numbers have gone round and this one
+        is next: those between the last one and this one have no answer yet.
         """
         if talk.apdu != apdu or talk.has_settled(message.nanos):
             return True
@@ -238,7 +225,7 @@ class Pairing:
         return Event("answer", talk)
 
     def settled(self) -> Iterator[Entry]:
-        """The entries of which nothing more is awaited, up to the first of which something is."""
+        """The settled entries before the first one that still awaits an answer."""
         while self.entries:
             first = self.entries[0]
             if isinstance(first, Talk):
@@ -256,7 +243,7 @@ class Pairing:
             self.latest.pop((talk.client, talk.apdu.invoke), None)
 
     def rest(self, end: int) -> Iterator[Entry]:
-        """The entries that are left where the capture ends."""
+        """The entries that are left at the end of the capture."""
         for entry in self.entries:
             if isinstance(entry, Talk) and not entry.answers and not entry.is_over:
                 waited = end - entry.sends[-1]

@@ -1,4 +1,4 @@
-"""A script for bactrace of what one client of a capture asked, and of all that came to it."""
+"""A script for bactrace: the requests of one client of a capture, and all sent to it."""
 
 from __future__ import annotations
 
@@ -24,14 +24,14 @@ USUAL_TIMEOUT, USUAL_RETRIES, MOST_RETRIES = 3000, 3, 255
 
 
 def is_askable(message: Message) -> bool:
-    """Returns whether it is a whole request to read or to write."""
+    """Returns whether the message is a whole request to read or to write."""
     apdu = message.apdu
     is_whole = apdu and apdu.kind == CONFIRMED and apdu.part is None and not apdu.is_cut
     return bool(is_whole and apdu and apdu.service in (READ, WRITE))
 
 
 def request_line(message: Message) -> tuple[str, str]:
-    """Returns the line of a request, if a script can have one; and a remark on it."""
+    """Returns the line of a request, if a script can have one; and a comment on it."""
     apdu, peer = message.apdu, message.receiver
     if not apdu:
         return "", "no request"
@@ -65,7 +65,7 @@ def _value(element: Element) -> str:
 
 
 class Choice(NamedTuple):
-    """Whose requests to whom, as ADDRESS or ADDRESS:PORT; None stands for all."""
+    """The clients and devices to choose, as ADDRESS or ADDRESS:PORT; None means all."""
 
     client: str | None = None
     device: str | None = None
@@ -85,7 +85,7 @@ def is_at(peer: str, wanted: str | None) -> bool:
 
 
 def clients_of(messages: Sequence[Message], choice: Choice) -> set[str]:
-    """Returns the addresses of the client that is meant: those of one host."""
+    """Returns the addresses of the chosen client: those of one host."""
     asking = [it for it in messages if is_askable(it) and is_at(it.receiver, choice.device)]
     found = {it.sender for it in asking if is_at(it.sender, choice.client)}
     if not found:
@@ -104,7 +104,7 @@ def _waits(talk: Talk) -> list[int]:
 
 
 def settings_of(talks: Sequence[Talk], timeout: int | None, retries: int | None) -> Settings:
-    """Returns what is given, or what the client's resends show, or the usual."""
+    """Returns the given settings, or those that the client's resends show, or the usual ones."""
     waits = [_waits(talk) for talk in talks]
     all_waits = [wait for of_talk in waits for wait in of_talk]
     shown = Settings(USUAL_TIMEOUT, USUAL_RETRIES)
@@ -116,7 +116,7 @@ def settings_of(talks: Sequence[Talk], timeout: int | None, retries: int | None)
 
 def turns_of(talk: Talk, settings: Settings) -> list[int]:
     """Returns when bactrace looks at its clock after the last send; at the last time it gives up.
-    An answer just after that comes first: the client may not have looked at its clock yet."""
+    An answer just after a time comes first: the client may not have looked at its clock yet."""
     left = 1 + max(0, settings.retries - len(_waits(talk)))
     step = settings.timeout * MILLI
     turns = [talk.sends[-1] + count * step for count in range(1, left + 1)]
@@ -129,7 +129,7 @@ def turns_of(talk: Talk, settings: Settings) -> list[int]:
 
 
 def ends_at(talk: Talk, settings: Settings) -> int:
-    """Returns when bactrace ends a request: as the answer comes, or when its time is up."""
+    """Returns when bactrace ends a request: when the answer comes, or when its time is over."""
     turns = turns_of(talk, settings)
     came = talk.answers[0].nanos if talk.answers else None
     return turns[-1] if came is None or turns and turns[-1] + GRACE <= came else came
@@ -145,7 +145,7 @@ class Step(NamedTuple):
 
 @dataclass
 class Trace:
-    """The lines so far, and the requests that are open in bactrace by their numbers there."""
+    """The lines so far, and the open requests of bactrace by their numbers there."""
 
     clients: set[str]
     settings: Settings
@@ -205,8 +205,8 @@ class Trace:
         return number % NUMBERS
 
     def _data(self, message: Message, event: Event) -> None:
-        """Adds the line of a datagram that came. An answer gets the number of its request here, or
-        if it answers no open request, a number that no request has."""
+        """Adds the line of a received datagram. An answer gets the number of its request here; if
+        it answers no open request, it gets a number that no request has."""
         octets, apdu = bytearray(message.datagram.octets), message.apdu
         if apdu and apdu.is_answer:
             self._close(message.nanos)

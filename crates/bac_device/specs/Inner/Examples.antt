@@ -1,4 +1,4 @@
--- Requests to the demonstration device, for examples of what it replies.
+-- Requests to the demonstration device, for examples of its replies.
 use Rattle.std.specs.Prelude.{[], codes, length, List, map, None, replicate, Some, ℕ, ◌++◌, ◌+◌, ◌∷◌, ◌≡◌}
 use Rattle.{bac_wire.specs.Identifier.Identifier, bac_pdu.specs.Station}
 use Rattle.bac_device.specs.{Demo.demo_points, Device.{device_after, DeviceState}, Info.Info, Places.Write, Point.Given}
@@ -16,7 +16,7 @@ desk = record { ip = 0x7f000001; port = 50000; route = None }
 abbrev pub datagram : ℕ → List ℕ → List ℕ
 datagram control apdu = 0x81 ∷ 0x0a ∷ 0x00 ∷ (6 + length apdu) ∷ 0x01 ∷ control ∷ apdu
 
--- What the desk asks a new device, one after the other, and what it gets: two APDUs each.
+-- The desk's requests to a new device, one after the other, and their replies: two APDUs each.
 abbrev pub Exchanges : List (List ℕ × List ℕ) → Type 0
 Exchanges pairs =
     replies_to small demo_points [] (map (λ (asked, _). record { from = desk; datagram = datagram 0x04 asked }) pairs)
@@ -24,7 +24,7 @@ Exchanges pairs =
 
 -- ---- objects and their properties
 
--- Analog-input 5, as each of these is under context tag 0.
+-- Analog-input 5. Like the other objects here it has context tag 0.
 abbrev pub outdoor : List ℕ
 outdoor = 0x0c ∷ 0x00 ∷ 0x00 ∷ 0x00 ∷ 0x05 ∷ []
 
@@ -44,7 +44,7 @@ fan = 0x0c ∷ 0x01 ∷ 0x00 ∷ 0x00 ∷ 0x04 ∷ []
 abbrev pub season : List ℕ
 season = 0x0c ∷ 0x04 ∷ 0xc0 ∷ 0x00 ∷ 0x01 ∷ []
 
--- Analog-input 99, which there is not.
+-- Analog-input 99, which does not exist.
 abbrev pub nothing : List ℕ
 nothing = 0x0c ∷ 0x00 ∷ 0x00 ∷ 0x00 ∷ 0x63 ∷ []
 
@@ -104,15 +104,15 @@ aborted = 0x71 ∷ 0x01 ∷ 0x04 ∷ []
 abbrev pub has : List ℕ → List ℕ → List ℕ × List ℕ
 has what value = (read what, is what value)
 
--- A property is read, and an Error of this class and code comes.
+-- A property is read, and the reply is an Error with this class and code.
 abbrev pub has_no : List ℕ → ℕ → ℕ → List ℕ × List ℕ
 has_no what class code = (read what, failed 12 class code)
 
--- A write is made: a SimpleACK of WriteProperty comes.
+-- A write is made, and the reply is a SimpleACK of WriteProperty.
 abbrev pub makes : List ℕ → List ℕ × List ℕ
 makes request = (request, 0x20 ∷ 0x01 ∷ 0x0f ∷ [])
 
--- A write is not made: an Error of this class and code comes.
+-- A write is refused with an Error of this class and code.
 abbrev pub refuses : List ℕ → ℕ → ℕ → List ℕ × List ℕ
 refuses request class code = (request, failed 15 class code)
 
@@ -162,22 +162,22 @@ twenty_at_8 object = record { object = object; priority = 8; value = Some 0x41a0
 abbrev pub release_at_8 : Identifier → Write
 release_at_8 object = record { object = object; priority = 8; value = None }
 
--- The device without points, and one with those of the demonstration after these writes.
+-- The device without points, and one with the demonstration points after these writes.
 abbrev pub empty : DeviceState
 empty = record { info = small; standings = [] }
 
 abbrev pub after : List Write → DeviceState
 after writes = device_after small demo_points writes
 
--- The description of a point of this object, under this name: percent (98), and 0 to begin with.
+-- The description of a point of this object with this name: percent (98), starting at 0.
 abbrev pub given_as : Identifier → List ℕ → Given
 given_as object name = record { object = object; name = name; start = 0; extra = 98 }
 
--- What the desk asks: a name of 36 octets, for a requester that accepts 50.
+-- The desk's request for a name of 36 octets, as a requester that accepts 50.
 abbrev pub asked : Arrival
 asked = record { from = desk; datagram = datagram 0x04 (read_for_50 (of 77 long_named)) }
 
--- A reply of 51 octets to it, and one of 50.
+-- Replies to `asked` with 51 octets, and with 50.
 abbrev pub fifty_one : List ℕ
 fifty_one = 0x30 ∷ 0x01 ∷ 0x0c ∷ replicate 48 0
 

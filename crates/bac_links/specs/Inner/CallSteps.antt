@@ -24,7 +24,7 @@ abbrev pub sent_last : Purpose → Call → List Event → List Entry
 sent_last purpose call events =
     posts (send_notes (rules_for call) events (length events - 1) (asked purpose call))
 
--- A send that is due is asked for.
+-- A send that is due is made next.
 abbrev pub or_sent : List Entry → Move Comes → Move Comes
 or_sent (send ∷ more) other = Asks (question_of send)
 or_sent [] other = other
@@ -33,7 +33,7 @@ or_sent [] other = other
 abbrev pub wait_of : Call → ℕ
 wait_of call = turn_wait call.timeout
 
--- A call begins with the time and its request, and goes on so.
+-- The events of a call: the time, its request, and then these.
 abbrev pub begun_at : Purpose → Call → ℕ → List Event → List Event
 begun_at purpose call time later =
     Tick time ∷ Ask (station call.to) (service_of purpose) call.body.items ∷ later
@@ -57,7 +57,7 @@ pub record GainsLost {Origin : Type 0} (notes : List Note) (gained : List Entry)
   pub one : posts notes ≡ Posted to octets ∷ []
   pub gains : GainsAll (gained ++ Unposted to octets ∷ []) before after
 
--- A datagram that is heard is handed to the client.
+-- A received datagram is passed to the client.
 abbrev pub heard_step : Rules → State → Heard → Stepped
 heard_step rules state Silence = record { notes = []; after = state }
 heard_step rules state (Arrived from octets) = step rules state (Data from octets)
@@ -67,7 +67,7 @@ heard_step rules state Failure = record { notes = []; after = state }
 abbrev pub IsAlone : State → Type 0
 IsAlone state = (w : Waiting) × (state.waiting ≡ w ∷ [])
 
--- The end that a tick makes, if it makes one.
+-- The end that a tick brings, if it brings one.
 abbrev pub timeouts : Bool → List (Option Outcome)
 timeouts true = None ∷ []
 timeouts false = []
@@ -76,7 +76,7 @@ abbrev pub answers : Option Outcome → List (Option Outcome)
 answers None = []
 answers (Some outcome) = Some outcome ∷ []
 
--- The client is handed what a wait of so long hears; that ends its request with this outcome, or not.
+-- The client gets the result of a wait of this length; that ends its request with this outcome, or not.
 pub record Hears {Origin : Type 0} (wait : ℕ) (before after : Client) (outcome : Option Outcome)
     (seen left : Account Origin) : Type 0 where
   pub heard : Heard
@@ -85,30 +85,30 @@ pub record Hears {Origin : Type 0} (wait : ℕ) (before after : Client) (outcome
   pub ends : endings (heard_step (rules_of before) before.state heard).notes ≡ answers outcome
   pub handed : after ≡ keeping before (heard_step (rules_of before) before.state heard).after
 
--- What a client does at a time that it is told.
+-- The step of a client at this time.
 abbrev pub ticked : Client → ℕ → Stepped
 ticked client time = step (rules_of client) client.state (Tick time)
 
--- The client is told the time, and what it sends then is sent; that ends its request, or not.
+-- The client gets the time, and its sends are made; that ends its request, or not.
 pub record Ticks {Origin : Type 0} (before after : Client) (over : Bool) (seen left : Account Origin) : Type 0 where
   pub time : ℕ
   pub ends : endings (ticked before time).notes ≡ timeouts over
   pub handed : after ≡ keeping before (ticked before time).after
   pub gains : GainsAll (Timed time ∷ posts (ticked before time).notes) seen left
 
--- The client is told the time, and what it sends then could not be sent.
+-- The client gets the time, and its send could not be made.
 pub record TicksLost {Origin : Type 0} (before : Client) (seen left : Account Origin) : Type 0 where
   pub time : ℕ
   pub open_still : endings (ticked before time).notes ≡ []
   pub lost : GainsLost (ticked before time).notes (Timed time ∷ []) seen left
 
--- A call hands the client nothing but datagrams and ticks after its request.
+-- After its request, a call passes the client only datagrams and ticks.
 abbrev pub AsksNothing : Event → Type 0
 AsksNothing (Ask peer service body) = ⊥
 AsksNothing (Data peer bytes) = Unit {0}
 AsksNothing (Tick now) = Unit {0}
 
--- The client of a call that began at this time and was handed these events since, with its request open.
+-- The client of a call that began at this time and got these events since, with its request open.
 pub record CarriesOn (purpose : Purpose) (call : Call) (time : ℕ) (later : List Event) (client : Client) : Type 0 where
   pub short : length call.body.items ≤ longest_body
   pub quiet : All AsksNothing later
@@ -119,7 +119,7 @@ pub record CarriesOn (purpose : Purpose) (call : Call) (time : ℕ) (later : Lis
     state = state_at (rules_for call) 0 (begun_at purpose call time later) (length (begun_at purpose call time later));
   }
 
--- The history of a link gained what a call asks in n turns, with its request open.
+-- The history of a link gained the entries of n turns of a call, with its request open.
 pub record Underway {Origin : Type 0} (purpose : Purpose) (call : Call) (seen left : Account Origin) (client : Client)
     (n : ℕ) : Type 0 where
   pub time : ℕ

@@ -3,7 +3,7 @@ use Rattle.std.specs.Prelude.{None, Option, Some}
 use Rattle.{bac_tsm.specs.{Outcome, outcome_seen}, bac_links.specs.declared.ending.Ending.Ending}
 use Rattle.bac_links.specs.declared.ending.Ending.TheVariants as lent
 
--- How a request ended, with the octets that this lends: the outcome of an answer, or none where the time ran out.
+-- The end of a request, with the octets that it borrows: the outcome of an answer, or none for a timeout.
 abbrev pub ending_seen : Ending → Option Outcome
 ending_seen (lent.Answered outcome) = Some (outcome_seen outcome)
 ending_seen lent.TimedOut = None

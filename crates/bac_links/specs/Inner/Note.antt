@@ -1,4 +1,4 @@
--- The entry that a note stands for.
+-- The entry of a note.
 use Rattle.bac_pdu.specs.{station}
 use Rattle.bac_links.specs.{declared.history.EntryNote.EntryNote, History.{Entry, heard_by, posted, Timed, Waited}}
 use Rattle.bac_links.specs.declared.history.EntryNote.TheVariants as note

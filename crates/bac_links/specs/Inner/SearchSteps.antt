@@ -19,7 +19,7 @@ has_found found = nat_lt 0 (length found)
 
 module _ {Origin W : Type 0} (who : WhoIs) (wait : ℕ) (contents : W → Option (List ℕ)) (before after : Checked W)
     (seen left : Account Origin) where
-  -- A wait hears this, and the lines of what that finds are printed.
+  -- A wait has this result, and the lines of the devices found in it are printed.
   pub record Finds (any : Bool) : Type 0 where
     pub heard : Heard
     pub gains : Gains (Waited wait heard) seen left
@@ -32,7 +32,7 @@ module _ {Origin W : Type 0} (who : WhoIs) (wait : ℕ) (contents : W → Option
     pub gains : Gains (Waited wait Failure) seen left
     pub unprinted : Took contents before after []
 
-  -- A wait hears this, and a front of the line of what that finds is printed.
+  -- A wait has this result, and the beginning of the line of the device found in it is printed.
   pub record FindsHalf : Type 0 where
     pub heard : Heard
     pub gains : Gains (Waited wait heard) seen left
@@ -43,7 +43,7 @@ module _ {Origin W : Type 0} (who : WhoIs) (wait : ℕ) (contents : W → Option
     pub line : found_line last ≡ taken ++ rest
     pub printed : Took contents before after taken
 
-  -- What a wait hears, and what is printed of that.
+  -- The result of a wait, and what is printed for it.
   abbrev pub Listens : Result Bool ToolFault → Type 0
   Listens (Ok any) = Finds any
   Listens (Err SendFailed) = ⊥

@@ -1,4 +1,4 @@
--- The headers that a writer sets in front of an APDU (ANSI/ASHRAE 135, clause 6, and Annex J.2).
+-- The headers that a writer puts before an APDU (ANSI/ASHRAE 135, clause 6, and Annex J.2).
 use Rattle.std.specs.Prelude.{◌++◌, ◌+◌, ◌∷◌, Bool, length, List, Option, ℕ}
 use Rattle.{byteorder.specs.Endian.big_bytes, bac_pdu.specs.{Header.plain_header, Peer.NetworkAddress}}
 

@@ -23,7 +23,7 @@ small_device = record { device = record { kind = 8; instance = 1234 }; max_apdu 
 abbrev pub from_desk : List ℕ → Delivery
 from_desk apdu = record { peer = desk; broadcast = false; apdu = apdu }
 
--- These octets are written of an APDU, and the APDU is read from them.
+-- These octets are written for the APDU, and it is read from them.
 abbrev pub WritesApdu : Message → List ℕ → Type 0
 WritesApdu message octets = (laid_out message ≡ octets) × (apdu_of octets ≡ Some message)
 
@@ -31,7 +31,7 @@ WritesApdu message octets = (laid_out message ≡ octets) × (apdu_of octets ≡
 abbrev pub to_all : List ℕ → Delivery
 to_all apdu = record { peer = desk; broadcast = true; apdu = apdu }
 
--- A datagram that carries this APDU, from station 7 of this network, behind the router at the desk's address and port.
+-- A datagram with this APDU, from station 7 of this network, behind the router at the desk's address and port.
 abbrev pub routed_from : ℕ → List ℕ → Delivery
 routed_from network apdu = record {
   peer = record desk { route = Some (record { network = network; address = 7 ∷ [] }) };
@@ -39,8 +39,8 @@ routed_from network apdu = record {
   apdu = apdu;
 }
 
--- A Forwarded-NPDU of 15 octets from 192.168.1.9, port 47809, with an APDU of three; and what such a datagram carries,
--- sent to all or not.
+-- A Forwarded-NPDU of 15 octets from 192.168.1.9, port 47809, with an APDU of three; and its contents, sent to all or
+-- not.
 abbrev pub forwarded_octets : List ℕ → List ℕ
 forwarded_octets apdu =
     0x81 ∷ 0x04 ∷ 0x00 ∷ 0x0f ∷ 0xc0 ∷ 0xa8 ∷ 0x01 ∷ 0x09 ∷ 0xba ∷ 0xc1 ∷ 0x01 ∷ 0x00 ∷ apdu
@@ -61,7 +61,7 @@ present_octets = 0x0c ∷ 0x00 ∷ 0x00 ∷ 0x00 ∷ 0x01 ∷ 0x19 ∷ 0x55 ∷ 
 abbrev pub ack_octets_of_1 : List ℕ
 ack_octets_of_1 = 0x20 ∷ 0x01 ∷ 0x0f ∷ []
 
--- The second part of a message, which others follow; and the last one.
+-- A second part of a message that is not the last; and one that is the last.
 abbrev pub second_part : Part
 second_part = record { more = true; sequence = 1; window = 4 }
 

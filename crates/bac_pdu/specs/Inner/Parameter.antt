@@ -1,4 +1,4 @@
--- A parameter that may be left out.
+-- A parameter that may be absent.
 use Rattle.std.specs.{Option.{option_map, option_to_list}, Prelude.{[], List, None, Option, Some, ℕ}}
 use Rattle.bac_wire.specs.{number_octets}
 

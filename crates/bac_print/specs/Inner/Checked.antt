@@ -1,4 +1,4 @@
--- The call that is noted of a reader or a writer; and what no write changes.
+-- The noted call of a reader or a writer; and what a write does not change.
 use Rattle.std.specs.Prelude.{length, take, ◌≡◌}
 use Rattle.{bac_wire.specs.result_seen, bac_print.specs.declared.{checked.Checked.Checked, noted.Made.Made}}
 use Rattle.bac_print.specs.StreamCall.{FlushCall, ReadCall, StreamCall, WriteCall}
@@ -10,6 +10,6 @@ call_of (made.Read room answer) = ReadCall (length room.now) (result_seen (λ co
 call_of (made.Write octets answer) = WriteCall octets.now answer.now
 call_of (made.Flush answer) = FlushCall answer.now
 
--- The known facts of its reads are as before.
+-- The facts about reads are the same as before.
 abbrev pub HasNotRead : {T : Type 0} → Checked T → Checked T → Type 0
 HasNotRead before after = after ≡ record before { inner = after.inner; failed = after.failed }

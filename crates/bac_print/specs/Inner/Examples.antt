@@ -5,7 +5,7 @@ use Rattle.{bac_pdu.specs.Station, bac_print.specs.{Checked.fresh, declared.{che
 use Rattle.bac_print.specs.{StreamCall.WriteCall, Values.region_text}
 use Prim.Native.String.{String}
 
--- These octets are printed so.
+-- These octets have this text.
 abbrev pub PrintsAs : List ℕ → String → Type 0
 PrintsAs octets text = region_text octets ≡ codes text
 
@@ -17,11 +17,11 @@ device = record { ip = 0x7f000001; port = 47808; route = None }
 abbrev pub far_device : Station
 far_device = record { ip = 0x7f000001; port = 47808; route = Some (record { network = 5; address = 7 ∷ [] }) }
 
--- The octets of a writer are not known.
+-- Any writer, with unknown contents.
 abbrev pub unknown : ℕ → Option (List ℕ)
 unknown writer = None
 
--- A reader or writer that was asked for nothing, and a writer that took these octets.
+-- A reader or writer with no call made yet, and a writer that took these octets.
 abbrev pub unasked : Checked ℕ
 unasked = fresh 0
 
@@ -35,7 +35,7 @@ having octets = record {
   reads = 0;
 }
 
--- A writer that refused an octet so often, and has failed.
+-- A writer that refused an octet this many times, and has failed.
 abbrev pub refusing : ℕ → Checked ℕ
 refusing times = record {
   inner = record {
@@ -46,14 +46,14 @@ refusing times = record {
   reads = 0;
 }
 
--- How a write ended.
+-- A write that ended well.
 abbrev pub written : Result ℕ ℕ
 written = Ok 0
 
 abbrev pub failed : Result ℕ ℕ
 failed = Err 0
 
--- A page on its way to a writer that was asked for nothing, by this name of it, which holds these octets.
+-- A page that holds these octets, with this ghost name for its writer, which had no call yet.
 abbrev pub page_named : ℕ → List ℕ → Page ℕ
 page_named name octets = record {
   writer = record { now = unasked; ref_ptr = (0, 0); ghost_name = name };

@@ -3,12 +3,12 @@ use Rattle.std.specs.Prelude.{IfSome, ◌<◌, ⊤}
 use Rattle.{bac_text.specs.Reach.reach_seen, bac_run.specs.declared.own.Own.{Own, TheVariants.{Rest, Seek}}}
 use Rattle.bac_run.specs.{Journal.{Act, Rested, Sought}, Own.seek_octets}
 
--- The act that it asks for.
+-- The act of the line.
 abbrev pub own_seen : Own → Act
 own_seen (Seek reach who) = Sought (reach_seen reach).0 (seek_octets (reach_seen reach) who)
 own_seen (Rest time) = Rested time
 
--- A network that it names is not 0.
+-- The network of a Who-Is is not 0.
 abbrev pub IsSendable : Own → Type 0
 IsSendable (Seek reach who) = IfSome reach.network (λ network. 0 < network)
 IsSendable (Rest time) = ⊤

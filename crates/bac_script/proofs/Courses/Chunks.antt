@@ -1,4 +1,4 @@
--- If the octets of a script are cut, and the chunks in which they come.
+-- How the octets of a script are cut into lines, and the chunks in which they come.
 use Rattle.std.proofs.Common.{[], ap, append-nil, append_assoc, arith, Bool, drop, drop-drop, eqb-true, Err, false}
 use Rattle.std.proofs.Common.{filter, get_or, inl, inr, length, length-append, length-drop, length-take-le, List, min}
 use Rattle.std.proofs.Common.{nat_lt, ne_eqb, None, Option, position, refl, slice_range, Some, suc, sym, take, take-add}
@@ -25,7 +25,7 @@ pub pieces-open : (x : ℕ) (xs : List ℕ) → HasNoFeed (x ∷ xs) → pieces 
 pieces-open x [] = grind (arith, ne_eqb)
 pieces-open x (y ∷ ys) = grind (arith, ne_eqb, pieces-open y ys)
 
--- The first piece begins with this
+-- The first piece begins with this line
 pub record Begun (line more : List ℕ) : Type 0 where
   pub front : List ℕ
   pub others : List (List ℕ)
@@ -62,7 +62,7 @@ pub lines-ended : (text more : List ℕ) (reading : Reading) → HasNoFeed text
     → lines ((text ++ 10 ∷ []) ++ more) reading ≡ (text ++ 10 ∷ []) ∷ lines more reading
 lines-ended = grind (arith, append_assoc, pieces-line, is_line-sure, ends_with_feed-push)
 
--- What no line feed ends, and is not too long, is a line only at the end
+-- A piece without a line feed that is not too long is a line only at the end
 pub lines-rest : (line : List ℕ) → HasNoFeed line → length line < line_room → lines line Failed ≡ []
 lines-rest [] h _ = refl
 lines-rest (x ∷ xs) h short =
@@ -73,7 +73,7 @@ pub lines-last : (line : List ℕ) → HasNoFeed line → 0 < length line → li
 lines-last [] = grind arith
 lines-last (x ∷ xs) = grind (arith, pieces-open)
 
--- A line is as long without its line feed as it is, or one shorter
+-- A line that begins with too many octets other than line feeds stays too long without its line feed
 without_feed_long : (line front : List ℕ) → HasNoFeed line → longest_line < length line
     → longest_line < length (without_feed (line ++ front))
 without_feed_long = grind (arith, append-nil, ends_with_feed-none, common_steps, length-append)
@@ -82,7 +82,7 @@ pub said-long : (is_first : Bool) (line : List ℕ) → longest_line < length (w
     → said is_first line ≡ Err TooLong
 said-long = grind (arith, nat_lt, true, nat_tests)
 
--- The line that was taken says what the first line of the octets from there on says
+-- The line that was taken means the same as the first line of the octets from there on
 pub record NextLine (line held : List ℕ) (reading : Reading) : Type 0 where
   pub whole : List ℕ
   pub others : List (List ℕ)
@@ -133,25 +133,25 @@ pub Takes-more : {R : Type 0} {remaining : R → Option (List ℕ)} {a b c : Che
     TakesAndKeeps remaining a c held kept (xs ++ ys)
 Takes-more = grind (arith, append_assoc)
 
--- The first of what is held were taken.
+-- The first held octets were taken.
 pub Takes-front : {R : Type 0} {remaining : R → Option (List ℕ)} {a b : Checked R} {held mid : List ℕ} (n : ℕ)
     → TakesAndKeeps remaining a b held mid [] → TakesAndKeeps remaining a b held (drop n mid) (take n mid)
 Takes-front = grind (arith, take-append-drop)
 
--- What a page held is out, where nothing is left on it and its writer has not failed.
+-- The octets that a page held are written if none are left on it and its writer has not failed.
 turned : {W : Type 0} {contents : W → Option (List ℕ)} {page page' : Page W} → Prints contents page page' []
     → on_page page' ≡ [] → has_failed (writer_of page') ≡ false → IsTurnedIn page page'
 unfolding Wrote
 turned {page = page} printed = let none = laid_out-none (room_of page) in grind (arith, append-nil, none)
 
--- It stays out.
+-- Written octets stay written.
 pub further : {W : Type 0} {contents : W → Option (List ℕ)} {page page' : Page W} {text : List ℕ} (out : List ℕ)
     → Prints contents page page' text → ((later : List ℕ) × (octets_of (writer_of page) ≡ out ++ later))
     → (later : List ℕ) × (octets_of (writer_of page') ≡ out ++ later)
 unfolding Wrote
 further = grind (arith, append_assoc)
 
--- What the page is handed later changes nothing of that.
+-- Text that the page is given later does not change that nothing, or only the next line, was read.
 pub still_for_line : {R W : Type 0} {contents : W → Option (List ℕ)} {a b : Checked R} {page page' page'' : Page W}
     {held now : List ℕ} → ReadForLine a b page page' held now → Prints contents page' page'' []
     → ReadForLine a b page page'' held now
@@ -160,7 +160,7 @@ still_for_line (inr r) then =
     let (later, out) = further _ then (r.turned_in.later, r.turned_in.out) in
     inr (record { last = r.last; turned_in = record { sound = r.turned_in.sound; later = later; out = out } })
 
--- One more read, if no line is held, or none, since the reads are spent.
+-- If no line is held, one more read is made, or none if the reads are spent.
 pub read_for_line : {R W : Type 0} {remaining : R → Option (List ℕ)} {contents : W → Option (List ℕ)}
     {a b c : Checked R} {page page' page'' : Page W} {held now later : List ℕ}
     → TakesAndKeeps remaining a b held now [] → Prints contents page page' [] → Prints contents page' page'' []
@@ -181,7 +181,7 @@ read_for_line p first then empty good before asked none short (inr more) once = 
   turned_in = turned (first ⨾ then) empty good;
 })
 
--- If reading is over, the next line is all that is held.
+-- If reading is over, the next line is all held octets.
 pub next_at_end : {R : Type 0} {remaining : R → Option (List ℕ)} {a : Checked R} (b : Checked R) {c : Checked R}
     {held : List ℕ} (reading : Reading) {count : ℕ} → (reading ≡ Open → ⊥) → count ≡ length held → HasNoFeed held
     → length held < line_room → HasNotEnded a b → ReaderStands remaining reading b c []
@@ -201,7 +201,7 @@ pub no_feed_on : (xs ys : List ℕ) → HasNoFeed xs → HasNoFeed ys → HasNoF
 no_feed_on [] ys h k = k
 no_feed_on (x ∷ xs) ys (differs, later) k = (differs, no_feed_on xs ys later k)
 
--- If none was found that passes, each fails.
+-- If no position passes, each element fails the test.
 pub none_passes : (p : ℕ → Bool) (xs : List ℕ) → position p xs ≡ None → (k : ℕ) → k < length xs
     → p (get_or xs k 0) ≡ false
 none_passes p xs none k within = fails_before_first p xs k 0 (grind (arith, nat_tests))
@@ -222,26 +222,26 @@ feed_at held i found =
     let cut = take_more held i 0 within in
     grind (arith, before, cut, eqb-true, is_feed)
 
--- ---- the octets of a chunk: a range of its room, of which a front was searched for a line feed
+-- ---- the octets of a chunk: a range of its room, whose first octets were searched for a line feed
 
 pub range_size : (xs held : List ℕ) (start end : ℕ) → slice_range xs start end ≡ held → end ≤ length xs
     → length held ≡ end - start
 range_size = grind (arith, length-take-le, length-drop)
 
--- The rest of a range.
+-- The rest of a range after some octets are skipped.
 pub range_skipped : (xs held : List ℕ) (start end n : ℕ) → slice_range xs start end ≡ held
     → slice_range xs (start + n) end ≡ drop n held
 range_skipped = grind (arith, between_is, drop-drop)
 
--- ---- a search that goes on after what was searched
+-- ---- a search that continues after the searched octets
 
--- So many of the first octets have no line feed, and are fewer than the longest line.
+-- The first octets, as many as this count, have no line feed, and are fewer than the longest line.
 pub record IsSearched (count : ℕ) (held : List ℕ) : Type 0 where
   pub within : count ≤ length held
   pub few : count < line_room
   pub before : HasNoFeed (take count held)
 
--- The octets that were held when more was read have been searched.
+-- The octets that were held before more was read have been searched.
 pub searched_on : {R : Type 0} {b c : Checked R} {held later : List ℕ} (last : List ℕ) → HasNoFeed held
     → length held < line_room → IsUnread b c held later ⊎ (later ≡ held ++ last) → IsSearched (length held) later
 searched_on _ none short (inl same) = grind (arith, take_all)
@@ -250,7 +250,7 @@ searched_on _ none short (inr more) = grind (arith, length-append, take-append-l
 module _ (xs held : List ℕ) (start count limit end : ℕ) (is : slice_range xs start end ≡ held)
     (limit_is : limit ≡ min end (start + line_room)) (inside : start ≤ end) (room : end ≤ length xs)
     (within : count ≤ length held) (few : count < line_room) (before : HasNoFeed (take count held)) where
-  -- The octets that have been searched then.
+  -- The octets that have been searched now.
   abbrev front : List ℕ
   front = take (limit - start) held
 
@@ -282,13 +282,13 @@ module _ (xs held : List ℕ) (start count limit end : ℕ) (is : slice_range xs
         }),
       )
 
-  -- There is no line feed up to where was searched.
+  -- There is no line feed in the searched octets.
   none_up_to : position (λ octet. octet == 10) (slice_range xs (start + count) limit) ≡ None → HasNoFeed front
   none_up_to none =
       let whole = no_feed_on (take count front) (drop count front) searched (grind (arith, no_feed, here)) in
       grind (arith, whole, take-append-drop)
 
-  -- Nor among all that is held, if no more is.
+  -- There is no line feed among all held octets, if all are searched.
   pub none_held : position (λ octet. octet == 10) (slice_range xs (start + count) limit) ≡ None →
       limit - start < line_room → HasNoLine held
   none_held = grind (arith, none_up_to, take_all, size)
@@ -297,21 +297,21 @@ module _ (xs held : List ℕ) (start count limit end : ℕ) (is : slice_range xs
       line_room ≤ limit - start → (limit - start ≤ length held) × IsLineCut Open front
   cut_as_long = grind (arith, none_up_to, size, long)
 
--- ---- octets that are read after what is held
+-- ---- octets that are read after the held ones
 
--- Of octets that were moved to the front.
+-- Octets that were moved to the front are the same.
 moved_held : (xs moved held : List ℕ) (start end : ℕ) → slice_range xs start end ≡ held
     → moved ≡ copy_within xs start end 0 → start ≤ end → end ≤ length xs → slice_range moved 0 (end - start) ≡ held
 moved_held = grind (arith, common_steps, take-paste, length-drop)
 
--- A chunk with room after what is held.
+-- A chunk with room after the held octets.
 pub record Placed (xs : List ℕ) (start end : ℕ) (held : List ℕ) : Type 0 where
   pub is : slice_range xs start end ≡ held
   pub within : start ≤ end
   pub room : end < chunk_room
   pub size : length xs ≡ chunk_room
 
--- Room was made by moving what is held to the front.
+-- Moving the held octets to the front makes room after them.
 pub placed_moved : (xs moved held : List ℕ) (start end : ℕ) → slice_range xs start end ≡ held
     → moved ≡ copy_within xs start end 0 → length moved ≡ chunk_room →
     length xs ≡ chunk_room → start ≤ end → end ≤ chunk_room → length held < line_room
@@ -329,7 +329,7 @@ module _ {xs : List ℕ} {start end : ℕ} {held : List ℕ} (p : Placed xs star
   abbrev room : List ℕ
   room = put_mid end k xs ys
 
-  -- So many octets more are held.
+  -- This number of further octets is held.
   more : (count : ℕ) → count ≤ length ys → slice_range room start (end + count) ≡ held ++ take count ys
   more count some =
       let fits : end ≤ length xs = omega (arith, p.room, p.size) in
@@ -361,7 +361,7 @@ module _ {xs : List ℕ} {start end : ℕ} {held : List ℕ} (p : Placed xs star
       → TakesAndKeeps remaining reader reader' held (slice_range room start end) []
   read_ended = grind (arith, append-nil, still_held)
 
-  -- What the last read gave stands after what was held.
+  -- The octets of the last read come after the held ones.
   pub last_on : {last : List ℕ} (count : ℕ) → count ≤ length ys → last ≡ take count ys
       → slice_range room start (end + count) ≡ held ++ last
   last_on = grind (arith, more)

@@ -11,11 +11,11 @@ abbrev pub lined : List String → List ℕ
 lined [] = []
 lined (line ∷ later) = codes line ++ 10 ∷ lined later
 
--- A script of these lines, read to its end, prints those and answers so.
+-- A script of these lines, read to its end, prints the second lines and has this result.
 abbrev pub IsTraced : List String → List String → Result TraceEnd TraceFault → Type 0
 IsTraced script printed answer = ScriptRuns (lined script) AtEnd (lined printed) answer
 
--- The script ends after so many lines.
+-- The script ends after this number of lines.
 abbrev pub ended : ℕ → Result TraceEnd TraceFault
 ended count = Ok (record { lines = count })
 
@@ -27,15 +27,15 @@ read = "read 127.0.0.1 0 5 85"
 abbrev pub sent : String
 sent = "send 0 127.0.0.1:47808 810a001101040005010c0c000000051955"
 
--- The answer: it is 72.3, a Real.
+-- The answer with the value 72.3, a Real.
 abbrev pub answer : String
 answer = "data 127.0.0.1 810a0017010030010c0c0000000519553e444290999a3f"
 
--- The address that peers have, at port 47808.
+-- The address of all peers, at port 47808.
 abbrev pub desk : Station
 desk = record { ip = 0x7f000001; port = 47808; route = None }
 
--- A reader that was asked these calls, failed then or not, and was read so often.
+-- A reader with these calls, that failed or not, and with this number of reads.
 abbrev pub asked_for : List StreamCall → Bool → ℕ → Checked ℕ
 asked_for calls failed reads = record {
   inner = record { stream = 0; transcript = record { of = record {}; items = calls } };
@@ -43,15 +43,15 @@ asked_for calls failed reads = record {
   reads = reads;
 }
 
--- A reader that gave these octets in one read; one that was read so often; and one that failed.
+-- A reader that gave these octets in one read; one with this number of reads; and one that failed.
 abbrev pub gave : List ℕ → Checked ℕ
 gave octets = asked_for (ReadCall 32768 (Ok octets) ∷ []) false 1
 
--- One that gave these octets, and the octet 35 in another read.
+-- A reader that gave these octets, and the octet 35 in another read.
 abbrev pub gave_more : List ℕ → Checked ℕ
 gave_more octets = asked_for (ReadCall 32768 (Ok octets) ∷ ReadCall 32768 (Ok (35 ∷ [])) ∷ []) false 2
 
--- A writer that took these octets, and refused one after them.
+-- A writer that took these octets, and refused the next one.
 abbrev pub full_after : List ℕ → Checked ℕ
 full_after octets =
     asked_for (WriteCall octets (Ok (length octets)) ∷ WriteCall (1 ∷ []) (Ok 0) ∷ []) true 0

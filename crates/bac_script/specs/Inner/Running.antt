@@ -1,16 +1,16 @@
 -- One line's step of a script's client and device.
 use Rattle.std.specs.Prelude.{[], List, ℕ, ◌≡◌}
-use Rattle.bac_tsm.specs.{Event, keeping, Client.Client}
+use Rattle.bac_tsm.specs.{Event, keeping, new_client, step_of, Client.Client}
 use Rattle.bac_device.specs.{Arrival, demo_points, device_after, DeviceState, Write, Reply.{reply_to, writes_after}}
 use Rattle.bac_script.specs.{Line.{Asks, Blank, Happens, Remark, Said, Settings}, Text.{notes_text, reply_text}}
-use Rattle.bac_script.specs.Running.{new_client, small_device, step_of}
+use Rattle.bac_script.specs.Running.{small_device}
 
--- What a script runs on: its client, and its device, as the writes that the device has accepted.
+-- The state of a script: its client, and the writes that its device has accepted.
 pub record ScriptStage : Type 0 where
   pub client : Client
   pub writes : List Write
 
--- The printed text, and the stage after it.
+-- The printed text, and the state after it.
 pub record ScriptTurn : Type 0 where
   pub text : List ℕ
   pub after : ScriptStage
@@ -19,7 +19,7 @@ pub record ScriptTurn : Type 0 where
 abbrev pub device_with : List Write → DeviceState
 device_with writes = device_after small_device demo_points writes
 
--- The client and the device are those of the stage.
+-- The client and the device are those of the state.
 pub record Stands (stage : ScriptStage) (client : Client) (device : DeviceState) : Type 0 where
   pub as_client : client ≡ stage.client
   pub as_device : device ≡ device_with stage.writes
@@ -35,7 +35,7 @@ stepped stage event = record {
 abbrev pub reply_after : List Write → Arrival → List ℕ
 reply_after writes arrival = reply_text (reply_to small_device demo_points writes arrival.from arrival.datagram)
 
--- These writes, and that of the datagram, where the device accepts one.
+-- These writes, and the write of the datagram if the device accepts it.
 abbrev pub writes_with : List Write → Arrival → List Write
 writes_with writes arrival = writes_after small_device demo_points writes arrival.from arrival.datagram
 

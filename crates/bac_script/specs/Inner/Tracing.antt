@@ -4,8 +4,8 @@ use Rattle.bac_print.specs.{Prints, writer_of, declared.{checked.Checked.Checked
 use Rattle.bac_script.specs.declared.{input.Reading.Reading, tracing.{TraceEnd.TraceEnd, TraceFault.TraceFault}}
 use Rattle.bac_script.specs.{Script.ScriptRuns, Tracing.{HasRead, IsToldFirst}}
 
--- What `Traces` says, while some of the text may still be on the page: the text that was printed is that of the script,
--- or, where the writer failed, a front of it.
+-- `Traces`, while some of the text may still be on the page: the printed text is that of the script, or the beginning
+-- of it if the writer failed.
 pub record RunsOn {R W : Type 0} (remaining : R → Option (List ℕ)) (contents : W → Option (List ℕ))
     (reader reader' : Checked R) (page page' : Page W) (answer : Result TraceEnd TraceFault) : Type 0 where
   pub given : List ℕ

@@ -1,11 +1,11 @@
--- Octets from hexadecimal digits, as lanes make them.
+-- Octets from hexadecimal digits, as they are computed in lanes.
 use Rattle.std.specs.Prelude.{ℕ, ◌+◌, ◌*◌, ◌%◌, nat_lt, List, [], ◌∷◌, if◌then◌else◌}
 
--- The number that a digit of either case writes: letters come after 64, and A and a have 1 in their low bits.
+-- The number of a hexadecimal digit of either case: letters come after 64, and A and a have 1 in their low bits.
 abbrev pub number_by_lane : ℕ → ℕ
 number_by_lane digit = digit % 16 + (if nat_lt 63 digit then 9 else 0)
 
--- The octets that digits write two by two.
+-- The octets of digits, two by two.
 unfoldable pub octets_by_lanes : List ℕ → List ℕ
 octets_by_lanes [] = []
 octets_by_lanes (digit ∷ []) = []

@@ -1,4 +1,4 @@
--- The region that the words of a property's value write.
+-- The region of the words of a property's value.
 use Rattle.std.specs.{List.flat_map, Prelude.{Err, List, Ok, Result, ℕ}}
 use Rattle.bac_wire.specs.{frame_room, plain, Datum.Datum}
 use Rattle.bac_text.specs.declared.pairs.PairFault.{PairFault, TheVariants.{Bad, TooLong}}

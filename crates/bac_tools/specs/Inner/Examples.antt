@@ -21,7 +21,7 @@ gives_none network binding opened = ⊥
 abbrev pub gives_any : ℕ → Binding → Result ℕ ℕ → Type 0
 gives_any network binding opened = Unit {0}
 
--- Links that were asked nothing, readers and writers whose octets are not known.
+-- Links without any call, and readers and writers whose octets are not known.
 abbrev pub unknown : Outside ℕ ℕ ℕ ℕ
 unknown = record {
   seen = λ link. record { made = 0; history = [] };
@@ -30,7 +30,7 @@ unknown = record {
   contents = λ writer. None;
 }
 
--- The run without words that lacked memory for them.
+-- The run that had no memory for its words.
 abbrev pub forgotten : ProgramRun gives_none unknown []
 forgotten = record {
   network = 0;
@@ -51,17 +51,17 @@ forgotten = record {
   gains = refl;
 }
 
--- One reading of the clock.
+-- One entry for a reading of the clock.
 abbrev pub one_time : List Entry
 one_time = Timed 0 ∷ []
 
--- One wait in silence.
+-- One entry for a wait in silence.
 abbrev pub one_wait : List Entry
 one_wait = Waited 50 Silence ∷ []
 
 -- ---- words, reports and streams
 
--- The report that the words could not be read, that there is no socket, and that a receive failed.
+-- The reports that the words could not be read, that there is no socket, and that a receive failed.
 abbrev pub no_text : Report
 no_text = report_of faults.NoText
 
@@ -71,11 +71,11 @@ no_socket = report_of (faults.Link record {})
 abbrev pub not_received : Report
 not_received = tool_report (Err ReceiveFailed)
 
--- The run of words that asked for no socket, over a network of this number.
+-- The result of words that asked for no socket, over a network with this number.
 abbrev pub ran_without : Report → Option ℕ → Ran ℕ ℕ ℕ
 ran_without report unasked = record { report = report; socket = None; unasked = unasked }
 
--- A reader or writer that was asked for nothing, and one that took these octets.
+-- A reader or writer with no call yet, and one that took these octets.
 abbrev pub unasked : Checked ℕ
 unasked = fresh 0
 
@@ -89,7 +89,7 @@ having octets = record {
   reads = 0;
 }
 
--- The octets of a stream are not known.
+-- Any stream, with unknown octets.
 abbrev pub no_contents : ℕ → Option (List ℕ)
 no_contents stream = None
 
@@ -111,7 +111,7 @@ well = trace_report (Ok (record { lines = 0 }))
 abbrev pub bad_words : List Text
 bad_words = words_of (codes "1234 0 5 85 --mac 192.0.2")
 
--- The words of its command line, and those of a script.
+-- The command line with these words, and that of a script.
 abbrev pub bad_read_words : List Text
 bad_read_words = words_of (codes "bactool bacrp 1234 0 5 85 --mac 192.0.2")
 
@@ -120,7 +120,7 @@ script_words = words_of (codes "bactool bactrace")
 
 -- ---- a device whose first wait fails
 
--- The words of its command line, and the job that they ask for.
+-- The command line of a device, and its job.
 abbrev pub device_words : List Text
 device_words = words_of (codes "bactool bacdev 1234")
 
@@ -131,14 +131,14 @@ device = Device (record {
   count = 65535;
 })
 
--- The calls and answers of its link, and the seen state of such a link.
+-- The calls and answers of the device's link, and the seen state of a link with them.
 abbrev pub deaf : List Entry
 deaf = Waited 1000 Failure ∷ []
 
 abbrev pub asked_so : List Entry → Account ℕ
 asked_so history = record { made = 0; history = history }
 
--- 0.0.0.0 at this port, and 127.0.0.1; and the calls of the system for a link whose time could not be set.
+-- 0.0.0.0 at this port, and 127.0.0.1; and the calls of the system for a link whose time limit could not be set.
 abbrev pub any_at : ℕ → SocketAddr
 any_at port = V4 (record { ip = record { octets = 0 ∷ 0 ∷ 0 ∷ 0 ∷ [] }; port = port })
 
@@ -150,7 +150,7 @@ deaf_calls = Bind (any_at 47808) ∷ Limit 1000000000 false ∷ []
 
 -- ---- networks
 
--- A network whose sockets all have the number 0, at that port of each address; what is seen of them; and their calls.
+-- A network whose sockets all have the number 0, at this port of each address; their seen state; and their calls.
 pub record GivesThat (network : ℕ) (binding : Binding) (opened : Result ℕ ℕ) : Type 0 where
   pub at : binding.at ≡ record { ip = 0; port = 47808; route = None }
   pub link : opened ≡ Ok 0
@@ -164,28 +164,28 @@ one_bind link = Bind (any_at 47808) ∷ []
 abbrev pub no_bind : ℕ → List SystemCall
 no_bind link = []
 
--- What says that there is no socket: the network that is kept, and what the system was asked.
+-- The reason why there is no socket: the network that is kept, and the calls of the system.
 pub record InVain : Type 0 where
   pub kept : ℕ
   pub log : List SystemCall
 
--- A network that gives none, is kept, and asks the system for these calls.
+-- A network that gives no socket, is kept, and makes these calls of the system.
 abbrev pub FailsAfter : List SystemCall → ℕ → Binding → Result ℕ InVain → Type 0
 FailsAfter calls network binding (Ok link) = ⊥
 FailsAfter calls network binding (Err none) = none ≡ record { kept = network; log = calls }
 
--- A run that was given no socket by such a network, which asked for nothing; this network was handed back.
+-- The result if the network gave no socket and made no call; this network was handed back.
 abbrev pub ran_in_vain : ℕ → Ran ℕ ℕ InVain
 ran_in_vain kept =
     record { report = no_socket; socket = Some (Err (record { kept = kept; log = [] })); unasked = None }
 
 -- ---- many requests
 
--- The words' settings of many requests with this timeout, one of which is open at most.
+-- The settings of many requests with this timeout, at most one of which is open.
 abbrev pub batch_of : (timeout : ℕ) → Batch
 batch_of timeout = record { timeout = timeout; retries = 3; port = 0; window = 1 }
 
--- A reader that was at its end at once, and the answer to this many lines.
+-- A reader that met its end at the first read, and the answer after this number of lines.
 abbrev pub drained : Checked ℕ
 drained = record {
   inner = record { stream = 0; transcript = record { of = record {}; items = ReadCall 4097 (Ok []) ∷ [] } };
@@ -196,6 +196,6 @@ drained = record {
 abbrev pub read_to_end : ℕ → Result TraceEnd RunFault
 read_to_end lines = Ok (record { lines = lines })
 
--- A writer that took the settings of such requests.
+-- A writer that took the line of the settings of these requests.
 abbrev pub settings_told : Checked ℕ
 settings_told = having (codes "client 3000 3 0\n")

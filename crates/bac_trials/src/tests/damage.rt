@@ -1,5 +1,4 @@
-//! Each datagram cut, and with each octet after the first two changed in all 255 ways, those of every length among
-//! them.
+//! Each datagram is cut at every length, and has each octet after the first two changed in all 255 ways.
 
 use crate::tests::datagrams::DATAGRAMS;
 use crate::tests::pdu::datagrams::carries;
@@ -12,7 +11,7 @@ use bac_tsm::Client;
 use bac_wire::Frame;
 use bac_work::begin;
 
-/// Returns whether the octets are ignored: they carry nothing, and client and device stay as they were.
+/// Returns whether the octets are ignored: they carry nothing, and the client and the device do not change.
 fn is_ignored(client: &mut Client, device: &mut Device, octets: &[u8]) -> bool {
     open_datagram(CONTROLLER, octets).is_none()
         && client.datagram(CONTROLLER, octets).is_none()
@@ -20,7 +19,8 @@ fn is_ignored(client: &mut Client, device: &mut Device, octets: &[u8]) -> bool {
         && is_silent(device, octets)
 }
 
-/// Returns whether a client takes the octets: they end its request, or it stays as it was. Afterwards it has asked.
+/// Returns whether a client handles the octets: they end its request, or it does not change. Afterwards it has one
+/// request open.
 fn is_taken(client: &mut Client, octets: &[u8]) -> bool {
     match client.datagram(CONTROLLER, octets) {
         Some(_) => {
@@ -32,8 +32,8 @@ fn is_taken(client: &mut Client, octets: &[u8]) -> bool {
     }
 }
 
-/// Returns whether a device takes the octets: its reply is a datagram with an APDU, or it is silent, with an empty
-/// frame, and as it was. Afterwards it is a fresh one.
+/// Returns whether a device handles the octets: its reply is a datagram with an APDU, or it is silent, with an empty
+/// frame, and does not change. Afterwards it is a fresh one.
 fn is_answered(device: &mut Device, octets: &[u8]) -> bool {
     let mut frame = Frame::new();
     let to = device.answer(ASKER, octets, &mut frame, &mut begin());
@@ -48,7 +48,7 @@ fn is_answered(device: &mut Device, octets: &[u8]) -> bool {
 }
 
 /// Returns whether the octets are a datagram with an APDU. A reply to a station behind a router is for another network,
-/// so that it is read without its destination.
+/// so its APDU is read without the destination.
 fn is_reply(octets: &[u8]) -> bool {
     match octets {
         [0x81, 0x0a, _, _, 0x01, 0x00, apdu @ ..] => read_apdu(apdu).is_some(),
@@ -60,8 +60,8 @@ fn is_reply(octets: &[u8]) -> bool {
     }
 }
 
-/// Returns whether the octets are taken with the octet at this place changed in each way. With another length in the
-/// link header, octets 2 and 3, they are ignored.
+/// Returns whether the octets are handled with the octet at this place changed in each way. With another length in the
+/// link header, octets 2 and 3, they must be ignored.
 fn is_tolerated(client: &mut Client, device: &mut Device, datagram: &mut [u8], at: usize) -> bool {
     let Some(octet) = datagram.get(at).copied() else {
         return false;
@@ -88,8 +88,8 @@ fn has_own_length(datagram: &[u8]) -> bool {
     }
 }
 
-/// Returns whether reader, client and device take the datagram however it is cut or damaged. Every proper front, with
-/// its old length, is ignored.
+/// Returns whether reader, client and device handle the datagram however it is cut or damaged. Each shorter beginning,
+/// with the old length, must be ignored.
 fn is_survived(datagram: &mut [u8]) -> bool {
     let Some(mut device) = small_device() else {
         return false;
@@ -108,7 +108,7 @@ fn is_survived(datagram: &mut [u8]) -> bool {
     true
 }
 
-/// Returns whether the datagram has neither source nor destination, and is its sender's, with its APDU after six
+/// Returns whether the datagram has neither source nor destination, is from its sender, and has its APDU after six
 /// octets.
 fn is_plain(datagram: &[u8]) -> bool {
     matches!(datagram, [0x81, 0x0a, _, _, 0x01, 0x00 | 0x04, ..])

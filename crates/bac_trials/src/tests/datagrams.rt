@@ -1,7 +1,7 @@
-//! The datagrams of the worked examples, for the tests on hostile octets. What each of them does stands in
-//! tests/program/rows, as scripts.
+//! The datagrams of the worked examples, for the tests with damaged octets. Their effects are tested by the scripts in
+//! tests/program/rows.
 
-/// Their octets as digits.
+/// The octets of the datagrams as digits.
 pub(crate) const DATAGRAMS: &str =
     "81040009c0a80105ba 810a0007018000 810a00080200100a 810a0018010030010c0c0000000519553e444290999a3f \
     810a000b01080005001008 810a000c0108ffff01071008 810a0013010800050801020304050607081008 \

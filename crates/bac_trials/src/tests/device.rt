@@ -4,12 +4,12 @@ use crate::tests::small_device;
 use bac_device::{AddFault, Device, DeviceInfo, POINTS, Point};
 use bac_wire::ObjectId;
 
-/// A point: type, instance, name, start and extra.
+/// A point: its type, instance, name, start and extra.
 type Row<'a> = (u16, u32, &'a str, u32, u32);
 
 type Added = Result<(), AddFault>;
 
-/// Returns what a device answers if this point is added.
+/// Returns the device's result of adding this point.
 fn added(device: &mut Device, (kind, instance, name, start, extra): Row<'_>) -> Option<Added> {
     let id = ObjectId::new(kind, instance)?;
     Some(device.add(&Point {
@@ -20,7 +20,7 @@ fn added(device: &mut Device, (kind, instance, name, start, extra): Row<'_>) -> 
     }))
 }
 
-/// Points, and what the small device answers if each is added.
+/// Points, and the small device's result of adding each.
 static POINTS_ADDED: [(Row<'static>, Added); 23] = [
     ((0, 6, "Indoor temperature", 0, 62), Ok(())),
     ((0, 5, "Indoor temperature", 0, 62), Err(AddFault::Twice)),
@@ -64,7 +64,7 @@ fn refused_points(rt: HostRuntime) {
     }
 }
 
-/// Returns a device with 31 analog inputs, each with another name.
+/// Returns a device with 31 analog inputs, each with a different name.
 fn with_inputs() -> Option<Device> {
     let mut device = Device::new(DeviceInfo::new(1, "x")?);
     for number in 0..31_u8 {
@@ -75,7 +75,7 @@ fn with_inputs() -> Option<Device> {
     Some(device)
 }
 
-/// Returns what a device with 31 points answers if two more are added, and then the first of them again.
+/// Returns the results of a device with 31 points if two more are added, and then the first of them again.
 fn answers_at_the_end() -> Option<[Added; 3]> {
     let mut device = with_inputs()?;
     let before = added(&mut device, (0, 98, "last", 0, 0))?;
@@ -96,7 +96,7 @@ fn present(kind: u16, instance: u32) -> Option<u32> {
     small_device()?.present(ObjectId::new(kind, instance)?)
 }
 
-/// Returns whether there is this place in the small device, and it is NULL.
+/// Returns whether the small device has this place, and it is NULL.
 fn is_null(kind: u16, instance: u32, priority: u8) -> Option<bool> {
     let object = ObjectId::new(kind, instance)?;
     Some(small_device()?.place(object, priority)?.is_none())

@@ -1,5 +1,5 @@
 //! Every part of every datagram goes through the readers of tags, values and regions, also with octets changed. The
-//! counts that are expected come from `tests/site/count.py`, by a reader of the same grammar that was written apart.
+//! expected counts come from `tests/site/count_tags.py`, an independent reader of the same grammar.
 
 use crate::tests::datagrams::DATAGRAMS;
 use crate::tests::octets;
@@ -9,8 +9,8 @@ use bac_work::begin;
 /// The octets that each octet is changed to: the edges of a length, and octets that begin tags.
 static CHANGES: [u8; 8] = [0x00, 0x05, 0x0e, 0x3f, 0x65, 0xfd, 0xfe, 0xff];
 
-/// The front of parts: how many parts there are; their tags, with the sums of numbers, counts and octets;
-/// their values, with their octets; and their regions, with theirs.
+/// The number of parts; of their tags, with the sums of numbers, counts and octets; of their values, with their octets;
+/// and of their regions, with theirs. All are at the front of the parts.
 type Tally = [u64; 9];
 
 fn tag_at(part: &[u8]) -> [u64; 4] {
@@ -24,7 +24,7 @@ fn tag_at(part: &[u8]) -> [u64; 4] {
     [1, u64::from(tag.number), u64::from(count), size as u64]
 }
 
-/// Returns 1 and the size, if there is a size; otherwise zeros.
+/// Returns 1 and the size, or zeros if there is no size.
 fn counted(size: Option<usize>) -> [u64; 2] {
     match size {
         Some(size) => [1, size as u64],
@@ -32,7 +32,7 @@ fn counted(size: Option<usize>) -> [u64; 2] {
     }
 }
 
-/// Adds what is left of the octets at each place.
+/// Adds the counts of the octets from each place on.
 fn add_rests(tally: &mut Tally, octets: &[u8]) {
     for start in 0..octets.len() {
         let part = &octets[start..];
@@ -70,7 +70,7 @@ const OF_PREFIXES: Tally = [
     26578, 25759, 35581, 4295035125, 27442, 6338, 8261, 349, 3102,
 ];
 
-/// The tally over all datagrams, one octet changed at a time; `COUNTS` is the sum of the counts in its tags.
+/// The tally over all datagrams, with one octet changed at a time; `COUNTS` is the sum of the counts in the tags.
 const COUNTS: u64 = 600255309028;
 
 const OF_CHANGED: Tally = [

@@ -4,7 +4,7 @@ use crate::tests::{nested, octets};
 use bac_wire::{Frame, Shape, Tag, Value, is_region, read_tag, region, write_tag, write_value};
 use bac_work::begin;
 
-/// How many octets are appended in turn, whether there is room for them, and how long the frame is then.
+/// The number of octets that are appended in turn, whether there is room for them, and the length of the frame then.
 static APPENDED: [(usize, bool, usize); 5] = [
     (1496, true, 1496),
     (2, false, 1496),
@@ -34,7 +34,7 @@ fn a_frame_is_filled_cut_and_cleared(rt: HostRuntime) {
     assert!(&rt; frame.is_empty());
 }
 
-/// Returns whether a frame has a string of this many octets after this front; else it is empty.
+/// Returns whether a frame has a string of this many octets after this beginning, or is empty if there is no room.
 fn is_written(count: usize, front: &[u8]) -> bool {
     let mut frame = Frame::new();
     let octets = [0; 1494].get(..count).unwrap_or(&[]);
@@ -82,8 +82,7 @@ fn tags(rt: HostRuntime) {
     assert!(&rt; frame.as_slice() == [0xf9, 0x14].as_slice());
 }
 
-/// Octets, how many of them stand before the closing tag 3 that ends the whole items at their front, and whether they
-/// are whole items.
+/// Octets, how many of them are whole items before a closing tag 3, and whether they are all whole items.
 static REGIONS: [(&str, Option<usize>, bool); 8] = [
     ("3f", Some(0), false),
     ("003f", Some(1), false),

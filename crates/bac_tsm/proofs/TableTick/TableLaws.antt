@@ -1,4 +1,4 @@
--- The table of open requests: what is read of it, and what each edit leaves.
+-- The table of open requests: how it is read, and how each change leaves it.
 use Rattle.std.proofs.Common.{[], All, AllPairs, ap, append_assoc, arith, below_more, Bool, drop, eq-eqb, eqb-true, Err}
 use Rattle.std.proofs.Common.{false, filter, find, get_or, get_or-set_other, get_or-set_same, get_or-take}
 use Rattle.std.proofs.Common.{if◌then◌else◌, is_some, length, length-append, length-set, length-take, List, lt-ltb}
@@ -18,7 +18,7 @@ use Rattle.bac_tsm.specs.{nothing, open_slots, table_size, times, times_of_slot,
 use Rattle.bac_tsm.specs.Inner.{begun, invoke_id_at, invoke_id_in, IsRankOf, IsTakenOut, Leaves, ticket_in, waiting_in}
 use Rattle.bac_tsm.specs.Machine.{Waiting}
 
--- ---- how often a number is among those of a list's elements
+-- ---- how many elements of a list have a key
 
 module _ {A : Type 0} (key : A → ℕ) where
   pub times-append : (n : ℕ) (xs ys : List A) → times key n (xs ++ ys) ≡ times key n xs + times key n ys
@@ -39,7 +39,7 @@ module _ {A : Type 0} (key : A → ℕ) where
       let e = times-remove (key (get_or xs i d)) xs i d lt in
       let f = times_one _ (get_or xs i d) refl in omega arith
 
--- A test that only elements with one key pass; at most one has that key.
+-- At most one element has key n, and only elements with key n pass the test.
 module _ {A : Type 0} (key : A → ℕ) (p : A → Bool) (n : ℕ) (says : (x : A) → p x ≡ true → key x ≡ n) where
   pub none_passes : (xs : List A) → times key n xs ≡ 0 → (filter p xs ≡ []) × (filter (λ x. not (p x)) xs ≡ xs)
   none_passes [] _ = (refl, refl)
@@ -55,7 +55,7 @@ module _ {A : Type 0} (key : A → ℕ) (p : A → Bool) (n : ℕ) (says : (x : 
 abbrev pub itself : ℕ → ℕ
 itself slot = slot
 
--- A slot that is not among these can be filled with what one likes.
+-- A slot that is not in the order can be filled without a change to the listed requests.
 held_elsewhere : (slots : List Waiting) (slot : ℕ) (w : Waiting) (order : List ℕ) → times_of_slot slot order ≡ 0 →
     held_at (set slots slot w) order ≡ held_at slots order
 held_elsewhere _ _ w [] _ = refl
@@ -69,7 +69,7 @@ held-set _ _ w (q ∷ qs) zero there lt is once = grind (arith, get_or-set_same,
 held-set _ slot w (q ∷ qs) (suc i) there lt is once =
     grind (arith, times_got itself qs i 0, get_or-set_other, held-set _ _ w qs i there (omega arith) is)
 
--- A slot that is not among these is filled, and put after them.
+-- A slot that is not in the order is filled, and appended to it.
 pub held-push : (slots : List Waiting) (slot : ℕ) (w : Waiting) (order : List ℕ) → slot < length slots
     → times_of_slot slot order ≡ 0 → held_at (set slots slot w) (order ++ slot ∷ []) ≡ held_at slots order ++ w ∷ []
 held-push = grind (arith, map-append, held_elsewhere, get_or-set_same)
@@ -84,13 +84,13 @@ held_got _ _ i _ lt is = cc (get_or-map _ _ i 0 _ lt, is)
 pub same_turn : (order : List ℕ) (i slot : ℕ) → i < length order → slot ≡ get_or order i slot → slot ≡ get_or order i 0
 same_turn _ i _ lt is = is ∙ get_or_default _ i _ 0 lt
 
--- An invoke id is found among these if one of them has it.
+-- Some request has an invoke id exactly if its count is positive.
 pub any_invoke_id : (id : ℕ) (ws : List Waiting)
     → list_any (λ w. nat_eq id w.request.invoke_id) ws ≡ nat_lt 0 (times invoke_id_in id ws)
 any_invoke_id _ [] = refl
 any_invoke_id id (w ∷ ws) = grind (arith, any_invoke_id id ws)
 
--- The first rank of a slot: if the slot is among these, it is there.
+-- The first rank of a slot: if the slot is in the order, it is there.
 abbrev pub rank_of_slot : ℕ → List ℕ → ℕ
 rank_of_slot slot order = position_or_len (λ other. nat_eq other slot) order
 
@@ -99,7 +99,7 @@ pub found_at : (slot : ℕ) (order : List ℕ) → 0 < times_of_slot slot order
 found_at slot [] some = absurd (omega arith)
 found_at slot (q ∷ qs) some = grind (arith, found_at slot qs)
 
--- If tickets rise, the one request with a ticket is the first with it.
+-- If tickets rise, the request with a ticket is the first one found with it.
 find_rank : (t : ℕ) (ws : List Waiting) (i : ℕ) → TicketsRise ws → i < length ws
     → (get_or ws i nothing).request.ticket ≡ t → find (by_ticket t) ws ≡ Some (get_or ws i nothing)
 find_rank t [] i _ lt is = absurd (omega arith)
@@ -117,7 +117,7 @@ module _ {slots : List Waiting} {invoke_ids : List (Option ℕ)} {order tickets 
   pub as_many : length opened ≡ length tickets
   as_many = grind (arith, length-map)
 
-  -- Those before and those after a rank of the order are the order.
+  -- A slot is in the order as often as before a rank and after it together.
   pub times_split : (slot n : ℕ)
       → times_of_slot slot order ≡ times_of_slot slot (take n order) + times_of_slot slot (drop n order)
   times_split slot n = cc (take-append-drop n _, times-append _ slot _ _)
@@ -151,11 +151,11 @@ module _ {slots : List Waiting} {invoke_ids : List (Option ℕ)} {order tickets 
         → get_or slots slot nothing ≡ get_or ws i nothing
     read_held i _ lt is = cc (held_got _ _ i _ (turn_opened i lt) (here i _ lt is))
 
-    -- The first free slot, where there is one.
+    -- The first free slot, if there is one.
     pub next_free : length ws < table_size → get_or order (length tickets) 0 < table_size
     next_free room = read_within _ _ (let e = count in omega arith) refl
 
-    -- The tickets are those of the requests.
+    -- Each ticket in the list is that of the request at the same rank.
     pub ticket_got : (i : ℕ) → i < length ws → (d : Waiting) (e : ℕ)
         → get_or tickets i e ≡ (get_or ws i d).request.ticket
     ticket_got = grind (arith, map, get_or-map)
@@ -165,12 +165,12 @@ module _ {slots : List Waiting} {invoke_ids : List (Option ℕ)} {order tickets 
         let less = t.rise i j 0 early (omega (arith, count)) in
         omega (arith, ticket_got i (omega arith) d 0, ticket_got j late d 0)
 
-    -- A ticket stands at one rank.
+    -- A ticket has only one rank.
     pub one_turn : (i j : ℕ) → i < length ws → j < length ws
         → (get_or ws i nothing).request.ticket ≡ (get_or ws j nothing).request.ticket → i ≡ j
     one_turn = grind (arith, rising)
 
-    -- A rank at which the ticket stands.
+    -- The rank at which a ticket is found in the list.
     pub likely_rank : (ticket : ℕ) (items : List ℕ) → items ≡ tickets → (i : ℕ) → slice_get items i ≡ Some ticket
         → IsRankOf ticket ws (Some i)
     likely_rank _ _ are i there =
@@ -181,7 +181,7 @@ module _ {slots : List Waiting} {invoke_ids : List (Option ℕ)} {order tickets 
         let has = sym (ticket_got i lt _ 0) ∙ get_or_from_slice_get _ i _ 0 got in
         (lt, has, find_rank _ ws i rising lt has)
 
-    -- What a search among the tickets answers.
+    -- The result of a search among the tickets.
     pub searched_rank : (ticket : ℕ) (items : List ℕ) → items ≡ tickets → (r : Result ℕ ℕ) →
         IsBinarySearchResult (λ y. nat_cmp y ticket) items r → IsRankOf ticket ws (result_ok r)
     searched_rank ticket _ are r found = by r (searched _ _ r (rw are at found) up)
@@ -195,7 +195,7 @@ module _ {slots : List Waiting} {invoke_ids : List (Option ℕ)} {order tickets 
         by (Ok i) h = grind (arith, count, ticket_got, find_rank, rising)
         by (Err i) (_, below, above) = λ k d lt same. grind (arith, below k, above k, count, ticket_got k lt d 0)
 
-  -- An open slot, and the rank of the request there.
+  -- A slot in the list of open requests, and the rank of its request.
   module _ (ws : List Waiting) (view : waiting_in slots order tickets ≡ ws) (slot : ℕ)
       (some : 0 < times_of_slot slot opened) where
     abbrev rank : ℕ
@@ -233,13 +233,13 @@ module _ {slots : List Waiting} {invoke_ids : List (Option ℕ)} {order tickets 
             let some = times_got invoke_id_in (held_at slots opened) (rank_of_slot slot opened) nothing in
             grind (arith, any_invoke_id, lt-ltb, length-map)
 
-  -- What an answer ends.
+  -- The request that an answer ends.
   module _ (answer : Answer) (id : ℕ) (its : id ≡ answer.invoke_id) (fits : id < 256) (ws : List Waiting)
       (view : waiting_in slots order tickets ≡ ws) where
     abbrev ends : Waiting → Bool
     ends w = is_answer_to w.request answer
 
-    -- Those of these requests that it should end, under these tickets.
+    -- The requests that an answer ends have these tickets, and the others stay.
     pub record Closes (gone : List ℕ) (after : List Waiting) : Type 0 where
       pub told : gone ≡ map ticket_in (filter ends ws)
       pub others : after ≡ filter (λ w. not (ends w)) ws
@@ -286,7 +286,7 @@ module _ {slots : List Waiting} {invoke_ids : List (Option ℕ)} {order tickets 
               → after ≡ remove ws j → Closes (ticket ∷ []) after
           closed_that = grind (arith, found, one_turn, turn_lt, read)
 
--- ---- the look for a free invoke id, one step at a time
+-- ---- the search for a free invoke id, one step at a time
 
 list_any-map : {A : Type 0} (f : A → ℕ) (p : ℕ → Bool) (xs : List A)
     → list_any p (map f xs) ≡ list_any (λ x. p (f x)) xs
@@ -318,7 +318,7 @@ module _ (last : ℕ) (ws : List Waiting) where
   free_is d before low high free =
       rw (first_at (is_free last _) 1 256 d low high (rw (list_any-map _ _ ws, free) refl) (not_before d before))
 
-  -- If all others are taken, the last one is given again.
+  -- If all other invoke ids are taken, the last one is given again.
   pub last_is : last < 256 → TakenBefore 256 → last ≡ next_invoke_id last (map invoke_id_in ws)
   unfolding next_invoke_id
   last_is fits before = go _ refl
@@ -341,9 +341,9 @@ invoke_id_unused last _ ws is few =
 -- ---- the slots of the open requests in the order of their last sends
 
 abbrev IsEarlier : Waiting → Waiting → Type 0
-IsEarlier early late = early.base ≤ late.base
+IsEarlier early late = early.last_sent ≤ late.last_sent
 
--- What holds of the requests at slots holds of those at some of them.
+-- A property that holds of the requests at some slots holds of those at any of these slots.
 all_among : (P : Waiting → Type 0) (slots : List Waiting) (xs ys : List ℕ)
     → ((slot : ℕ) → 0 < times_of_slot slot xs → 0 < times_of_slot slot ys) →
     All P (held_at slots ys) → All P (held_at slots xs)
@@ -353,12 +353,12 @@ all_among P slots xs ys among all = λ k d lt. let read = λ (slot : ℕ). get_o
     subst P (get_or-map _ ys _ 0 d there ∙ ap read is_last ∙ sym (get_or-map read xs k 0 d within))
     (all _ d (rw length-map there))
 
--- A slot is put after others, with a request that was sent last.
+-- A slot with the request that was sent last is appended.
 pub queue-push : (slots : List Waiting) (rest after : List ℕ) (slot : ℕ) (w : Waiting) → slot < length slots →
     length rest + 1 ≡ length after
     → ((p : ℕ) → times_of_slot p rest + times_of_slot p (slot ∷ []) ≡ times_of_slot p after)
     → times_of_slot slot after ≤ 1 →
-    AllPairs IsEarlier (held_at slots rest) → All (λ v. v.base ≤ w.base) (held_at slots rest)
+    AllPairs IsEarlier (held_at slots rest) → All (λ v. v.last_sent ≤ w.last_sent) (held_at slots rest)
     → AreBySend (set slots slot w) after (rest ++ slot ∷ [])
 queue-push _ _ _ _ w there long same once by_send late = record {
   all = grind (arith, length-append);
@@ -368,7 +368,7 @@ queue-push _ _ _ _ w there long same once by_send late = record {
 }
 
 module _ {slots : List Waiting} {opening sends : List ℕ} (q : AreBySend slots opening sends) where
-  -- What holds of the open requests holds of them in this order, and the other way round.
+  -- A property holds of the open requests in one order exactly if it holds of them in the other.
   pub all_sent : (P : Waiting → Type 0) → All P (held_at slots opening) → All P (held_at slots sends)
   all_sent P = all_among P _ _ _ (omega arith)
 
@@ -387,35 +387,36 @@ module _ {slots : List Waiting} {opening sends : List ℕ} (q : AreBySend slots 
         subst (AllPairs IsEarlier) (cc (map-remove _ _ _))
         (all_pairs_remove IsEarlier _ out.rank (rw length-map out.within) q.by_send)
 
-    -- A request ends.
+    -- The list of sends after a request ends.
     pub queue-remove : (after : List ℕ) → length after + 1 ≡ length opening
         → ((p : ℕ) → times_of_slot p after + times_of_slot p (slot ∷ []) ≡ times_of_slot p opening)
         → AreBySend slots after rest
     queue-remove = grind (arith, length_out, times_out, by_send_out)
 
-    -- A request is sent again.
+    -- The list of sends after a request is sent again.
     pub queue-again : (w : Waiting) → slot < length slots → times_of_slot slot opening ≤ 1
-        → All (λ v. v.base ≤ w.base) (held_at slots opening) → AreBySend (set slots slot w) opening (rest ++ slot ∷ [])
+        → All (λ v. v.last_sent ≤ w.last_sent) (held_at slots opening)
+        → AreBySend (set slots slot w) opening (rest ++ slot ∷ [])
     queue-again w there once late =
         queue-push _ _ _ _ w there (length_out ∙ q.all) (λ p. times_out p ∙ q.same p) once by_send_out
-        (all_among (λ v. v.base ≤ w.base) _ _ _ (λ p some. omega (arith, times_out p))
-        (all_sent (λ v. v.base ≤ w.base) late))
+        (all_among (λ v. v.last_sent ≤ w.last_sent) _ _ _ (λ p some. omega (arith, times_out p))
+        (all_sent (λ v. v.last_sent ≤ w.last_sent) late))
 
--- None are open at first.
+-- A list of sends without requests is in order.
 pub empty_queue : (slots : List Waiting) (order tickets sends : List ℕ) → tickets ≡ [] → sends ≡ []
     → AreBySend slots (open_slots order tickets) sends
 empty_queue = grind arith
 
 -- ---- the table
 
--- An entry says what it said where as many requests have the invoke id, and the slot that it names still holds one.
+-- An entry stays correct if as many requests have the invoke id as before, and the slot of the entry still has it.
 names_as : (slots : List Waiting) (order : List ℕ) (changed : List Waiting) (after : List ℕ) (id : ℕ)
     (entry : Option ℕ) → times invoke_id_in id (held_at changed after) ≡ times invoke_id_in id (held_at slots order) →
     ((slot : ℕ) → 0 < times_of_slot slot order → invoke_id_at slots slot ≡ id → (0 < times_of_slot slot after)
     × (invoke_id_at changed slot ≡ id)) → Names slots order id entry → Names changed after id entry
 names_as = grind arith
 
--- One entry changes.
+-- The entries stay correct if one of them changes.
 named_set : (slots : List Waiting) (invoke_ids : List (Option ℕ)) (order : List ℕ) (changed : List Waiting)
     (after : List ℕ) (index : ℕ) (entry : Option ℕ) → AreNamed slots invoke_ids order →
     Names changed after index entry → times invoke_id_in index (held_at changed after) ≤ 1 →
@@ -426,14 +427,14 @@ named_set : (slots : List Waiting) (invoke_ids : List (Option ℕ)) (order : Lis
     AreNamed changed (set invoke_ids index entry) after
 named_set = grind (arith, length-set, get_or-set_same, get_or-set_other)
 
--- Requests that have the same invoke ids are counted the same.
+-- If two lists of requests have the same invoke ids, they count each invoke id the same.
 same_times : (id : ℕ) (f g : ℕ → Waiting) (order : List ℕ)
     → ((slot : ℕ) → (f slot).request.invoke_id ≡ (g slot).request.invoke_id) →
     times invoke_id_in id (map f order) ≡ times invoke_id_in id (map g order)
 same_times _ f g [] _ = refl
 same_times id f g (q ∷ qs) same = grind (arith, same_times id f g qs same)
 
--- One is taken out among the first ones, and another put after all.
+-- An item is removed from the first n, and others are appended.
 take_removed : (xs ys : List ℕ) (i n : ℕ) → i ≤ n → suc n ≤ length xs
     → take n (remove xs i ++ ys) ≡ remove (take (suc n) xs) i
 take_removed xs ys i n le lt =
@@ -445,7 +446,7 @@ module _ {slots : List Waiting} {invoke_ids : List (Option ℕ)} {order tickets 
   abbrev opens : List ℕ
   opens = open_slots order tickets
 
-  -- The request at this rank changes, and not what it asks.
+  -- The clock or the count of the request at this rank changes, and the request stays.
   pub changed_by : (i : ℕ) → i < length ws → (slot : ℕ) → get_or order i 0 ≡ slot → (w : Waiting)
       → w.request ≡ (get_or slots slot nothing).request →
       (waiting_in (set slots slot w) order tickets ≡ set ws i w) × IsTable (set slots slot w) invoke_ids order tickets
@@ -482,7 +483,7 @@ module _ {slots : List Waiting} {invoke_ids : List (Option ℕ)} {order tickets 
           → times invoke_id_in id (held_at (set slots slot w) opens) ≡ times invoke_id_in id (held_at slots opens)
       still id = same_times _ _ _ _ same_invoke_id
 
-  -- The first free slot is opened, under an invoke id that no open request has, and the greatest ticket.
+  -- The first free slot is opened, with an unused invoke id and the greatest ticket.
   module _ (items : List ℕ) (are : items ≡ order) (n : ℕ) (long : n ≡ length tickets) (asked : Asked) (body : List ℕ)
       (few_open : length ws < table_size) (unused : times invoke_id_in asked.invoke_id ws ≡ 0)
       (latest : All (λ v. v.request.ticket < asked.ticket) ws) where
@@ -545,15 +546,15 @@ module _ {slots : List Waiting} {invoke_ids : List (Option ℕ)} {order tickets 
         elsewhere : (q : ℕ) → 0 < times_of_slot q opens → q ≡ slot → ⊥
         elsewhere q some e = grind (arith, closed)
 
-    queued : (sends : List ℕ) → AreBySend slots opens sends → All (λ v. v.base ≤ w.base) ws →
+    queued : (sends : List ℕ) → AreBySend slots opens sends → All (λ v. v.last_sent ≤ w.last_sent) ws →
         AreBySend (set slots slot w) (open_slots order (tickets ++ w.request.ticket ∷ [])) (sends ++ slot ∷ [])
     queued _ q late =
         rw grown (queue-push _ _ _ _ w there (omega (arith, length-append opens (slot ∷ [])))
         (grind (arith, times-append)) (grind (arith, times-append, itself, closed))
-        q.by_send (all_sent q (λ v. v.base ≤ w.base) (rw view late)))
+        q.by_send (all_sent q (λ v. v.last_sent ≤ w.last_sent) (rw view late)))
 
-    -- As the code makes it.
-    pub opened_by : {sends : List ℕ} → AreBySend slots opens sends → All (λ v. v.base ≤ asked.clock) ws →
+    -- The table after the code opens a request.
+    pub opened_by : {sends : List ℕ} → AreBySend slots opens sends → All (λ v. v.last_sent ≤ asked.clock) ws →
         {index : ℕ} {changed : List Waiting} {after sent : List ℕ} → index ≡ asked.invoke_id
         → changed ≡ set slots slot w → after ≡ tickets ++ asked.ticket ∷ [] → sent ≡ sends ++ slot ∷ [] → Leaves
         (waiting_in changed order after ≡ ws ++ w ∷ []) changed (set invoke_ids index (Some slot)) order after sent
@@ -563,7 +564,7 @@ module _ {slots : List Waiting} {invoke_ids : List (Option ℕ)} {order tickets 
           whole = record { table = opening; queue = queued _ q past };
         })
 
-  -- The request at a rank ends: its slot goes after all others.
+  -- The request at a rank ends, and its slot goes after all others.
   module _ (i slot : ℕ) (lt : i < length ws) (got : slot ≡ get_or order i slot) where
     is : slot ≡ get_or order i 0
     is = same_turn _ i _ (rank_within t ws view i lt) got
@@ -625,7 +626,7 @@ module _ {slots : List Waiting} {invoke_ids : List (Option ℕ)} {order tickets 
     pub sent_slot : (sends : List ℕ) → AreBySend slots opens sends → 0 < times_of_slot slot sends
     sent_slot = grind (arith, at_rank, rank_opened, times_got itself opens i 0)
 
-    -- As the code makes it.
+    -- The table after the code ends a request.
     pub ended_by : {index id : ℕ} {removed after rest sends left : List ℕ} {w : Waiting} →
         w ≡ get_or slots slot nothing → id ≡ w.request.invoke_id → index ≡ id →
         removed ≡ remove order i → after ≡ removed ++ slot ∷ [] → rest ≡ remove tickets i →
@@ -637,13 +638,13 @@ module _ {slots : List Waiting} {invoke_ids : List (Option ℕ)} {order tickets 
           whole = record { table = ended _ (cc); queue = unqueued _ _ q out };
         })
 
--- The slots below one, each once.
+-- A list of the slots below n, each once.
 pub record IsUpTo (n : ℕ) (slots : List ℕ) : Type 0 where
   pub count : length slots ≡ n
   pub within : (slot : ℕ) → n ≤ slot → times_of_slot slot slots ≡ 0
   pub once : (slot : ℕ) → times_of_slot slot slots ≤ 1
 
--- No slot is open at first.
+-- In a new table no slot is open.
 pub empty_table : (slots : List Waiting) (invoke_ids : List (Option ℕ)) (order tickets : List ℕ) → tickets ≡ []
     → length slots ≡ table_size → invoke_ids ≡ replicate 256 None → length order ≡ table_size
     → ((slot : ℕ) → table_size ≤ slot → times_of_slot slot order ≡ 0) → ((slot : ℕ) → times_of_slot slot order ≤ 1) →

@@ -2,6 +2,6 @@
 use Rattle.std.specs.{List.All, Prelude.{◌<◌, ◌≤◌, List, ℕ}}
 use Rattle.bac_tsm.specs.Machine.{Waiting}
 
--- The tickets are below the next one, and each was last sent before now, or now.
+-- Each ticket is below the next one, and each request was last sent at the present clock or before.
 abbrev pub IsTimely : ℕ → ℕ → List Waiting → Type 0
-IsTimely clock next_ticket ws = All (λ w. w.request.ticket < next_ticket) ws × All (λ w. w.base ≤ clock) ws
+IsTimely clock next_ticket ws = All (λ w. w.request.ticket < next_ticket) ws × All (λ w. w.last_sent ≤ clock) ws

@@ -1,4 +1,4 @@
--- A request as it begins to wait, and as it waits on.
+-- A request as it begins to wait, and after it is sent again.
 use Rattle.std.specs.Prelude.{List, suc, ℕ}
 use Rattle.{bac_pdu.specs.station, bac_tsm.specs.{Answers.octets_of, declared.request.Asked.Asked, Machine.Waiting}}
 
@@ -6,7 +6,7 @@ use Rattle.{bac_pdu.specs.station, bac_tsm.specs.{Answers.octets_of, declared.re
 abbrev pub ticket_in : Waiting → ℕ
 ticket_in w = w.request.ticket
 
--- Its invoke id.
+-- The invoke id of a request that waits.
 abbrev pub invoke_id_in : Waiting → ℕ
 invoke_id_in w = w.request.invoke_id
 
@@ -20,10 +20,10 @@ begun asked body = record {
     invoke_id = asked.invoke_id;
     octets = octets_of (station asked.peer) asked.service body asked.invoke_id;
   };
-  base = asked.clock;
-  count = 0;
+  last_sent = asked.clock;
+  resends = 0;
 }
 
 -- The request, sent again at this clock.
 abbrev pub sent_at : ℕ → Waiting → Waiting
-sent_at clock w = record { request = w.request; base = clock; count = suc w.count }
+sent_at clock w = record { request = w.request; last_sent = clock; resends = suc w.resends }

@@ -1,10 +1,9 @@
--- Values, objects and tags, for examples of their octets; and the plainest spellings and tests, for examples of what is
--- said of any.
+-- Values, objects and tags for the examples; and very simple spellings and tests, for examples of general definitions.
 use Rattle.std.specs.Prelude.{◌≡◌, ℕ, Bool, true, false, List, [], ◌∷◌, Option, Some, None, Result, Ok, Err}
 use Rattle.bac_wire.specs.declared.tag.{Shape.TheVariants.App, Tag.Tag}
 use Rattle.bac_wire.specs.{Identifier.Identifier, Datum.{Datum, plain}, DatumReading.value_at}
 
--- These octets are written of a value, and the value is read from them.
+-- These octets are written for the value, and it is read from them.
 abbrev pub WritesValue : Datum → List ℕ → Type 0
 WritesValue value octets = (plain value ≡ octets) × (value_at octets ≡ Some (value, []))
 
@@ -16,7 +15,7 @@ input = record { kind = 0; instance = 5 }
 abbrev pub device : Identifier
 device = record { kind = 8; instance = 1234 }
 
--- The tag of an unsigned number (type 2) that has this many octets.
+-- The tag of an unsigned number (type 2) of this many octets.
 abbrev pub unsigned_tag : ℕ → Tag
 unsigned_tag count = record { number = 2; shape = App count }
 
@@ -33,11 +32,11 @@ abbrev pub first_at : List ℕ → Option (ℕ × List ℕ)
 first_at [] = None
 first_at (x ∷ rest) = Some (x, rest)
 
--- A reader that takes nothing.
+-- A reader that finds nothing.
 abbrev pub nothing_at : List ℕ → Option (ℕ × List ℕ)
 nothing_at octets = None
 
--- A reader that takes 0 if nothing stands.
+-- A reader that finds 0 in no octets.
 abbrev pub zero_at : List ℕ → Option (ℕ × List ℕ)
 zero_at [] = Some (0, [])
 zero_at (x ∷ rest) = Some (x, rest)
@@ -49,7 +48,7 @@ always x y = true
 abbrev pub never : ℕ → ℕ → Bool
 never x y = false
 
--- A number copied; anything in its place; and what a copy may need: nothing, or what there is not.
+-- A copied number; any number in its place; a need for nothing; and a need that cannot be met.
 abbrev pub Same : ℕ → ℕ → Type 0
 Same x y = y ≡ x
 
@@ -62,7 +61,7 @@ Free x = Unit {0}
 abbrev pub Costly : ℕ → Type 0
 Costly x = ⊥
 
--- How a write ended.
+-- A write that ended well.
 abbrev pub written : Result ℕ ℕ
 written = Ok 0
 

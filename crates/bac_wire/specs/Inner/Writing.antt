@@ -1,8 +1,8 @@
--- What part of a value leaves in a frame, before the writer takes back what does not fit.
+-- The effect of a part of a writer, before the writer removes what does not fit.
 use Rattle.std.specs.Prelude.{◌≡◌, ℕ, ◌+◌, ◌<◌, ◌≤◌, List, ◌++◌, length, take, Result, OnOk, OnErr}
 use Rattle.bac_wire.specs.Limits.{frame_room}
 
--- As `Appends`, but if there is no room, some octets may have been appended.
+-- Like `Appends`, but if there is no room, some octets may have been appended.
 pub record AppendsFront {A E : Type 0} (old octets new : List ℕ) (result : Result A E) : Type 0 where
   pub ok : OnOk result (new ≡ old ++ octets)
   pub fits : OnOk result (length old + length octets ≤ frame_room)

@@ -1,4 +1,4 @@
--- `begin` picks that nothing was read. A proof by hand, such as `Walks` of `bac_wire` says.
+-- `begin` chooses the count 0. The proof is written by hand, like those in `Walks` of `bac_wire`.
 use Rattle.bac_wire.proofs.Walks.{[], !, agg, alloc_all, done, drop, ends_at, enter, fjoin, free_all, look_at, no_more}
 use Rattle.bac_wire.proofs.Walks.{none, none_made, nothing, on_entry, pass_all, proved, qed, raw, refl, returns, says}
 use Rattle.{bac_wire.proofs.Walks.{sets, suffices, ◌$◌, ◌∵◌, ◌∷◌}, bac_work.proofs.begin.Statement.statement}

@@ -1,4 +1,4 @@
--- The rules that the arguments of a tool pass.
+-- The rules for the arguments of a tool.
 use Rattle.std.specs.Prelude.{[], ◌++◌, ◌∷◌, List}
 use Rattle.clap.specs.{Simple.{filled_from, help_rule}, Words.{App, Rule}}
 

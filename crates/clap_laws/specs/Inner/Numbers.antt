@@ -4,11 +4,11 @@ use Rattle.std.specs.{Option.{option_and_then, option_map_or}, Str.Parse.{digits
 use Rattle.clap.specs.{Facts.parser_of_value, Walk.arg_by_id, Words.{Rule, Text}}
 use Rattle.clap.specs.declared.builder.value_parser.ValueParser.{ValueParser, TheVariants.Signed}
 
--- The number that a text writes in decimal digits, which may begin with a plus.
+-- The number in a text of decimal digits, which may begin with a plus.
 abbrev pub decimal : Text → ℕ
 decimal text = digits_value 10 (without_leading_plus text)
 
--- The least and the most that an argument's number may be.
+-- The least and the greatest number of an argument.
 abbrev pub bounds_by : ValueParser → Option (ℕ × ℕ)
 bounds_by (Signed (pos least) (pos most)) = Some (least, most)
 bounds_by _ = None
@@ -20,7 +20,7 @@ abbrev pub IsWithin : Option (ℕ × ℕ) → ℕ → Type 0
 IsWithin None n = ⊤
 IsWithin (Some (least, most)) n = (least ≤ n) × (n ≤ most)
 
--- The number is of 32 bits.
+-- The number has at most 32 bits.
 abbrev pub FitsWord : Option (ℕ × ℕ) → Type 0
 FitsWord None = ⊥
 FitsWord (Some (_, most)) = most < 2 ^ 32

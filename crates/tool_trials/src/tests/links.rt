@@ -22,12 +22,12 @@ use std::io::Write;
 use std::process::Abort;
 use std::test::Fail;
 
-/// The present value of analog-input 5 is asked for: the body, and its datagram.
+/// A request for the present value of analog-input 5: the body, and its datagram.
 const BODY: &[u8] = b"\x0c\x00\x00\x00\x05\x19\x55";
 
 const ASK: &[u8] = b"\x81\x0a\x00\x11\x01\x04\x00\x05\x01\x0c\x0c\x00\x00\x00\x05\x19\x55";
 
-/// Returns a call of CONTROLLER with this body.
+/// Returns a call to CONTROLLER with this body.
 fn call_of(timeout: u32, retries: u8, body: &[u8]) -> Call {
     let mut kept = ArrayVec::new();
     let _ = kept.try_extend_from_slice(body);
@@ -40,7 +40,7 @@ fn call_of(timeout: u32, retries: u8, body: &[u8]) -> Call {
     }
 }
 
-/// A search of CONTROLLER for all devices.
+/// A search for all devices, sent to CONTROLLER.
 const SEARCH: Search = Search {
     to: CONTROLLER,
     timeout: 3_000,
@@ -58,10 +58,10 @@ enum Job<'a> {
 
 type Got = Result<Exit, ToolFault>;
 
-/// How many replies a device sent.
+/// The number of replies that a device sent.
 type Served = Result<u32, ToolFault>;
 
-/// Whether something is so, if the link can be made.
+/// The result of a test, if the link can be made.
 type Is = Result<bool, LinkFault>;
 
 /// Runs the job over this link and writer. A timeout of 0 is refused.
@@ -82,10 +82,10 @@ fn small_device() -> Option<Device> {
     Some(demo(DeviceInfo::new(1_234, "Small device")?))
 }
 
-/// How a tool ends over a link in memory: its answer, what it prints, and what it sends at which times.
+/// The end of a tool over a link in memory: its answer, the text that it prints, and its sends with their times.
 type End<'a> = (Got, &'a str, &'a [(u64, &'a [u8])]);
 
-/// Returns whether the job ends so over these steps, if the send with this number fails.
+/// Returns whether the job has this end over these steps, if the send with this number fails.
 fn ends(alloc: Global, job: Job<'_>, steps: &[Step<'_>], fail: Option<u32>, end: End<'_>) -> bool {
     let Ok(mut link) = MemoryLink::new(alloc, steps, fail) else {
         return false;
@@ -95,12 +95,12 @@ fn ends(alloc: Global, job: Job<'_>, steps: &[Step<'_>], fail: Option<u32>, end:
     got == end.0 && is_text(&room, end.1) && has_sent(&link, CONTROLLER, end.2)
 }
 
-/// Returns the steps of a link on which nothing comes until all turns are spent.
+/// Returns the steps of a link that is silent until all turns are spent.
 pub(crate) fn quiet<H: Abort + AllocGlobal>(rt: &H) -> Vec<Step<'static>> {
     vec![in rt.alloc(); Step::Quiet(0); 65_536].expect(rt, "memory")
 }
 
-/// Returns whether this was sent to the peer at these times, and nothing else.
+/// Returns whether exactly these datagrams were sent to the peer at these times.
 fn has_sent(link: &MemoryLink, to: Peer, sent: &[(u64, &[u8])]) -> bool {
     for (n, (time, datagram)) in sent.iter().enumerate() {
         if link.sent(n) != Some((*time, to, *datagram)) {

@@ -7,14 +7,14 @@ use crate::tests::links::quiet;
 use crate::tests::streams::{Asked, Progress, printed_after, telling, with_room};
 use bac_links::{Link, MemoryLink, Step, ToolFault};
 use bac_print::Checked;
-use bac_run::{RunFault, Session, run_requests};
+use bac_run::{RunFault, Setup, run_requests};
 use bac_script::{TraceEnd, TraceFault};
 use bac_tsm::Config;
 use std::io::{Read, Write};
 
 const LINES: &[u8] = b"read 127.0.0.1:47808 0 5 85\nread 127.0.0.1:47808 0 5 85\n";
 
-/// A line that is bad, with a request open.
+/// A bad line, with a request open.
 const BAD: &[u8] = b"read 127.0.0.1:47808 0 5 85\nx\nread 127.0.0.1:47808 0 5 85\n";
 
 /// The journal of both lines, if both are answered before any time has passed.
@@ -28,12 +28,12 @@ const JOURNAL: &[u8] = b"client 100 0 0\n\
     data 127.0.0.1:47808 810a0017010030020c0c0000000519553e444290999a3f\n\
     # done 1 value 4290999a\n";
 
-/// How many octets of it there are up to each line `# send` and each line `# done`.
+/// The length of the journal up to each line `# send` and each line `# done`.
 const ENDS: [usize; 4] = [103, 195, 283, 375];
 
 const FIRST: Step<'static> = Step::Packet(0, CONTROLLER, VALUE);
 
-/// The answer to the second.
+/// The answer to the second request.
 const SECOND: Step<'static> = Step::Packet(
     0,
     CONTROLLER,
@@ -43,7 +43,7 @@ const SECOND: Step<'static> = Step::Packet(
 /// A Who-Is into a network behind a router, a request that stays open, and a wait.
 const SEEKING: &[u8] = b"who 127.0.0.1:47808/5\nread 127.0.0.1:47808 0 5 85\nwait 120\n";
 
-/// Its journal: an I-Am comes after 40 ms, the request times out at 100, and at 120 the wait ends.
+/// The journal of these lines: an I-Am comes after 40 ms, the request times out at 100, and at 120 the wait ends.
 const SOUGHT: &[u8] = b"client 100 0 0\n\
     # who 127.0.0.1:47808 810a000c0120000500ff1008\n\
     read 127.0.0.1:47808 0 5 85\n\
@@ -65,7 +65,7 @@ type Ran = Result<TraceEnd, RunFault>;
 
 const WHOLE: Ran = Ok(TraceEnd { lines: 2 });
 
-/// Makes the requests over the link, of which this many may be open, with a timeout of 100 ms and no retry.
+/// Makes the requests over the link, this many at a time, with a timeout of 100 ms and no retry.
 pub(crate) fn run<L: Link, R: Read + Drop, W: Write + Drop>(
     window: usize,
     link: &mut L,
@@ -74,14 +74,14 @@ pub(crate) fn run<L: Link, R: Read + Drop, W: Write + Drop>(
 ) -> Option<Ran>
     requires { L.has_failed link.old ≡ false }
 {
-    let session = Session::new(Config::new(100, 0)?, window)?;
+    let setup = Setup::new(Config::new(100, 0)?, window)?;
     let mut reader = Checked::new(reader);
     let mut writer = Checked::new(writer);
-    Some(run_requests(session, link, &mut reader, &mut writer))
+    Some(run_requests(setup, link, &mut reader, &mut writer))
 }
 
-/// Returns whether a run of these lines ends so over these steps, with so much of the journal, if the send with this
-/// number fails.
+/// Returns whether a run of these lines has this end over these steps, with this much of the journal, if the send with
+/// this number fails.
 fn ends(
     alloc: Global,
     (window, lines): (usize, &[u8]),
@@ -105,7 +105,7 @@ const fn at_link(fault: ToolFault) -> Ran {
     Err(RunFault::Link(fault))
 }
 
-// The journal has all that was done before a link failed; if the wait at a bad line fails, that fault is reported.
+// The journal has all that was done before a link failed. If the wait at a bad line fails, that fault is reported.
 #[test]
 fn links_fail(rt: HostRuntime) {
     let silence = quiet(&rt);
@@ -140,7 +140,8 @@ fn links_fail(rt: HostRuntime) {
     assert!(rt; ends(rt.alloc(), two, (silence.as_slice(), None), (spent, sent)));
 }
 
-/// Returns whether each datagram of these lines is sent once, in their order, and the wait goes on with what is open.
+/// Returns whether each datagram of these lines is sent once, in their order, and the wait goes on with the open
+/// request.
 fn seeks(alloc: Global) -> bool {
     let steps = [
         Step::Packet(40, CONTROLLER, I_AM),
@@ -171,8 +172,7 @@ fn who_is_sent_and_waited_for(rt: HostRuntime) {
     assert!(rt; seeks(rt.alloc()));
 }
 
-/// Returns whether a write is not sent if the writer fails after this many octets, which are fewer than come before its
-/// line.
+/// Returns whether a write is not sent if the writer fails after this many octets, before the line of the write.
 fn writes_nothing(alloc: Global, left: usize) -> bool {
     let line = b"write 127.0.0.1:47808 1 1 85 8 -1 4 41a00000\n";
     let Ok(mut link) = MemoryLink::new(alloc, &[], None) else {
@@ -197,7 +197,7 @@ fn unrecorded_writes_are_not_sent(rt: HostRuntime) {
     }
 }
 
-/// Returns whether a writer that accepts this many octets has this front of the journal, and the run reports that
+/// Returns whether a writer that accepts this many octets has this beginning of the journal, and the run reports that
 /// writing failed.
 fn leaves_front(alloc: Global, left: usize, fails: bool) -> bool {
     let Ok(mut link) = MemoryLink::new(alloc, &[FIRST, SECOND], None) else {
@@ -219,8 +219,8 @@ fn writes_fail_in_turn(rt: HostRuntime) {
     }
 }
 
-/// Returns whether a reader that gives one octet at a time, and fails at the read with this number, is not asked again;
-/// at each read the journal of the lines before is written.
+/// Returns whether a reader that gives one octet at a time, and fails at the read with this number, is not read again;
+/// before each read the journal of the lines so far is written.
 fn fails_at(alloc: Global, read: usize, answer: Ran) -> bool {
     let printed = [(0, 15), (28, 195), (56, 375)];
     let progress = Progress::default();

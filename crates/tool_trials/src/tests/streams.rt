@@ -3,7 +3,7 @@
 use std::cell::Cell;
 use std::io::{self, ErrorKind, Read, Write};
 
-/// Accepts this many octets, one at a time, and then accepts none, or fails. A writer that fails also fails to flush.
+/// Accepts this many octets, one at a time, and then accepts none, or fails. If it fails, it also fails to flush.
 #[derive(Drop)]
 pub(crate) struct Room<'a> {
     taken: &'a mut Vec<u8>,
@@ -11,7 +11,7 @@ pub(crate) struct Room<'a> {
     fails: bool,
 }
 
-/// Returns a writer that notes in `taken` what it accepts.
+/// Returns a writer that appends to `taken` the octets that it accepts.
 pub(crate) fn with_room(taken: &mut Vec<u8>, left: usize, fails: bool) -> Room<'_> {
     Room { taken, left, fails }
 }
@@ -37,19 +37,19 @@ impl Write for Room<'_> {
     }
 }
 
-/// How far a run has come, as its reader and its writer see it.
+/// The progress of a run, as its reader and its writer see it.
 #[derive(Default, Drop)]
 pub(crate) struct Progress {
     pub(crate) read: Cell<usize>,
     pub(crate) written: Cell<usize>,
     pub(crate) reads: Cell<usize>,
     pub(crate) writes: Cell<usize>,
-    /// A read came while printed text was not yet written, or after a failed write; or other text was written.
+    /// Whether a read came while printed text was not yet written, or after a failed write, or other text was written.
     pub(crate) is_wrong: Cell<bool>,
     pub(crate) is_broken: Cell<bool>,
 }
 
-/// Takes this text, but fails once, at the write with this number, or takes none there.
+/// Accepts this text, but fails once, at the write with this number, or accepts nothing there.
 #[derive(Drop)]
 pub(crate) struct Told<'a> {
     progress: &'a Progress,
@@ -91,7 +91,7 @@ impl Write for Told<'_> {
     }
 }
 
-/// Returns how many octets of a text are printed once this many of its script were read.
+/// Returns how many octets of a text are printed once this many octets of its script were read.
 pub(crate) fn printed_after(ends: &[(usize, usize)], octets: usize) -> usize {
     let mut printed = 0;
     for (read, written) in ends {
@@ -102,12 +102,12 @@ pub(crate) fn printed_after(ends: &[(usize, usize)], octets: usize) -> usize {
     printed
 }
 
-/// Gives a script an octet at a time, and fails once, at the read with this number.
+/// Gives a script one octet at a time, and fails once, at the read with this number.
 #[derive(Drop)]
 pub(crate) struct Asked<'a> {
     pub(crate) progress: &'a Progress,
     pub(crate) script: &'a [u8],
-    /// How many octets of the script there are up to the end of each line that prints, and how many of the text.
+    /// The number of octets of the script up to the end of each line that prints, and of the text.
     pub(crate) ends: &'a [(usize, usize)],
     pub(crate) fails_at: usize,
 }

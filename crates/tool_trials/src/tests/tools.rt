@@ -1,4 +1,4 @@
-//! From words to what is printed and the status, over links in memory.
+//! From words to the printed text and the status, over links in memory.
 ghost use Rattle.std.specs.Prelude.{◌≡◌, [], map, IfOk};
 ghost use Rattle.bac_links.specs.Memory.{account_of, scene_of_step};
 
@@ -11,8 +11,8 @@ use std::cell::Cell;
 use std::io::{self, ErrorKind};
 use std::{env, fmt};
 
-/// Gives links of these steps to whoever asks for this port of every address, and what becomes of a refused reply so.
-/// Counts who asks.
+/// Gives links with these steps if the socket has this port at every address and treats a refused reply in this way.
+/// Counts the requests for a socket.
 #[derive(Clone, Copy)]
 struct Rehearsal<'a, 'c> {
     alloc: Global,
@@ -68,7 +68,8 @@ fn words_typed(alloc: Global, line: &str) -> io::Result<env::Args> {
     Ok(typed.into_iter())
 }
 
-/// Returns whether the report has the fault with this text, and its line was printed; no fault if there is no text.
+/// Returns whether the report has the fault with this text and its line was printed, or has no fault if there is no
+/// text.
 fn is_told(alloc: Global, report: &Report, errors: &[u8; 96], text: &str) -> bool {
     let Some(fault) = &report.fault else {
         return text.is_empty() && is_text(errors, "");
@@ -98,7 +99,7 @@ const RUN: &str = "bacrun --apdu-timeout 10 --apdu-retries 0";
 
 const RUN_AT_9: &str = "bactool bacrun --port 9";
 
-/// What the room takes of a journal.
+/// The beginning of a journal that the room holds.
 const FRONT: &str = "client 10 0 0\nread 127.0.0.1:47808 0 5 85\n\
     # send 0 127.0.0.1:47808 810a001101040005010c0c0000000";
 
@@ -114,10 +115,10 @@ const DEVICE: (u16, OnRefusal) = (47_808, OnRefusal::IsLost);
 
 const UNBOUND: (&str, u8, &str) = ("", 3, "bind failed");
 
-/// The words of a line, which port of a network they are to ask for; and what is printed, the status and the fault.
+/// The words of a line, and the port of the socket that they ask for; the printed text, the status and the fault.
 type Row<'a> = (&'a str, (u16, OnRefusal), (&'a str, u8, &'a str));
 
-/// Lines over a network that answers a read.
+/// Command lines over a network that answers a read.
 static ANSWERED: [Row<'static>; 7] = [
     (READ, CLIENT, ("4290999a\n", 0, "")),
     (WRITE, CLIENT, ("timeout\n", 1, "")),
@@ -134,15 +135,15 @@ static FOUND: [Row<'static>; 2] = [
     (SEARCH, (0, OnRefusal::IsLost), UNBOUND),
 ];
 
-/// Command lines over a network in which a device is asked. Only a device goes on if a reply is refused.
+/// Command lines over a network that sends requests to a device. Only a device continues if a reply is refused.
 static ASKED: [Row<'static>; 3] = [
     (SERVE, DEVICE, ("", 0, "")),
     (SEARCH, DEVICE, UNBOUND),
     (SERVE, (47_808, OnRefusal::Fails), UNBOUND),
 ];
 
-/// Sees that the lines end so over a network of these steps, and that one socket is asked for, and none for a script or
-/// without a job.
+/// Checks that the lines have these ends over a network with these steps. One socket is asked for, or none for a script
+/// or without a job.
 fn all_run<'a, H: Abort + AllocGlobal>(rt: &H, steps: &'a [Step<'a>], rows: &[Row<'_>]) {
     for (line, at, end) in rows {
         let (alloc, at) = (rt.alloc(), *at);
@@ -178,7 +179,8 @@ fn words_are_run(rt: HostRuntime) {
     all_run(&rt, quiet(&rt).as_slice(), &spent);
 }
 
-/// Returns whether the program ends so if reading its words fails with an error of this kind, and asks for no socket.
+/// Returns whether the program has this end if reading its words fails with an error of this kind, and asks for no
+/// socket.
 fn is_told_unread(alloc: Global, kind: ErrorKind, end: (&str, u8, &str)) -> bool {
     let asked = &Cell::new(0);
     let network = Rehearsal {

@@ -9,7 +9,7 @@ use bac_text::Call;
 use bac_words::{Job, Tool, UsageFault, parse_words};
 use std::alloc::Global;
 
-/// Returns the words of a line, cut at spaces, of which the first is the program's name.
+/// Returns the job of a line, cut at spaces. The first word is the program's name.
 fn parse(alloc: Global, line: &str) -> Result<Job, UsageFault> {
     let words: Vec<&str> = line.split(' ').collect(alloc)?;
     parse_words(alloc, words.as_slice())

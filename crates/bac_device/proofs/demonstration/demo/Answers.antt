@@ -1,4 +1,4 @@
--- Eleven calls add a point each; the last equation comes first.
+-- Eleven calls add one point each; the last equation comes first.
 use Rattle.std.proofs.Common.{refl}
 use Rattle.bac_device.specs.{description_of, kind_of, Inner.with_row}
 use Rattle.bac_device.proofs.demonstration.demo.Goals as goal

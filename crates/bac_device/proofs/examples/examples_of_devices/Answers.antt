@@ -1,4 +1,4 @@
--- Each row computes.
+-- Each row is computed.
 use Rattle.std.proofs.Common.{arith, refl}
 use Rattle.bac_device.{proofs.Computed.computed, specs.{add_point, description_of, kind_of, place_at, standing_after}}
 use Rattle.bac_device.proofs.examples.examples_of_devices.Goals as goal

@@ -1,4 +1,4 @@
--- A reply that fits holds the one APDU that it takes to the desk; an APDU that is too long for it does not.
+-- A reply that fits carries only its one APDU to the desk; an APDU that is too long for the desk does not fit.
 use Rattle.std.proofs.Common.{arith, false, inl, inr, List, None, refl, Some, subst, sym, ℕ, ◌≡◌}
 use Rattle.std.proofs.lemmas.Option.{same_Some}
 use Rattle.bac_pdu.proofs.DatagramLaws.{apdu_is, carried_is, one_taken, wrapped_takes}
@@ -7,7 +7,7 @@ use Rattle.bac_device.{proofs.Computed.computed, specs.{FitsRequest, ReplyFits}}
 use Rattle.bac_device.specs.Inner.{aborted, asked, datagram, desk, fifty, fifty_one, long_named, of, read_for_50}
 use Rattle.bac_device.proofs.examples.examples_of_fitting.Goals as goal
 
--- what the desk asks: a request whose code is 0
+-- the desk's request: its code is 0
 request : Message
 request = confirmed None 0 1 12 (of 77 long_named)
 

@@ -1,4 +1,4 @@
--- Each row computes from the device after the writes of the rows before it.
+-- Each row is computed from the device after the writes of the rows before it.
 use Rattle.std.proofs.Common.{refl}
 use Rattle.bac_device.proofs.Computed.{computed}
 use Rattle.bac_device.proofs.examples.examples_of_writes.Goals as goal

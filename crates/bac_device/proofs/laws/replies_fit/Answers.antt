@@ -1,4 +1,4 @@
--- For one datagram, and then for a list of them, by induction.
+-- The law for one datagram, and then for a list of them, by induction.
 use Rattle.bac_device.proofs.{replies_fit, reply_fits}
 use Rattle.bac_device.proofs.laws.replies_fit.Goals as goal
 

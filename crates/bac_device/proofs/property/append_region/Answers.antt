@@ -1,11 +1,11 @@
--- One value more: its octets lie within those of all, so what is full at it is full of all.
+-- One more value: its octets are among those of all, so if there is no room for it, there is none for all.
 use Rattle.std.proofs.Common.{[], arith, flat_map, length, List, slice_get, Some, sym, take, ℕ, ◌++◌, ◌+◌, ◌∙◌, ◌∷◌}
 use Rattle.std.proofs.{Common.{◌≡◌, ◌≤◌}, lemmas.{Grind.common_steps, List.{take_more, Folds.length-flat_map-take}}}
 use Rattle.std.proofs.lemmas.Option.{get_or_from_slice_get, none-some, slice_get-get_or, slice_get_within}
 use Rattle.{bac_wire.specs.{null, plain, Datum.Datum}, bac_device.specs.Inner.property_seen}
 use Rattle.bac_device.proofs.property.append_region.Goals as goal
 
--- One value more, and its octets among all.
+-- The octets of one more value are among those of all.
 one_more : (values : List Datum) (i : ℕ) (value : Datum) → Some value ≡ slice_get values i →
     (take (i + 1) values ≡ take i values ++ value ∷ [])
     × (length (flat_map plain (take i values)) + length (plain value) ≤ length (flat_map plain values))

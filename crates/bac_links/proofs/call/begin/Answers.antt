@@ -1,4 +1,4 @@
--- A new client takes the request, so its first ticket is 0 and the datagram is that of the request.
+-- A new client accepts the request, so its first ticket is 0 and the datagram is that of the request.
 use Rattle.std.proofs.{Common.{refl, ◌≡◌}, lemmas.Result.err_from_is_err_and}
 use Rattle.bac_links.proofs.{begun, gains_both, submitted_is, unbegun}
 use Rattle.bac_links.proofs.call.begin.Goals as goal

@@ -1,4 +1,4 @@
--- Each way out of the loop ends the call that goes so far in another way.
+-- Each exit of the loop ends the call in another way.
 use Rattle.std.proofs.{Common.{add-one, arith, refl}, lemmas.Result.err_from_is_err_and}
 use Rattle.bac_links.{proofs.{fails_so, shown_so, spent}, specs.Inner.ending_seen}
 use Rattle.bac_links.proofs.call.run.Goals as goal

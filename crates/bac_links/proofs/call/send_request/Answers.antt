@@ -1,4 +1,4 @@
--- What could not be sent is the one datagram that was due.
+-- The datagram that could not be sent is the one that was due.
 use Rattle.std.proofs.Common.{rules}
 use Rattle.bac_links.proofs.{one_post}
 use Rattle.bac_links.proofs.call.send_request.Goals as goal

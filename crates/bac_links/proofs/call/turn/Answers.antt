@@ -1,4 +1,4 @@
--- The clause of a turn speaks of any call that the client is underway with, and the client does not know which.
+-- The clause of a turn holds for any call that the client may be in, since the client does not know which.
 use Rattle.std.proofs.Common.{refl}
 use Rattle.{bac_tsm.specs.outcome_seen, bac_links.proofs.{alone, answered, on, timed_out, unheard, unsent}}
 use Rattle.bac_links.proofs.call.turn.Goals as goal

@@ -1,4 +1,5 @@
--- Each computes once the definitions that read and write a datagram are opened. The end of a run refutes the others.
+-- Each row is computed once the definitions that read and write a datagram are opened; a negative row follows from the
+-- end of a run.
 use Rattle.std.proofs.Common.{arith, Ok, refl, Some, sym, ◌∙◌, ◌≡◌}
 use Rattle.bac_pdu.specs.{address_at, apdu_of, carried, header_at, link_at, parts_at, wrapped}
 use Rattle.bac_tsm.specs.{next_invoke_id, refusal_of, Simple, Answers.{answer_in_datagram, is_answer_to, same_station}}

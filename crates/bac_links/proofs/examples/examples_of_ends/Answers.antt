@@ -1,4 +1,4 @@
--- Each computes.
+-- Each row is computed.
 use Rattle.std.proofs.Common.{refl}
 use Rattle.bac_links.proofs.examples.examples_of_ends.Goals as goal
 

@@ -1,4 +1,4 @@
--- Each computes; a field refutes those that are not so.
+-- Each row is computed; a negative row follows from one field.
 use Rattle.std.proofs.Common.{[], arith, None, refl}
 use Rattle.bac_links.proofs.examples.examples_of_entries.Goals as goal
 

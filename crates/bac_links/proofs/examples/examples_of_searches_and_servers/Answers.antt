@@ -1,4 +1,4 @@
--- Each computes; what is not so the end of the run tells.
+-- Each row is computed; a negative row follows from the end of a run.
 use Rattle.std.{proofs.Common.{[], ap, arith, None, refl, subst, sym, ◌∙◌, ◌≡◌}, specs.List.last_or}
 use Rattle.{bac_pdu.specs.wrapped, bac_links.proofs.{CallTurns.last_push, Worked.{ends, gained, nothing}}}
 use Rattle.bac_links.specs.{arrivals_in, device_behind, Inner.{deaf, device, unsearched}}

@@ -1,4 +1,4 @@
--- Each computes, or is arithmetic.
+-- Each row is computed, or is arithmetic.
 use Rattle.std.proofs.Common.{arith, refl}
 use Rattle.bac_links.proofs.examples.examples_of_time.Goals as goal
 

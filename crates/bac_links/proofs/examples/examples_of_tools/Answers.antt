@@ -1,10 +1,10 @@
--- What two tools asked is read off what their links gained.
+-- The questions of two tools follow from what their links gained.
 use Rattle.std.proofs.Common.{[], ap, arith, List, refl, sym, ℕ, ◌++◌, ◌∙◌, ◌∷◌, ◌≡◌}
 use Rattle.bac_print.specs.{Took, Inner.Examples.{having, unasked, unknown}}
 use Rattle.bac_links.specs.{answers_of, Entry, GoOnAlike, Posted, Timed, Inner.{asked_so, desk, NoCut, Same}}
 use Rattle.bac_links.proofs.examples.examples_of_tools.Goals as goal
 
--- Two tools that asked the time once, and got the same, ended alike.
+-- Two tools that read the time once, and got the same time, ended alike.
 alike : (first rest other_first other_rest : List Entry) (a b : ℕ) → Timed a ∷ [] ≡ first ++ rest
     → Timed b ∷ [] ≡ other_first ++ other_rest → answers_of first ≡ answers_of other_first
     → (first ≡ other_first) × GoOnAlike NoCut Same Same a b rest other_rest

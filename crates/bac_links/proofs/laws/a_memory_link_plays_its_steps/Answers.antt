@@ -1,4 +1,4 @@
--- That a link plays its steps is an invariant of its type.
+-- The invariant of the type says that a link plays its steps.
 use Rattle.bac_links.proofs.{played_so}
 use Rattle.bac_links.proofs.laws.a_memory_link_plays_its_steps.Goals as goal
 

@@ -1,4 +1,4 @@
--- The datagrams that were heard were played, so the lemma counts them.
+-- The received datagrams are those of the waits, so the lemma counts them.
 use Rattle.bac_links.proofs.{as_many, plays_all}
 use Rattle.bac_links.proofs.laws.a_server_hears_as_many.Goals as goal
 

@@ -1,4 +1,4 @@
--- Each datagram may write, and no write changes a point.
+-- Each datagram may order a write, and no write changes a point.
 use Rattle.std.proofs.{Common.{[], arith, List, map, None, Option, refl, Some, ◌∙◌, ◌∷◌, ◌≡◌}, lemmas.Bool.cases_Bool}
 use Rattle.bac_device.specs.{Arrival, DeviceState, Write, Device.points_of, Places.{put, Standing}}
 use Rattle.{bac_device.specs.Reply.{with_write, write_in_datagram}, bac_links.specs.{device_behind, device_next}}

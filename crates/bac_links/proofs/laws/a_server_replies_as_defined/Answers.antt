@@ -1,4 +1,4 @@
--- The history has the datagrams that came, and the definition goes by them.
+-- The history has the datagrams that came, from which the definition computes the replies.
 use Rattle.std.proofs.Common.{ap, List, subst, sym, ◌∙◌}
 use Rattle.bac_device.specs.Turns.{AreDefined}
 use Rattle.bac_links.{proofs.{defined, played}, specs.{arrivals_in, device_behind, Entry, replies_of}}

@@ -1,4 +1,4 @@
--- The lemma says what was sent, by replies that are those of the definition.
+-- The lemma states the sends; its replies are those of the definition.
 use Rattle.bac_links.{proofs.{defined, plays_all, server_sent}, specs.arrivals_in}
 use Rattle.bac_links.proofs.laws.a_server_sends_its_replies.Goals as goal
 

@@ -1,4 +1,4 @@
--- That the log has the calls for the history is an invariant of the link.
+-- The invariant of the link says that the log has the calls for the history.
 use Rattle.std.proofs.Math.Logic.{∥∥₁_map}
 use Rattle.bac_links.proofs.laws.a_socket_logs_the_history.Goals as goal
 

@@ -1,4 +1,4 @@
--- A call that asked nothing has not ended by its moves.
+-- A call without a move has not ended.
 use Rattle.bac_links.proofs.{not_ended}
 use Rattle.bac_links.proofs.laws.no_call_ends_unasked.Goals as goal
 

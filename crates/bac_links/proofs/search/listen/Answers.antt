@@ -1,4 +1,4 @@
--- The datagram that was heard is what the history gained, with the octets that the room holds now.
+-- The history gained the received datagram, whose octets are in the room now.
 use Rattle.std.proofs.{Common.{append-nil, refl}, lemmas.Result.err_from_is_err_and}
 use Rattle.{bac_pdu.specs.{station, Found.found_seen}, bac_print.proofs.Printed.Took-none, bac_links.specs.Arrived}
 use Rattle.bac_links.proofs.search.listen.Goals as goal

@@ -1,4 +1,4 @@
--- Each way out of the loop ends the search that goes so far in another way.
+-- Each exit of the loop ends the search in another way.
 use Rattle.std.proofs.{Common.{add-one, arith, refl, ◌∙◌}, lemmas.Result.err_from_is_err_and}
 use Rattle.bac_links.{proofs.{ended, fails, goes_on, search_begun, search_spent, search_unbegun}, specs.{Bad, Good}}
 use Rattle.bac_links.proofs.search.run_whois.Goals as goal

@@ -1,4 +1,4 @@
--- If the page fails at its end, a front of the line went out.
+-- If the page fails at its end, the beginning of the line was written.
 use Rattle.std.proofs.{Common.{Err, Ok, rules}, lemmas.Result.err_from_is_err_and}
 use Rattle.bac_print.proofs.Printed.{shown}
 use Rattle.bac_links.proofs.search.show_found.Goals as goal

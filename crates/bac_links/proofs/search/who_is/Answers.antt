@@ -11,7 +11,7 @@ has_room : {T E : Type 0} (result : Result T E) (P : Type 0) (most octets : ℕ)
 has_room (Ok x) P _ _ ok _ le = ok
 has_room (Err e) P _ _ ok full le = absurd (omega (arith, full))
 
--- A property is named in as many octets as a limit.
+-- A property number has as many octets as a limit.
 limit_short : (n : ℕ) → length (number_octets 1 n) ≤ 45
 unfolding plain_parameter
 limit_short n =

@@ -1,4 +1,4 @@
--- Each way out of the loop ends the serving that goes so far in another way.
+-- Each exit of the loop ends the server in another way.
 use Rattle.std.proofs.{Common.{add-one, arith, sym}, lemmas.Result.err_from_is_err_and}
 use Rattle.bac_links.proofs.{serve_done, serve_fails, serve_on, serve_spent, serves_none}
 use Rattle.bac_links.proofs.serving.serve.Goals as goal

@@ -1,4 +1,4 @@
--- The room holds the datagram that came, and the reply could not be sent.
+-- The room holds the received datagram, and the reply could not be sent.
 use Rattle.std.proofs.Common.{[], refl, ◌∷◌}
 use Rattle.{bac_pdu.specs.station, bac_links.{proofs.gains_both, specs.{Arrived, serve_wait, Waited}}}
 use Rattle.bac_links.proofs.serving.serve_turn.Goals as goal

@@ -1,4 +1,4 @@
--- What a body says is what is read of it, which computes once the definitions that read are opened.
+-- The contents of a body are computed once the definitions that read it are opened.
 use Rattle.std.proofs.Common.{[], arith, Err, List, Ok, refl, ℕ, ◌++◌, ◌∷◌}
 use Rattle.bac_wire.{proofs.ItemLaws.whole_is, specs.{behind_closing, behind_items, behind_opening, contents_of}}
 use Rattle.bac_wire.specs.{context_at, enclosed_at, kind_at, length_at, long_length_at, number_at, object_at, plain_tag}

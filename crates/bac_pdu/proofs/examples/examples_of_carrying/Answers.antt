@@ -1,10 +1,10 @@
--- What a datagram carries is what is read of it, which computes once the definitions that read are opened.
+-- The contents of a datagram are computed once the definitions that read it are opened.
 use Rattle.std.proofs.Common.{[], ◌∷◌, arith, None, refl, true}
 use Rattle.bac_pdu.specs.{address_at, carried, header_at, link_at, Takes, wrapped}
 use Rattle.bac_pdu.proofs.DatagramLaws.{carried_is, one_taken, wrapped_takes}
 use Rattle.bac_pdu.proofs.examples.examples_of_carrying.Goals as goal
 
--- what a datagram takes to a station that expects a reply
+-- a datagram that carries an APDU to a station and expects a reply
 taken : Takes None true (0x10 ∷ 0x08 ∷ []) (0x81 ∷ 0x0a ∷ 0x00 ∷ 0x08 ∷ 0x01 ∷ 0x04 ∷ 0x10 ∷ 0x08 ∷ [])
 unfolding wrapped
 taken = wrapped_takes None true (0x10 ∷ 0x08 ∷ []) tt (grind arith)

@@ -1,4 +1,4 @@
--- Each row computes once the definitions that read and write it are opened.
+-- Each row is computed once the definitions that read and write it are opened.
 use Rattle.std.proofs.Common.{arith}
 use Rattle.bac_wire.specs.{context_at, length_at, long_length_at, number_at, object_at, plain_tag, shape_at, tag_at}
 use Rattle.{bac_wire.specs.tag_number_at, bac_pdu.specs.{address_at, apdu_of, carried, header_at, link_at, parts_at}}

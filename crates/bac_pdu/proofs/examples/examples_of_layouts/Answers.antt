@@ -1,4 +1,4 @@
--- What octets are is what is read of them, which computes once the definitions that read are opened.
+-- The meaning of octets is computed once the definitions that read them are opened.
 use Rattle.std.proofs.Common.{[], arith, List, refl, Some, true, ℕ, ◌∷◌}
 use Rattle.bac_pdu.proofs.DatagramLaws.{apdu_is}
 use Rattle.bac_pdu.specs.{abort, apdu_of, complex_ack, parts_at, simple_ack, Inner.{last_part, second_part}}

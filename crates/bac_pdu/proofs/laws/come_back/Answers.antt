@@ -1,4 +1,4 @@
--- Each clause is the lemma of its file.
+-- Each clause is a lemma.
 use Rattle.std.proofs.Common.{refl}
 use Rattle.bac_pdu.proofs.{ack_back, apdu_back, error_back, introduction_back, read_back, taken_carries, who_is_back}
 use Rattle.bac_pdu.{proofs.write_back, specs.who_is_of}

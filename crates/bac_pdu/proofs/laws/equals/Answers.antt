@@ -1,4 +1,4 @@
--- A derived `==` compares field by field; here all fields together are the value.
+-- A derived `==` compares field by field, and here the fields are the whole value.
 use Rattle.std.proofs.{Common.{arith, eqb, Option, true, ℕ, ◌↔◌, ◌≡◌}, lemmas.Bool.{and_parts, eq-eqb, eqb-true}}
 use Rattle.std.specs.{Cmp.Lexicographic.bytes_decides, Option.option_eq}
 use Rattle.bac_pdu.proofs.{peer_decides, route_decides}

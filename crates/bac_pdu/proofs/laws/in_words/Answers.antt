@@ -1,4 +1,4 @@
--- Each clause is the lemma of its file.
+-- Each clause is a lemma.
 use Rattle.bac_pdu.proofs.{ack_is, apdu_is, carried_is, error_is, introduction_is, read_is, who_is_is, write_is}
 use Rattle.bac_pdu.proofs.laws.in_words.Goals as goal
 

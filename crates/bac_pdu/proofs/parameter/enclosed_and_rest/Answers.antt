@@ -1,4 +1,4 @@
--- The region ends where its closing tag begins, so that tag and the rest are the octets after it.
+-- The region ends where its closing tag begins, so this tag and the rest are the octets after it.
 use Rattle.std.proofs.Common.{refl}
 use Rattle.bac_wire.{proofs.ItemLaws.{no_region, region_found}, specs.enclosed_at}
 use Rattle.bac_pdu.proofs.parameter.enclosed_and_rest.Goals as goal

@@ -1,4 +1,4 @@
--- Four octets at most write a number below 2^32.
+-- At most four octets spell a number below 2^32.
 use Rattle.std.proofs.{Common.{arith, length, ◌^◌, ◌≤◌}, Math.Nat.pow-le-pow_right}
 use Rattle.byteorder.specs.Numbers.{big_from-lt}
 use Rattle.bac_pdu.proofs.parameter.number_in.Goals as goal

@@ -1,4 +1,4 @@
--- A reference and then the values: if one of them has no room, the frame has a front of all.
+-- A reference and then the values: if one part has no room, the frame has only the beginning.
 use Rattle.{bac_wire.proofs.TagLaws.{stops, then_appends, written_as}, bac_pdu.proofs.ack_written}
 use Rattle.bac_pdu.proofs.property.append_ack.Goals as goal
 

@@ -1,4 +1,4 @@
--- A reference, a value and a priority: if one of them has no room, the frame has a front of all.
+-- A reference, a value and a priority: if one part has no room, the frame has only the beginning.
 use Rattle.std.proofs.Common.{arith, ◌≡◌}
 use Rattle.bac_wire.proofs.TagLaws.{front, stops, then_appends, written_as}
 use Rattle.bac_pdu.{proofs.write_written, specs.order}

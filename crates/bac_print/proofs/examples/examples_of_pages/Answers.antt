@@ -1,4 +1,4 @@
--- A page whose writer was asked for nothing holds all that was printed on it.
+-- A page whose writer had no call yet holds all that was printed on it.
 use Rattle.std.proofs.Common.{[], arith, List, refl, ℕ, ◌++◌, ◌∷◌}
 use Rattle.bac_print.specs.{laid_out, Prints, room_after, Took, Wrote, Inner.{page, unasked, unknown}}
 use Rattle.bac_print.proofs.examples.examples_of_pages.Goals as goal

@@ -1,4 +1,4 @@
--- The texts are computed, so what is not open elsewhere is opened here.
+-- The texts are computed, so definitions that are folded elsewhere are opened here.
 use Rattle.std.{proofs.Common.refl, specs.Fmt.digits}
 use Rattle.hex.specs.Hex.{encode_with}
 use Rattle.bac_print.proofs.examples.examples_of_peers.Goals as goal

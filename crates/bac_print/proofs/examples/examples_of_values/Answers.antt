@@ -1,4 +1,4 @@
--- The texts are computed, so what is not open elsewhere is opened here.
+-- The texts are computed, so definitions that are folded elsewhere are opened here.
 use Rattle.std.{proofs.Common.arith, specs.Fmt.digits}
 use Rattle.{hex.specs.Hex.encode_with, bac_wire.specs.contents_of}
 use Rattle.bac_wire.specs.{length_at, long_length_at, shape_at, tag_at, tag_number_at, value_at, values_within}

@@ -1,4 +1,4 @@
--- A writer that was asked for nothing took nothing.
+-- A writer with no call yet took nothing.
 use Rattle.std.proofs.Common.{[], arith, refl, ◌∷◌}
 use Rattle.bac_print.specs.{Took, Inner.{unasked, unknown}}
 use Rattle.bac_print.proofs.examples.examples_of_writers.Goals as goal

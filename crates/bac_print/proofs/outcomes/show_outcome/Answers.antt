@@ -1,4 +1,4 @@
--- If the page fails at its end, a front of the text went out.
+-- If the page fails at its end, the beginning of the text was written.
 use Rattle.std.proofs.Common.{rules}
 use Rattle.bac_print.proofs.{shown}
 use Rattle.bac_print.proofs.outcomes.show_outcome.Goals as goal

@@ -14,14 +14,14 @@ loop-rest-preserved g c =
       reads = unread_more c.args.writer.now _ _ c.loop-rest.invariant.reads c.write.ensures.reads;
     }
 
--- a write that failed was asked for all that was left
+-- if a write failed, the whole rest was given to it
 pub returns-in_default-clause-text : goal.returns-in_default-clause-text
 returns-in_default-clause-text g c =
     let sent = Sent_more _ _ c.loop-rest.invariant.sent c.loop-rest.invariant.sound
     (grind arith) c.write.ensures.asked c.write.ensures.bytes c.write.ensures.failed c.write.ensures.passed in
     (sent.sent, _, sent.whole, sent.took)
 
--- so was a write that took none
+-- a write that took nothing was a write of the whole rest too
 pub returns-then-taken-eq0-clause-text : goal.returns-then-taken-eq0-clause-text
 returns-then-taken-eq0-clause-text g c =
     let sent = Sent_more _ _ c.loop-rest.invariant.sent c.loop-rest.invariant.sound

@@ -1,10 +1,10 @@
--- The digits are written from the last to the first, so a part of the number follows those that are still to come.
+-- The digits are written from the last to the first, so part of the number is written before the digits that are left.
 use Rattle.std.proofs.Common.{ap, append_assoc, arith, decimal, length, length-append, length-set, sym, ℕ, ◌+◌, ◌/◌}
 use Rattle.std.proofs.Common.{◌<◌, ◌^◌, ◌∙◌, ◌≡◌, ◌≤◌}
 use Rattle.std.proofs.lemmas.{Fmt.{decimal_digit, decimal_nonempty, decimal_step}, List.drop-set}
 use Rattle.bac_print.proofs.page.write_digits.Goals as goal
 
--- All but the last digit are those of a tenth of the number.
+-- The number divided by ten has all its digits but the last.
 shorter : (n : ℕ) → 10 ≤ n → n < 2 ^ 64 → length (decimal (n / 10)) + 1 ≡ length (decimal n)
 shorter n large fits =
     sym (ap length (decimal_step n large fits) ∙ length-append _ _)

@@ -1,4 +1,4 @@
--- The parts are written from the last to the first, and their texts are joined otherwise than the definition says.
+-- The parts are written from the last to the first, and their texts are grouped in another way than in the definition.
 use Rattle.std.proofs.Common.{ap, append-nil, append_assoc, arith, decimal, drop_of_length-le, get_or, List, ℕ, ◌++◌}
 use Rattle.std.proofs.Common.{◌∙◌, ◌∷◌, ◌≡◌}
 use Rattle.bac_print.proofs.peer_texts.write_station.Goals as goal

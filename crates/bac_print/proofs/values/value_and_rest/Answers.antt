@@ -1,4 +1,4 @@
--- That less is left is known of the octets of a value, not of the call that reads it.
+-- The value's octets are known to be at least one, so fewer octets are left.
 use Rattle.std.proofs.Common.{sym}
 use Rattle.bac_wire.proofs.DatumLaws.{value-shorter}
 use Rattle.bac_print.proofs.values.value_and_rest.Goals as goal

@@ -1,10 +1,10 @@
--- What could not be sent, and what was before it.
+-- A request that could not be sent, and the calls before it.
 use Rattle.std.proofs.Common.{[], Bool, false, inl, inr, List, refl, true, ℕ, ◌++◌, ◌∷◌, ◌≡◌}
 use Rattle.{bac_pdu.specs.Station, bac_script.proofs.Computed.computed, bac_links.specs.{Entry, Posted, Unposted}}
 use Rattle.bac_run.specs.{Asks, Read, Inner.{asked, desk, idle, octets}}
 use Rattle.bac_run.proofs.examples.examples_of_acts.Goals as goal
 
--- It could not be sent.
+-- The request could not be sent.
 unsent : Asks idle (asked ∷ []) (Unposted desk octets ∷ []) true
 unfolding computed
 unsent = inr (refl, refl, ([], [], desk, octets, refl, refl))
@@ -18,13 +18,13 @@ lost_last [] to some is = cc
 lost_last (x ∷ []) to some is = cc
 lost_last (x ∷ y ∷ sent) to some is = cc
 
--- It was sent, so no send failed.
+-- The request was sent, so no send failed.
 all_sent : (lost : Bool) → Asks idle (asked ∷ []) (Posted desk octets ∷ []) lost → lost ≡ true → ⊥
 unfolding computed
 all_sent lost (inl (rest, is, (none, sure))) lacks = cc
 all_sent lost (inr (none, _, (sent, later, to, some, whole, was))) lacks = lost_last sent to some was
 
--- After the request nothing was done.
+-- After the failed request nothing was done.
 gone : (lost : Bool) → Asks idle (asked ∷ Read 40 ∷ []) (Unposted desk octets ∷ []) lost → ⊥
 unfolding computed
 gone lost (inl (rest, is, later)) = never rest is

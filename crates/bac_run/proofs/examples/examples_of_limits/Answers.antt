@@ -1,4 +1,4 @@
--- Each computes.
+-- Each row is computed.
 use Rattle.std.proofs.Common.{arith, refl}
 use Rattle.bac_script.proofs.Computed.{computed}
 use Rattle.bac_run.proofs.examples.examples_of_limits.Goals as goal
@@ -12,6 +12,7 @@ returns c = record {
   empty = refl;
   heard_unsaid = refl;
   silent = refl;
+  silent_long = refl;
   unsaid = refl;
   to_be_said = λ h. grind arith;
   room = refl;

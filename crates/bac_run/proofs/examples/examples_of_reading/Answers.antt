@@ -1,4 +1,4 @@
--- A text of two line feeds would be a line feed after the first.
+-- A text with two line feeds has one before its end.
 use Rattle.std.proofs.Common.{[], arith, List, refl, subst, sym, ℕ, ◌++◌, ◌∙◌, ◌∷◌, ◌≡◌}
 use Rattle.std.proofs.lemmas.List.{append_cancel_right}
 use Rattle.bac_run.{proofs.ReadBack.time_read_back, specs.HasNoFeed}

@@ -11,11 +11,11 @@ use Rattle.bac_run.proofs.{Acts.asks_all, Cut.{AreFedAlike, ends, ends_so, fed_a
 use Rattle.bac_run.proofs.ReadBack.{settings_read_back}
 use Rattle.bac_run.specs.{Act, Asks, AtEnd, BadLine, Came, Does, end_by, Ends, EndsAt, Failed, Feeds, feeds_in, FewOpen}
 use Rattle.bac_run.specs.{FitsLine, Fresh, Goes, HasNoFeed, journal_of, lines_in, Looked, NextLine, NoLine, Open}
-use Rattle.bac_run.specs.{Passed, Read, Reading, ready, RunFault, Runs, Script, stage_after, taking, Telling, Took}
-use Rattle.bac_run.specs.{turn_at, Turns, WantsOut, Journal.{asked_by, sends_at}}
+use Rattle.bac_run.specs.{Passed, Read, Reading, ready, RunFault, Runs, Script, stage_after, taking, Telling, TimeTold}
+use Rattle.bac_run.specs.{Took, turn_at, Turns, WantsOut, Journal.{asked_by, sends_at}}
 use Rattle.bac_run.specs.Inner.{about, answer, asked, busy, desk, drained, history_of, idle}
 use Rattle.bac_run.specs.Inner.{IsRunOf, link_with, octets, one_by_one, read_line, unknown}
-use Rattle.bac_links.specs.{Account, Arrived, Entry, Posted, Silence, Timed, Unposted, Waited}
+use Rattle.bac_links.specs.{Account, Arrived, Entry, most_turns, Posted, Silence, Timed, Unposted, Waited}
 use Rattle.bac_run.proofs.examples.examples_of_runs.Goals as goal
 
 feedless : (xs : List ℕ) → list_all (nat_lt 10) xs ≡ true → HasNoFeed xs
@@ -80,9 +80,9 @@ returns-clause-answered c = (
       stopped = λ stopped. grind arith;
     };
     out = λ earlier later wait waits is.
-        let session = one_by_one (omega arith) (omega arith) in
-        subst (λ (acts : List Act). IsFrontOf (journal_of session earlier) (journal_of session acts)) (sym is)
-        (journal_front session earlier (wait ∷ later));
+        let setup = one_by_one (omega arith) (omega arith) in
+        subst (λ (acts : List Act). IsFrontOf (journal_of setup earlier) (journal_of setup acts)) (sym is)
+        (journal_front setup earlier (wait ∷ later));
     asks = record {
       gained = Timed 0 ∷ Posted desk octets ∷ Timed 5 ∷ Waited 50 (Arrived desk answer) ∷ [];
       gains = refl;
@@ -99,7 +99,7 @@ returns-clause-answered c = (
   },
 )
 
--- The acts of a run take what its reader gave.
+-- The acts of a run take the reader's octets.
 module _ {timed : 0 < 3000} {some : 0 < 1} {reader after : Checked ℕ} {left : Account ℕ}
     {result : Result TraceEnd RunFault} (runs : Runs unknown unknown (one_by_one timed some) (fresh 0) reader (fresh 0)
     after (link_with []) left result) where
@@ -121,7 +121,7 @@ module _ {timed : 0 < 3000} {some : 0 < 1} {reader after : Checked ℕ} {left : 
       at_end Open is = absurd (cc)
       at_end Failed is = absurd (cc)
 
--- Over an input that was read to its end each act was due, and the link was asked what they ask.
+-- If the input was read to its end, each act was due, and the calls are those of the acts.
 record Ran (input : List ℕ) (entries : List Entry) : Type 0 where
   acts : List Act
   kept : List ℕ
@@ -144,7 +144,7 @@ ran input text entries (timed, some, runs) whole ended =
       fit = runs.fit;
     }
 
--- No line is left, and no request is open: nothing is due.
+-- If no line is left and no request is open, no act is due.
 none_due : {entry : Entry} {later : List Entry} (reading : Reading) (acts : List Act)
     → Goes 3000 (about idle 0 (Ends (end_by reading 1) ∷ [])) acts → entry ∷ later ≡ history_of idle acts → ⊥
 unfolding computed
@@ -160,7 +160,7 @@ nothing_more (NoLine reading ∷ acts) (_, goes) fed is = none_due reading acts 
 nothing_more (Took line ∷ acts) goes (same, _) is = absurd (cc)
 nothing_more (_ ∷ acts) goes fed is = goes.0
 
--- Over a remark nothing is due.
+-- For a remark no act is due.
 nothing_asked : {entry : Entry} {later : List Entry} (acts : List Act)
     → Goes 3000 (about idle 0 (NextLine 1 0 ∷ [])) acts
     → AreFedAlike (feeds_in acts) (Took (codes "# x\n") ∷ NoLine AtEnd ∷ []) → entry ∷ later ≡ history_of idle acts → ⊥
@@ -185,7 +185,7 @@ returns-clause-unasked c = λ text run.
     (fed_alike AtEnd (feeds_in over.acts) _ (codes "# x\n") over.kept [] over.feeds
     (one_line (codes "# x") (feedless (codes "# x") refl) (omega arith))) over.asks
 
--- Once the time was read the request is due, which is sent.
+-- Once the time was read, the request is due and is sent.
 sent_next : {time : ℕ} {later : List Entry} (acts : List Act)
     → Goes 3000 (about idle 0 (Does asked ∷ taking 1 1 [])) acts → Timed time ∷ later ≡ history_of idle acts → ⊥
 unfolding computed
@@ -221,12 +221,12 @@ returns-clause-unsent c = λ text run.
     (fed_alike AtEnd (feeds_in over.acts) _ read_line over.kept [] over.feeds
     (one_line (codes "read 127.0.0.1 0 5 85") (feedless (codes "read 127.0.0.1 0 5 85") refl) (omega arith))) over.asks
 
--- A whole line is held.
+-- If `read_line` is held, a whole line is held.
 line_held : (held : List ℕ) → read_line ≡ held → HasNoFeed held → ⊥
 unfolding computed
 line_held held is none = has_feed (codes "read 127.0.0.1 0 5 85") [] (subst HasNoFeed (sym is) none)
 
--- While the request is open, or before it was asked for, no line is wanted.
+-- While the request is open, or before it was made, no line is to be taken.
 abbrev Wanted : List Act → Type 0
 Wanted acts = (taken : ℕ) × ((stage_after 3000 (about idle 0 (NextLine 1 0 ∷ [])) acts).aims ≡ NextLine 1 taken ∷ [])
 
@@ -270,7 +270,7 @@ returns-clause-held c = λ timed some due. go due.earlier due.later due.held due
     go [] later held did took none = line_held held took none
     go (a ∷ earlier) later held did took none = absurd (cc)
 
--- One act is the first.
+-- In a list of one act, this act is the first.
 first_alone : (act : Act) (earlier later : List Act) (wait : Act) → act ∷ [] ≡ earlier ++ wait ∷ later → earlier ≡ []
 first_alone act [] later wait is = refl
 first_alone act (x ∷ []) later wait is = absurd (cc)
@@ -291,7 +291,7 @@ unfolding computed
 returns-clause-kept_back c = λ timed some out.
     let (rest, is) = out [] [] (Passed 50 Silence) (omega arith) refl in unsettled rest is
 
--- ---- of a remark
+-- ---- a run over a remark
 
 pub returns-clause-over_a_remark : goal.returns-clause-over_a_remark
 unfolding computed
@@ -338,9 +338,9 @@ returns-clause-over_a_remark c = (
       stopped = λ stopped. grind arith;
     };
     out = λ earlier later wait waits is.
-        let session = one_by_one (omega arith) (omega arith) in
-        subst (λ (acts : List Act). IsFrontOf (journal_of session earlier) (journal_of session acts)) (sym is)
-        (journal_front session earlier (wait ∷ later));
+        let setup = one_by_one (omega arith) (omega arith) in
+        subst (λ (acts : List Act). IsFrontOf (journal_of setup earlier) (journal_of setup acts)) (sym is)
+        (journal_front setup earlier (wait ∷ later));
     asks = record {
       gained = [];
       gains = refl;
@@ -360,7 +360,7 @@ returns-clause-looked c = λ text run.
     (fed_alike AtEnd (feeds_in over.acts) _ (codes "# x\n") over.kept [] over.feeds
     (one_line (codes "# x") (feedless (codes "# x") refl) (omega arith))) over.asks
 
--- Such a run takes the remark, and finds that no line is left; or it has not yet.
+-- A run over a remark takes it, and finds that no line is left; or it has not done so yet.
 last_left : (acts : List Act) → Goes 3000 (about idle 0 (NextLine 1 1 ∷ [])) acts
     → AreFedAlike (feeds_in acts) (NoLine AtEnd ∷ []) → (acts ≡ []) ⊎ (acts ≡ NoLine AtEnd ∷ [])
 unfolding computed
@@ -396,7 +396,7 @@ of_remark_run : {timed : 0 < 3000} {some : 0 < 1} {after : Checked ℕ} {left : 
 of_remark_run runs = fed_alike AtEnd (feeds_in runs.acts) _ (codes "# x\n") runs.takes.kept []
     (to_its_end runs _ refl refl) (one_line (codes "# x") (feedless (codes "# x") refl) (omega arith))
 
--- Whether nothing is left of a text, and its first octet.
+-- Whether a text is empty, and its first octet.
 is_none : List ℕ → Bool
 is_none [] = true
 is_none (x ∷ xs) = false
@@ -405,7 +405,7 @@ head_of : List ℕ → ℕ
 head_of [] = 0
 head_of (x ∷ xs) = x
 
--- Its journal is that of the settings.
+-- The journal of these acts is only the settings.
 abbrev printed_so : 0 < 3000 → 0 < 1 → List Act → Type 0
 printed_so timed some acts = journal_of (one_by_one timed some) acts ≡ codes "client 3000 3 0\n"
 
@@ -425,7 +425,7 @@ returns-clause-printed_otherwise c = λ (timed, some, runs).
     not_settings _ prints.rest (settings_alone timed some runs.acts runs.goes (of_remark_run runs))
     (prints.whole ∙ ap (λ (taken : List ℕ). taken ++ prints.rest) (sym prints.took.passed))
 
--- At none of its stages it ends with a bad line.
+-- After these acts a run ends with a bad line.
 abbrev bad_at : List Act → Type 0
 bad_at acts = EndsAt (Err (Script (BadLine 1))) (stage_after 3000 (about idle 0 (NextLine 1 0 ∷ [])) acts) → ⊥
 
@@ -437,7 +437,7 @@ never_bad = of_remark bad_at (λ is. absurd (cc)) (λ is. absurd (cc)) (λ is. a
 pub returns-clause-ended_otherwise : goal.returns-clause-ended_otherwise
 returns-clause-ended_otherwise c = λ timed some runs. never_bad runs.acts runs.goes (of_remark_run runs) runs.ends
 
--- ---- of a bad line
+-- ---- a run over a bad line
 
 module _ (P : List Act → Type 0) (none : P []) (one : P (Took (codes "tick 1\n") ∷ [])) where
   of_bad_line : (acts : List Act) → Goes 3000 (about idle 0 (NextLine 1 0 ∷ [])) acts
@@ -459,7 +459,7 @@ none_after : Wanted (Took (codes "tick 1\n") ∷ []) → ⊥
 unfolding computed
 none_after (taken, aims) = absurd (cc)
 
--- Where it was read up to there, no line was wanted, or the bad line was held.
+-- After these acts no line was to be taken, or the bad line was held.
 abbrev unread_at : List Act → Type 0
 unread_at acts = (earlier later : List Act) (held : List ℕ) → acts ≡ earlier ++ later
     → codes "tick 1\n" ≡ concat (lines_in earlier) ++ held → HasNoFeed held → Wanted earlier → ⊥
@@ -493,10 +493,11 @@ returns-clause-read_on c = λ timed some runs.
           (runs.takes.gave.passed ∙ due.order ∙ append-nil due.before ∙ due.took) due.no_line.0 (taken, aims)
     ]
 
--- ---- of times and settings
+-- ---- times and settings that are too long
 
 told_late : {entry : Entry} {later : List Entry} (acts : List Act)
-    → Goes 3000 (record (about idle 0 (Does asked ∷ taking 1 1 [])) { phase = Telling (2 ^ 64) }) acts
+    → Goes 3000 (record (about idle 0 (Turns TimeTold most_turns ∷ Does asked ∷ taking 1 1 []))
+    { phase = Telling (2 ^ 64) }) acts
     → entry ∷ later ≡ history_of idle acts → AllByRecursion FitsLine acts → ⊥
 unfolding computed
 told_late [] goes is fit = absurd (cc)
@@ -540,7 +541,7 @@ pub returns-clause-too_slow : goal.returns-clause-too_slow
 unfolding computed
 returns-clause-too_slow c = λ timed some text runs. not_said runs.settings.says
 
--- ---- of a wait before the request is out
+-- ---- a wait before the request is written
 
 -- The acts before the wait, and their journal.
 abbrev waiting_acts : List Act
@@ -559,7 +560,7 @@ unfolding computed is_none
 more_told rest is =
     let over : true ≡ false = ap (λ (text : List ℕ). is_none (drop 16 text)) is in absurd (cc)
 
--- Acts after these begin with a wait of which all is to be out before.
+-- After these acts comes a wait before which all output must be written.
 abbrev Waits : (earlier acts : List Act) → Type 0
 Waits earlier acts = (act : Act) × (later : List Act) × WantsOut act × (acts ≡ earlier ++ act ∷ later)
 
@@ -620,13 +621,13 @@ taken_before (Took line ∷ acts) (_, goes) (same, fed) is =
 taken_before (NoLine reading ∷ acts) goes (same, _) is = absurd (cc)
 taken_before (_ ∷ acts) goes fed is = absurd goes.0
 
--- A line that was read is taken, however reading stands.
+-- A line that was read is taken, whatever the state of reading.
 one_read : (reading : Reading) (text : List ℕ) → HasNoFeed text → length (text ++ 10 ∷ []) ≤ line_room
     → Feeds reading (text ++ 10 ∷ []) [] (Took (text ++ 10 ∷ []) ∷ [])
 one_read reading text none short =
     ([], sym (append-nil (text ++ 10 ∷ [])), inl (inl ((text, none, refl), short)), refl)
 
--- A send that failed is the last thing that a link was asked.
+-- A send that failed is the last call of a link.
 lost_last : (client : Client) (acts : List Act) (gained : List Entry) → Asks client acts gained true
     → (front : List Entry) × (to : Station) × (octets' : List ℕ) × (gained ≡ front ++ Unposted to octets' ∷ [])
 lost_last client [] gained (none, lacks) = absurd (cc)

@@ -1,4 +1,4 @@
--- By what the look-ahead says of a request that is open.
+-- The law follows from the look-ahead's bounds for an open request.
 use Rattle.{bac_tsm.specs.client_rules, bac_run.proofs.open_in_time}
 use Rattle.bac_run.proofs.laws.a_request_ends_in_time.Goals as goal
 

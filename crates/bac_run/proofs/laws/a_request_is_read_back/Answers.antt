@@ -1,4 +1,4 @@
--- A lemma says so of what any line says.
+-- A lemma about lines is used, with what the line means.
 use Rattle.{bac_script.specs.Happens, bac_run.proofs.line_read_back}
 use Rattle.bac_run.proofs.laws.a_request_is_read_back.Goals as goal
 

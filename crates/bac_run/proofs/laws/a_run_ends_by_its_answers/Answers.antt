@@ -1,4 +1,4 @@
--- If a run has ended nothing is due, so two that were answered alike did the same.
+-- When a run has ended no act is due, so two runs that were answered alike did the same.
 use Rattle.bac_run.proofs.{ends_alike}
 use Rattle.bac_run.proofs.laws.a_run_ends_by_its_answers.Goals as goal
 

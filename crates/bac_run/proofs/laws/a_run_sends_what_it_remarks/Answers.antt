@@ -1,4 +1,4 @@
--- By the acts of the run.
+-- The law follows from the acts of the run.
 use Rattle.bac_run.proofs.{all_sent}
 use Rattle.bac_run.proofs.laws.a_run_sends_what_it_remarks.Goals as goal
 

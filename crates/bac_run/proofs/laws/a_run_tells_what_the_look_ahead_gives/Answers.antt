@@ -1,4 +1,4 @@
--- By what is proved of every client.
+-- The law follows from the laws of every client.
 use Rattle.bac_run.{proofs.{kept_ahead, told_ahead}, specs.events_of}
 use Rattle.bac_run.proofs.laws.a_run_tells_what_the_look_ahead_gives.Goals as goal
 

@@ -1,4 +1,4 @@
--- Before a read nothing goes out.
+-- Before a read no output must be written.
 use Rattle.bac_print.proofs.Printed.{prints_nothing}
 use Rattle.bac_run.proofs.running.may_ask.Goals as goal
 

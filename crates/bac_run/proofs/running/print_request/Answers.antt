@@ -1,4 +1,4 @@
--- The line of a write, which goes out.
+-- The line of a write is written at once.
 use Rattle.std.proofs.lemmas.List.{append-nil}
 use Rattle.bac_print.proofs.Printed.{printed_as, ◌⨾◌}
 use Rattle.bac_run.proofs.running.print_request.Goals as goal

@@ -1,4 +1,4 @@
--- Each way out of the loop ends the run that stands so far in another way.
+-- Each exit of the loop ends the run in another way.
 use Rattle.std.proofs.Common.{arith, length-drop, refl, rules, sym, ◌+◌, ◌∙◌, ◌≡◌, ◌≢◌}
 use Rattle.std.proofs.lemmas.Result.{err_from_is_err_and}
 use Rattle.bac_script.specs.contracts.input.Reading.{the_type}
@@ -13,7 +13,7 @@ pub lines-init : goal.lines-init
 lines-init g c = record {
   reader = c.requires.reader;
   link = c.requires.link;
-  session = refl;
+  setup = refl;
   so_far = so_far_none _ _ _ c.print_settings.ensures refl c.new.ensures refl c.requires.reader c.new-chunk.ensures;
   room = rw c.new-chunk.ensures (omega arith);
 }
@@ -23,7 +23,7 @@ returns-in_err-make_room-clause-runs g c =
     let (_, was, same) =
     err_from_is_err_and c.from_residual.result c.from_residual.ensures.1 in
     rw (was, same)
-    (stops_waiting c.lines.invariant.so_far _ (roomed c.lines.invariant.session c.in_err-make_room.ensures.went)
+    (stops_waiting c.lines.invariant.so_far _ (roomed c.lines.invariant.setup c.in_err-make_room.ensures.went)
     (over_wait _ _ c.in_err-make_room.ensures.cause))
 
 pub returns-in_err-next-clause-runs : goal.returns-in_err-next-clause-runs
@@ -31,7 +31,7 @@ returns-in_err-next-clause-runs g c =
     let (_, was, same) =
     err_from_is_err_and c.from_residual-in_err-next.result c.from_residual-in_err-next.ensures.1 in
     rw (was, same)
-    (stops_unread c.lines.invariant.so_far (roomed c.lines.invariant.session c.in_ok-make_room.ensures.went)
+    (stops_unread c.lines.invariant.so_far (roomed c.lines.invariant.setup c.in_ok-make_room.ensures.went)
     c.in_ok-make_room.ensures.room c.next_line.ensures.given c.next_line.ensures.printed c.next_line.ensures.needed
     c.in_err-next.ensures.next)
 
@@ -39,7 +39,7 @@ pub returns-then-eq-clause-runs : goal.returns-then-eq-clause-runs
 returns-then-eq-clause-runs g c =
     let n = c.in_ok-next.ensures.next in
     let failed : c.in_ok-next.next.reading ≡ Failed = same_true the_type (search rules) _ _ (sym c.if-eq.ensures) in
-    stops_reading c.lines.invariant.so_far (roomed c.lines.invariant.session c.in_ok-make_room.ensures.went)
+    stops_reading c.lines.invariant.so_far (roomed c.lines.invariant.setup c.in_ok-make_room.ensures.went)
     c.in_ok-make_room.ensures.room c.next_line.ensures.given c.next_line.ensures.printed c.next_line.ensures.needed
     c.stop.result c.stop.ensures.went c.stop.ensures.over
     (failed_none g.R.Read.remaining _ _ c.in_ok-next.next.reading _ c.in_ok-next.next.length failed n.cut n.stands)
@@ -49,7 +49,7 @@ pub returns-then-next-eq0-clause-runs : goal.returns-then-next-eq0-clause-runs
 returns-then-next-eq0-clause-runs g c =
     let n = c.in_ok-next.ensures.next in
     let sure : c.in_ok-next.next.reading ≢ Failed = λ e. absurd (let bad = rw e at c.if-eq.ensures in cc) in
-    ends_unread c.lines.invariant.so_far (roomed c.lines.invariant.session c.in_ok-make_room.ensures.went)
+    ends_unread c.lines.invariant.so_far (roomed c.lines.invariant.setup c.in_ok-make_room.ensures.went)
     c.in_ok-make_room.ensures.room c.next_line.ensures.given c.next_line.ensures.printed c.next_line.ensures.needed
     _ (none_left _ _ _ c.in_ok-next.next.reading _ c.in_ok-next.next.length c.if-next-eq0.true sure n.cut n.stands)
     c.end.ensures.lines c.end.ensures.went c.end.ensures.over
@@ -65,9 +65,9 @@ returns-in_err-take_line-clause-runs g c =
     let cut = cut_front reading _ c.in_ok-next.next.length sure (λ none. omega (arith, none, c.if-next-eq0.false))
     n.within
     n.cut (at_last _ _ _ _ reading n.stands) in
-    let same_session = c.in_ok-make_room.ensures.went.same ∙ c.lines.invariant.session in
+    let same_session = c.in_ok-make_room.ensures.went.same ∙ c.lines.invariant.setup in
     rw (was, same)
-    (stops_line c.lines.invariant.so_far (roomed c.lines.invariant.session c.in_ok-make_room.ensures.went)
+    (stops_line c.lines.invariant.so_far (roomed c.lines.invariant.setup c.in_ok-make_room.ensures.went)
     c.in_ok-make_room.ensures.room c.next_line.ensures.given c.next_line.ensures.printed c.next_line.ensures.needed
     c.in_ok-next.next.length (c.lines.lines + 1) c.front.result.now c.front.ensures refl reading cut _
     (lined (acts_of_line c.front.result.now) (c.lines.lines + 1) c.front.result.now same_session
@@ -84,9 +84,9 @@ returns-in_err-make_room-2-clause-runs g c =
     let cut = cut_front reading _ c.in_ok-next.next.length sure (λ none. omega (arith, none, c.if-next-eq0.false))
     n.within
     n.cut (at_last _ _ _ _ reading n.stands) in
-    let same_session = c.in_ok-make_room.ensures.went.same ∙ c.lines.invariant.session in
+    let same_session = c.in_ok-make_room.ensures.went.same ∙ c.lines.invariant.setup in
     rw (was, same)
-    (stops_last c.lines.invariant.so_far (roomed c.lines.invariant.session c.in_ok-make_room.ensures.went)
+    (stops_last c.lines.invariant.so_far (roomed c.lines.invariant.setup c.in_ok-make_room.ensures.went)
     c.in_ok-make_room.ensures.room c.next_line.ensures.given c.next_line.ensures.printed c.next_line.ensures.needed
     c.in_ok-next.next.length (c.lines.lines + 1) c.front.result.now c.front.ensures refl reading cut
     c.in_ok-take_line.ensures.good _ (lined (acts_of_line c.front.result.now) (c.lines.lines + 1) c.front.result.now
@@ -103,8 +103,8 @@ returns-then-eq-2-clause-runs g c =
     let cut = cut_front reading _ c.in_ok-next.next.length sure (λ none. omega (arith, none, c.if-next-eq0.false))
     n.within
     n.cut (at_last _ _ _ _ reading n.stands) in
-    let same_session = c.in_ok-make_room.ensures.went.same ∙ c.lines.invariant.session in
-    ends_behind c.lines.invariant.so_far (roomed c.lines.invariant.session c.in_ok-make_room.ensures.went)
+    let same_session = c.in_ok-make_room.ensures.went.same ∙ c.lines.invariant.setup in
+    ends_behind c.lines.invariant.so_far (roomed c.lines.invariant.setup c.in_ok-make_room.ensures.went)
     c.in_ok-make_room.ensures.room c.next_line.ensures.given c.next_line.ensures.printed c.next_line.ensures.needed
     c.in_ok-next.next.length (c.lines.lines + 1) c.front.result.now c.front.ensures refl reading cut
     c.in_ok-take_line.ensures.good _ last (at_last _ _ _ _ reading n.stands last)
@@ -123,13 +123,13 @@ lines-preserved g c =
     let cut = cut_front reading _ c.in_ok-next.next.length sure (λ none. omega (arith, none, c.if-next-eq0.false))
     n.within
     n.cut (at_last _ _ _ _ reading n.stands) in
-    let same_session = c.in_ok-make_room.ensures.went.same ∙ c.lines.invariant.session in
+    let same_session = c.in_ok-make_room.ensures.went.same ∙ c.lines.invariant.setup in
     rw c.skip.ensures
     (record {
       reader = can_read _ _ _ _ reading n.stands sure;
       link = c.in_ok-take_line.ensures.fault;
-      session = c.in_ok-take_line.ensures.went.same ∙ same_session;
-      so_far = so_far_more c.lines.invariant.so_far (roomed c.lines.invariant.session c.in_ok-make_room.ensures.went)
+      setup = c.in_ok-take_line.ensures.went.same ∙ same_session;
+      so_far = so_far_more c.lines.invariant.so_far (roomed c.lines.invariant.setup c.in_ok-make_room.ensures.went)
           c.in_ok-make_room.ensures.room c.next_line.ensures.given c.next_line.ensures.printed
           c.next_line.ensures.needed
           c.in_ok-next.next.length (c.lines.lines + 1) c.front.result.now c.front.ensures refl reading cut

@@ -7,9 +7,9 @@ abbrev pub invariant-lines : goal.invariant-lines
 invariant-lines g l = record {
   reader : has_failed l.reader ≡ false;
   link : g.L.Link.has_failed l.link ≡ false;
-  so_far : SoFar g.R.Read.remaining g.W.Write.contents l.fn.session l.run l.fn.reader l.reader l.chunk l.fn.page
+  so_far : SoFar g.R.Read.remaining g.W.Write.contents l.fn.setup l.run l.fn.reader l.reader l.chunk l.fn.page
       l.page (g.L.Link.seen l.fn.link) (g.L.Link.seen l.link) l.lines;
-  session : l.run.session ≡ l.fn.session;
+  setup : l.run.setup ≡ l.fn.setup;
   room : l.lines + most_to_come l.reader l.chunk ≤ chunk_room * most_reads;
 }
 

@@ -1,4 +1,4 @@
--- If a send failed, those after it were not made.
+-- If a send failed, the later ones were not made.
 use Rattle.std.proofs.{Common.arith, lemmas.Result.err_from_is_err_and}
 use Rattle.bac_run.proofs.{due_some}
 use Rattle.bac_run.proofs.turns.send_due.Goals as goal

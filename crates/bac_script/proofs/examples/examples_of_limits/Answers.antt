@@ -1,4 +1,4 @@
--- Each computes; a field shows what is not so.
+-- Each row is computed; a negative row follows from one field.
 use Rattle.std.proofs.Common.{[], arith, refl, ◌∷◌}
 use Rattle.bac_script.proofs.examples.examples_of_limits.Goals as goal
 

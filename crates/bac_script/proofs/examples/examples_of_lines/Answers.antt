@@ -1,4 +1,4 @@
--- Each computes; a field shows what is not so.
+-- Each row is computed; a negative row follows from one field.
 use Rattle.std.proofs.Common.{[], arith, inl, inr, List, refl, ℕ, ◌++◌, ◌∷◌, ◌≡◌}
 use Rattle.{bac_tsm.specs.{next_invoke_id, refusal_of}, bac_print.specs.Inner.Examples.{page, unasked, unknown}}
 use Rattle.bac_script.specs.{IsNext, Open, ReadForLine, Inner.gave}

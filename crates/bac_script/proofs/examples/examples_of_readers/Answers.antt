@@ -1,4 +1,4 @@
--- Each computes, or is arithmetic; a field shows what is not so.
+-- Each row is computed, or is arithmetic; a negative row follows from one field.
 use Rattle.std.proofs.Common.{[], ◌∷◌, arith, inl, inr, refl}
 use Rattle.{bac_print.specs.Inner.Examples.{unasked, unknown}, bac_script.specs.{Failed, ReaderStands, Inner.gave}}
 use Rattle.bac_script.proofs.examples.examples_of_readers.Goals as goal

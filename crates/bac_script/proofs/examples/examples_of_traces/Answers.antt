@@ -1,4 +1,4 @@
--- What the reader gave is read off it, and with it the text and the end of the script.
+-- The text and the end of the script follow from what the reader gave.
 use Rattle.std.proofs.Common.{[], ap, arith, inl, inr, length, length-append, List, refl, Result, subst, sym, ℕ, ◌++◌}
 use Rattle.std.proofs.Common.{◌∙◌, ◌∷◌, ◌≡◌}
 use Rattle.std.proofs.lemmas.List.{append_cancel_right}
@@ -17,13 +17,13 @@ unfolding computed
 told octets [] e = ([], refl)
 told octets (x ∷ xs) e = let lengths = ap length e in absurd (grind (arith, length-append))
 
--- A run is of the octets that its reader gave.
+-- A run is about the octets that its reader gave.
 module _ {octets : List ℕ} {reader' writer' : Checked ℕ} {answer : Result TraceEnd TraceFault}
     (h : Traces unknown unknown unasked reader' unasked writer' answer) where
   here : octets_of reader' ≡ octets → ScriptRuns octets h.reading h.written answer
   here e = subst (λ given. ScriptRuns given h.reading h.written answer) (sym h.read.gave.passed ∙ e) h.runs
 
--- A script of no octets prints nothing, and ends after no line; and one of a bad line ends there.
+-- An empty script prints nothing, and ends after no line. A script with a bad line ends there.
 silent : (reading : Reading) (written : List ℕ) → ScriptRuns [] reading written (ended 0) → written ≡ []
 unfolding computed
 silent Open written runs = runs.0
@@ -42,7 +42,7 @@ not_well Open written runs = let end = runs.1 in grind arith
 not_well AtEnd written runs = let end = runs.1 in grind arith
 not_well Failed written runs = let end = runs.1 in grind arith
 
--- Without a read no script ends.
+-- A script does not end without a read.
 not_over : (reading : Reading) (written : List ℕ) → ReaderStands unknown reading unasked unasked []
     → ScriptRuns [] reading written (ended 0) → ⊥
 unfolding computed
@@ -53,7 +53,7 @@ not_over Failed written stands runs = elim (stands.failed) as (λ _. ⊥) [
   | inr spent ↦ grind arith
 ]
 
--- The lines of the first read, whose text was out before the second.
+-- The lines of the first read, whose text was written before the second.
 abbrev first : List ℕ
 first = lined (read ∷ [])
 

@@ -1,4 +1,4 @@
--- Two runs are compared by what their readers gave, however each was cut into reads.
+-- Two runs are compared by the octets that their readers gave, however these were cut into reads.
 use Rattle.bac_script.proofs.{traces_alike, traces_front}
 use Rattle.bac_script.proofs.laws.a_script_is_a_function.Goals as goal
 

@@ -1,4 +1,4 @@
--- If all octets are ASCII, no reading of UTF-8 is needed.
+-- If all octets are ASCII, they are UTF-8.
 use Rattle.std.proofs.Common.{arith, Err, is_ok, IsUtf8, List, MatchResult, nat_lt, None, Ok, position, Result, sym, ℕ}
 use Rattle.std.proofs.{Common.{◌∙◌, ◌≡◌}, lemmas.{Bool.false_from_ne_true, List.get_or_past, Str.is_utf8-from_IsUtf8}}
 use Rattle.std.{proofs.lemmas.Str.{IsUtf8-from_ascii, IsUtf8-from_is_utf8}, specs.Str.{is_utf8, IsAscii}}

@@ -1,4 +1,4 @@
--- Five prints are one text.
+-- Five prints make one text.
 use Rattle.bac_print.proofs.Printed.{◌⨾◌}
 use Rattle.bac_script.proofs.notes.print_end.Goals as goal
 

@@ -1,4 +1,4 @@
--- The device of a script stands as its accepted writes made it.
+-- The state of a script's device follows from its accepted writes.
 use Rattle.std.proofs.Common.{ap, List, option_map, ℕ, ◌∙◌}
 use Rattle.{bac_pdu.specs.station, bac_device.{proofs.Answering.next_after, specs.demo_points}}
 use Rattle.{bac_print.proofs.Printed.printed_as, bac_script.specs.{reply_text, small_device}}

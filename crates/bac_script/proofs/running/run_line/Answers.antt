@@ -1,4 +1,4 @@
--- A request to write that is too long is seen by its words alone, since its body is never made.
+-- A request to write that is too long is seen from its words alone, since its body is never made.
 use Rattle.std.proofs.Common.{[], ap, arith, Err, IsTrue, length, List, nat_lt, Ok, refl, Result, rules, subst, sym}
 use Rattle.std.proofs.{Common.{true, ℕ, ◌∙◌, ◌∷◌, ◌≡◌}, lemmas.Bool.Decides.nat_tests}
 use Rattle.{bac_wire.specs.identifier, bac_pdu.specs.longest_body}

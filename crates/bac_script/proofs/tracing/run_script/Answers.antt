@@ -1,4 +1,4 @@
--- Each way out of the loop ends the run that stands so far in another way.
+-- Each exit of the loop ends the run in another way.
 use Rattle.std.proofs.Common.{ap, arith, length-drop, length-take-le, refl, rules, sym, ◌&&◌, ◌∙◌, ◌≡◌}
 use Rattle.{bac_wire.specs.result_seen, bac_script.proofs.{faulty, goes_on, SoFar-none, to_end, to_last, unread}}
 use Rattle.bac_script.proofs.{unwritten, tracing.run_script.Goals.{else-is_first, then-is_first}}

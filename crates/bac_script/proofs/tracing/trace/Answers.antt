@@ -1,4 +1,4 @@
--- The rest on the page goes out in the end, or the run is cut off there.
+-- The rest on the page is written at the end, or the writer fails there.
 use Rattle.std.proofs.Common.{rules}
 use Rattle.bac_script.proofs.{trace_cut, traces_all}
 use Rattle.bac_script.proofs.tracing.trace.Goals as goal

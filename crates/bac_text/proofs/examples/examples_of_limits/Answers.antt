@@ -1,4 +1,4 @@
--- Each computes.
+-- Each row is computed.
 use Rattle.std.proofs.Common.{refl}
 use Rattle.bac_text.proofs.examples.examples_of_limits.Goals as goal
 

@@ -1,4 +1,4 @@
--- Each row computes once the definitions that read it are opened.
+-- Each row is computed once the definitions that read it are opened.
 use Rattle.std.{proofs.Common.arith, specs.Fmt.digits}
 use Rattle.{hex.specs.Hex.{decode_pairs, encode_with}, bac_wire.specs.{plain, plain_tag, Inner.Datum.tagged}}
 use Rattle.{bac_pdu.specs.plain_parameter, bac_text.specs.value_under}

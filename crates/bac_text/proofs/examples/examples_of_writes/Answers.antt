@@ -1,4 +1,4 @@
--- The body is that of the words; it is not empty, and is read as one value.
+-- The body of the words is not empty, and is read as one value.
 use Rattle.std.proofs.Common.{[], ap, arith, codes, Err, List, None, Ok, Result, Some, subst, sym, ℕ, ◌∷◌, ◌≡◌}
 use Rattle.std.specs.Fmt.{digits}
 use Rattle.hex.specs.Hex.{decode_pairs, encode_with}
@@ -15,7 +15,7 @@ written : IsWritten value 85 None (Some 16) (codes "3" ∷ codes "-5" ∷ []) mi
 unfolding digits decode_pairs encode_with value_under plain tagged plain_tag plain_parameter
 written = bodies_written _ _ _ _ _ _ (grind arith) (omega arith) tt (grind arith) (grind arith)
 
--- What a body of nothing orders; and the values in the other body, beside those of other words.
+-- The order in an empty body; and the values in the other body, compared with those of other words.
 module _ (order : Order) where
   nothing : write_of [] ≡ Ok order → ⊥
   unfolding number_at object_at reference_at context_at shape_at tag_at write_of

@@ -1,4 +1,4 @@
--- A load may go back over some octets; those before it and those of it are all that were read.
+-- A load may repeat some octets; the octets before it and in it are all that were read.
 use Rattle.std.proofs.{Common.{ap, arith, drop, sym, take, take_all, ℕ, ◌*◌, ◌∙◌, ◌≤◌}, lemmas.Simd.length-put_chunk}
 use Rattle.bac_text.{proofs.{all_before, digits_read, digits_refused, read_on}, specs.Inner.octets_by_lanes}
 use Rattle.bac_text.proofs.hex_lanes.octets_from.Goals as goal

@@ -1,4 +1,4 @@
--- A lane stops exactly where there is no digit.
+-- A run ends exactly where there is no digit.
 use Rattle.std.proofs.{Common.arith, lemmas.Simd.length-chunk}
 use Rattle.bac_text.proofs.{other_is, other_lanes, run_in}
 use lib.Lanes.{chunk}

@@ -1,4 +1,4 @@
--- If the words end, what was read so far is the region of all pairs.
+-- If no word is left, the values so far are the region of all pairs.
 use Rattle.std.proofs.Common.{ap, Bool, drop, List, subst, sym, ℕ, ◌∙◌}
 use Rattle.bac_text.proofs.{pair_behind, Progress, progress-empty, progress-none}
 use Rattle.bac_text.proofs.pairs.read_pairs.Goals as goal

@@ -1,4 +1,4 @@
--- No digit, more after the digits, or a number past the limit: in each case the definition reads none.
+-- The text has no digit, octets after the digits, or a number above the limit: in each case the definition reads none.
 use Rattle.bac_text.proofs.{short_big, short_empty, short_long}
 use Rattle.bac_text.proofs.peers.short_number.Goals.{then-count-eq0-via-else-count-eq0+else-count-text+then-number-limit}
 use Rattle.bac_text.proofs.peers.short_number.Goals.{then-count-eq0-via-else-count-eq0+then-count-text}

@@ -1,4 +1,4 @@
--- The last load may go back over some octets; none before it ends the piece.
+-- The last load may repeat some octets; none of the octets before it ends the piece.
 use Rattle.std.proofs.Common.{arith}
 use Rattle.bac_text.proofs.{position_is, position_none}
 use Rattle.bac_text.proofs.search.position_by.Goals as goal

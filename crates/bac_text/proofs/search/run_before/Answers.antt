@@ -1,4 +1,4 @@
--- What ends a piece, three ways: in each a lane stops exactly where the octet ends it.
+-- A piece ends in one of three ways; in each a run ends exactly where an octet ends the piece.
 use Rattle.std.proofs.Common.{ap, subst, sym, ◌∙◌}
 use Rattle.std.proofs.lemmas.Simd.{length-chunk, zip2_of_maps, zip2_splat, zip2_splat_left}
 use Rattle.bac_text.proofs.{lane_is, lanes_are, run_in, search.run_before.Goals.{in-At, in-Blank, in-PastAscii}}

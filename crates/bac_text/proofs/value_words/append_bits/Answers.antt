@@ -1,4 +1,4 @@
--- Eight digits an octet; those of the last that are not there are the unused bits.
+-- There are eight digits to an octet; the missing ones of the last octet are the unused bits.
 use Rattle.std.proofs.Common.{ap, arith, drop, length, length-set, refl, sym, ◌*◌, ◌<◌, ◌∙◌, ◌≡◌}
 use Rattle.std.proofs.lemmas.List.{take_rest, Edits.fill_by_more}
 use Rattle.bac_text.{proofs.{bits-long, bits-written}, specs.bits_octet}

@@ -1,4 +1,4 @@
--- An odd number of digits, others than digits, too many: in each case the definition refuses as well.
+-- The number of digits is odd, not all are digits, or there are too many: in each case the definition refuses them too.
 use Rattle.std.proofs.Common.{arith, sym, ◌∙◌}
 use Rattle.bac_text.proofs.{octets-decoded, octets-long, others_refused}
 use Rattle.bac_text.proofs.value_words.append_octets.Goals as goal

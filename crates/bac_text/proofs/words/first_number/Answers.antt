@@ -1,4 +1,4 @@
--- The digits end at the text's end or at a blank, so they are its first word.
+-- The digits end at a blank or at the end of the text, so they are its first word.
 use Rattle.std.proofs.{Common.arith, lemmas.List.take_rest}
 use Rattle.bac_text.proofs.{first_number_is}
 use Rattle.bac_text.proofs.words.first_number.Goals as goal

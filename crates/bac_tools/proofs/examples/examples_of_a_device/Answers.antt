@@ -1,4 +1,4 @@
--- Each is computed; the end of the run, its writers and its calls refute the others.
+-- Each row is computed; a negative row follows from the end of the run, its writers or its calls.
 use Rattle.std.proofs.Common.{[], arith, codes, Err, false, inl, inr, List, None, Ok, refl, Some, subst}
 use Rattle.std.proofs.Common.{sym, ℕ, ◌++◌, ◌∙◌, ◌∷◌, ◌≡◌}
 use Rattle.std.{proofs.Math.Logic.∥∥₁_elim, specs.declared.net.socket_addr.SocketAddr.SocketAddr}
@@ -50,12 +50,12 @@ printed_none made history job answers ran =
     (sym job_is) ran in
     untaken _ of_device.runs.1
 
--- The first call of a log that begins so.
+-- The address in the first call of these logs is the same.
 first_bound : {address other : SocketAddr} {rest calls : List SystemCall}
     → Bind other ∷ rest ≡ (Bind address ∷ []) ++ calls → address ≡ other
 first_bound e = grind arith
 
--- A socket of such words has this port, of each address.
+-- A socket of such words has this port, at each address.
 there : (job : Job) (binding : Binding) (address : SocketAddr) → Answers device_words (Ok job)
     → asked_by job ≡ Some binding → IsAddressOf (station binding.at) address → IsAddressOf (station here) address
 there job binding address answers wanted at =
@@ -92,7 +92,7 @@ returns c = record {
     asked = ∣ record {
       calls = Limit 1000000000 false ∷ [];
       logged = refl;
-      are = (_, [], refl, inr (record { other = λ e. grind arith; failed = refl; asked = refl }), refl);
+      are = (_, [], refl, inr (record { failed = refl; sets = inr (λ e. grind arith, refl) }), refl);
     } ∣₁;
   };
   unbound = λ h. ∥∥₁_elim h.asked (λ x y. absurd x) (λ logs. let logged = logs.logged in grind arith);

@@ -1,13 +1,13 @@
--- A run without an input is computed; its lines and its settings refute the others.
+-- A run with an empty input is computed; a negative row follows from its lines or its settings.
 use Rattle.std.proofs.Common.{[], ap, arith, false, inl, inr, length, List, refl, subst, sym, ℕ, ◌<◌, ◌∙◌, ◌∷◌, ◌≡◌}
 use Rattle.bac_script.{proofs.Computed.computed, specs.declared.input.Reading.{Reading, TheVariants.AtEnd}}
 use Rattle.bac_run.proofs.{Cut.{lines_fed, none_fed}, Out.out_unwaited, ReadBack.settings_read_back}
 use Rattle.bac_run.specs.{Input.{Feeds, feeds_in, lines_in}, Journal.{Act, NoLine}}
-use Rattle.bac_tools.{proofs.Worked.given, specs.{Session, Inner.{settings_told, unasked}}}
+use Rattle.bac_tools.{proofs.Worked.given, specs.{Setup, Inner.{settings_told, unasked}}}
 use Rattle.bac_tools.proofs.examples.examples_of_many_requests.Goals as goal
 
-abbrev session : 0 < 3000 → 0 < 1 → Session
-session timed some =
+abbrev setup : 0 < 3000 → 0 < 1 → Setup
+setup timed some =
     record { config = record { timeout = 3000; retries = 3; positive = timed }; window = 1; some = some }
 
 no_line : (octets : List ℕ) (reading : Reading) (kept : List ℕ) (acts : List Act) → [] ≡ octets
@@ -21,7 +21,7 @@ pub returns : goal.returns
 unfolding computed
 returns c = record {
   none = record {
-    session = session (omega arith) (omega arith);
+    setup = setup (omega arith) (omega arith);
     of_batch = record { timeout = refl; retries = refl; window = refl };
     requested = record {
       acts = NoLine AtEnd ∷ [];
@@ -49,7 +49,7 @@ returns c = record {
         told = ([], refl);
       });
       printed = given _ (λ none. grind arith) refl refl refl;
-      out = out_unwaited (session (omega arith) (omega arith)) unasked settings_told (NoLine AtEnd) (λ waits. absurd
+      out = out_unwaited (setup (omega arith) (omega arith)) unasked settings_told (NoLine AtEnd) (λ waits. absurd
           waits);
       asks = record { gained = []; gains = refl; as_due = (false, inl ([], refl, (refl, refl)), refl) };
       over = refl;
@@ -62,7 +62,7 @@ returns c = record {
       let takes = h.requested.takes in
       no_line takes.given takes.reading takes.kept h.requested.acts takes.gave.passed takes.feeds takes.all_done.3;
   no_timeout = λ h.
-      let zero = h.of_batch.timeout in let positive = h.session.config.positive in omega (arith, zero, positive);
+      let zero = h.of_batch.timeout in let positive = h.setup.config.positive in omega (arith, zero, positive);
   unread = λ error kind. rw kind refl;
   read = λ words word items. rw items refl;
 }

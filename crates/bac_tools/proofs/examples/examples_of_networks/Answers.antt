@@ -1,4 +1,4 @@
--- Each computes; a socket refutes the others.
+-- Each row is computed; a negative row follows from a socket.
 use Rattle.std.{proofs.Common.{[], ap, arith, inl, inr, None, refl, subst, sym, ◌∷◌}, specs.Net.Addr.IsIpv4OfBits}
 use Rattle.bac_tools.specs.{IsLost, declared.program.Binding.Binding, Inner.{any_at, one_bind}}
 use Rattle.bac_links.specs.{Bind, Binds, BindsAtMost}

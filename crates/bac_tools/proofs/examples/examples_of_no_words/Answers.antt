@@ -1,4 +1,4 @@
--- A run that got no words reports only that; its report and its writers refute the others.
+-- A run without words only reports this; a negative row follows from its report or its writers.
 use Rattle.std.proofs.Common.{ap, arith, codes, Err, false, inl, inr, None, Ok, Option, option_and_then, refl, Result}
 use Rattle.std.proofs.Common.{Some, subst, sym, ℕ, ◌∙◌, ◌≡◌}
 use Rattle.std.specs.{declared.io.ErrorKind.TheVariants.NotFound, Result.result_ok}
@@ -9,7 +9,7 @@ use Rattle.bac_tools.specs.Inner.{forgotten, gives_none, no_contents, no_socket,
 use Rattle.bac_tools.specs.Inner.{told_no_text, unasked, unknown}
 use Rattle.bac_tools.proofs.examples.examples_of_no_words.Goals as goal
 
--- A run that got no words, since they could not be read.
+-- A run whose words could not be read.
 run : IsRun gives_none unknown no_contents 0 unasked unasked unasked unasked unasked told_no_text
     (ran_without no_text (Some 0)) (Err NotFound)
 run = record {
@@ -21,7 +21,7 @@ run = record {
   fault = (codes "bactool: words that are not UTF-8\n", refl, given _ (λ none. grind arith) refl refl refl);
 }
 
--- The report of such a run.
+-- The report of a run whose words could not be read.
 module _ {reader reader' writer writer' errors errors' : Checked ℕ} {network : ℕ} {ran : Ran ℕ ℕ ℕ}
     (h : IsRun gives_none unknown no_contents network reader reader' writer writer' errors errors' ran
     (Err NotFound)) where
@@ -34,7 +34,7 @@ module _ {reader reader' writer writer' errors errors' : Checked ℕ} {network :
   reported : ran.report ≡ no_text
   reported = subst (λ r. ran.report ≡ once_given r.fault _ r) reports h.reported
 
--- The report of a script has no fault of words, and no other report of a run without a network is that.
+-- The report of a script does not have a fault of words, so it is not this report.
 not_traced : (answer : Result TraceEnd TraceFault) → no_text ≡ trace_report answer → ⊥
 not_traced (Ok end) e = grind arith
 not_traced (Err fault) e = grind arith

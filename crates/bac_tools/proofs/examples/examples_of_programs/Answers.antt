@@ -1,4 +1,4 @@
--- What the words order is computed; network, report and socket tell what is not so.
+-- The job of the words is computed; a negative row follows from the network, the report or the socket.
 use Rattle.std.proofs.Common.{[], ap, arith, Err, inl, inr, IsErrAnd, List, None, Ok, Option, option_and_then, refl}
 use Rattle.std.proofs.Common.{Result, Some, subst, sym, ℕ, ◌∙◌, ◌≡◌, ◌⊎◌}
 use Rattle.std.specs.{Prelude.IfNone, Result.result_ok}
@@ -22,15 +22,15 @@ served : Answers device_words (Ok (Use device))
 unfolding walk_fault walked defaults_fault
 served = record { taken = refl; answer_is = refl }
 
--- Words are answered so.
+-- The answer is the fault that the words have, or a job that they ask for.
 Answered : List Text → Result Job UsageFault → Type 0
 Answered words answer = IsErrAnd answer (IsRefusal words) ⊎ Answers words answer
 
--- Another network than that of the run is handed back.
+-- A network other than that of the run is handed back.
 abbrev Changed : Type 0
 Changed = (ran_without well (Some 1)).unasked ≡ Some 0
 
--- The network that is handed back is that of the run, also where no job is run.
+-- The network that is handed back is that of the run, even if no job is run.
 not_changed : (answer : Result Job UsageFault) (opened : Option (Result ℕ ℕ)) → Answered script_words answer
     → IsGiven gives_none unknown 0 (option_and_then asked_by (result_ok answer)) opened
     → RunsAsRead gives_none unknown 0 unasked drained unasked unasked (ran_without well (Some 1)) answer opened
@@ -47,7 +47,7 @@ not_changed (Ok (Run batch)) opened (inr answers) given ends same =
 not_changed (Ok (Use tool)) opened (inr answers) given ends same =
     let both = sym traced.answer_is ∙ answers.answer_is in grind arith
 
--- No other fault is an answer to words whose first fault is their address.
+-- Words whose first fault is their address have no other fault as an answer.
 not_misread : (answer : Result Job UsageFault) (opened : Option (Result ℕ ℕ)) → Answered bad_read_words answer
     → RunsAsRead gives_none unknown 0 unasked unasked unasked unasked
     (ran_without (report_of (Usage BadIndex)) (Some 0)) answer opened → ⊥
@@ -63,7 +63,7 @@ not_misread (Err fault) opened (inl refused) ends =
     let is : fault ≡ BadIndex = grind arith in
     subst (IsRefusal bad_read_words) is refused
 
--- What is handed back is what the network gave.
+-- The result of the network is handed back.
 not_given : (answer : Result Job UsageFault) (opened : Option (Result ℕ InVain))
     → IsGiven (FailsAfter []) unknown 0 (option_and_then asked_by (result_ok answer)) opened
     → RunsAsRead (FailsAfter []) unknown 0 unasked unasked unasked unasked (ran_in_vain 1) answer opened → ⊥

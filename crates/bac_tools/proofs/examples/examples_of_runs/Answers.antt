@@ -1,11 +1,11 @@
--- The runs were asked for nothing, and read and printed nothing.
+-- The runs made no call, and read and printed nothing.
 use Rattle.std.proofs.Common.{[], arith, Err, inl, inr, IsErrAnd, List, Ok, Option, refl, Result, Some, subst, ℕ, ◌∷◌}
 use Rattle.std.proofs.Common.{◌≡◌}
 use Rattle.{bac_script.specs.IsFrontOf, bac_links.specs.Entry, bac_words.specs.IsRefusal}
 use Rattle.bac_tools.specs.{Gained, is_socket, Outside.Outside, Inner.{one_time, one_wait}}
 use Rattle.bac_tools.proofs.examples.examples_of_runs.Goals as goal
 
--- If two readers gave different octets, neither gave a front of what the other gave.
+-- If two readers gave different octets, neither gave only the first octets of the other.
 not_front : (read other : List ℕ) → read ≡ 1 ∷ [] → other ≡ 2 ∷ [] → IsFrontOf read other → ⊥
 not_front read other one two (rest, whole) = grind arith
 
@@ -17,7 +17,7 @@ not_both : (opened other : Option (Result ℕ ℕ)) (none : ℕ) → opened ≡ 
     → other ≡ Some (Err none) → is_socket opened ≡ is_socket other → ⊥
 not_both opened other none e f same = grind arith
 
--- A link whose history has one entry more has gained that, and nothing else.
+-- A link whose history has one entry more has gained this entry, and nothing else.
 not_gained : (out : Outside ℕ ℕ ℕ ℕ) (opened left : Option (Result ℕ ℕ)) (gained : List Entry) → opened ≡ Some (Ok 0)
     → left ≡ Some (Ok 1) → (out.seen 0).history ≡ [] → (out.seen 1).history ≡ one_time
     → Gained out.seen opened left gained → gained ≡ one_wait → ⊥

@@ -1,4 +1,4 @@
--- The job that the words order is computed; the report and the printed text refute the others.
+-- The job of the words is computed; a negative row follows from the report or the printed text.
 use Rattle.std.proofs.Common.{[], arith, codes, Err, inl, inr, List, Ok, refl, Result, subst, sym, ℕ, ◌∙◌, ◌∷◌}
 use Rattle.std.proofs.Common.{◌≡◌, ◌⊎◌}
 use Rattle.clap.specs.{Faults.{defaults_fault, walk_fault}, Walk.walked, Words.Text}
@@ -9,7 +9,7 @@ use Rattle.bac_tools.specs.Inner.{bad_words, device, no_text, well}
 use Rattle.bac_words.specs.{Answers, IsRefusal, declared.faults.UsageFault.TheVariants.{BadIndex, BadMac}}
 use Rattle.bac_tools.proofs.examples.examples_of_scripts.Goals as goal
 
--- The words that are run if the program has the name of a tool, and the job that they order.
+-- The words that are run if the program has the name of a tool, and their job.
 read_words : List Text
 read_words = [] ∷ codes "bacrp" ∷ bad_words
 
@@ -24,7 +24,7 @@ served : Answers serve_words (Ok (Use device))
 unfolding walk_fault walked defaults_fault serve_words
 served = record { taken = refl; answer_is = refl }
 
--- They have no other fault, and no fault if they order a device.
+-- These words have no other fault, and words that ask for a device have none.
 Faulty : List Text → UsageFault → Type 0
 Faulty words fault = IsRefusal words fault ⊎ Answers words (Err fault)
 
@@ -38,7 +38,7 @@ unfolding Faulty
 not_served (inl refused) = refused
 not_served (inr answers) = let both = sym served.answer_is ∙ answers.answer_is in grind arith
 
--- A script of no octets that ends well prints nothing.
+-- An empty script that ends well prints nothing.
 silent : (reading : Reading) (written : List ℕ) (end : TraceEnd) → ScriptRuns [] reading written (Ok end) → written ≡ []
 unfolding computed
 silent Open written end runs = runs.0

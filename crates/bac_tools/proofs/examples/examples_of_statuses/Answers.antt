@@ -1,4 +1,4 @@
--- Each is arithmetic.
+-- Each row is arithmetic.
 use Rattle.std.proofs.Common.{arith, refl}
 use Rattle.bac_tools.proofs.examples.examples_of_statuses.Goals as goal
 

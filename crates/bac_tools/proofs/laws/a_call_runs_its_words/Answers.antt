@@ -1,4 +1,4 @@
--- It is a lemma.
+-- The law is a lemma.
 use Rattle.bac_tools.proofs.{runs_typed}
 use Rattle.bac_tools.proofs.laws.a_call_runs_its_words.Goals as goal
 

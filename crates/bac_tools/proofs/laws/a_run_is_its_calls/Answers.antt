@@ -1,4 +1,4 @@
--- A lemma says so for each case: there was a socket, there was none, or none was asked for.
+-- There is a lemma for each case: there was a socket, there was none, or none was asked for.
 use Rattle.bac_tools.proofs.{run_so, run_unasked, run_without}
 use Rattle.bac_tools.proofs.laws.a_run_is_its_calls.Goals as goal
 

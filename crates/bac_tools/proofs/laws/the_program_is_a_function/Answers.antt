@@ -1,4 +1,4 @@
--- One part is a lemma; in the other both programs report the same.
+-- One part is a lemma; in the other both programs have the same report.
 use Rattle.std.proofs.Common.{sym, ◌∙◌}
 use Rattle.bac_tools.{proofs.runs_alike, specs.once_given}
 use Rattle.bac_tools.proofs.laws.the_program_is_a_function.Goals as goal

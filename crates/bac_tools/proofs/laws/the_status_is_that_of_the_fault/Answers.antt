@@ -1,4 +1,4 @@
--- However the words were run, a lemma of `Statuses` says so.
+-- A lemma of `Statuses` covers each way the words were run.
 use Rattle.bac_tools.proofs.{program_status, RunLaws.run_status}
 use Rattle.bac_tools.proofs.laws.the_status_is_that_of_the_fault.Goals as goal
 

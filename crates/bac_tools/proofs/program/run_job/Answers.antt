@@ -1,4 +1,4 @@
--- A job was run over the socket that it asks for, or it is told that there is none. A script asks for none.
+-- A job was run over the socket that it needs, or the report says that there is none. A script needs none.
 use Rattle.std.proofs.Common.{Err, None, Ok, Option, refl, Result, rules, Some, sym, ◌∙◌, ◌≡◌}
 use Rattle.bac_tools.specs.{asked_by, Checked, IsGiven, Job, report_of, Run, RunsScript, Trace, Use, Inner.RunsLinked}
 use Rattle.bac_tools.specs.{declared.{program.Binding.Binding, report.Report.Report}, Runs.JobRuns}
@@ -6,7 +6,7 @@ use Rattle.bac_tools.specs.Outside.{Outside, outside}
 use Rattle.bac_tools.specs.declared.report.Fault.TheVariants as faults
 use Rattle.bac_tools.proofs.program.run_job.Goals as goal
 
--- The job asks for no socket.
+-- The job needs no socket.
 abbrev AsksForNone : Job → Type 0
 AsksForNone job = (binding : Binding) → asked_by job ≡ Some binding → ⊥
 
@@ -18,7 +18,7 @@ ungiven gives out network (Use tool) none = absurd (none _ refl)
 
 module _ {Origin L R W : Type 0} (F : Type 0) (out : Outside Origin L R W) (reader reader' : Checked R)
     (writer writer' : Checked W) (report : Report) where
-  -- A job that asks for no socket is a script.
+  -- A job that needs no socket is a script.
   scripted : (job : Job) (opened : Option (Result L F)) → AsksForNone job
       → RunsScript out reader reader' writer writer' report
       → JobRuns out reader reader' writer writer' report job opened opened

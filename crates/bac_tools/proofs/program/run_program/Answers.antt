@@ -1,4 +1,4 @@
--- Reader and writers are fresh before the words are run, and each gets what the report has for it.
+-- Reader and writers are new before the words are run, and each is then given its text of the report.
 use Rattle.std.proofs.Common.{subst}
 use Rattle.{bac_print.specs.fresh, bac_tools.specs.{Checked, IsCalled, texts_of, Outside.Outside}}
 use Rattle.bac_tools.proofs.program.run_program.Goals as goal

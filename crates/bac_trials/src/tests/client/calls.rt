@@ -16,7 +16,7 @@ fn a_read_and_its_answer(rt: HostRuntime) {
     assert!(&rt; client.open_count() == 0);
 }
 
-/// The requests that are due at each of these ticks, under the usual settings.
+/// The requests that are due at each of these ticks, with the usual settings.
 const TICKS: [(u64, &[DueEntry]); 7] = [
     (2999, &[]),
     (3000, &[DueEntry::Resend(0)]),
@@ -38,7 +38,7 @@ fn ticks_send_again_and_end(rt: HostRuntime) {
     assert!(&rt; Config::new(0, 3).is_none() && Config::new(1, 0).is_some());
 }
 
-/// Returns how many octets the datagram to this peer has with the longest body; one with an octet more is refused.
+/// Returns the length of the datagram to this peer with the longest body; a body with one octet more is refused.
 fn longest(peer: Peer) -> Option<usize> {
     let mut client = Client::new(USUAL, 0);
     if client.submit(peer, READ_PROPERTY, &[7; 477]) != Err(SubmitFault::TooLong)
@@ -55,7 +55,7 @@ fn the_longest_body_and_datagram(rt: HostRuntime) {
     assert!(&rt; longest(CONTROLLER) == Some(486) && longest(far) == Some(497));
 }
 
-/// Returns whether the request with this ticket is open under the invoke id after it, as it was sent.
+/// Returns whether the request with this ticket is open with the next higher invoke id, as it was sent.
 fn is_open(client: &Client, ticket: u8) -> bool {
     let invoke_id = ticket.wrapping_add(1);
     let sent = request(invoke_id);

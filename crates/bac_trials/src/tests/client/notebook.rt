@@ -1,11 +1,12 @@
-//! A watcher that compares each note with the one that is wanted there, as long as it has room.
+//! A watcher that compares each note with the expected one, as long as it has room.
 
 ghost use Rattle.std.proofs.{Common.{◌∙◌, ap, sym}, lemmas.List.length-append, Math.Nat.{add-zero, add_assoc}};
 ghost use Rattle.std.specs.Prelude.{◌+◌, ◌≡◌, length};
 
 use bac_tsm::{Note, Watcher};
 
-/// Takes up to `room` notes, and sets `has_others` if it drops one. It was told as many notes as it has taken.
+/// Takes up to `room` notes, and sets `has_others` if it drops one. In its ghost definition it was told the notes that
+/// it took.
 #[derive(Drop)]
 pub(crate) struct Notebook<'a> {
     pub(crate) wanted: &'a [(usize, Note<'a>)],
@@ -16,7 +17,8 @@ pub(crate) struct Notebook<'a> {
 }
 
 impl Notebook<'_> {
-    /// Returns whether it took the wanted notes that it has room for and no others, and says if it dropped one.
+    /// Returns whether it took exactly the expected notes that it has room for, and says correctly whether it dropped
+    /// one.
     pub(crate) fn is_right(&self) -> bool {
         let count = self.wanted.len();
         let has_dropped = self.room < count;

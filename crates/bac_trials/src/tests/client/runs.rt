@@ -17,7 +17,7 @@ const OLDER: &[u8] = b"\x81\x0a\x00\x11\x01\x04\x00\x05\x01\x0c\x0c\x00\x00\x00\
 
 const YOUNGER: &[u8] = b"\x81\x0a\x00\x11\x01\x04\x00\x05\x02\x0c\x0c\x00\x00\x00\x05\x19\x55";
 
-/// The sends of the requests with these tickets, of which 0, 5 and 7 are the first of a run.
+/// The sends of the requests with these tickets; 0, 5 and 7 are the first of a run.
 const OF_0: Note<'static> = Note::Sent(0, CONTROLLER, OLDER);
 
 const OF_5: Note<'static> = Note::Sent(5, CONTROLLER, OLDER);
@@ -28,7 +28,7 @@ const OF_7: Note<'static> = Note::Sent(7, CONTROLLER, OLDER);
 
 const OF_8: Note<'static> = Note::Sent(8, CONTROLLER, YOUNGER);
 
-/// Returns the end of the request with this ticket by its answer, and of the first one without any.
+/// Returns the end of the request with this ticket by its answer, and the end of the first one without an answer.
 fn done(ticket: u64) -> Note<'static> {
     let outcome = Outcome::Complex(VALUE);
     Note::Done(Ended { ticket, outcome })
@@ -40,8 +40,9 @@ const LATE: Note<'static> = Note::Dropped;
 
 const FAULT: Note<'static> = Note::Refused(SubmitFault::TooLong);
 
-/// Runs the events. `None` if a watcher with this room does not keep the front of the notes, at these positions, or
-/// says wrongly whether it drops one, or if another number of requests is open afterwards, at this clock.
+/// Runs the events. Returns `None` if a watcher with this room does not keep the first of these notes, at these
+/// positions, or is wrong about dropping one, or if the client has another number of open requests, or another clock,
+/// at the end.
 fn run_watched<'n>(
     room: usize,
     (first, events): (u64, &[Event<'_>]),
@@ -70,7 +71,7 @@ fn no_event_and_a_read_and_its_answers(rt: HostRuntime) {
     assert!(&rt; run_watched(16, (0, &events), &notes, (0, 6000)).is_some());
 }
 
-// One leap of the clock sends once, and the next wait counts from there.
+// One leap of the clock sends once, and the next wait counts from the leap.
 #[test]
 fn a_leap_of_the_clock(rt: HostRuntime) {
     let [before, due, leap, back] = [At(2999), At(3000), At(60000), At(5)];
@@ -80,7 +81,7 @@ fn a_leap_of_the_clock(rt: HostRuntime) {
     assert!(&rt; run_watched(16, (0, &events), &notes, (0, 66000)).is_some());
 }
 
-/// Returns whether the client takes a read, under the ticket 1 and the invoke id 2.
+/// Returns whether the client accepts a read, with the ticket 1 and the invoke id 2.
 fn takes_another(client: Option<Client>) -> bool {
     let Some(mut client) = client else {
         return false;
@@ -88,7 +89,7 @@ fn takes_another(client: Option<Client>) -> bool {
     read(&mut client) == Ok(1) && client.number_of(1) == Some(2)
 }
 
-// The client is what it is without the watcher, however few notes that keeps.
+// The client is the same without the watcher, however few notes the watcher keeps.
 #[test]
 fn retries_and_watchers_of_few_notes(rt: HostRuntime) {
     let events = [ASK, At(2999), At(3000), At(6000), At(9000), At(12000)];
@@ -99,7 +100,7 @@ fn retries_and_watchers_of_few_notes(rt: HostRuntime) {
     }
 }
 
-// The younger of two requests is due before the older, and has its note after it.
+// The younger of two requests is due before the older, but its note comes second.
 #[test]
 fn two_are_due_at_one_tick(rt: HostRuntime) {
     let events = [ASK, At(1000), ASK, At(3000), At(6000)];
@@ -107,7 +108,7 @@ fn two_are_due_at_one_tick(rt: HostRuntime) {
     assert!(&rt; run_watched(16, (7, &events), &notes, (2, 6000)).is_some());
 }
 
-/// Returns whether the client has the younger request open, and gives the next one the next ticket and invoke id.
+/// Returns whether the client has the younger request open, and gives the next request the next ticket and invoke id.
 fn goes_on(client: Option<Client>) -> bool {
     let Some(mut client) = client else {
         return false;

@@ -1,4 +1,4 @@
-//! APDUs as they are read and written, those that are cut, and the sizes that a request announces.
+//! APDUs that are read and written, APDUs that are cut, and the sizes that a request announces.
 
 ghost use Rattle.bac_pdu.specs.Apdu.{IsWritable, message};
 
@@ -20,7 +20,7 @@ const FIRST: Option<Part> = Some(Part {
     window: 16,
 });
 
-/// Returns a request for a property, of the greatest APDU of this code.
+/// Returns a request for a property, whose sender accepts APDUs of this code.
 fn request(part: Option<Part>, code: u8, body: &[u8]) -> Apdu<'_> {
     Apdu::Confirmed {
         part,
@@ -63,7 +63,7 @@ const REJECT: Apdu<'static> = Apdu::Reject { id: 1, reason: 9 };
 
 const VALUE: &[u8] = b"\x0c\x00\x00\x00\x05\x19\x55\x3e\x44\x42\x90\x99\x9a\x3f";
 
-/// APDUs, and the octets that they are written as.
+/// APDUs, and the octets that are written for them.
 fn written() -> [(&'static str, Apdu<'static>); 12] {
     [
         ("0005010c0c000000051955", request(None, 5, &BODY)),
@@ -81,9 +81,9 @@ fn written() -> [(&'static str, Apdu<'static>); 12] {
     ]
 }
 
-/// APDUs, and other octets that are read as them: of a SegmentACK none is looked at; of others the greatest number of
-/// segments, the bit that segments are taken, the reserved bits, MOR without SEG, and what follows a SimpleACK, a
-/// Reject and an Abort.
+/// APDUs, and other octets that are read as these APDUs. The readers ignore all of a SegmentACK; in others the greatest
+/// number of segments, the bit for accepting segments, the reserved bits, MOR without SEG, and octets after a
+/// SimpleACK, a Reject and an Abort.
 fn read_too() -> [(&'static str, Apdu<'static>); 8] {
     [
         ("40010001", Apdu::SegmentAck),
@@ -97,7 +97,7 @@ fn read_too() -> [(&'static str, Apdu<'static>); 8] {
     ]
 }
 
-/// APDUs that are cut, and those of kinds that there are not.
+/// APDUs that are cut, and APDUs of unknown kinds.
 const UNREADABLE: &str =
     " 00 0005 000501 08050100 0805010001 10 20 2001 30 3001 38010001 50 5001 60 6001 70 7101 \
     80010c000000 90010c000000 a0010c000000 b0010c000000 c0010c000000 d0010c000000 e0010c000000 f0010c000000";
@@ -129,7 +129,7 @@ fn read_and_written(rt: HostRuntime) {
     }
 }
 
-/// Codes of the greatest APDU, and how many octets each has.
+/// Codes of the longest APDU, and its octets for each.
 static CODES: [u8; 9] = [0, 1, 2, 3, 4, 5, 6, 15, 0xf5];
 
 static SIZES: [u16; 9] = [50, 128, 206, 480, 1024, 1476, 50, 50, 1476];

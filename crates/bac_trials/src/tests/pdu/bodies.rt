@@ -1,4 +1,4 @@
-//! Bodies of services, field by field. Rejects are tested with the scripts.
+//! Bodies of services, field by field. Rejects are tested by the scripts.
 
 use crate::tests::{nested, octets};
 use bac_pdu::{
@@ -9,8 +9,8 @@ use bac_wire::{Frame, ObjectId, is_region};
 use bac_work::begin;
 use std::test::Fail;
 
-/// Requests to read a property of analog-input 5, its index, and whether the body is the shortest. The last has a
-/// property in more octets than it needs, and tags in longer forms.
+/// Requests to read a property of analog-input 5, the index, and whether the body is the shortest. The last has a
+/// property in more octets than needed, and tags in longer forms.
 static READS: [(&str, u32, Option<u32>, bool); 6] = [
     ("0c000000051955", 85, None, true),
     ("0c00000005194d", 77, None, true),
@@ -32,8 +32,8 @@ fn is_read(body: &[u8], property: u32, index: Option<u32>, is_shortest: bool) ->
     Some(read_read(body) == Ok(request) && is_written && is_same)
 }
 
-/// Answers for the present value of analog-input 5, and their values: the octet of a closing tag stands inside of a
-/// string, and inside of brackets of their own.
+/// Answers for the present value of analog-input 5, and their values. The octet of a closing tag is inside a string in
+/// one, and inside inner brackets in another.
 static ANSWERS: [(&str, Option<u32>, &str); 6] = [
     ("0c0000000519553e444290999a3f", None, "444290999a"),
     ("0c0000000519553e72003f3f", None, "72003f"),
@@ -101,7 +101,7 @@ fn properties_are_read_answered_and_written(rt: HostRuntime) {
     }
 }
 
-/// Returns how many octets the value of an order has if it consists of this many nested brackets.
+/// Returns the length of the value of an order that consists of this many nested brackets.
 fn value_len(depth: usize) -> Option<usize> {
     let mut body = nested(b"\x0c\x00\x40\x00\x01\x19\x55\x3e", depth);
     let _ = body.append(&[0x3f]);
@@ -133,8 +133,8 @@ fn are_limits(body: &[u8], low: u32, high: u32) -> bool {
     read_whois(body) == Some(who) && is_written
 }
 
-/// Bodies of a Who-Is that cannot be read, and bodies that introduce nobody: an object that is not a device, one that
-/// is cut, one with more, and one with another kind of value.
+/// Bodies of a Who-Is that cannot be read, and bodies of an I-Am that cannot: the object is not a device, the body is
+/// cut, it has more octets, or a value has another kind.
 const NO_LIMITS: &str = "0900 1903 0900190300 09001d050000000000 0801190300";
 
 const NOBODY: &str =

@@ -1,10 +1,11 @@
-//! Datagrams from addresses that no script can name, and frames that a datagram fills. The others are with the scripts.
+//! Datagrams from addresses that no script can name, and frames that a datagram fills. Other datagrams are tested by
+//! the scripts.
 
 use crate::tests::{ASKER, octets, routed};
 use bac_pdu::{Peer, Route, open_datagram, wrap};
 use bac_wire::Frame;
 
-/// 192.168.1.5:47808, which a datagram was forwarded from.
+/// 192.168.1.5:47808, the originator of a forwarded datagram.
 const FORWARDED: Peer = Peer {
     ip: 0xc0a8_0105,
     port: 47808,
@@ -17,7 +18,7 @@ const FAR: Option<(u16, &[u8])> = Some((65534, &[1, 2, 3, 4, 5, 6, 7]));
 
 const TO_FAR: &str = "810a00120108fffe07010203040506071008";
 
-/// Datagrams, of whom they are, by which route, whether they went to all, and the octets before the APDU.
+/// Datagrams, their peers and routes, whether they went to all, and the number of octets before the APDU.
 const CARRIED: [(&str, Peer, Option<(u16, &[u8])>, bool, usize); 8] = [
     ("810a000e010010080a03e81a04d2", ASKER, None, false, 6),
     // The bits 6, 4, 2, 1 and 0 of the control octet, and an empty APDU.
@@ -30,7 +31,7 @@ const CARRIED: [(&str, Peer, Option<(u16, &[u8])>, bool, usize); 8] = [
     ("8104000ec0a80105bac001001008", FORWARDED, None, true, 12),
 ];
 
-/// Returns whether the datagram is carried from this peer, after this many octets.
+/// Returns whether the datagram is carried from this peer, with this many octets before the APDU.
 pub(crate) fn carries(from: Peer, octets: &[u8], peer: Peer, to_all: bool, headers: usize) -> bool {
     let Some(carried) = open_datagram(from, octets) else {
         return false;
@@ -39,7 +40,7 @@ pub(crate) fn carries(from: Peer, octets: &[u8], peer: Peer, to_all: bool, heade
     is_right && octets.get(headers..) == Some(carried.apdu)
 }
 
-// The route of the one that a datagram came from is not looked at.
+// The route of a datagram's sender is ignored.
 #[test]
 fn what_is_carried(rt: HostRuntime) {
     for (text, station, route, to_all, headers) in &CARRIED {
@@ -55,8 +56,8 @@ fn what_is_carried(rt: HostRuntime) {
     }
 }
 
-/// Returns whether an APDU of this many octets fills a frame with this front, and one octet more leaves the frame as it
-/// was.
+/// Returns whether an APDU of this many octets fills a frame with this beginning, and one octet more leaves the frame
+/// unchanged.
 fn is_filled(peer: Peer, is_expected: bool, longest: usize, front: &[u8]) -> bool {
     let apdu = [7; 1492];
     let (Some(most), Some(more)) = (apdu.get(..longest), apdu.get(..longest.wrapping_add(1))) else {

@@ -6,7 +6,7 @@ use Rattle.bac_tsm.specs.{Accepted, answer_in_datagram, is_answer_to, next_invok
 use Rattle.bac_tsm.specs.{same_station, Inner.{device, under}}
 use Rattle.bac_tsm.proofs.examples.examples_of_laws.Goals as goal
 
--- between two of these three requests that have one invoke id stands another
+-- one request stands between two of these three with the same invoke id
 one_between : (before between after : List Accepted) (a b : Accepted)
     → under 1 ∷ under 2 ∷ under 1 ∷ [] ≡ before ++ (a ∷ between) ++ (b ∷ after)
     → a.request.invoke_id ≡ b.request.invoke_id → 256 ≤ length between + 255

@@ -1,4 +1,4 @@
--- What the record says is its fields.
+-- A record holds exactly if its fields do.
 use Rattle.bac_tsm.proofs.{Calls.few_open, WholeRun.follows}
 use Rattle.bac_tsm.proofs.examples.examples_of_the_rule.Goals as goal
 

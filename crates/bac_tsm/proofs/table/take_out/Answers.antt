@@ -1,4 +1,4 @@
--- That the slot was there says that the search finds a rank, and that at this rank the slot stands.
+-- The slot is in the list, so the search finds a rank, and the slot is at this rank.
 use Rattle.std.proofs.{Common.{arith, eqb-true}, lemmas.List.Quantifiers.position-Some}
 use Rattle.bac_tsm.proofs.{found_at}
 use Rattle.bac_tsm.proofs.table.take_out.Goals as goal

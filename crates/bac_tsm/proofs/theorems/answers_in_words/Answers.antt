@@ -1,4 +1,4 @@
--- The two directions are lemmas; no tactic takes an equivalence apart.
+-- The two directions are lemmas; no tactic splits an equivalence.
 use Rattle.bac_tsm.proofs.{answered, answers}
 use Rattle.bac_tsm.proofs.theorems.answers_in_words.Goals as goal
 

@@ -1,4 +1,4 @@
--- The law of any rules, whose two premises hold of a client.
+-- This is the law for any rules, whose two premises hold for a client.
 use Rattle.bac_tsm.proofs.{by_invoke_id, few_open, is_lookahead}
 use Rattle.bac_tsm.proofs.theorems.client_is_lookahead.Goals as goal
 

@@ -1,4 +1,4 @@
--- The two halves are inductions over the ticks that pass; here they begin at none.
+-- The two halves are inductions over the ticks; here they begin with no tick.
 use Rattle.std.proofs.Common.{arith, length, refl, suc, zero}
 use Rattle.bac_tsm.{proofs.{due_in_turn, ends_in_turn}, specs.last_of}
 use Rattle.bac_tsm.proofs.theorems.no_request_waits_for_ever.Goals as goal

@@ -1,4 +1,4 @@
--- The induction over the accepted requests says more; this is a part of it.
+-- The lemma about accepted requests says more; the law is a part of it.
 use Rattle.bac_tsm.proofs.{passed}
 use Rattle.bac_tsm.proofs.theorems.passed_invoke_ids_are_held.Goals as goal
 

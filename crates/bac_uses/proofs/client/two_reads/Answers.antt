@@ -1,4 +1,4 @@
--- Both are accepted, since few are open; the tick has a note on the one that the datagram left open.
+-- Both requests are accepted, since few are open; the tick has an entry on each request that is still open.
 use Rattle.std.proofs.Common.{arith, refl}
 use Rattle.bac_tsm.proofs.Laws.{opens, told_unless_answered}
 use Rattle.bac_uses.proofs.client.two_reads.Goals as goal

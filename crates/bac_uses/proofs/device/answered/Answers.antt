@@ -1,4 +1,4 @@
--- The valve is present as it was written, since the device holds this one write.
+-- The valve's present value is the written one, since the device holds only this write.
 use Rattle.std.proofs.Common.{[], ◌∙◌, ◌∷◌, refl, sym}
 use Rattle.{bac_device.proofs.{Answering.next_after, StateLaws.present_now}, bac_uses.specs.Heating.{heating, valve}}
 use Rattle.bac_uses.proofs.device.answered.Goals as goal

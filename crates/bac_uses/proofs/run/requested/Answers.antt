@@ -11,7 +11,7 @@ use Rattle.bac_run.specs.{Replay.{AreSent, posted_in, sends_of}, Run.journal_of}
 use Rattle.bac_run.proofs.Cut.{given_lines}
 use Rattle.bac_uses.proofs.run.requested.Goals as goal
 
--- A statement that holds if there is no fault.
+-- A fact without fault.
 if_ok : {A E : Type 0} (P : Type 0) (result : Result A E) → ((x : A) → result ≡ Ok x → P) → IfOk result (λ x. P)
 if_ok P (Ok x) is = is x refl
 if_ok P (Err fault) is = tt
@@ -24,18 +24,18 @@ took_whole contents before after text sound writes =
     (sym (writes.whole ∙ ap (λ (rest : List ℕ). writes.taken ++ rest) (writes.sound sound).1 ∙ append-nil writes.taken))
     writes.took
 
--- The calls that a link was asked for follow those of before.
+-- The calls of a link come after its earlier calls.
 asked_on : {Origin : Type 0} (before after : Account Origin) (gained : List Entry) → GainsAll gained before after
     → after.history ≡ before.history ++ gained
 asked_on before after gained is = ap (λ (account : Account _). account.history) is
 
--- The notes of these settings.
+-- The notes with these settings.
 ahead : (timeout retries : ℕ) (events : List Event) → timeout ≡ 3000 → retries ≡ 3
     → map (λ (i, note). note) (outputs (client_rules timeout retries) 0 events 0 (length events))
     ≡ map (λ (i, note). note) (outputs (client_rules 3000 3) 0 events 0 (length events))
 ahead timeout retries events timed again = rw (timed, again) refl
 
--- What a client of these settings sends.
+-- The datagrams that a client with these settings sends.
 sends_so : (timeout retries : ℕ) (acts : List Act) → timeout ≡ 3000 → retries ≡ 3
     → sends_of (new_client timeout retries 0) acts ≡ sends_of (new_client 3000 3 0) acts
 sends_so timeout retries acts timed again = rw (timed, again) refl
@@ -43,7 +43,7 @@ sends_so timeout retries acts timed again = rw (timed, again) refl
 pub returns-clause-all : goal.returns-clause-all
 returns-clause-all g c = if_ok _ c.run_requests.result (λ end is.
     let runs = c.run_requests.ensures.runs in
-    let session = c.unwrap-session.result in
+    let setup = c.unwrap-setup.result in
     let (asked, good, empty, count) = subst (λ (result : Result TraceEnd RunFault).
     AllDone result (lines_in runs.acts) runs.takes.kept runs.acts)
     is runs.takes.all_done in
@@ -52,9 +52,9 @@ returns-clause-all g c = if_ok _ c.run_requests.result (λ end is.
       | inl failed ↦ absurd (let told = c.run_requests.ensures.write_fault.0 failed in grind (arith, is, told))
       | inr sound ↦ sound
     ] in
-    let notes = notes_of (new_client session.config.timeout session.config.retries 0) runs.acts in
-    let timed : session.config.timeout ≡ 3000 = search rules in
-    let again : session.config.retries ≡ 3 = search rules in
+    let notes = notes_of (new_client setup.config.timeout setup.config.retries 0) runs.acts in
+    let timed : setup.config.timeout ≡ 3000 = search rules in
+    let again : setup.config.retries ≡ 3 = search rules in
     record {
       lines = lines_in runs.acts;
       gave = subst (λ (octets : List ℕ). Gave g.R.Read.remaining c.args.reader.now c.run_requests.new.reader octets)
@@ -66,18 +66,18 @@ returns-clause-all g c = if_ok _ c.run_requests.result (λ end is.
       acts = runs.acts;
       asked = asked;
       notes = notes;
-      ahead = c.a_run_tells_what_the_look_ahead_gives.ensures.notes session.config.timeout session.config.retries
-          runs.acts ∙ ahead session.config.timeout session.config.retries (events_of runs.acts) timed again;
-      journal = journal_of session runs.acts;
-      took = took_whole g.W.Write.contents c.args.writer.now c.run_requests.new.writer (journal_of session runs.acts)
+      ahead = c.a_run_tells_what_the_look_ahead_gives.ensures.notes setup.config.timeout setup.config.retries
+          runs.acts ∙ ahead setup.config.timeout setup.config.retries (events_of runs.acts) timed again;
+      journal = journal_of setup runs.acts;
+      took = took_whole g.W.Write.contents c.args.writer.now c.run_requests.new.writer (journal_of setup runs.acts)
           sound runs.printed;
-      replayed = c.a_journal_is_a_script.ensures.text session _ _ _ _ _ _ _ runs;
+      replayed = c.a_journal_is_a_script.ensures.text setup _ _ _ _ _ _ _ runs;
       gained = runs.asks.gained;
       gains = runs.asks.gains;
       sent = subst (λ (result : Result TraceEnd RunFault).
-          AreSent result (sends_of (new_client session.config.timeout session.config.retries 0) runs.acts)
+          AreSent result (sends_of (new_client setup.config.timeout setup.config.retries 0) runs.acts)
           (flat_map posted_in runs.asks.gained))
-          is (c.a_run_sends_what_it_remarks.ensures session _ _ _ _ _ _ _ _ runs
+          is (c.a_run_sends_what_it_remarks.ensures setup _ _ _ _ _ _ _ _ runs
           (asked_on (g.L.Link.seen c.args.link.now) (g.L.Link.seen c.run_requests.new.link) runs.asks.gained
-          runs.asks.gains)) ∙ sends_so session.config.timeout session.config.retries runs.acts timed again;
+          runs.asks.gains)) ∙ sends_so setup.config.timeout setup.config.retries runs.acts timed again;
     })

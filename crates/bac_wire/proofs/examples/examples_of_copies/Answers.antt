@@ -1,4 +1,4 @@
--- One or two numbers show a copy or a test that is wrong.
+-- One or two numbers refute a copy or a test that is wrong.
 use Rattle.std.proofs.{Common.{arith, refl}, lemmas.Bool.{eq-eqb, eqb-true}}
 use Rattle.bac_wire.proofs.examples.examples_of_copies.Goals as goal
 

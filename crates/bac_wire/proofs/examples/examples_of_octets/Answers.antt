@@ -1,4 +1,4 @@
--- Each row computes once the definitions that read and write it are opened.
+-- Each row is computed once the definitions that read and write it are opened.
 use Rattle.std.proofs.Common.{arith}
 use Rattle.bac_wire.specs.{contents_of, length_at, long_length_at, plain, plain_tag, shape_at, tag_at, tag_number_at}
 use Rattle.bac_wire.specs.{value_at}

@@ -1,4 +1,4 @@
--- Each is shown by what it says of one list of octets.
+-- Each row follows from its case of one list of octets.
 use Rattle.std.proofs.Common.{[], arith, List, refl, Some, ℕ, ◌<◌, ◌∷◌, ◌≡◌}
 use Rattle.bac_wire.proofs.TagLaws.{is_read, is_spelled, plain_tag_shortest, spelled_back, tag_reader}
 use Rattle.bac_wire.specs.{AreOctets, length_at, long_length_at, plain_tag, shape_at, tag_at, tag_number_at}

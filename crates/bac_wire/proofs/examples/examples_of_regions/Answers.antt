@@ -1,4 +1,4 @@
--- A reader finds what is spelled, which computes once the definitions that read are opened.
+-- A reader finds what is spelled, and is computed once the definitions that read are opened.
 use Rattle.std.proofs.Common.{[], append-nil, arith, inl, inr, List, refl, subst, ℕ, ◌∷◌, ◌≤◌}
 use Rattle.bac_wire.proofs.ItemLaws.{context_reader, enclosed_reader, items_is, nesting, number_reader, one_region}
 use Rattle.bac_wire.proofs.{ItemLaws.{region_reader, whole_is}, TagLaws.{is_read, is_spelled, tag_reader}}

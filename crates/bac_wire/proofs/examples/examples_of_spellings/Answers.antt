@@ -1,4 +1,4 @@
--- A reader finds what is spelled, which computes once the definitions that read are opened.
+-- A reader finds what is spelled, and is computed once the definitions that read are opened.
 use Rattle.std.proofs.Common.{arith, refl}
 use Rattle.bac_wire.proofs.{DatumLaws.value_reader, TagLaws.{is_read, is_spelled, tag_reader}}
 use Rattle.bac_wire.specs.{contents_of, length_at, long_length_at, shape_at, tag_at, tag_number_at, value_at}

@@ -1,4 +1,4 @@
--- Each way out of an item, and out of the items, is a step of the reading on lists.
+-- Each exit from an item, and from the items, is a step of reading lists.
 use Rattle.std.proofs.Common.{arith, inl, None, refl, Some, sym, ◌∙◌, ◌≡◌}
 use Rattle.std.proofs.lemmas.{Bool.{eqb-false, eqb-true, ne_eqb}, List.nil_from_length}
 use Rattle.bac_wire.proofs.{behind_shorter, count_reads, ended_again, ended_since, found_by, item_found, opening_found}

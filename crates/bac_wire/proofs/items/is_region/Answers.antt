@@ -1,4 +1,4 @@
--- Octets are a region if their items leave nothing.
+-- Octets are a region if nothing is left after their items.
 use Rattle.std.proofs.{Common.arith, lemmas.Bool.eqb-true}
 use Rattle.bac_wire.proofs.{one_left, region_whole, whole_region}
 use Rattle.bac_wire.proofs.items.is_region.Goals as goal

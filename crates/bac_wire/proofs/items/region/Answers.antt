@@ -1,4 +1,4 @@
--- Items leave one rest, so a region that is found is the only one.
+-- The rest after items is unique, so a region that is found is the only one.
 use Rattle.std.proofs.Common.{None}
 use Rattle.bac_wire.proofs.{closing_reads, finds_by, region_finds, region_leaves}
 use Rattle.bac_wire.proofs.items.region.Goals as goal

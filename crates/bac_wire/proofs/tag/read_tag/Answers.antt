@@ -1,4 +1,4 @@
--- The spelling is what is left of the octets without the rest.
+-- The spelling is the octets without the rest.
 use Rattle.bac_wire.proofs.{found_front, none_front, tag_reader}
 use Rattle.bac_wire.proofs.tag.read_tag.Goals as goal
 

@@ -1,4 +1,4 @@
--- A number of this many octets is below that power of 256.
+-- A number of this many octets is below 256 to that power.
 use Rattle.std.proofs.{Common.{arith, length, ◌^◌, ◌≤◌}, Math.Nat.pow-le-pow_right}
 use Rattle.byteorder.specs.Numbers.{big_from-lt}
 use Rattle.bac_wire.proofs.value.unsigned_of.Goals as goal

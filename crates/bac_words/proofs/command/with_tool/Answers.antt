@@ -1,4 +1,4 @@
--- A tool that is added comes after those that are there.
+-- A tool is added after the others.
 use Rattle.std.proofs.lemmas.Result.{IfOk-weaker}
 use Rattle.clap_laws.proofs.Parsed.{with_tool}
 use Rattle.bac_words.proofs.command.with_tool.Goals as goal

@@ -1,4 +1,4 @@
--- Each is computed: that its words are taken, and the job that they ask for.
+-- Each row is computed: `clap` accepts the words, and the job that they ask for.
 use Rattle.std.proofs.Common.{arith, refl}
 use Rattle.clap.specs.{Faults.{defaults_fault, walk_fault}, Walk.walked}
 use Rattle.bac_words.proofs.examples.examples_of_other_tools.Goals as goal

@@ -1,4 +1,4 @@
--- Each is computed: that its words are taken, and the job that they ask for.
+-- Each row is computed: `clap` accepts the words, and the job that they ask for.
 use Rattle.std.proofs.Common.{refl}
 use Rattle.clap.specs.{Faults.{defaults_fault, walk_fault}, Walk.walked}
 use Rattle.{bac_wire.specs.{plain, plain_tag}, bac_pdu.specs.plain_parameter, bac_text.specs.ValueWords.value_under}

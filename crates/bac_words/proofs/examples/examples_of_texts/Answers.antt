@@ -1,4 +1,4 @@
--- Each computes.
+-- Each row is computed.
 use Rattle.std.proofs.Common.{refl}
 use Rattle.bac_words.proofs.examples.examples_of_texts.Goals as goal
 

@@ -1,4 +1,4 @@
--- What `clap` hands out of such an argument is a number within its limits.
+-- The number that `clap` returns for an argument is within the limits of the argument.
 use Rattle.std.proofs.Common.{IfSome, Option, subst, sym, ℕ}
 use Rattle.{clap.specs.Words.found_of, clap_laws.{proofs.Parsed.getter, specs.Inner.Numbers.{FitsWord, IsWithin}}}
 use Rattle.bac_words.proofs.parse.number.Goals as goal

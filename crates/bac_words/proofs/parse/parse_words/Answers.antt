@@ -1,4 +1,4 @@
--- `clap` refuses the marked words, or accepts them, and then has found a tool in them.
+-- `clap` refuses the marked words, or accepts them and finds a tool in them.
 use Rattle.std.proofs.Common.{[], ap, inl, inr, IsSomeAnd, List, map, Option, option_map, subst, sym, ◌∙◌, ◌≡◌}
 use Rattle.std.specs.Cow.{cow_str_bytes}
 use Rattle.clap.specs.{Faults.{fault_of, is_simple_and_free}, Kinds.HasKind, Simple.{App, is_simple, subcommand_of}}

@@ -1,4 +1,4 @@
--- The words of the values are those that were typed, since the marks are taken off.
+-- The words of the values are the typed ones, since marks are removed.
 use Rattle.std.proofs.Common.{[], ap, codes, List, map, Option, refl, unwrap_or, ◌∙◌}
 use Rattle.std.{proofs.lemmas.Result.err_from_is_err_and, specs.Borrow.Bor}
 use Rattle.clap.{proofs.WalkLemmas.raw_values-rows, specs.{Walk.{Text, texts}, Words.found_of}}

@@ -1,6 +1,6 @@
--- What a link over a socket keeps of its history is what the program's sockets give.
+-- The history of a link over a socket agrees with the calls that the program's sockets make.
 use Rattle.std.proofs.{Common.{ap, subst, ◌∙◌}, Math.Logic.∥∥₁_map}
-use Rattle.bac_links.specs.{Account, Socket.{AreCallsFor, Logs, OverSocket}}
+use Rattle.bac_links.specs.{Account, Socket.{AreCallsFor, endless, Logs, OverSocket}}
 use Rattle.bac_tools.proofs.RunLaws.{run_so, run_unasked, run_without}
 use Rattle.bactool.proofs.laws.the_program_is_its_calls.Goals as goal
 
@@ -10,7 +10,7 @@ returns-clause-had g c = λ reader reader' writer writer' errors errors' typed r
       bound,
       ap (λ (a : Account OverSocket). a.history) is,
       λ later made.
-          subst (λ (m : OverSocket). ∥ Logs (AreCallsFor m.refused 0 0 later.history.items) m.calls
+          subst (λ (m : OverSocket). ∥ Logs (AreCallsFor m.refused endless 0 later.history.items) m.calls
           later.socket.log.items ∥₁) (made ∙ ap (λ (a : Account OverSocket). a.made) is)
           (∥∥₁_map later.keeps (λ k. k.logged)),
     )) had

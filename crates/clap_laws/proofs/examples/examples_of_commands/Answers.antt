@@ -1,11 +1,11 @@
--- Each computes; that words enter is walked through.
+-- Each row is computed; the walk over the words shows that they enter the tool.
 use Rattle.std.proofs.Common.{[], arith, codes, refl, sym, ◌∙◌, ◌∷◌}
 use Rattle.clap.specs.{Faults.{defaults_fault, walk_fault}, Walk.walked}
 use Rattle.clap_laws.{proofs.Parsed.level_taken, specs.Inner.Examples.{helpful, needy}}
 use Rattle.clap_laws.specs.Entering.{Enters, IsPlainLevel}
 use Rattle.clap_laws.proofs.examples.examples_of_commands.Goals as goal
 
--- The tool that is found is the one that there is. Its entries would lack the word; and its name asks for help.
+-- The tool that is found is the only one. Its entries lack the word, or its name asks for help.
 lacking : Enters needy (codes "program" ∷ codes "tool" ∷ []) → ⊥
 unfolding walk_fault walked defaults_fault
 lacking h =

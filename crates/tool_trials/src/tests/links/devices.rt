@@ -1,4 +1,4 @@
-//! The search for devices, and a device that serves, over links in memory.
+//! The search for devices, and a serving device, over links in memory.
 use super::*;
 
 /// The line that is printed for the device 1234, once and twice.
@@ -8,7 +8,7 @@ const TWICE: &str = "1234 127.0.0.1:47808 1476 3 260\n1234 127.0.0.1:47808 1476 
 
 const AT_07: &str = "1234 127.0.0.1:47808/5/07 1476 3 260\n";
 
-/// The devices that are asked for, and the datagram that asks.
+/// The devices that are asked for, and the datagram of the Who-Is.
 const ALL: (WhoIs, &[u8]) = (WhoIs::All, WHO_IS);
 
 const SOME: &[u8] = b"\x81\x0a\x00\x0e\x01\x00\x10\x08\x0a\x03\xe8\x1a\x04\xd2";
@@ -19,7 +19,8 @@ fn between(low: u32, high: u32) -> WhoIs {
     WhoIs::Range { low, high }
 }
 
-/// Returns whether a search ends so over these steps and prints this. It asks once, unless that fails.
+/// Returns whether a search has this end over these steps, prints this text, and sends its Who-Is once, or not if the
+/// send fails.
 fn searches(
     alloc: Global,
     (who, asks): (WhoIs, &[u8]),
@@ -42,7 +43,7 @@ const HEARD: Step<'static> = Step::Packet(5, CONTROLLER, I_AM);
 
 const LATE: Step<'static> = Step::Packet(3_000, CONTROLLER, I_AM);
 
-/// Returns whether a search that goes well ends so over these steps.
+/// Returns whether a search without a fault has this end over these steps.
 fn finds(alloc: Global, asked: (WhoIs, &[u8]), steps: &[Step<'_>], exit: Exit, text: &str) -> bool {
     searches(alloc, asked, steps, None, (Ok(exit), text))
 }
@@ -58,7 +59,8 @@ fn devices_are_found(rt: HostRuntime) {
     assert!(rt; finds(rt.alloc(), some, &far, Exit::Good, AT_07));
 }
 
-// A datagram that comes when the time is up is still heard; a later one is not. The time may go back, and stays spent.
+// A datagram that comes exactly at the end of the time is received; a later one is not. If the clock goes back, the
+// time is still over.
 #[test]
 fn a_search_ends_in_time(rt: HostRuntime) {
     let back = [Step::Quiet(2_999), Step::Quiet(0), HEARD, LATE];
@@ -77,8 +79,8 @@ fn searches_fail(rt: HostRuntime) {
     assert!(rt; searches(rt.alloc(), ALL, quiet(&rt).as_slice(), None, spent));
 }
 
-/// Lets the demonstration device serve over these steps for this many datagrams: whether it ends so and sent this to
-/// OTHER.
+/// Runs the demonstration device over these steps for this many datagrams. Returns whether it has this end and sent
+/// these replies to OTHER.
 fn serves(
     alloc: Global,
     steps: &[Step<'_>],
@@ -99,7 +101,7 @@ fn serves(
 
 const ASKED: Step<'static> = Step::Packet(0, OTHER, ASK);
 
-/// Two requests that are answered, and noise.
+/// Two requests that are answered, and a datagram that is not one.
 const COMES: [Step<'static>; 3] = [
     ASKED,
     Step::Packet(0, OTHER, WHO_IS),

@@ -1,4 +1,4 @@
-//! Tools over a socket of which one sort of call fails, with each kind of error.
+//! Tools over a socket whose calls of one sort fail, with each kind of error.
 ghost use Rattle.std.specs.Prelude.{◌≡◌, ◌≤◌, length, IfOk};
 
 use super::*;
@@ -7,17 +7,18 @@ use std::io::{self, ErrorKind};
 use std::net::{Ipv4Addr, SocketAddr, SocketAddrV4};
 use std::time::Duration;
 
-/// What a socket is asked for.
+/// The calls of a socket.
 #[derive(Clone, Copy, PartialEq, Eq)]
 enum Asked {
+    // The calls that say how long receives wait, or that they do not wait.
     Limit,
     Send,
     Receive,
     Time,
 }
 
-/// A socket that gives this datagram to each wait, but fails with this error at this kind of call. A wait that fails
-/// takes 50 ms.
+/// A socket that gives this datagram to each wait, but fails with this error at this kind of call. A failed wait takes
+/// 50 ms.
 #[derive(Drop)]
 struct Failing<'a> {
     at: Asked,
@@ -38,7 +39,7 @@ impl<'a> Failing<'a> {
         }
     }
 
-    /// Returns this answer, or the error if the call that was asked has to fail.
+    /// Returns this answer, or the error if this call is the one that fails.
     fn unless_failing<T: Drop>(&self, asked: Asked, answer: T) -> io::Result<T>
         ensures { IfOk result (λ given. given ≡ answer) }
     {
@@ -49,7 +50,7 @@ impl<'a> Failing<'a> {
     }
 }
 
-/// Puts the octets there, as many as there is room for.
+/// Puts the octets into the room, as many as fit.
 fn put(octets: &[u8], room: &mut [u8]) -> usize
     ensures within { result ≤ length room.new }
     ensures room { length room.new ≡ length room.old }
@@ -65,6 +66,12 @@ impl Socket for Failing<'_> {
     fn set_read_timeout(&mut self, limit: Duration) -> io::Result<()> {
         let done = self.unless_failing(Asked::Limit, ());
         self.log.push(&CallNote::Limit(limit, &done));
+        done
+    }
+
+    fn set_nonblocking(&mut self, on: bool) -> io::Result<()> {
+        let done = self.unless_failing(Asked::Limit, ());
+        self.log.push(&CallNote::AtOnce(on, &done));
         done
     }
 
@@ -94,14 +101,14 @@ impl Socket for Failing<'_> {
     }
 }
 
-/// Returns how a read with a timeout of 100 ms ends over such a socket, which gives the answer to it.
+/// Returns the end of a read with a timeout of 100 ms over a socket that gives the answer, with this error.
 fn read_ends(alloc: Global, at: Asked, kind: ErrorKind) -> Result<Got, LinkFault> {
     let mut link = UdpLink::over(Failing::new(at, kind, VALUE), alloc, OnRefusal::Fails)?;
     let job = Job::Read(&call_of(100, 0, BODY));
     Ok(run_job(job, &mut link, [0; 9].as_mut_slice()))
 }
 
-/// Returns how a device ends that should answer one datagram over such a socket, which gives a request.
+/// Returns the end of a device that serves one datagram over a socket that gives a request, with this error.
 fn serve_ends(alloc: Global, at: Asked, kind: ErrorKind) -> Result<Served, LinkFault> {
     let mut link = UdpLink::over(Failing::new(at, kind, ASK), alloc, OnRefusal::IsLost)?;
     let mut device = small_device().ok_or(LinkFault)?;
@@ -110,13 +117,13 @@ fn serve_ends(alloc: Global, at: Asked, kind: ErrorKind) -> Result<Served, LinkF
 
 const UNHEARD: Got = Err(ToolFault::ReceiveFailed);
 
-/// How a device ends that hears nothing, or in silence until all turns have gone by.
+/// The ends of a device whose receives fail, and of one that hears nothing until all turns are spent.
 const DEAF: Served = Err(ToolFault::ReceiveFailed);
 
 const SILENT: Served = Err(ToolFault::TurnsSpent);
 
-/// Each kind of error, and how a read and a device end if each receive fails with it. An error that reports the end of
-/// a wait, or that a device's reply did not reach its peer, counts as silence.
+/// Each kind of error, and the ends of a read and of a device if each receive fails with it. If an error reports the
+/// end of a wait, or that a device's reply did not reach its peer, it counts as silence.
 static RECEIVING: [(ErrorKind, Got, Served); 12] = [
     (ErrorKind::WouldBlock, Ok(Exit::Bad), SILENT),
     (ErrorKind::TimedOut, Ok(Exit::Bad), SILENT),
@@ -147,8 +154,8 @@ fn receives_fail(rt: HostRuntime) -> Result<(), Fail> {
     Ok(())
 }
 
-/// The other calls that fail, and how both end then, whatever the error is. A device loses the reply that it cannot
-/// send. Without a clock no time passes, and datagrams are received all the same.
+/// The other calls, and the ends of both if they fail, whatever the error is. A device loses the reply that it cannot
+/// send. Without a clock no time passes, and datagrams are still received.
 static OTHERS: [(Asked, Got, Served); 3] = [
     (Asked::Limit, UNHEARD, DEAF),
     (Asked::Send, Err(ToolFault::SendFailed), Ok(1)),

@@ -1,11 +1,11 @@
-//! Writers that fail, and want of memory.
+//! Writers that fail, and memory that runs out.
 use super::*;
 use crate::tests::streams::with_room;
 use linked_list_allocator::LocalHeap;
 use std::alloc::Allocator;
 
-/// Returns whether a writer that accepts this many octets has this front of the text, and the tool reports that writing
-/// failed.
+/// Returns whether a writer that accepts this many octets has this beginning of the text, and the tool reports that
+/// writing failed.
 fn leaves_front(alloc: Global, job: Job<'_>, steps: &[Step<'_>], row: (&str, usize, bool)) -> bool {
     let (text, left, fails) = row;
     let Ok(mut link) = MemoryLink::new(alloc, steps, None) else {
@@ -47,7 +47,7 @@ fn read_within<A: Allocator + Copy>(alloc: A, room: &mut [u8]) -> Result<Got, Li
     Ok(run_job(Job::Read(&call_of(100, 1, BODY)), &mut link, room))
 }
 
-// With less memory than it needs a link cannot be made, or fails to send.
+// With too little memory a link cannot be made, or fails to send.
 #[test]
 fn memory_is_wanted(rt: HostRuntime) -> Result<(), Fail> {
     let mut refused = false;

@@ -3,7 +3,7 @@ use super::*;
 use bac_wire::Frame;
 use bac_work::begin;
 
-/// Answers to a read, how it ends, and the line that is printed.
+/// Answers to a read, the exit, and the line that is printed.
 static ANSWERS: [(&str, Exit, &str); 10] = [
     (
         "810a0017010030010c0c0000000519553e444290999a3f",
@@ -33,7 +33,7 @@ static ANSWERS: [(&str, Exit, &str); 10] = [
     ("810a00090100710104", Exit::Bad, "abort 4\n"),
 ];
 
-/// Returns whether a read that is answered so ends so and prints this.
+/// Returns whether a read with this answer has this exit and prints this line.
 fn is_answered(alloc: Global, answer: &[u8], exit: Exit, text: &str) -> bool {
     let steps = [Step::Packet(5, CONTROLLER, answer)];
     let call = call_of(3_000, 3, BODY);
@@ -58,14 +58,14 @@ const WRITE: &[u8] =
 
 const WRITE_BODY: &[u8] = b"\x0c\x00\x80\x00\x02\x19\x55\x3e\x31\xfb\x3f\x49\x10";
 
-/// Returns whether a write ends so over these steps, and prints this.
+/// Returns whether a write has this exit over these steps, and prints this line.
 fn writes(alloc: Global, steps: &[Step<'_>], exit: Exit, text: &str) -> bool {
     let call = call_of(10, 0, WRITE_BODY);
     let end = (Ok(exit), text, [(0, WRITE)].as_slice());
     ends(alloc, Job::Write(&call), steps, None, end)
 }
 
-/// Returns what the demonstration device answers to the write.
+/// Returns the demonstration device's answer to the write.
 fn denied() -> Option<Frame> {
     let mut device = small_device()?;
     let mut frame = Frame::new();
@@ -84,7 +84,7 @@ const COMPLEX: Step<'static> = Step::Packet(
     b"\x81\x0a\x00\x0a\x01\x00\x30\x01\x0f\x00",
 );
 
-// Answered by the demonstration device, by an acknowledgement of either kind, and not at all.
+// Writes that are answered by the demonstration device, by an acknowledgement of either kind, and not at all.
 #[test]
 fn a_value_is_written(rt: HostRuntime) {
     let denied = denied().expect(&rt, "an answer");
@@ -95,7 +95,7 @@ fn a_value_is_written(rt: HostRuntime) {
     assert!(rt; writes(rt.alloc(), &[], Exit::Bad, "timeout\n"));
 }
 
-/// Returns whether a read that waits for 100 ms and is sent again once ends so.
+/// Returns whether a read with a timeout of 100 ms and one retry has this end.
 fn reads(alloc: Global, steps: &[Step<'_>], fail: Option<u32>, end: End<'_>) -> bool {
     let call = call_of(100, 1, BODY);
     ends(alloc, Job::Read(&call), steps, fail, end)
@@ -109,7 +109,7 @@ const LATER: &[(u64, &[u8])] = &[(0, ASK), (120, ASK)];
 
 const LONG: &[u8] = &[0; 2_048];
 
-/// Answers of others and to others, a long datagram, and the answer.
+/// Answers from another peer and to another request, a datagram that is too long, and the answer.
 const HEARD: [Step<'static>; 4] = [
     Step::Packet(5, OTHER, VALUE),
     Step::Packet(6, CONTROLLER, LONG),
@@ -117,7 +117,7 @@ const HEARD: [Step<'static>; 4] = [
     Step::Packet(130, CONTROLLER, VALUE),
 ];
 
-// A datagram that must not be heard is not heard, and the request is sent again in time.
+// A datagram that must be ignored is ignored, and the request is sent again in time.
 #[test]
 fn a_request_is_sent_again(rt: HostRuntime) {
     let silence = (Ok(Exit::Bad), "timeout\n", TWICE);

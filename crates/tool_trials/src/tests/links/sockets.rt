@@ -11,7 +11,7 @@ use std::io::ErrorKind;
 use std::net::{Net, SocketAddr, UdpSocket};
 use std::time::{Clock, Duration};
 
-/// Returns whether a link hears this within five seconds, from this peer.
+/// Returns whether a link receives these octets within five seconds, from this peer.
 fn hears<L: Link>(link: &mut L, from: Peer, octets: &[u8]) -> Result<bool, LinkFault>
     requires { L.has_failed link.old ≡ false }
     ensures { L.has_failed link.new ≡ is_err result }
@@ -21,7 +21,7 @@ fn hears<L: Link>(link: &mut L, from: Peer, octets: &[u8]) -> Result<bool, LinkF
     Ok(peer == Some(from) && datagram.as_slice() == octets)
 }
 
-/// Returns how long a receive with this wait takes, by the link's own time. `None` if it hears something.
+/// Returns how long a receive with this wait takes, by the link's own time. `None` if it receives something.
 fn silence<L: Link>(link: &mut L, wait_ms: u32) -> Result<Option<u64>, LinkFault>
     requires { L.has_failed link.old ≡ false }
     ensures { OnOk result (L.has_failed link.new ≡ false) }
@@ -34,8 +34,8 @@ fn silence<L: Link>(link: &mut L, wait_ms: u32) -> Result<Option<u64>, LinkFault
     Ok(link.now().checked_sub(before))
 }
 
-/// Returns whether the desk, which waits for a millisecond, ends without an answer, and the field hears it afterwards.
-/// Then both hear nothing more.
+/// Returns whether the desk, which waits for a millisecond, ends without an answer, and the field receives its request
+/// afterwards. Then both receive nothing more.
 fn times_out<L: Link>(desk: &mut L, field: &mut L) -> Result<bool, LinkFault>
     requires { (L.has_failed desk.old ≡ false) × (L.has_failed field.old ≡ false) }
 {
@@ -63,7 +63,7 @@ fn two_sockets(rt: HostRuntime) -> Result<(), Fail> {
 /// The sender and the receiver of octets.
 type Way = (Peer, Peer);
 
-/// Sends octets one way, and returns whether they arrive whole.
+/// Sends octets from one link to the other, and returns whether they arrive whole.
 fn carries<L: Link>(from: &mut L, to: &mut L, way: Way, octets: &[u8]) -> Is
     requires { (L.has_failed from.old ≡ false) × (L.has_failed to.old ≡ false) }
     ensures { OnOk result ((L.has_failed from.new ≡ false) × (L.has_failed to.new ≡ false)) }
@@ -72,7 +72,7 @@ fn carries<L: Link>(from: &mut L, to: &mut L, way: Way, octets: &[u8]) -> Is
     hears(to, way.0, octets)
 }
 
-/// Returns one octet more than a datagram may have, with its position as the value of each.
+/// Returns one octet more than a datagram may have; the value of each is its position.
 fn counted_octets() -> [u8; 2_048] {
     let mut octets = [0; 2_048];
     for (n, octet) in octets.iter_mut().enumerate() {
@@ -82,7 +82,7 @@ fn counted_octets() -> [u8; 2_048] {
 }
 
 /// Returns whether the shortest and the longest datagram arrive whole and from their sender, a longer one does not
-/// arrive, and nothing is left then. A wait without a datagram takes its full time, and a wait of 0 ms takes 1 ms.
+/// arrive, and nothing is left. A wait without a datagram takes its full time, and a wait of 0 ms only looks.
 fn carries_up_to_the_longest<L: Link>(near: &mut L, far: &mut L, way: Way) -> Is
     requires { (L.has_failed near.old ≡ false) × (L.has_failed far.old ≡ false) }
     ensures { OnOk result ((L.has_failed near.new ≡ false) × (L.has_failed far.new ≡ false)) }
@@ -120,7 +120,7 @@ fn long_datagrams(rt: HostRuntime) -> Result<(), Fail> {
     Ok(())
 }
 
-// A socket has one address, and leaves the port to others at the rest.
+// A socket has one address. Other sockets can have its port at other addresses.
 #[test]
 fn one_port_of_two_addresses(rt: HostRuntime) -> Result<(), Fail> {
     let here = Peer {
@@ -137,7 +137,7 @@ fn one_port_of_two_addresses(rt: HostRuntime) -> Result<(), Fail> {
     Ok(())
 }
 
-/// A network whose clock tells this time, or fails if there is none.
+/// A network whose clock has this time, or fails if there is none.
 struct Timed<'a, N> {
     net: &'a N,
     told: &'a Cell<Option<Duration>>,
@@ -182,12 +182,12 @@ impl<N> Clock for Timed<'_, N> {
     }
 }
 
-/// This many seconds and nanoseconds.
+/// Returns this many seconds and nanoseconds.
 fn after((seconds, nanos): (u64, u64)) -> Duration {
     Duration::from_secs(seconds).saturating_add(Duration::from_nanos(nanos))
 }
 
-/// The time of a clock that was at 7 seconds when a link was made, and the time of the link then.
+/// The time of a clock that was at 7 seconds when a link was made, and the time of the link.
 static TIMES: [(Option<(u64, u64)>, u64); 6] = [
     (Some((7, 999_999)), 0),
     (Some((8, 1_999_999)), 1_001),
@@ -197,8 +197,8 @@ static TIMES: [(Option<(u64, u64)>, u64); 6] = [
     (Some((6, 0)), 0),
 ];
 
-// The time of a socket is in whole milliseconds since it was made, by the monotonic clock; if that fails, the time
-// stays.
+// The time of a socket is in whole milliseconds since it was made, from the monotonic clock; if that fails, the time
+// does not change.
 #[test]
 fn time_of_a_socket(rt: HostRuntime) -> Result<(), Fail> {
     let told = Cell::new(Some(after((7, 0))));
@@ -219,15 +219,16 @@ fn time_of_a_socket(rt: HostRuntime) -> Result<(), Fail> {
     Ok(())
 }
 
-/// A Who-Is that was forwarded from port 0, from the address of all, and from no address. No reply can be sent there.
+/// A Who-Is that was forwarded from port 0, from the broadcast address, and from no address. No reply can be sent
+/// there.
 const FROM_PORT_0: &[u8] = b"\x81\x04\x00\x0e\x7f\x00\x00\x01\x00\x00\x01\x00\x10\x08";
 
 const FROM_ALL: &[u8] = b"\x81\x04\x00\x0e\xff\xff\xff\xff\xba\xc0\x01\x00\x10\x08";
 
 const FROM_NOWHERE: &[u8] = b"\x81\x04\x00\x0e\x00\x00\x00\x00\x00\x00\x01\x00\x10\x08";
 
-/// Asks from the desk, lets the device serve for this many datagrams, and returns whether it replies to each, and the
-/// desk hears the value.
+/// Sends a request from the desk, lets the device serve this many datagrams, and returns whether it replies to each and
+/// the desk receives the value.
 fn answers<L: Link>(desk: &mut L, field: &mut L, device: &mut Device, to: Peer, count: u32) -> Is
     requires { (L.has_failed desk.old ≡ false) × (L.has_failed field.old ≡ false) }
     ensures { OnOk result (L.has_failed desk.new ≡ false) }
@@ -237,7 +238,7 @@ fn answers<L: Link>(desk: &mut L, field: &mut L, device: &mut Device, to: Peer, 
     Ok(got == Ok(count) && !field.failed() && hears(desk, to, VALUE)?)
 }
 
-/// Returns whether a device that was asked from addresses to which no reply can be sent still answers the desk.
+/// Returns whether a device still answers the desk after requests from addresses to which no reply can be sent.
 fn goes_on<L: Link>(desk: &mut L, field: &mut L, device: &mut Device, server: Peer) -> Is
     requires { (L.has_failed desk.old ≡ false) × (L.has_failed field.old ≡ false) }
     ensures { OnOk result (L.has_failed desk.new ≡ false) }
@@ -259,7 +260,7 @@ fn is_stopped<L: Link>(desk: &mut L, field: &mut L, device: &mut Device, server:
     Ok(serve(field, device, 1) == Err(ToolFault::SendFailed) && field.failed())
 }
 
-// A request whose reply cannot be sent does not stop a device; a link that was bound without this fails.
+// A request whose reply cannot be sent does not stop a device; without this setting the link fails.
 #[test]
 fn refused_replies_are_lost(rt: HostRuntime) -> Result<(), Fail> {
     let server = Peer {

@@ -1,4 +1,4 @@
-//! The output before a tool waits, and how often it asks for the time.
+//! The output before a tool waits, and how often it reads the time.
 ghost use Rattle.std.specs.Prelude.{◌≡◌, false, IfOk, List};
 ghost use Rattle.bac_links.specs.Played.{Scene};
 
@@ -9,7 +9,7 @@ use bac_links::Datagram;
 use std::cell::Cell;
 
 /// A link that notes at each receive how long it waits, and at each receive and each send how many octets were written
-/// before it. It counts how often it is asked for the time.
+/// before it. It counts how often the time is read.
 #[derive(Drop)]
 struct Watching<'a> {
     link: MemoryLink,
@@ -22,7 +22,7 @@ struct Watching<'a> {
 
 type Watched<'a> = Result<Watching<'a>, LinkFault>;
 
-/// Watches a link of these steps.
+/// Returns a watching link with these steps.
 fn watch<'a>(alloc: Global, steps: &[Step<'_>], written: &'a Cell<usize>) -> Watched<'a>
     ensures { IfOk result (λ watching. ⟦<MemoryLink as Link>⟧.has_failed watching.link ≡ false) }
 {
@@ -67,7 +67,7 @@ impl Link for Watching<'_> {
 const LINES: &[u8] =
     b"1234 127.0.0.1:47808 1476 3 260\n1234 127.0.0.1:47808 1476 3 260\n1234 127.0.0.1:47808 1476 3 260\n";
 
-// Each line of 32 octets is out before the next wait, and each turn asks for the time once.
+// Each line of 32 octets is written before the next wait, and each turn reads the time once.
 #[test]
 fn lines_go_out_before_the_next_wait(rt: HostRuntime) {
     let heard = Step::Packet(5, CONTROLLER, I_AM);
@@ -85,7 +85,7 @@ const REQUESTS: &[u8] = b"read 127.0.0.1:47808 0 5 85\n\
     write 127.0.0.1:47808 1 1 85 8 -1 4 41a00000\n\
     write 127.0.0.1:47808 1 1 85 8 -1 4 41a00000\n";
 
-/// Their journal up to the last send. Its lines have 15, 28, 60, 45, 78, 45 and 78 octets.
+/// The journal of these requests up to the last send. Its lines have 15, 28, 60, 45, 78, 45 and 78 octets.
 const JOURNAL: &[u8] = b"client 100 0 0\n\
     read 127.0.0.1:47808 0 5 85\n\
     # send 0 127.0.0.1:47808 810a001101040005010c0c000000051955\n\
@@ -94,7 +94,7 @@ const JOURNAL: &[u8] = b"client 100 0 0\n\
     write 127.0.0.1:47808 1 1 85 8 -1 4 41a00000\n\
     # send 2 127.0.0.1:47808 810a001a01040005030f0c0040000119553e4441a000003f4908\n";
 
-// Before the read only what came before the input is written; before each write the journal up to its line.
+// Before the read only the lines before it are written; before each write the journal up to its line is written.
 #[test]
 fn lines_of_writes_go_out_before_they_are_sent(rt: HostRuntime) {
     let progress = Progress::default();
@@ -105,8 +105,8 @@ fn lines_of_writes_go_out_before_they_are_sent(rt: HostRuntime) {
     assert!(rt; !progress.is_wrong.get());
 }
 
-/// Returns whether a read with this timeout waits so long at each of two receives, and asks for the time as it begins
-/// and after the first.
+/// Returns whether a read with this timeout waits this long at each of two receives, and reads the time at its
+/// beginning and after the first.
 fn reads_waiting(alloc: Global, timeout: u32, wait: u32) -> bool {
     let written = Cell::new(0);
     let steps = [Step::Quiet(1), Step::Packet(5, CONTROLLER, VALUE)];
@@ -118,7 +118,7 @@ fn reads_waiting(alloc: Global, timeout: u32, wait: u32) -> bool {
     got == Ok(Exit::Good) && link.waits.as_slice() == [wait, wait].as_slice() && link.asked == 2
 }
 
-/// Returns whether a device waits so long at each of two receives.
+/// Returns whether a device waits this long at each of two receives.
 fn serves_waiting(alloc: Global, wait: u32) -> bool {
     let written = Cell::new(0);
     let steps = [Step::Quiet(1_000), Step::Packet(1_500, OTHER, ASK)];

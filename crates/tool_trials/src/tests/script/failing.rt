@@ -9,7 +9,7 @@ use std::io::{self, ErrorKind, Read};
 const SCRIPT: &[u8] =
     b"read 127.0.0.1:47808 0 5 85\ntick 2999\ntick 3000\ntick 6000\ntick 9000\ntick 12000\n";
 
-/// What the script prints.
+/// The text that the script prints.
 const PRINTED: &[u8] = b"send 0 127.0.0.1:47808 810a001101040005010c0c000000051955\n\
     send 0 127.0.0.1:47808 810a001101040005010c0c000000051955\n\
     send 0 127.0.0.1:47808 810a001101040005010c0c000000051955\n\
@@ -18,7 +18,7 @@ const PRINTED: &[u8] = b"send 0 127.0.0.1:47808 810a001101040005010c0c0000000519
 
 const WHOLE: Result<TraceEnd, TraceFault> = Ok(TraceEnd { lines: 6 });
 
-// Script and text may be in fixed room: a run asks for no memory, as its signature says.
+// Script and text may be in fixed room: a run allocates no memory, by its signature.
 #[test]
 fn a_text_in_fixed_room(rt: HostRuntime) {
     let mut room = [0; PRINTED.len()];
@@ -27,8 +27,8 @@ fn a_text_in_fixed_room(rt: HostRuntime) {
     assert!(rt; room.as_slice() == PRINTED);
 }
 
-/// Returns whether a writer that accepts this many octets has this front of the text, and the script tells that writing
-/// failed.
+/// Returns whether a writer that accepts this many octets has this beginning of the text, and the script reports that
+/// writing failed.
 fn leaves_front(alloc: Global, left: usize, fails: bool) -> bool {
     let mut taken = Vec::new(alloc);
     let mut writer = Checked::new(with_room(&mut taken, left, fails));
@@ -45,8 +45,7 @@ fn writes_fail_in_turn(rt: HostRuntime) {
     }
 }
 
-/// A script, what it prints, and how many octets of the one there are up to the end of each line that prints, and how
-/// many of the other.
+/// A script, its text, and how many octets of both there are up to the end of each line that prints.
 #[derive(Drop)]
 struct Worked<'a> {
     script: &'a [u8],
@@ -60,9 +59,9 @@ const RETRIES: Worked<'static> = Worked {
     ends: &[(28, 58), (48, 116), (58, 174), (68, 232), (79, 242)],
 };
 
-/// Runs a script while the read and the write with these numbers fail. Returns how many reads and writes there were,
-/// and how many octets were written; `None` if it does not end so, writes another text, or reads before it has written
-/// what is printed.
+/// Runs a script while the read and the write with these numbers fail. Returns how many reads and writes were made, and
+/// how many octets were written; `None` if the run ends with another answer, writes another text, or reads before
+/// printed text is written.
 fn counts(
     worked: &Worked<'_>,
     (read, write, takes_none): (usize, usize, bool),
@@ -87,8 +86,8 @@ fn counts(
     Some((reads, writes, progress.written.get()))
 }
 
-/// Returns whether a reader that gives one octet at a time, and fails at this read, is not asked again, and leaves the
-/// text of the whole lines before.
+/// Returns whether a reader that gives one octet at a time, and fails at this read, is not read again, and the text of
+/// the whole lines before is written.
 fn fails_at(worked: &Worked<'_>, read: usize) -> bool {
     let fails = (read, usize::MAX, false);
     let wanted = printed_after(worked.ends, read);
@@ -98,15 +97,15 @@ fn fails_at(worked: &Worked<'_>, read: usize) -> bool {
     }
 }
 
-// At each read all that was printed before is written.
+// Before each read all printed text is written.
 #[test]
 fn nobody_waits_for_text(rt: HostRuntime) {
     let found = counts(&RETRIES, (usize::MAX, usize::MAX, false), WHOLE);
     assert!(rt; found == Some((SCRIPT.len() + 1, 5, PRINTED.len())));
 }
 
-// A reader that fails once is not asked again. Nor is a writer that fails once, or takes nothing once, and nothing is
-// read after that.
+// A reader that fails once is not read again. A writer that fails once, or accepts nothing once, is not used again, and
+// nothing is read after that.
 #[test]
 fn what_failed_is_not_asked_again(rt: HostRuntime) {
     for read in 0..=SCRIPT.len() {
@@ -145,13 +144,13 @@ const READ: &[u8] = b"read 127.0.0.1:47808 0 5 85\n";
 /// The answer to the first read.
 const VALUE: &[u8] = b"data 127.0.0.1:47808 810a0017010030010c0c0000000519553e444290999a3f\n";
 
-/// Returns the digit of a number below 16, of base 16.
+/// Returns the hexadecimal digit of a number below 16.
 fn digit(number: u8) -> &'static [u8] {
     let place = usize::from(number);
     b"0123456789abcdef".get(place..=place).unwrap_or(b"")
 }
 
-// Sixty-four requests are sent, and the sixty-fifth finds no place until the first is answered.
+// Sixty-four requests are sent, and the sixty-fifth has no place until the first is answered.
 fn sixty_five() -> Requests {
     let mut all = Requests {
         script: ArrayVec::new(),
@@ -182,13 +181,13 @@ fn reads_fail_in_turn(rt: HostRuntime) {
     };
     assert!(rt; worked.script.len() == 1_916 && worked.ends.len() == 67);
     for read in 0..=worked.script.len() {
-        // The sixty-one lines after the second are alike: of those the first octet is tried.
+        // The sixty-one lines after the second are alike: only the first octet of each is tried.
         let is_like_others = 56 <= read && read < 1_764 && read % 28 > 0;
         assert!(rt; is_like_others || fails_at(&worked, read), "at {read}");
     }
 }
 
-/// Gives a script at once and then nothing, once. A second request gives a failure or the script once more.
+/// Gives a script in one read, and nothing in the next. A read after that fails, or gives the script again.
 #[derive(Drop)]
 struct EndedOnce<'a> {
     script: &'a [u8],
@@ -212,7 +211,7 @@ impl Read for EndedOnce<'_> {
     }
 }
 
-/// Returns whether such a reader is read twice, of which the second is its end, and has not failed.
+/// Returns whether a reader of this script is read twice, the second time at its end, and has not failed.
 fn is_read_twice(script: &[u8], fails: bool) -> bool {
     let at = 0;
     let mut reader = Checked::new(EndedOnce { script, at, fails });
@@ -221,7 +220,7 @@ fn is_read_twice(script: &[u8], fails: bool) -> bool {
     got == WHOLE && room.as_slice() == PRINTED && reader.reads() == 2 && !reader.failed()
 }
 
-// A read that gave nothing is the last, whether or not a line feed comes before it.
+// A read that gave nothing is the last one, whether or not a line feed comes before it.
 #[test]
 fn what_has_ended_is_not_asked_again(rt: HostRuntime) {
     for fails in &[true, false] {
@@ -230,7 +229,7 @@ fn what_has_ended_is_not_asked_again(rt: HostRuntime) {
     }
 }
 
-/// Returns whether such a reader is read once if its first read gives a line with this fault.
+/// Returns whether a reader of this script, which has a line with this fault, is read only once.
 fn is_read_once(script: &[u8], fault: TraceFault) -> bool {
     let (at, fails) = (0, true);
     let mut reader = Checked::new(EndedOnce { script, at, fails });
@@ -238,7 +237,7 @@ fn is_read_once(script: &[u8], fault: TraceFault) -> bool {
     got == Err(fault) && reader.reads() == 1 && !reader.failed()
 }
 
-// A line that is bad or too long decides: the reader is not asked for more.
+// After a line that is bad or too long the reader is not read again.
 #[test]
 fn a_bad_line_is_read_at_once(rt: HostRuntime) {
     assert!(rt; is_read_once(b"x\n", TraceFault::BadLine(1)));

@@ -3,7 +3,8 @@ use crate::tests::is_text;
 use bac_print::{Checked, WriteFailed, show_outcome, show_value};
 use bac_tsm::Outcome;
 
-// The text of each outcome is tested with the scripts. Here it is written, and failures are reported.
+// The text of each outcome is tested by the scripts. This test shows that it is written, and that failures are
+// reported.
 #[test]
 fn an_outcome_and_a_region_are_shown(rt: HostRuntime) {
     let mut room = [0xff; 96];

@@ -19,8 +19,8 @@ fn a_fresh_reader_has_not_failed(rt: HostRuntime) {
     assert!(rt; reader.read(&mut octets).is_err() && reader.failed() && reader.reads() == 2);
 }
 
-// A flush returns what the writer's own does, and is not a failed write. A writer that accepts none of an octet has
-// failed.
+// A flush returns the result of the writer's own flush, and is not a failed write. A writer that accepts none of an
+// octet has failed.
 #[test]
 fn a_full_writer_has_failed_and_a_flush_has_not(rt: HostRuntime) {
     for fails in &[true, false] {
@@ -31,7 +31,7 @@ fn a_full_writer_has_failed_and_a_flush_has_not(rt: HostRuntime) {
     }
 }
 
-/// What a stream answers to one call after another: this many octets, or a failure of this kind.
+/// The results of a stream's calls, one after another: this many octets, or a failure of this kind.
 const ANSWERS: [Result<usize, ErrorKind>; 10] = [
     Ok(9),
     Ok(1),
@@ -45,7 +45,7 @@ const ANSWERS: [Result<usize, ErrorKind>; 10] = [
     Ok(16),
 ];
 
-/// A reader and writer that counts its calls, and answers them so.
+/// A reader and writer that counts its calls, and gives these results.
 #[derive(Drop)]
 struct Answering<'a> {
     calls: &'a Cell<usize>,
@@ -82,7 +82,7 @@ impl Write for Answering<'_> {
     }
 }
 
-/// Returns whether a call with this many octets has this answer of the stream.
+/// Returns whether a call with this many octets has this result of the stream.
 fn is_told(got: io::Result<usize>, answer: &Result<usize, ErrorKind>, octets: usize) -> bool {
     match (got, answer) {
         (Ok(count), Ok(answered)) => count == octets.min(*answered),

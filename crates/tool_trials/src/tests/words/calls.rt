@@ -52,7 +52,7 @@ fn asks(alloc: Global, line: &str, body: &str) -> bool {
     is_usual && are_digits(alloc, call.body.as_slice(), body)
 }
 
-/// Sees that the words of each row, between these, ask for their body.
+/// Checks that the words of each row, between `front` and `back`, ask for their body.
 fn all_ask<H: Abort + AllocGlobal>(rt: &H, front: &str, rows: &[(&str, &str)], back: &str) {
     for (words, body) in rows {
         let line = format!(in rt.alloc(); "{front} {words}{back}").expect(rt, "memory");

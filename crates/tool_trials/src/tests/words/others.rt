@@ -5,7 +5,7 @@ use bac_pdu::WhoIs;
 use bac_wire::Frame;
 use bac_work::begin;
 
-/// Words that ask for a search, and the limits of the devices that are asked, if there are any.
+/// Words that ask for a search, and the limits of the devices, if there are any.
 static SEARCHES: [(&str, Option<(u32, u32)>); 4] = [
     (
         "bactool bacwi 1000 1234 --mac 127.0.0.1",
@@ -40,7 +40,7 @@ fn searches_for_devices(rt: HostRuntime) {
 }
 
 /// Returns whether the words ask for a device at this port, for this many datagrams, which answers a Who-Is for 1000 to
-/// 1234 so.
+/// 1234 with these digits.
 fn plays(alloc: Global, line: &str, set: (u16, u32), digits: &str) -> bool {
     let Ok(Job::Use(Tool::Device(serve))) = parse(alloc, line) else {
         return false;

@@ -1,7 +1,7 @@
 //! Words that give no job.
 use super::*;
 
-// Whichever request for memory is refused, the answer is the job or `Memory` (rt try --test --fail-alloc N).
+// Whichever allocation fails, the answer is the job or `Memory` (rt try --test --fail-alloc N).
 #[test]
 fn memory_is_told(rt: HostRuntime) {
     let line = "bactool bacwp 1234 2 2 85 16 -1 3 -5 --mac 127.0.0.1";

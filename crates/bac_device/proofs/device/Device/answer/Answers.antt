@@ -1,4 +1,4 @@
--- A statement that holds of the definition's reply holds of the written one.
+-- A property of the definition's reply is a property of the written one.
 use Rattle.{bac_pdu.specs.station, bac_device.{proofs.{of_reply, reply_fits}, specs.ReplyFits}}
 use Rattle.bac_device.proofs.device.Device.answer.Goals as goal
 

@@ -1,4 +1,4 @@
--- A request that was read has a priority that there is.
+-- A request that was read has a priority of 1 to 16.
 use Rattle.std.proofs.Common.{sym}
 use Rattle.bac_pdu.proofs.BodyLaws.{write_is}
 use Rattle.bac_device.proofs.device.Device.write_reply.Goals as goal

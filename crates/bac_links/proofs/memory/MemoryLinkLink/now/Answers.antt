@@ -1,4 +1,4 @@
--- The steps that were played are those of the history, which gains an entry.
+-- The played steps are those of the history, which gains an entry.
 use Rattle.std.proofs.Math.Logic.{∥∥₁_map}
 use Rattle.bac_links.proofs.{stands_timed}
 use Rattle.bac_links.proofs.memory.MemoryLinkLink.now.Goals as goal

@@ -1,4 +1,4 @@
--- The steps that were played are those of the history, which gains an entry.
+-- The played steps are those of the history, which gains an entry.
 use Rattle.std.proofs.{Common.{arith, refl}, lemmas.List.length-map, Math.Logic.∥∥₁_map}
 use Rattle.bac_links.proofs.{stands_waited}
 use Rattle.bac_links.proofs.memory.MemoryLinkLink.receive.Goals as goal

@@ -1,4 +1,4 @@
--- The steps that were played are those of the history, which gains an entry.
+-- The played steps are those of the history, which gains an entry.
 use Rattle.std.proofs.{lemmas.List.length-map, Math.Logic.∥∥₁_map}
 use Rattle.{bac_pdu.specs.station, bac_links.proofs.{sent_so, stands_sent}}
 use Rattle.bac_links.proofs.memory.MemoryLinkLink.send.Goals as goal

@@ -1,4 +1,4 @@
--- The log grows by the calls for what the history gains.
+-- The log grows by the calls for the new entries of the history.
 use Rattle.std.proofs.{Common.refl, Math.Logic.∥∥₁_map}
 use Rattle.bac_links.proofs.{keeps_timed}
 use Rattle.bac_links.proofs.udp.UdpLinkLink.now.Goals as goal

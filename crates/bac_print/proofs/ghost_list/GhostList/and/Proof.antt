@@ -1,4 +1,4 @@
--- `and` picks the items, and those of the note after them.
+-- `and` makes the list of the items and the note's item.
 use Rattle.bac_wire.proofs.Walks.{[], !, a_type, agg, alive, alloc_all, and_then, bounded, dcons, dnil, done, ends_at}
 use Rattle.bac_wire.proofs.Walks.{enter, fjoin, free_all, get, Goes-dropped, inst_fn, keep, look_at, move, named}
 use Rattle.bac_wire.proofs.Walks.{no_more, nothing, owns, param, pass_all, plain, proved, qed, RattleType, raw, refl}

@@ -1,4 +1,4 @@
--- `new` picks no items.
+-- `new` makes the empty list.
 use Rattle.bac_wire.proofs.Walks.{[], !, a_type, agg, alive, alloc_all, and_then, done, ends_at, enter, fjoin, free_all}
 use Rattle.bac_wire.proofs.Walks.{get, inst_fn, keep, layouts, look_at, move, no_more, nothing, owns, param, pass_all}
 use Rattle.bac_wire.proofs.Walks.{proved, qed, raw, refl, returns, says, sets, split, suffices, types_at, ‵, ◌$◌, ◌∵◌}

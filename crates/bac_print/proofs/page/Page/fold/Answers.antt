@@ -1,4 +1,4 @@
--- The front stands in its line as it is, and the rest is folded after it.
+-- The first octets are in their line unchanged, and the rest is folded after them.
 use Rattle.std.proofs.Common.{arith, take-append-drop}
 use Rattle.bac_print.proofs.{folds_on, plain_front}
 use Rattle.bac_print.proofs.page.Page.fold.Goals as goal

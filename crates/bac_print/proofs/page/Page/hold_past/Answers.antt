@@ -1,4 +1,4 @@
--- A page that is turned in is given the text after that.
+-- The page is turned in, and then given the text.
 use Rattle.bac_print.proofs.{held_past}
 use Rattle.bac_print.proofs.page.Page.hold_past.Goals as goal
 

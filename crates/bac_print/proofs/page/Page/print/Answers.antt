@@ -1,4 +1,4 @@
--- If the page folds its lines, the text was put on it folded; else as it is.
+-- If the page folds its lines, the text was added folded; otherwise it was added unchanged.
 use Rattle.bac_print.proofs.{printed_folded, printed_whole}
 use Rattle.bac_print.proofs.page.Page.print.Goals as goal
 

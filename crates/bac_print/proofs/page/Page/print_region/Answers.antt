@@ -1,4 +1,4 @@
--- The printed text depends on how many values the region is, if it is values at all.
+-- The printed text depends on the number of values, if the region is values.
 use Rattle.std.proofs.Common.{arith, false, ◌==◌, ◌≡◌}
 use Rattle.bac_print.proofs.{printed_in_braces, printed_octets}
 use Rattle.bac_print.proofs.page.Page.print_region.Goals as goal

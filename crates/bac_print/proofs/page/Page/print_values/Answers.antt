@@ -1,4 +1,4 @@
--- The values that are printed are a front of the region: one more is printed, and its comma.
+-- The printed values are the first ones of the region: one more is printed, and its comma.
 use Rattle.std.proofs.Common.{sym}
 use Rattle.bac_print.proofs.{front_more}
 use Rattle.bac_print.proofs.page.Page.print_values.Goals as goal

@@ -1,4 +1,4 @@
--- The searched octets are a part of the chunk, and their positions are not those of the held octets.
+-- The searched octets are a part of the chunk, so their positions differ from those of the held octets.
 use Rattle.std.proofs.Common.{arith, sym, ◌∙◌}
 use Rattle.bac_script.proofs.{cut_as_long, cut_behind}
 use Rattle.bac_script.proofs.input.Chunk.line_length.Goals as goal

@@ -1,4 +1,4 @@
--- Several reads may be made for one line, and each is needed: none of them found a whole line held.
+-- Several reads may be made for one line, and each is needed: before each of them no whole line was held.
 use Rattle.std.proofs.Common.{arith, length, List, rules, subst, sym, ℕ, ◌<◌, ◌≡◌}
 use Rattle.bac_print.proofs.Printed.{prints_nothing, ◌⨾◌}
 use Rattle.bac_script.proofs.{next_at_end, read_for_line, searched_on, still_for_line, Takes-more}

@@ -1,10 +1,10 @@
--- The chunk is read into after what is held, which may have been moved to the front before.
+-- The reader fills the chunk after the held octets, which may have been moved to the front before.
 use Rattle.std.proofs.Common.{ap, arith, inr, take, ◌∙◌}
 use Rattle.bac_script.proofs.{last_none, last_on, Placed, placed_moved, read_ended, read_none, read_on, still_held}
 use Rattle.bac_script.proofs.input.Chunk.read_more.{Given.Over, Goals.{After-read, else-self, then-self}}
 use Rattle.bac_script.proofs.input.Chunk.read_more.Goals as goal
 
--- The chunk as it is read into: what is held was moved to the front, or there was room.
+-- The chunk before the read: the held octets were moved to the front, or there was room after them.
 ready : (g : Over) (c : After-read g) →
     Placed c.if-self.self-inside.octets c.if-self.self-inside.start c.if-self.self-inside.end c.args.self.now
 ready g c =

@@ -1,4 +1,4 @@
--- A ReadProperty takes at most 45 octets, so there is room for it.
+-- A ReadProperty has at most 45 octets, so there is room for it.
 use Rattle.std.proofs.Common.{ap, arith, length, ◌∙◌, ◌≡◌}
 use Rattle.bac_pdu.{proofs.ShortestLaws.{read_alone, read_octets_short}, specs.{read_octets, reference}}
 use Rattle.bac_text.proofs.bodies.BodyRoom.body_of_read.Goals as goal

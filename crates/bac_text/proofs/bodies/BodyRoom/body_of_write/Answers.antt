@@ -1,4 +1,4 @@
--- The pairs are a region of values, as the writer of the request requires, or their fault is the body's.
+-- The pairs are a region of values, as the writer of the request requires, or their fault is that of the body.
 use Rattle.std.proofs.Common.{arith, subst, sym}
 use Rattle.{bac_wire.specs.IsRegion, bac_text.proofs.{body-fault, region_written, values_are_region}}
 use Rattle.bac_text.proofs.bodies.BodyRoom.body_of_write.Goals as goal

@@ -1,4 +1,4 @@
--- No rank means that no request has the ticket, so the definition finds none either.
+-- No rank means that no request has the ticket, and then the definition finds none either.
 use Rattle.std.proofs.Common.{sym}
 use Rattle.bac_tsm.proofs.{find_none}
 use Rattle.bac_tsm.proofs.table.Table.find.Goals as goal

@@ -1,4 +1,4 @@
--- The entry of an invoke id says whether an open request has it, which is an invariant of the table.
+-- The entry of an invoke id says whether an open request has that id, by an invariant of the table.
 use Rattle.std.proofs.Common.{◌∙◌}
 use Rattle.bac_tsm.proofs.{taken}
 use Rattle.bac_tsm.proofs.table.Table.is_taken.Goals as goal

@@ -1,4 +1,4 @@
--- One request more keeps the invariant: its slot was free, its ticket is the greatest, it was sent last.
+-- One more open request keeps the invariant: its slot was free, its ticket is the greatest, and it was sent last.
 use Rattle.std.proofs.Common.{arith}
 use Rattle.bac_tsm.proofs.{as_many, count, next_free, opened_by}
 use Rattle.bac_tsm.proofs.table.Table.open.Goals as goal

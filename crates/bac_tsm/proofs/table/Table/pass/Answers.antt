@@ -1,4 +1,4 @@
--- The request that was sent longest ago is due where any is; it goes after the others, or ends.
+-- If any request is due, the one that was sent longest ago is; it goes after the others, or ends.
 use Rattle.std.proofs.Common.{arith, subst, sym, ◌∙◌}
 use Rattle.bac_tsm.{proofs.{ended, front_below, not_found, sent_again, some_sent}, specs.{client_rules, Inner.IsRankOf}}
 use Rattle.bac_tsm.proofs.table.Table.pass.Goals as goal

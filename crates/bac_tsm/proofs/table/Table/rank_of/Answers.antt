@@ -1,4 +1,4 @@
--- `rank_of` looks at one rank first; if that is another ticket's, it searches the rising tickets.
+-- `rank_of` looks at one rank first; if another ticket is there, it searches the rising tickets.
 use Rattle.std.proofs.Common.{arith, get_or, IfSome, is_some, length, List, ltb-true, nat_lt, None, Option}
 use Rattle.std.proofs.Common.{option_copied, slice_get, Some, sym, ℕ, ◌∙◌, ◌≡◌}
 use Rattle.std.{proofs.lemmas.Option.{none-some, slice_get-get_or}, specs.Borrow.Bor}

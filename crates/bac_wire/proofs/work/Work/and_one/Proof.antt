@@ -1,4 +1,4 @@
--- `and_one` picks the count of the new value. A proof by hand, such as `Walks` says.
+-- `and_one` chooses the count of the new value. The proof is written by hand, like those in `Walks`.
 use Rattle.std.proofs.Common.{◌+◌}
 use Rattle.bac_wire.proofs.Walks.{[], !, agg, alive, alloc_all, done, ends_at, enter, fjoin, free_all, Goes-dropped}
 use Rattle.bac_wire.proofs.Walks.{keep, look_at, move, named, no_more, none, none_made, nothing, owns, pass_all, plain}

@@ -1,6 +1,0 @@
--- Output before a turn.
-use Rattle.bac_print.proofs.Printed.{prints_nothing}
-use Rattle.bac_run.proofs.turns.Run.let_out.Goals as goal
-
-pub returns-else-longest_wait-gt1-clause-printed : goal.returns-else-longest_wait-gt1-clause-printed
-returns-else-longest_wait-gt1-clause-printed g c = prints_nothing c.args.page.now
