@@ -10,7 +10,8 @@
 # make forget: takes away what the prover keeps, 3.2 GB, but not the program; the next check proves from nothing
 # make documents: compares the documents, the reading lists, the list of public signatures and what reads the rules
 #     back with the tree. Seconds
-# make reading: writes docs/reading/ anew, the sizes of its lists in README.md, and docs/API.txt. Seconds
+# make reading: writes docs/reading/ anew, the sizes of its lists in README.md, docs/API.txt, and must-fail/ of each
+#     crate. Seconds
 # All but try, check, test, forget, documents and reading build the program first, where it is not as the sources.
 
 PROGRAM = crates/bactool/out/bactool
@@ -58,11 +59,9 @@ forget:
 documents:
 	@tests/documents/documents.py
 	@tests/documents/reading.py
-	@tests/documents/api.py
 
 reading:
 	@tests/documents/reading.py --write
-	@tests/documents/api.py --write
 
 try check test gate bench: kit
 

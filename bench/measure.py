@@ -26,14 +26,7 @@ REPLIES, MANY_REPLIES, RUNS, LINES = 20000, 60000, 200, 10000000
 UDP = f"{TOP}/out/udp"
 BACRP = ["bacrp", "1234", "0", "5", "85", "--mac"]
 CALLGRIND = ["valgrind", "--tool=callgrind", "--callgrind-out-file=/dev/null", PROGRAM]
-MIXED = [
-    "read 127.0.0.1:47808 0 5 85\n",
-    "data 127.0.0.1:47808 810a0017010030{number:02x}0c0c0000000519553e444290999a3f\n",
-    "write 127.0.0.1:47808 1 1 85 16 -1 4 41a00000\n",
-    "data 127.0.0.1:47808 810a0009010020{number:02x}0f\n",
-    "ask 127.0.0.1:50000 810a001101040005010c0c000000051955\n",
-    "tick {line}\n",
-]
+MIXED = text_of("bench/mixed.trace").splitlines(keepends=True)
 
 
 def mixed(count):

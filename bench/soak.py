@@ -35,7 +35,7 @@ from bacsite.messages import outcome_of
 from bacsite.bodies import parameters, read_ack
 from rows import row_cases
 from runs import check, run
-from tree import PROGRAM, TOP, WRONG, device, files, local_socket, resident
+from tree import PROGRAM, TOP, WRONG, device, files, framed, local_socket, resident
 
 
 def known():
@@ -314,8 +314,7 @@ def odd_answer(dice, number, body=bytes.fromhex("0c4b00000119553e")):
         whole = whole[:2] + damaged(dice, whole[2:])
     if dice.random() < 0.1:
         whole = bytes([dice.choice([0x20, 0x38, 0x50, 0x60, 0x71]), number]) + dice.randbytes(dice.randrange(9))
-    rest = bytes.fromhex(dice.choice(HEADS)) + whole
-    return b"\x81\x0a" + (4 + len(rest)).to_bytes(2, "big") + rest
+    return framed(whole, bytes.fromhex(dice.choice(HEADS)))
 
 
 def soak_readers(dice, count):

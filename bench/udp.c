@@ -39,25 +39,6 @@ static double seconds_now(void)
     return now.tv_sec + now.tv_nsec / 1e9;
 }
 
-static void load(int client, long outstanding, long count)
-{
-    unsigned char reply[2048];
-    double begun = seconds_now();
-    long asked = 0;
-    for (long answered = 0; answered < count; answered++) {
-        for (; asked < count && asked < answered + outstanding; asked++) {
-            request[INVOKE_ID] = asked;
-            if (send(client, request, sizeof request, 0) != sizeof request)
-                err(1, "send");
-        }
-        ssize_t length = recv(client, reply, sizeof reply, 0);
-        int at = length == sizeof request ? INVOKE_ID : INVOKE_ID - 1;
-        if ((length != sizeof request && length != ANSWER) || reply[at] != answered % 256)
-            errx(1, "not the answer to request %ld, but %zd octets", answered, length);
-    }
-    printf("%.0f\n", count / (seconds_now() - begun));
-}
-
 /* Receives answer at once from now on, or wait. The system is asked only if they did not. */
 static void answer_at_once(int client, int on)
 {
@@ -76,35 +57,46 @@ static size_t written(size_t held)
     return 0;
 }
 
-static void batch(int client, struct sockaddr_in to, long outstanding, long count)
+/* The next datagram, by the calls that bacrun's contract wants. */
+static ssize_t looked(int client, unsigned char *reply, size_t room, size_t *held)
+{
+    struct sockaddr_in from;
+    socklen_t size = sizeof from;
+    seconds_now();
+    answer_at_once(client, 1);
+    ssize_t length = recvfrom(client, reply, room, 0, (struct sockaddr *)&from, &size);
+    if (length < 0 || *held > MOST_HELD)
+        *held = written(*held);
+    if (length < 0) {
+        answer_at_once(client, 0);
+        length = recvfrom(client, reply, room, 0, (struct sockaddr *)&from, &size);
+    }
+    return length;
+}
+
+/* How many requests are answered a second: by a socket that has its peer, or, with an address, by bacrun's calls. */
+static double rate(int client, const struct sockaddr_in *to, long outstanding, long count)
 {
     unsigned char reply[2048];
-    struct sockaddr_in from;
     double begun = seconds_now();
+    socklen_t size = to ? sizeof *to : 0;
     long asked = 0;
     size_t held = 0;
     for (long answered = 0; answered < count; answered++) {
         for (; asked < count && asked < answered + outstanding; asked++, held += ASKED_TEXT) {
             request[INVOKE_ID] = asked;
-            if (sendto(client, request, sizeof request, 0, (struct sockaddr *)&to, sizeof to) != sizeof request)
+            if (sendto(client, request, sizeof request, 0, (struct sockaddr *)to, size) != sizeof request)
                 err(1, "send");
         }
-        seconds_now();
-        socklen_t size = sizeof from;
-        answer_at_once(client, 1);
-        ssize_t length = recvfrom(client, reply, sizeof reply, 0, (struct sockaddr *)&from, &size);
-        if (length < 0 || held > MOST_HELD)
-            held = written(held);
-        if (length < 0) {
-            answer_at_once(client, 0);
-            length = recvfrom(client, reply, sizeof reply, 0, (struct sockaddr *)&from, &size);
-        }
-        if (length != ANSWER || reply[INVOKE_ID - 1] != answered % 256)
+        ssize_t length = to ? looked(client, reply, sizeof reply, &held) : recv(client, reply, sizeof reply, 0);
+        int at = length == sizeof request ? INVOKE_ID : INVOKE_ID - 1;
+        if ((length != sizeof request && length != ANSWER) || reply[at] != answered % 256)
             errx(1, "not the answer to request %ld, but %zd octets", answered, length);
         held += ANSWERED_TEXT;
     }
-    written(held);
-    fprintf(stderr, "%.0f\n", count / (seconds_now() - begun));
+    if (to)
+        written(held);
+    return count / (seconds_now() - begun);
 }
 
 int main(int count, char **words)
@@ -121,8 +113,5 @@ int main(int count, char **words)
         err(1, "socket");
     if (is_echo)
         echo(made);
-    if (is_batch)
-        batch(made, place, atol(words[3]), atol(words[4]));
-    else
-        load(made, atol(words[3]), atol(words[4]));
+    fprintf(is_batch ? stderr : stdout, "%.0f\n", rate(made, is_batch ? &place : NULL, atol(words[3]), atol(words[4])));
 }

@@ -13,7 +13,7 @@ import tempfile
 import time
 from concurrent.futures import ThreadPoolExecutor
 
-from tree import ran, sections_of, status_of, text_of, write
+from tree import ran, status_of, table_of, text_of, write
 
 # A stand-in does what the rule in RULE says, if its words begin as there. Otherwise it succeeds.
 RULE = r"""#!/bin/bash
@@ -27,47 +27,22 @@ case $1 in
 esac
 """
 SCRIPT = RULE + 'echo "$0: 5 calls as they are to be"\n'
-BODIES = "bodies/mutants.py bodies/self_test.py bodies/definition_mutants.py"
-SCRIPTS = f"one.sh two.sh three.sh four.sh {BODIES} planted_faults.py"
-MAKEFILE = """
-examples:
-	@tests/one.sh
-	@tests/two.sh
-lint:
-	@tests/three.sh
-documents:
-	@tests/four.sh
-"""
-
-
-COUNTS = """
-= examples
-tests/one.sh: 5
-tests/two.sh: 4+
-= lint
-tests/three.sh: 5
-= documents
-tests/four.sh: 5
-= trials
-bac_trials: 7
-"""
-
-
-def rows(only):
-    """Yields a command, the rule of the stand-ins, the status, and the expected message."""
-    for command, lines in sections_of("tests/stand_in_tools.txt"):
-        for rule, status, wanted in (line.split(" || ") for line in lines if only in command):
-            yield command.split(), rule, int(status), wanted
+BODIES = "bodies/mutants.py bodies/self_test.py bodies/definition_mutants.py planted_faults.py"
+(_, PARTS), *RUNS = table_of("tests/stand_in_tools.txt")
 
 
 def made(room, rule, is_built=True):
     """A tree with a crate below the program, and the trials, with this rule; and with the results of a build."""
     crates = "low:\nbactool: low\nbac_trials: low\ntool_trials: low\n"
-    texts = {"Makefile": MAKEFILE, "HANDLES": "", "crates.txt": crates, "../bin/rt": RT}
+    texts = {"Makefile": "", "HANDLES": "", "crates.txt": crates, "../bin/rt": RT, "tests/documents/counts.txt": ""}
+    for part, *rows in PARTS:
+        scripts = [row.split(": ")[0] for row in rows]
+        texts["Makefile"] += f"{part}:\n" + "".join(f"\t@{script}\n" for script in scripts)
+        texts["tests/documents/counts.txt"] += "\n".join([f"= {part}", *rows, ""]).replace(": ", " | ")
+        texts.update(dict.fromkeys(scripts, SCRIPT))
     texts.update((path, text_of(path)) for path in ("build.py", "tests/suite.py", "tests/tree.py", ".ci/run"))
     texts.update((f"crates/{name}/src/lib.rt", "//! x\n") for name in re.findall(r"(\w+):", crates))
-    texts.update((f"tests/{name}", SCRIPT) for name in SCRIPTS.split())
-    texts["tests/documents/counts.txt"] = COUNTS
+    texts.update((f"tests/{name}", SCRIPT) for name in BODIES.split())
     wanted = re.search(r"for tool in (.*); do", text_of(".ci/run"))[1].split()
     texts.update((f"../bin/{name}", RULE) for name in wanted if name != "rt")
     for path, text in texts.items():
@@ -84,7 +59,7 @@ def tried(command, rule, status, wanted):
     """Returns how a row failed, or "". A row that takes five minutes ends the script."""
     with tempfile.TemporaryDirectory() as room:
         done = ran(*command, timeout=300, **made(room, rule, command != ["./build.py"]))
-    if done.returncode == status and re.search(wanted, done.stdout.rstrip("\n")):
+    if done.returncode == int(status) and re.search(wanted, done.stdout.rstrip("\n")):
         return ""
     return f"{' '.join(command)} by [{rule}]: status {done.returncode}, not {status} with /{wanted}/:\n{done.stdout}"
 
@@ -139,7 +114,8 @@ def without_kit():
 
 
 def main(only):
-    every, told_to_end = list(rows(only)), (["./build.py"], ["tests/suite.py", "test"])
+    every = [(command.split(), *row) for command, rows in RUNS for row in rows if only in command]
+    told_to_end = ["./build.py"], ["tests/suite.py", "test"]
     with ThreadPoolExecutor(4) as pool:
         wrong = [it for it in (*pool.map(lambda row: tried(*row), every), *pool.map(stopped, told_to_end)) if it]
     wrong += [*timed(), *without_kit()]

@@ -17,7 +17,7 @@ import tempfile
 import time
 import typing
 
-from tree import TOP, Job, crates_below, end_by_signals, free_memory, processors, ran, sections_of, text_of, write
+from tree import TOP, Job, crates_below, end_by_signals, free_memory, processors, ran, table_of, text_of, write
 
 LOGS, GENTLY, COUNTS = "out/parts", ["nice", "-n", "5"], "tests/documents/counts.txt"
 PROGRAM = "crates/bactool/out/bactool"
@@ -87,7 +87,7 @@ def counts_in(said):
 
 def miscounted(part, said):
     """The scripts of a part that did not compare as much as in counts.txt, or with `+` at least as much."""
-    found, wanted = counts_in(said), dict(row.split(": ") for row in dict(sections_of(COUNTS)).get(part.name, []))
+    found, wanted = counts_in(said), dict(dict(table_of(COUNTS)).get(part.name, []))
     yield from (f"{COUNTS} has nothing of {name}" for name in part.scripts if name not in wanted)
     for name, numbers in wanted.items():
         least = [int(it.strip("+")) for it in numbers.split()]
@@ -103,11 +103,11 @@ def counts():
     """Writes counts.txt again. A line with `+` keeps the `+`, and the section of a part without a log stays."""
     head, *_ = text_of(COUNTS).partition("\n= ")
     text = head + "\n"
-    for part, rows in sections_of(COUNTS):
-        log, old = f"{LOGS}/{part}.log", dict(row.split(": ") for row in rows)
+    for part, rows in table_of(COUNTS):
+        log, old = f"{LOGS}/{part}.log", dict(rows)
         found = counts_in(text_of(log)) if os.path.exists(log) else {}
         told = {name: " ".join(f"{it}{'+' * ('+' in old.get(name, ''))}" for it in found[name]) for name in found}
-        text += f"\n= {part}\n" + "".join(f"{name}: {it}\n" for name, it in {**old, **told}.items())
+        text += f"\n= {part}\n" + "".join(f"{name} | {it}\n" for name, it in {**old, **told}.items())
     write(COUNTS, text)
     return 0
 

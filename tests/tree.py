@@ -42,6 +42,13 @@ def sections_of(path):
         yield head, [line for line in lines if line and line[0] != "#"]
 
 
+def table_of(path):
+    """The form of all tables: after a line `= HEAD` each line is a row of cells, except comments and empty lines. ` | `
+    separates the cells; in a row with ` || ` only that does. Returns each head with its rows."""
+    cells = lambda line: line.split(" || " if " || " in line else " | ")
+    return [(head, [cells(line) for line in lines]) for head, lines in sections_of(path)]
+
+
 def write(path, text):
     """Writes a file, and the folder that it is in."""
     os.makedirs(os.path.dirname(path), exist_ok=True)
@@ -197,6 +204,11 @@ def local_socket():
     it = socket.socket(socket.AF_INET, socket.SOCK_DGRAM)
     it.bind(("127.0.0.1", 0))
     return it
+
+
+def framed(apdu, network=b"\x01\x00"):
+    """A datagram with this header of the network layer, and this APDU."""
+    return b"\x81\x0a" + (4 + len(network + apdu)).to_bytes(2, "big") + network + apdu
 
 
 def free_port(first=47808):

@@ -2,11 +2,11 @@
 
 from __future__ import annotations
 
-from functools import lru_cache
+from functools import lru_cache, partial
 from typing import Iterator, NamedTuple, Sequence
 
 from . import standard
-from .standard import PropertyRef, ObjectId
+from .standard import ObjectId, PropertyRef
 
 MOST_OPEN = 32  # open at the same time
 OPENING, CLOSING = -1, -2  # in place of the length of a tag
@@ -27,23 +27,6 @@ class Tag(NamedTuple):
     context: bool
     length: int
     end: int
-
-
-class Element(NamedTuple):
-    """A value: the number of its tag, and its contents; a Boolean has one octet."""
-
-    kind: int
-    octets: bytes
-
-    @property
-    def number(self) -> int:
-        """The contents as a number."""
-        return int.from_bytes(self.octets, "big", signed=self.kind == standard.SIGNED)
-
-    @property
-    def of_object(self) -> ObjectId:
-        """The object that the value names."""
-        return object_id_of(self.number)
 
 
 class Body(NamedTuple):
@@ -84,15 +67,30 @@ def tag_at(octets: bytes, at: int) -> Tag | None:
 class Item(NamedTuple):
     """A tag and its contents; for an opening tag the items up to its closing tag too."""
 
-    number: int
+    number: int  # of the tag
     context: bool
-    octets: bytes
+    octets: bytes  # one for a Boolean
     inner: list[Item] | None = None
 
     @property
     def value(self) -> int:
         """The contents as a number."""
-        return int.from_bytes(self.octets, "big")
+        is_signed = self.number == standard.SIGNED and not self.context
+        return int.from_bytes(self.octets, "big", signed=is_signed)
+
+    @property
+    def of_object(self) -> ObjectId:
+        """The object that the contents name."""
+        return object_id_of(self.value)
+
+    @property
+    def is_element(self) -> bool:
+        """Whether this is a value, whose tag shows its type."""
+        if self.context or self.number > standard.OBJECT:
+            return False
+        if not standard.LEAST[self.number] <= len(self.octets) <= standard.MOST[self.number]:
+            return False
+        return self.number != standard.BITS or self.octets[0] <= (7 if self.octets[1:] else 0)
 
 
 def _items(octets: bytes, at: int, opened: int = 0) -> tuple[list[Item], int]:
@@ -134,34 +132,24 @@ def items_of(octets: bytes) -> list[Item] | None:
     return found if end == len(octets) else None
 
 
-def element_of(item: Item) -> Element | None:
-    """The value of an item, if it is one."""
-    number, context, octets, _ = item
-    if context or number > standard.OBJECT:
-        return None
-    if number == standard.BOOLEAN:
-        return Element(number, octets) if octets else None
-    if not standard.LEAST[number] <= len(octets) <= standard.MOST[number]:
-        return None
-    if number == standard.BITS and octets[0] > (7 if octets[1:] else 0):
-        return None
-    return Element(number, octets)
-
-
 @lru_cache(maxsize=1024)  # many objects have the same flags and units
-def elements_of(region: bytes) -> Sequence[Element] | None:
+def elements_of(region: bytes) -> Sequence[Item] | None:
     """Returns the values of a region; None if it has anything else."""
     items = items_of(region)
-    found = tuple(it for it in map(element_of, items or ()) if it)
-    return None if items is None or len(found) < len(items) else found
+    return None if items is None or not all(it.is_element for it in items) else items
 
 
 def device_in(region: bytes) -> int | None:
-    """Returns the instance of the device that a value names; None if it names no device."""
+    """Returns the instance of the device that an only value names; None if it names no device."""
     found = elements_of(region) or []
-    is_device = len(found) == 1 and found[0].kind == standard.OBJECT
-    is_device = is_device and found[0].of_object.object_type == standard.DEVICE
-    return found[0].of_object.instance if is_device else None
+    return device_of(found[0]) if len(found) == 1 else None
+
+
+def device_of(element: Item) -> int | None:
+    """Returns the instance of the device that a value names; None if it names no device."""
+    kind, instance = element.of_object
+    is_device = (element.number, kind) == (standard.OBJECT, standard.DEVICE)
+    return instance if is_device else None
 
 
 def bits_of(octets: bytes) -> str:
@@ -169,9 +157,9 @@ def bits_of(octets: bytes) -> str:
     return "".join(f"{it:08b}" for it in octets[1:])[: 8 * (len(octets) - 1) - octets[0]]
 
 
-def element_text(element: Element) -> str:
+def element_text(element: Item) -> str:
     """A value as bacrp prints it."""
-    kind, octets = element
+    kind, octets = element.number, element.octets
     if kind in (standard.NULL, standard.BOOLEAN):
         return "null" if kind == standard.NULL else ("false", "true")[octets[0]]
     if kind == standard.STRING:
@@ -183,7 +171,7 @@ def element_text(element: Element) -> str:
         return f"{QUOTES[kind]}'{octets.hex()}'"
     if kind in (standard.REAL, standard.DOUBLE):
         return octets.hex()
-    return str(element.of_object if kind == standard.OBJECT else element.number)
+    return str(element.of_object if kind == standard.OBJECT else element.value)
 
 
 @lru_cache(maxsize=1024)
@@ -197,8 +185,7 @@ def region_text(region: bytes) -> str:
 
 
 def parameters(octets: bytes) -> Iterator[tuple[int, bytes]]:
-    """Each context tag with its contents. Only the tag 3 may be an opening tag. A part that can't
-    be read gives the tag -1."""
+    """Each context tag with its contents, or -1 if it can't be read. Only 3 may be opening."""
     items, end = _items(octets, 0, opened=-1)  # the value is what the tag 3 encloses
     for it in items:
         if not it.context or (it.inner is None) == (it.number == 3):
@@ -225,24 +212,13 @@ def body_of(octets: bytes, forms: Sequence[list[int]]) -> Body | None:
     return Body(ref, value, number.get(4))
 
 
-def read_body(octets: bytes) -> Body | None:
-    """Returns what a ReadProperty asks for."""
-    return body_of(octets, OF_READ)
-
-
-@lru_cache(maxsize=64)  # read twice: for the end of a request, and for its object
-def read_ack(octets: bytes) -> Body | None:
-    """Returns what the acknowledgement of a ReadProperty says."""
-    return body_of(octets, OF_ACK)
-
-
-def write_body(octets: bytes) -> Body | None:
-    """Returns what a WriteProperty asks for."""
-    return body_of(octets, OF_WRITE)
+read_body, write_body = partial(body_of, forms=OF_READ), partial(body_of, forms=OF_WRITE)
+# An acknowledgement is read twice: for the end of a request, and for its object.
+read_ack = lru_cache(maxsize=64)(partial(body_of, forms=OF_ACK))
 
 
 def error_body(octets: bytes) -> tuple[int, int] | None:
     """Class and code of an Error, whatever follows them."""
-    found = [element_of(it) for it in _items(octets, 0)[0][:2]]
-    numbers = [it.number for it in found if it and it.kind == standard.ENUMERATED]
+    found = [it for it in _items(octets, 0)[0][:2] if it.is_element]
+    numbers = [it.value for it in found if it.number == standard.ENUMERATED]
     return (numbers[0], numbers[1]) if len(numbers) == 2 else None

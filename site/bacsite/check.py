@@ -9,16 +9,16 @@ import time
 from concurrent.futures import Future, TimeoutError  # pylint: disable=redefined-builtin
 from contextlib import suppress
 from decimal import Decimal
+from functools import partial
 from typing import NamedTuple, Sequence
 
 from . import standard
 from .controller import Controller
-from .output import Failure, put, wrong
 from .points import Point, point_of
-from .poll import Reading, reading_of
+from .poll import Reading, readings_of
+from .streams import Failure, put, wrong
 from .tools import Tools, alone, deadline_of
-from .reasons import TOO_LATE, Why
-from .values import Kind
+from .values import TOO_LATE, Kind, Why
 
 OK, WARNING, CRITICAL, UNKNOWN = range(4)
 STATUSES = ("OK", "WARNING", "CRITICAL", "UNKNOWN")
@@ -45,12 +45,7 @@ class Verdict(NamedTuple):
 
     status: int
     text: str
-    numbers: str = ""
-
-    def line(self) -> str:
-        """Returns the line that monitoring reads; the numbers for it come after `|`."""
-        text = self.text.replace("|", "/") + (" | " + self.numbers if self.numbers else "")
-        return f"BACNET {STATUSES[self.status]} - {text}\n"
+    numbers: str = ""  # for monitoring, which finds them after `|`
 
 
 def range_of(word: str) -> Range:
@@ -111,22 +106,13 @@ def looked_up(words: Sequence[str], deadline: float) -> Point | None:
     return None
 
 
-def _asked(
-    controller: Controller, point: Point, ranges: tuple[Range, Range], with_flags: bool
-) -> Verdict:
-    """Returns the status of the point, and the fault that the object reports, if any."""
-
-    def asked() -> tuple[Reading, str]:
-        reading = reading_of(controller, point, with_flags)
-        has_fault = "fault" in reading.flags.bits
-        if not has_fault:
-            return reading, ""
-        value = controller.value(point.ref.other(standard.RELIABILITY))
-        return reading, "" if value.fault or value.text == "0" else value.named
-
-    reading, reliability = alone(controller.tools, asked)
-    verdict = verdict_on(reading, *ranges)
-    return verdict._replace(text=f"{verdict.text}: {reliability}") if reliability else verdict
+def _asked(controller: Controller, point: Point, with_flags: bool) -> tuple[Reading, str]:
+    """Returns the value of the point, and the fault that the object reports, if any."""
+    (reading,) = readings_of(controller, [point], with_flags, with_texts=True)
+    if "fault" not in reading.flags.bits:
+        return reading, ""
+    value = controller.value(point.ref.other(standard.RELIABILITY))
+    return reading, "" if value.fault or value.text == "0" else value.named
 
 
 def check(words: argparse.Namespace) -> int:
@@ -136,6 +122,11 @@ def check(words: argparse.Namespace) -> int:
     point = looked_up(([words.hostname] if words.hostname else []) + words.words, deadline)
     if point:
         with Controller(Tools.of(words), point.address, deadline) as controller:
-            verdict = _asked(controller, point, ranges, with_flags=not words.no_flags)
-    put(verdict.line())
+            job = partial(_asked, controller, point, with_flags=not words.no_flags)
+            reading, reliability = alone(controller.tools, job)
+        verdict = verdict_on(reading, *ranges)
+        if reliability:
+            verdict = verdict._replace(text=f"{verdict.text}: {reliability}")
+    text = verdict.text.replace("|", "/") + (" | " + verdict.numbers if verdict.numbers else "")
+    put(f"BACNET {STATUSES[verdict.status]} - {text}\n")
     return verdict.status

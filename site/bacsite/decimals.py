@@ -8,7 +8,7 @@ import re
 import struct
 from decimal import ROUND_UP, Context, Decimal
 
-from .output import MISSING, put, wrong
+from .streams import MISSING, put, wrong
 
 NO_NUMBERS = ("NaN", "Inf", "-Inf")
 DECIMAL = re.compile(r"[-+]?([0-9]+\.?[0-9]*|\.[0-9]+)([eE][-+]?[0-9]+)?")
@@ -16,13 +16,15 @@ DECIMAL = re.compile(r"[-+]?([0-9]+\.?[0-9]*|\.[0-9]+)([eE][-+]?[0-9]+)?")
 
 def number_of(octets: str) -> float:
     """Returns the number of 8 digits of a Real, or of 16 of a Double; it may be NaN or infinite."""
-    number: float = struct.unpack(">f" if len(octets) == 8 else ">d", bytes.fromhex(octets))[0]
-    return number
+    return float(struct.unpack(">f" if len(octets) == 8 else ">d", bytes.fromhex(octets))[0])
 
 
 def octets_of(number: float, double: bool = False) -> str:
-    """Returns the octets of a Real or a Double; OverflowError if it is too great."""
-    return struct.pack(">d" if double else ">f", number).hex()
+    """Returns the octets of a Real or a Double; an empty text if it is too great."""
+    try:
+        return struct.pack(">d" if double else ">f", number).hex()
+    except OverflowError:
+        return ""
 
 
 def shortest(octets: str) -> str:
@@ -41,18 +43,11 @@ def _shortest_of_real(number: float, octets: str) -> float:
     below, so the nearest number with that many digits may give other octets."""
     for digits in range(1, 10):
         short = float(f"{number:.{digits}g}")
-        if abs(short) < abs(number) and _octets_or_none(short) != octets:
+        if abs(short) < abs(number) and octets_of(short) != octets:
             short = float(Context(digits, ROUND_UP).create_decimal_from_float(number))
-        if _octets_or_none(short) == octets:
+        if octets_of(short) == octets:
             return short
     return number
-
-
-def _octets_or_none(number: float) -> str:
-    try:
-        return octets_of(number)
-    except OverflowError:
-        return ""
 
 
 def encoded(word: str, double: bool = False) -> str:
@@ -63,10 +58,7 @@ def encoded(word: str, double: bool = False) -> str:
     is_zero = not re.match("[^eE]*[1-9]", word)
     if not math.isfinite(number) or (number == 0 and not is_zero):
         raise wrong("past the range: " + word)
-    try:
-        octets = octets_of(number if double or is_zero else _to_odd(number, word), double)
-    except OverflowError:
-        octets = ""
+    octets = octets_of(number if double or is_zero else _to_odd(number, word), double)
     if not octets or (number_of(octets) == 0 and not is_zero):
         raise wrong("past the range: " + word)
     return octets
@@ -80,8 +72,7 @@ def _to_odd(number: float, word: str) -> float:
         return number
     (bits,) = struct.unpack(">Q", struct.pack(">d", number))
     towards_zero = bits - (nearest.copy_abs() > exact.copy_abs())
-    odd: float = struct.unpack(">d", struct.pack(">Q", towards_zero | 1))[0]
-    return odd
+    return float(struct.unpack(">d", struct.pack(">Q", towards_zero | 1))[0])
 
 
 def print_real(words: argparse.Namespace) -> int:

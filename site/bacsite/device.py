@@ -3,17 +3,17 @@
 from __future__ import annotations
 
 from dataclasses import dataclass, field
-from typing import Callable, Mapping, NamedTuple, Sequence, Tuple
+from typing import Mapping, NamedTuple, Optional, Sequence, Tuple
 
 from . import standard
 from .bodies import elements_of, items_of
 from .controller import Controller, Elements
-from .output import clock_drift
-from .reasons import TIMEOUT, Why, why_of
-from .session import ReadResult
+from .messages import ReadResult
 from .standard import DEVICE, OBJECT, OBJECT_NAME, OBJECT_TYPES, PRESENT_VALUE, PROPERTIES
 from .standard import STATUS_FLAGS, ObjectId, PropertyRef, form_of
-from .values import NOTHING, Kind, Value, flags_of, shown, state_of, told, value_of
+from .streams import clock_drift
+from .values import NOTHING, TIMEOUT, Kind, Value, Why, flags_of, shown, state_of, told
+from .values import value_of, why_of
 
 # The texts of a device: members of Device, each with its property. CSV, JSON, the page and the
 # comparison with an earlier survey have these names, in this order. A device must have each of
@@ -23,8 +23,10 @@ TEXTS = {"name": OBJECT_NAME, "vendor": standard.VENDOR_NAME, "model": standard.
 FACTS = {"firmware": standard.FIRMWARE, "software": standard.SOFTWARE}
 FACTS.update(status=standard.SYSTEM_STATUS, protocol_revision=standard.PROTOCOL_REVISION)
 CLOCK = (standard.LOCAL_DATE, standard.LOCAL_TIME)
-# The settings of an object that are read with --details.
-SETTINGS = (standard.LOW_LIMIT, standard.HIGH_LIMIT, standard.MIN_VALUE, standard.MAX_VALUE)
+# The settings of an object that are read with --details: those of states by the object's type.
+SETTINGS = [standard.LOW_LIMIT, standard.HIGH_LIMIT, standard.MIN_VALUE, standard.MAX_VALUE]
+OF_STATES = dict.fromkeys(standard.MULTI_STATE, [standard.STATE_TEXT])
+OF_STATES.update(dict.fromkeys(standard.BINARY, [standard.INACTIVE_TEXT, standard.ACTIVE_TEXT]))
 
 
 @dataclass
@@ -140,19 +142,16 @@ class Bounds(NamedTuple):
     listen_port: int = 47808  # the port for the answers of stations
 
 
-NamesOf = Callable[[Device], Mapping[ObjectId, str]]
+Names = Mapping[Tuple[Optional[int], str], Mapping[ObjectId, str]]  # by instance and revision
 Held = Tuple[Tuple[int, ...], str]  # priorities above the program, or why they are not known
 
 
-def device_of(controller: Controller, bounds: Bounds, names_of: NamesOf) -> Device:
-    """Reads the device that a controller says it is, and its objects.
-
-    `names_of` returns the known names of objects, which are not read.
-    """
-    device = _Reader(controller, bounds).device(names_of)
+def device_of(controller: Controller, bounds: Bounds, names: Names) -> Device:
+    """Reads a controller's device and objects, except the names of objects that are known."""
+    device = _Reader(controller, bounds).device(names)
     is_early = device.listed is None and not device.objects
     if controller.silent and is_early and controller.comes_back():
-        device = _Reader(controller, bounds).device(names_of)
+        device = _Reader(controller, bounds).device(names)
     if controller.is_over:
         device.reasons.append("deadline" if controller.late else TIMEOUT)
     device.reasons += filter(None, [controller.has_changed()])
@@ -182,7 +181,7 @@ class _Reader:
             reasons.append(f"{PROPERTIES[ref.number]}: {value.fault}")
         return NOTHING
 
-    def device(self, names_of: NamesOf) -> Device:
+    def device(self, names: Names) -> Device:
         """Reads the device."""
         device = Device(self.controller.address, self.own.instance)
         is_alone = self.bounds.devices
@@ -195,7 +194,7 @@ class _Reader:
             device.facts = self.facts()
         else:
             device.revision = _revision_of(self.values[self.own.ref(standard.DATABASE_REVISION)])
-            self.names = names_of(device)
+            self.names = names.get((device.instance, device.revision), {})
             self.add_objects(device)
         return device
 
@@ -250,7 +249,7 @@ class _Reader:
             elements = elements_of(region)
             strange += [shown(region)] if elements is None else []
             for it in elements or []:
-                if it.kind == OBJECT:
+                if it.number == OBJECT:
                     found.append(it.of_object)
                 else:
                     strange.append(told(it))
@@ -293,13 +292,10 @@ class _Reader:
 
     def numbers(self, object_type: int) -> list[int]:
         """Returns the properties that an object of a type is asked for, beside its name."""
-        found: list[int] = []
-        if standard.has_value(object_type):
-            found += [PRESENT_VALUE, STATUS_FLAGS]
+        found = [PRESENT_VALUE, STATUS_FLAGS] * standard.has_value(object_type)
         found += [standard.UNITS] * standard.may_have_unit(object_type)
-        if not self.bounds.details:
-            return found
-        return [*found, standard.DESCRIPTION, standard.EVENT_STATE, *_settings(object_type)]
+        details = [standard.DESCRIPTION, standard.EVENT_STATE, *_settings(object_type)]
+        return found + details * self.bounds.details
 
     def an_object(self, object_id: ObjectId) -> SiteObject:
         """Returns the object, made from the values that were read."""
@@ -341,13 +337,7 @@ def _revision_of(value: Value) -> str:
 
 def _settings(object_type: int) -> list[int]:
     """Returns the settings that an object of a type may have."""
-    if not standard.has_value(object_type):
-        return []
-    found = list(SETTINGS)
-    if object_type in standard.MULTI_STATE:
-        found = [standard.STATE_TEXT]
-    elif object_type in standard.BINARY:
-        found = [standard.INACTIVE_TEXT, standard.ACTIVE_TEXT]
+    found = OF_STATES.get(object_type, SETTINGS) * standard.has_value(object_type)
     return found + [standard.RELINQUISH_DEFAULT] * standard.may_be_commanded(object_type)
 
 

@@ -6,8 +6,8 @@ import os
 import sys
 from contextlib import suppress
 
-from .parsing import parsed
-from .output import BROKEN, Failure, clean, put, show
+from .parsing import parser_of
+from .streams import BROKEN, Failure, clean, put, show
 
 UNKNOWN = 3  # to monitoring
 
@@ -19,7 +19,7 @@ def main() -> int:
     try:
         if sys.stdout is None:
             raise Failure("writing failed", BROKEN)
-        words = parsed(given)
+        words = parser_of(given).parsed(given)
         status: int = words.work(words)
         fault = words.journal.fault if "journal" in words else ""
         if fault:

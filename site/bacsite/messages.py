@@ -7,6 +7,7 @@ from typing import NamedTuple
 
 from .bodies import error_body, read_ack, region_text
 from .standard import DEVICE, THIS_DEVICE, PropertyRef, numbered
+from .values import NO_INDEX, STRANGE, TIMEOUT, Why, why_of
 
 FORWARDED, DISTRIBUTE, UNICAST, BROADCAST = 4, 9, 10, 11
 NETWORK_AT = {FORWARDED: 10, DISTRIBUTE: 4, UNICAST: 4, BROADCAST: 4}
@@ -20,32 +21,27 @@ NETWORK_NAMES = numbered("Network messages")[0]
 REASONS = numbered("Reasons of a reject-message-to-network")[0]
 LISTS = (0, I_AM_ROUTER, BUSY, AVAILABLE)  # messages that consist of network numbers
 FIRST = (I_COULD_BE, 8, 9)  # messages that begin with one network number
+FAULT = "a fault of bacsite: "
 
 
 class Datagram(NamedTuple):
-    """A UDP datagram: nanoseconds since 1970, sender and receiver as ADDRESS:PORT, octets.
-
-    A datagram that is cut has only its first octets in the capture.
-    """
+    """A UDP datagram: nanoseconds since 1970, sender and receiver as ADDRESS:PORT, octets."""
 
     nanos: int
     sender: str
     receiver: str
     octets: bytes
-    is_cut: bool = False
+    is_cut: bool = False  # the capture has only its first octets
 
 
 class Apdu(NamedTuple):
-    """An APDU: kind, first octet, invoke id, number of its part if it comes in parts, and the rest.
-
-    A Reject or an Abort has its reason in place of the service.
-    """
+    """An APDU: its kind, bits of its first octet, its invoke id, and what follows."""
 
     kind: int
     flags: int
     invoke: int
-    part: int | None
-    service: int
+    part: int | None  # the number of the part, if it comes in parts
+    service: int  # the reason of a Reject or an Abort
     body: bytes
     is_cut: bool = False
 
@@ -78,13 +74,10 @@ class NetworkMessage(NamedTuple):
 
 
 class Message(NamedTuple):
-    """A datagram that was read: the APDU and where it begins, or otherwise its meaning in words.
-
-    Sender and receiver have their routes with them, as ADDRESS:PORT/NETWORK/STATION.
-    """
+    """A datagram that was read: the APDU and where it begins, or otherwise its meaning in words."""
 
     datagram: Datagram
-    sender: str
+    sender: str  # with its route, as ADDRESS:PORT/NETWORK/STATION
     receiver: str
     apdu: Apdu | None = None
     at: int = 0
@@ -105,9 +98,9 @@ class Message(NamedTuple):
 
 def message_of(datagram: Datagram) -> Message:
     """Reads a datagram of BACnet/IP."""
-    octets, function = datagram.octets, datagram.octets[1]
+    octets, plain = datagram.octets, Message(datagram, datagram.sender, datagram.receiver)
+    function = octets[1] if octets[1:] else -1
     at = NETWORK_AT.get(function, 0)
-    plain = Message(datagram, datagram.sender, datagram.receiver)
     if not at or len(octets) < at:
         return plain._replace(words=f"link function {function}")
     if function == FORWARDED:
@@ -125,12 +118,9 @@ def message_of(datagram: Datagram) -> Message:
         words = said.words if said else "a network message that is cut"
         return Message(datagram, *ends, None, start, words, said)
     apdu = apdu_of(octets[start:], datagram.is_cut)
-    return Message(datagram, *ends, apdu, start, "" if apdu else _unread(datagram, start))
-
-
-def _unread(datagram: Datagram, at: int) -> str:
     why = "is cut" if datagram.is_cut else "can't be read"
-    return f"an APDU that {why}: {datagram.octets[at:].hex() or 'none'}"
+    words = "" if apdu else f"an APDU that {why}: {octets[start:].hex() or 'none'}"
+    return Message(datagram, *ends, apdu, start, words)
 
 
 def _network_of(octets: bytes, at: int) -> tuple[str, str, int] | None:
@@ -194,8 +184,7 @@ def is_about(told: PropertyRef, asked: PropertyRef) -> bool:
 
 
 def outcome_of(apdu: Apdu) -> str:
-    """Returns how an answer ends a request, in the words of bactrace; `cut` if a capture lacks its
-    end."""
+    """Returns how an answer ends a request, in the words of bactrace; or that it is cut."""
     if apdu.kind == SIMPLE:
         return "ok"
     if apdu.kind in (REJECT, ABORT):
@@ -215,6 +204,61 @@ def _acknowledged(apdu: Apdu) -> str:
         return "answered"
     body = read_ack(apdu.body)
     return "bad-ack" if not body or body.value is None else "value " + region_text(body.value)
+
+
+class ReadResult(NamedTuple):
+    """The octets of a value that was read; or why there are none."""
+
+    region: bytes = b""
+    reason: str = ""
+
+    @property
+    def why(self) -> Why:
+        """The kind of the reason."""
+        return why_of(self.reason)
+
+
+class Ended(NamedTuple):
+    """How a request ended, in the words of bacrun; the datagram, and how long it took."""
+
+    outcome: str
+    datagram: bytes = b""
+    seconds: float = 0.0
+    sends: int = 1
+    ticket: int = 0
+    hint: str = ""  # why no answer came, if another datagram explains it
+
+    @property
+    def apdu(self) -> Apdu | None:
+        """The APDU of the datagram; None if there is none."""
+        return message_of(Datagram(0, "", "", self.datagram)).apdu
+
+    def read(self, apdu: Apdu | None) -> str:
+        """Returns how this APDU, that of the datagram, ended the request, with the reader of
+        captures. That reader is not proved, and bacrun is: if they disagree, this program has a
+        fault. A missing answer gets the hint, if there is one."""
+        if self.outcome == TIMEOUT:
+            return f"{TIMEOUT} ({self.hint})" if self.hint else TIMEOUT
+        found = outcome_of(apdu) if apdu else "no answer"
+        if found == self.outcome:
+            return found
+        octets = self.datagram.hex() or "nothing"
+        return f"{FAULT}it reads {found} and bactool {self.outcome} in {octets}"
+
+
+def answer_of(ended: Ended, asked: PropertyRef) -> ReadResult:
+    """Returns the answer to a read that has ended. bacrun matches an answer only by its number,
+    which a late answer to an earlier request may have. So a value is accepted only if the answer
+    itself names the requested property."""
+    apdu = ended.apdu
+    outcome = ended.read(apdu)
+    body = read_ack(apdu.body) if apdu and outcome[:6] == "value " else None
+    if not body or body.value is None:
+        return ReadResult(reason="bad-ack" if outcome == "ok" else outcome)
+    if is_about(body.ref, asked):
+        return ReadResult(body.value)
+    lacks_index = asked.element is not None and is_about(body.ref, asked._replace(element=None))
+    return ReadResult(reason=NO_INDEX if lacks_index else STRANGE)
 
 
 class Refusals:

@@ -1,4 +1,5 @@
-"""A survey as one page of HTML that needs no other file, and can be read without its script."""
+"""Pages of HTML that need no other file: a survey, which can be read without its script, and charts
+of points over time."""
 
 from __future__ import annotations
 
@@ -6,19 +7,24 @@ import base64
 import hashlib
 import html
 import ipaddress
+import json
+import time
 from collections import Counter
 from typing import Any, Callable, Iterator, NamedTuple, Sequence
 
+from .decimals import DECIMAL
 from .device import TEXTS, Device, SiteObject
-from .output import clean, times
-from .files import content_of
+from .points import Point
+from .standard import INTEGERS, form_of
+from .streams import clean, content_of, times
 
 FLAGS = ("in-alarm", "fault", "overridden", "out-of-service")
 ODD = ' data-odd="1"'
 TITLE = "Survey of BACnet/IP devices"
-
-
+CHARTS_TITLE = "Course of BACnet points"
+MOST = 4000  # samples of a point in the page
 HEAD, BAR, STYLE, SCRIPT = map(content_of, ("page.html", "survey.html", "page.css", "page.js"))
+CHARTS, CHARTS_STYLE, CHARTS_SCRIPT = map(content_of, ("charts.html", "charts.css", "charts.js"))
 
 
 def safe(text: str) -> str:
@@ -205,3 +211,69 @@ def page_of(devices: Sequence[Device], made: str) -> Iterator[str]:
     for at, device in enumerate(devices):
         yield from _section(at, device)
     yield f"<script>{SCRIPT}</script>\n</body>\n</html>\n"
+
+
+class Sample(NamedTuple):
+    """The value of a point at a time."""
+
+    at: int  # milliseconds since 1970
+    text: str
+    note: str = ""  # the text of its state; without a value why there is none
+    flags: str = ""
+
+    @property
+    def set_flags(self) -> str:
+        """The flags that are set."""
+        return "" if self.flags == "normal" else self.flags
+
+
+class Line:
+    """The samples of a point: all of them, or the ends of runs of equal ones. If these are too
+    many, every four are reduced to the least, the greatest, missing values, and each flag."""
+
+    def __init__(self, point: Point) -> None:
+        self.name, tags = point.name, form_of(point.ref).tags
+        self.is_step = not tags or any(it in INTEGERS for it in tags)
+        self.label = self.unit = ""  # the name of the object, and the unit of its values
+        self.samples: list[Sample] = []
+
+    def add(self, sample: Sample) -> None:
+        """Adds a sample."""
+        kept = self.samples
+        if len(kept) > 1 and kept[-1][1:] == kept[-2][1:] == sample[1:]:
+            kept[-1] = sample
+        else:
+            kept.append(sample)
+        if len(kept) > MOST:
+            fewer = [it for at in range(0, len(kept), 4) for it in _ends(kept[at : at + 4])]
+            self.samples = fewer[-MOST * 3 // 4 :]
+
+
+def _ends(samples: Sequence[Sample]) -> list[Sample]:
+    """The least and the greatest sample, missing values between others, and one sample for each
+    other flag, in their order."""
+    size = {it: float(it.text) if DECIMAL.fullmatch(it.text) else 0.0 for it in samples}
+    there = sorted((it for it in samples if it.text), key=size.__getitem__)
+    ends = [*there[:1], *there[1:][-1:]]
+    for it in samples:
+        if not it.text or it.flags not in [other.flags for other in ends]:
+            ends.append(it)
+    return [it for it in samples if it in ends]
+
+
+def charts_page_of(charts: Sequence[Sequence[Line]], every: float, is_over: bool) -> Iterator[str]:
+    """The page, part by part. Each chart has several lines."""
+    yield page_begins(CHARTS_TITLE, CHARTS_STYLE, CHARTS_SCRIPT) + CHARTS
+    drawn = [[_told(line) for line in chart] for chart in charts]
+    made = time.time_ns() // 10**6
+    data = {"every": every * 1000, "made": made, "over": is_over, "charts": drawn}
+    told = json.dumps(data, separators=(",", ":")).replace("<", "\\u003c")
+    yield f'<script type="application/json" id="data">{told}</script>\n'
+    yield f"<script>{CHARTS_SCRIPT}</script>\n</body>\n</html>\n"
+
+
+def _told(line: Line) -> dict[str, object]:
+    """A line for the script. Empty texts at the end of a sample are omitted."""
+    samples = [list(it[: 4 if it.set_flags else 3 if it.note else 2]) for it in line.samples]
+    told = {"name": line.name, "label": line.label, "unit": line.unit, "step": line.is_step}
+    return {**told, "samples": samples}

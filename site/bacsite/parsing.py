@@ -8,8 +8,7 @@ from importlib import import_module
 from typing import Any, Callable, Iterator, NamedTuple, NoReturn, Sequence
 
 from . import VERSION
-from .files import Journals, content_of
-from .output import WRONG_WORDS, Failure, put, wrong
+from .streams import WRONG_WORDS, Failure, Journals, content_of, put, wrong
 
 POINT = "[INSTANCE@]ADDRESS [real|double|integer] TYPE INSTANCE PROPERTY [INDEX]"
 SHORT = ("-h", "-V", "-H", "-w", "-c", "-t")  # the options of one letter
@@ -146,8 +145,3 @@ def parser_of(given: Sequence[str]) -> Parser:
         if it.at_once:
             made.set_defaults(at_once=int(it.at_once))
     return top
-
-
-def parsed(given: Sequence[str]) -> argparse.Namespace:
-    """Reads the words of the program."""
-    return parser_of(given).parsed(given)

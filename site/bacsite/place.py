@@ -12,11 +12,10 @@ from . import standard
 from .bodies import elements_of
 from .controller import Controller
 from .decimals import encoded, shortest
-from .output import MISSING, Failure, escaped, wrong
 from .points import instance, object_type
-from .reasons import Why
 from .standard import BINARY, MULTI_STATE, PROPERTIES, PropertyRef, form_of
-from .values import NOTHING, Kind, Value, values_of
+from .streams import MISSING, Failure, escaped, wrong
+from .values import NOTHING, Kind, Value, Why, values_of
 
 ANSWERED = ("error", "reject", "abort", "no text", "no list")  # reasons that an answer gives
 LIMITS = {
@@ -193,7 +192,7 @@ def _texts(controller: Controller, place: Place) -> dict[int, str]:
     """Returns the object's names for its states, as far as it has them."""
     if place.ref.object_type in MULTI_STATE:
         ref = place.ref.other(standard.STATE_TEXT)
-        answer = controller.read(ref)
+        (answer,) = controller.read_all([ref])
         _refuse_unanswered("state-text", answer.reason)
         texts = dict(enumerate(values_of(answer.region, form_of(ref.at(1))), 1))
     else:
@@ -207,7 +206,7 @@ def _texts(controller: Controller, place: Place) -> dict[int, str]:
 def priorities(controller: Controller, place: Place) -> Priorities:
     """Reads the priority array."""
     ref = place.ref.other(standard.PRIORITY_ARRAY)
-    answer = controller.read(ref)
+    (answer,) = controller.read_all([ref])
     if answer.why is Why.NO_PROPERTY:
         return Priorities()
     if answer.reason or elements_of(answer.region) is None:

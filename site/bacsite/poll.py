@@ -1,4 +1,4 @@
-"""Reads points of many controllers: for a table, or for Prometheus; and what values mean."""
+"""Reads points: one, all properties of an object, or a list of them; and what values mean."""
 
 from __future__ import annotations
 
@@ -6,28 +6,26 @@ import argparse
 from functools import partial
 from typing import Iterator, NamedTuple, Sequence
 
+from . import standard
+from .bodies import elements_of
 from .controller import Controller
-from .files import is_replaceable, replace_file
-from .output import MISSING, put, stamp, wrong
-from .points import Point, by_address, distinct, points_of
-from .reasons import Why
-from .standard import OBJECT_NAME, PRESENT_VALUE, RELINQUISH_DEFAULT, STATUS_FLAGS, UNITS
-from .standard import PropertyRef, may_have_unit
-from .tools import Tools, side_by_side
-from .values import NOTHING, Kind, Value, fault, flags_of, state_of
+from .points import MOST_INSTANCE, Point, by_address, distinct, point_of, points_of
+from .standard import OBJECT_NAME, PRESENT_VALUE, ObjectId, PropertyRef
+from .streams import MISSING, is_replaceable, put, replace_file, stamp, wrong
+from .tools import Tools, alone, side_by_side
+from .values import NOTHING, Kind, Value, Why, fault, flags_of, state_of
 
 NOT_UP = ("fault", "out-of-service")
 
 
 class Reading(NamedTuple):
-    """The value of a point, and when it was read. The flags are None if they were not read, and so
-    is the device's own text of a state."""
+    """The value of a point, and when it was read."""
 
     point: Point
     value: Value
     at: str
-    flags: Value = NOTHING
-    text: str = ""
+    flags: Value = NOTHING  # if they were read
+    text: str = ""  # the device's own text of a state, if it was read
 
     @property
     def missing(self) -> str:
@@ -76,30 +74,21 @@ def in_order(points: Sequence[Point], groups: Iterator[list[Reading]]) -> list[R
     return sorted(readings, key=lambda reading: places[id(reading.point)])
 
 
-def reading_of(controller: Controller, point: Point, with_flags: bool) -> Reading:
-    """Reads a point, also the text of its state, and its flags if they are wanted."""
-    return readings_of(controller, [point], with_flags, with_texts=True)[0]
-
-
 def readings_of(
     controller: Controller, points: Sequence[Point], with_flags: bool, with_texts: bool = False
 ) -> list[Reading]:
-    """Reads several points; of those that are present values also flags, and texts of states, if
-    these are wanted."""
+    """Reads points; of present values also flags, and texts of states, if these are wanted."""
     reasons = [it.fault or controller.other_than(it.device) for it in points]
     asked = [point for point, reason in zip(points, reasons) if not reason]
     at = stamp()
     found = iter(controller.values([it.ref for it in asked], [it.form for it in asked]))
     values = [fault(reason) if reason else next(found) for reason in reasons]
-    present = {
-        point.ref: value
-        for point, value in zip(points, values)
-        if not value.fault and point.ref == point.ref.other(PRESENT_VALUE)
-    }
+    good = [(point.ref, value) for point, value in zip(points, values) if not value.fault]
+    present = {ref: value for ref, value in good if ref == ref.other(PRESENT_VALUE)}
     flags = _flags_of(controller, list(present)) if with_flags else {}
     states = {ref: it for ref, value in present.items() for it in state_of(ref.object_id, value)}
-    read = controller.values(list(states.values()) if with_texts else [])
-    texts = {ref: it.text for ref, it in zip(states, read) if it.kind is Kind.TEXT}
+    told = controller.values(list(states.values()) if with_texts else [])
+    texts = {ref: it.text for ref, it in zip(states, told) if it.kind is Kind.TEXT}
     return [
         Reading(point, value, at, flags.get(point.ref, NOTHING), texts.get(point.ref, ""))
         if not value.fault
@@ -110,9 +99,8 @@ def readings_of(
 
 def _flags_of(controller: Controller, refs: Sequence[PropertyRef]) -> dict[PropertyRef, Value]:
     """Returns the flags of the objects of present values; nothing of one that has none."""
-    read = controller.values([it.other(STATUS_FLAGS) for it in refs])
-    found = zip(refs, map(flags_of, read))
-    return {ref: NOTHING if it.why is Why.NO_PROPERTY else it for ref, it in found}
+    found = map(flags_of, controller.values([it.other(standard.STATUS_FLAGS) for it in refs]))
+    return {ref: NOTHING if it.why is Why.NO_PROPERTY else it for ref, it in zip(refs, found)}
 
 
 def row_of(reading: Reading) -> str:
@@ -120,6 +108,59 @@ def row_of(reading: Reading) -> str:
     value = "" if reading.missing else reading.value.text
     cells = [value, reading.missing, reading.told_flags, reading.text]
     return "\t".join([reading.at, reading.point.name, *(it or "-" for it in cells)]) + "\n"
+
+
+def read(words: argparse.Namespace) -> int:
+    """Prints the value of a point, or why there is none."""
+    point, tools = point_of("", words.words), Tools.of(words)
+    with Controller(tools, point.address) as controller:
+        job = partial(readings_of, controller, [point], not words.no_flags, with_texts=True)
+        (found,) = alone(tools, job)
+    put((found.missing or ", ".join(filter(None, [found.shown, found.told_flags]))) + "\n")
+    return MISSING if found.missing else 0
+
+
+def properties(words: argparse.Namespace) -> int:
+    """Prints the properties that an object has."""
+    point, tools = point_of("", [*words.words, "present-value"]), Tools.of(words)
+    with Controller(tools, point.address) as controller:
+        values = alone(tools, lambda: _values(controller, point, words.last))
+    left = sum(value.why is Why.NOT_ASKED for value in values.values())
+    none = (Why.NO_PROPERTY, Why.NOT_ASKED)
+    shown = {at: value for at, value in values.items() if value.why not in none}
+    for at, value in shown.items():
+        put(f'{at} {standard.PROPERTIES.get(at, "-")} {value.shown()}\n')
+    if left:
+        put(f"{left} of {len(values)} properties not asked\n")
+    return MISSING if left or not shown or any(it.fault for it in shown.values()) else 0
+
+
+def _values(controller: Controller, point: Point, last: int) -> dict[int, Value]:
+    """Returns the values by their properties; only the name if that is not the object."""
+    object_id = point.ref.object_id
+    reason = controller.other_than(point.device)
+    name = fault(reason) if reason else controller.value(object_id.ref(OBJECT_NAME))
+    values = {OBJECT_NAME: name}
+    if name.why not in (Why.NONE, Why.NO_PROPERTY):
+        return values
+    listed, refusal = _numbers(controller, object_id), ""
+    if listed is None:  # how does the device refuse an unknown number?
+        refusal = controller.value(object_id.ref(MOST_INSTANCE)).fault
+    numbers = listed if listed is not None else range(last + 1)
+    for part in controller.parts([it for it in numbers if it != OBJECT_NAME]):
+        values.update(zip(part, controller.values([object_id.ref(it) for it in part])))
+    found = {at: it for at, it in values.items() if not refusal or it.fault != refusal}
+    return dict(sorted(found.items()))
+
+
+def _numbers(controller: Controller, object_id: ObjectId) -> list[int] | None:
+    """Returns the numbers of the property-list; None if there is no such list."""
+    (answer,) = controller.read_all([object_id.ref(standard.PROPERTY_LIST)])
+    listed = None if answer.reason else elements_of(answer.region)
+    if listed is None or not all(it.number in standard.INTEGERS for it in listed):
+        return None
+    numbers = {it.value for it in listed if 0 <= it.value <= MOST_INSTANCE}
+    return sorted({standard.OBJECT_ID, OBJECT_NAME, standard.OBJECT_TYPE, *numbers})
 
 
 def poll(words: argparse.Namespace) -> int:
@@ -182,14 +223,14 @@ class Meanings:
     """Names, units and texts of states of one controller, each read once."""
 
     def __init__(self, controller: Controller) -> None:
-        self._controller = controller
+        self.controller = controller
         self.known: dict[PropertyRef, str] = {}
 
     def of(self, values: Sequence[tuple[PropertyRef, Value]]) -> list[Meaning]:
         """Returns the meaning of each value. A text that did not come is read next time."""
         wanted = [it for ref, value in values if not value.fault for it in _texts_of(ref, value)]
         refs = [it for it in dict.fromkeys(wanted) if it not in self.known]
-        for ref, found in zip(refs, self._controller.values(refs)):
+        for ref, found in zip(refs, self.controller.values(refs)):
             if not found.fault:
                 self.known[ref] = found.named
             elif not (found.why.is_gone or found.why.is_for_now):
@@ -204,14 +245,14 @@ class Meanings:
 
 def _texts_of(ref: PropertyRef, value: Value) -> list[PropertyRef]:
     """Returns the properties that explain this value: name, unit, and text of a state."""
-    units = [ref.other(UNITS)] if _has_unit(ref) else []
+    units = [ref.other(standard.UNITS)] if _has_unit(ref) else []
     states = state_of(ref.object_id, value) if _is_value(ref) else []
     return [ref.other(OBJECT_NAME), *units, *states]
 
 
 def _is_value(ref: PropertyRef) -> bool:
-    return ref.number in (PRESENT_VALUE, RELINQUISH_DEFAULT) and ref.element is None
+    return ref.number in (PRESENT_VALUE, standard.RELINQUISH_DEFAULT) and ref.element is None
 
 
 def _has_unit(ref: PropertyRef) -> bool:
-    return _is_value(ref) and may_have_unit(ref.object_type)
+    return _is_value(ref) and standard.may_have_unit(ref.object_type)

@@ -6,27 +6,19 @@ import argparse
 from operator import attrgetter
 from typing import Iterator, Mapping, NamedTuple, Sequence
 
-from . import addresses
-from .addresses import is_routed
-from .tools import Tools
+from . import points
 from .device import FACTS, TEXTS, Bounds, Device, SiteObject
-from .output import MISSING, csv_lines, json_line, put, show, stamp, table, times, wrong
-from .earlier import Earlier, earlier_of
-from .files import is_replaceable, replace_file
-from .reasons import TIMEOUT
+from .page import page_of
 from .standard import UNIT_NAMES, may_be_commanded
-from .survey import surveyed
-from .values import NOTHING
+from .streams import MISSING, content_of, csv_lines, is_replaceable, json_line, put, replace_file
+from .streams import show, stamp, table, times, wrong
+from .survey import Earlier, Survey, earlier_of
+from .tools import Tools
+from .values import NOTHING, TIMEOUT
 
 OWN = 6  # the priority that no one else may write
 MISSES = "present-value: "  # the beginning of a reason for a missing value
 ASKED_FOR = ("devices", "held", "details", "objects", "deadline")
-
-EDE_COLUMNS = """\
-# keyname;device obj.-instance;object-name;object-type;object-instance;description;\
-present-value-default;min-present-value;max-present-value;settable;supports COV;hi-limit;low-limit;\
-state-text-reference;unit-code;vendor-specific-addres;notification-class"""
-NEEDED = 5  # how many of these are always needed; the others are optional
 UNIT_NUMBERS = {name: str(number) for number, name in UNIT_NAMES.items()}
 
 # The members of a device and of an object, by the names of the columns.
@@ -123,13 +115,7 @@ def as_release(device: Device, _: Columns) -> str:
 def ede_of(devices: Sequence[Device], made: str) -> Iterator[str]:
     """Yields an EDE file, layout 2.1, by which engineering tools exchange points (B.I.G.-EU), part
     by part. Texts of states would be a second file, and are omitted."""
-    names = EDE_COLUMNS.split(";")
-    needs = ["mandatory"] * NEEDED + ["optional"] * (len(names) - NEEDED)
-    yield "# Proposal_Engineering-Data-Exchange - B.I.G.-EU\n"
-    heads = [["PROJECT_NAME", "survey"], ["VERSION_OF_REFERENCEFILE", "1"]]
-    heads += [["TIMESTAMP_OF_LAST_CHANGE", made], ["AUTHOR_OF_LAST_CHANGE", "bacsite"]]
-    heads += [["VERSION_OF_LAYOUT", "2.1"], ["#" + needs[0], *needs[1:]]]
-    yield csv_lines([*heads, names], ";")
+    yield content_of("ede.txt").format(made=made)
     for device in devices:
         yield csv_lines([_ede_row(device, it) for it in device.objects], ";")
 
@@ -187,7 +173,7 @@ class Counts:
         self.silent += is_silent
         self.others += device.instance is None and not (is_silent or is_network)
         self.missing = self.missing or not (device.is_whole or device.is_nobody)
-        if is_routed(device.address) and device.has_answered:
+        if points.is_routed(device.address) and device.has_answered:
             self.stations.add(device.address)
 
     def line(self) -> str:
@@ -202,15 +188,9 @@ class Counts:
         return ", ".join(told) + "\n"
 
 
-def _write_page(file: str, devices: Sequence[Device]) -> None:
-    from .page import page_of  # pylint: disable=import-outside-toplevel
-
-    replace_file(file, page_of(devices, stamp()))
-
-
 def survey(words: argparse.Namespace) -> int:
     """Prints what is at the addresses."""
-    targets = addresses.targets(words.address)
+    targets = points.targets(words.address)
     if words.stations and not any(it.reach for it in targets):
         raise wrong("--stations needs the address of a router, not of a station")
     file = words.html or words.ede
@@ -232,7 +212,7 @@ def survey(words: argparse.Namespace) -> int:
         put(csv_lines([columns.names]))
     counts, devices = Counts(sum(not it.is_network for it in targets)), []
     in_order = words.sorted or bool(file)
-    for device in surveyed(Tools.of(words), targets, bounds, earlier, in_order):
+    for device in Survey(Tools.of(words), bounds, earlier).devices(targets, in_order):
         counts.add(device)
         if device.is_nobody and not words.silent:
             continue
@@ -241,10 +221,8 @@ def survey(words: argparse.Namespace) -> int:
         devices.append(device)
         if not file:
             put(form(device, columns))
-    if words.ede:
-        replace_file(file, ede_of(devices, stamp()))
-    elif file:
-        _write_page(file, devices)
+    if file:
+        replace_file(file, (page_of if words.html else ede_of)(devices, stamp()))
     if any(it.in_range or it.is_network for it in targets) or words.stations:
         show(counts.line())
     return MISSING if counts.missing or not devices else 0

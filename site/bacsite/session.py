@@ -1,49 +1,25 @@
-"""A bacrun for one controller: requests go in, and their ends come out."""
+"""The requests of one bacrun: they go in, and their ends come out; and scans of addresses."""
 
 from __future__ import annotations
 
 import re
 import time
-from typing import Callable, NamedTuple
+from concurrent.futures import ThreadPoolExecutor
+from contextlib import suppress
+from typing import Callable, Iterator, Sequence
 
-from .bodies import read_ack
-from .messages import Apdu, Datagram, Message, Refusals, is_about, message_of, outcome_of
-from .tools import Tools, Outcome, Process
-from .reasons import NO_INDEX, STRANGE, TIMEOUT, Why, why_of
-from .standard import PropertyRef
+from .bodies import device_in
+from .messages import Datagram, Ended, Message, Refusals, answer_of, message_of
+from .standard import DEVICE, OBJECT_ID, THIS_DEVICE, PropertyRef
+from .tools import BIND_FAILED, MOST_TRIES, NotBegun, Outcome, Process, Tools
+from .values import TIMEOUT
 
-FAULT = "a fault of bacsite: "
 ENDED = re.compile("# (done|timeout) ([0-9]+) ?(.*)")
 MOST_LINE, MORE = 4096, "#+"  # longer remarks go on in a line with MORE
 NUMBERS, SAFE = 256, 60.0  # the numbers of requests, and the seconds before one may be used again
-
-
-class ReadResult(NamedTuple):
-    """The octets of a value that was read; or why there are none."""
-
-    region: bytes = b""
-    reason: str = ""
-
-    @property
-    def why(self) -> Why:
-        """The kind of the reason."""
-        return why_of(self.reason)
-
-
-class Ended(NamedTuple):
-    """How a request ended, in the words of bacrun; the datagram, and how long it took."""
-
-    outcome: str
-    datagram: bytes = b""
-    seconds: float = 0.0
-    sends: int = 1
-    ticket: int = 0
-    hint: str = ""  # why no answer came, if another datagram explains it
-
-    @property
-    def silence(self) -> str:
-        """The text for a missing answer, with the hint if there is one."""
-        return f"{TIMEOUT} ({self.hint})" if self.hint else TIMEOUT
+MOST_OPEN = 64  # requests of one bacrun
+LOOK = 50  # milliseconds for datagrams that wait at a socket
+ITSELF = PropertyRef(DEVICE, THIS_DEVICE, OBJECT_ID)  # which device it is
 
 
 class _Open:
@@ -56,12 +32,10 @@ class _Open:
 
 
 class Session:
-    """Requests through a bacrun. Its lines are a script for bactrace, kept as a journal.
-
-    bacrun reads its input, and not the network, while fewer requests are open than its window. So
-    it gets one more request, which waits there. If there is no other request, it gets an empty
-    line, at which it waits until no request is open.
-    """
+    """Requests through a bacrun. Its lines are a script for bactrace, kept as a journal. bacrun
+    reads its input, and not the network, while fewer requests are open than its window. So it gets
+    one more request, which waits there. If there is no other request, it gets an empty line, at
+    which it waits until no request is open."""
 
     def __init__(self, tools: Tools, process: Process, name: str = "", window: int = 1) -> None:
         self.process, self.journal = process, tools.journals.begun(name) if name else None
@@ -96,9 +70,12 @@ class Session:
         return self._tickets > NUMBERS // 2 and age * NUMBERS < SAFE * self._tickets
 
     def close(self) -> Outcome:
-        """Ends the session, and returns how bacrun ended."""
+        """Ends the session, and returns how bacrun ended. If it ended well, its last lines go to
+        the journal."""
         outcome = self._tools.processes.over(self.process)
         if self.journal:
+            for line in outcome.lines if outcome.status == 0 else []:
+                self.journal.add(line)
             self.journal.close()
         return outcome
 
@@ -121,8 +98,7 @@ class Session:
                 return ended
 
     def hear(self, milliseconds: int, text: str = "") -> bool:
-        """Hands over lines, and reads the output of bacrun for this time. Returns whether bacrun
-        still runs."""
+        """Hands over lines, reads output for this time, and returns whether bacrun still runs."""
         self._text += f"{text}wait {milliseconds}\n"
         self._hand_over()
         line = self._line()
@@ -143,9 +119,7 @@ class Session:
     def _line(self) -> str | None:
         """Returns the next line, put together from its continuation lines."""
         line, self._kept = self._kept or self._read(), None
-        if line is None or len(line) != MOST_LINE:
-            return line
-        last: str | None = line
+        last = line
         while last is not None and line is not None and len(last) == MOST_LINE and last[0] == "#":
             self._settle()
             self._hand_over()
@@ -164,14 +138,13 @@ class Session:
 
     def _take(self, line: str) -> Ended | None:
         """Notes a line about a request; returns the request if it has ended."""
-        try:
+        with suppress(KeyError, ValueError):  # of a line that does not come from bacrun
             if line.startswith("data "):
                 _, self._peer, octets = line.split(" ")
                 self._data = bytes.fromhex(octets)
                 self.peers.add(self._peer)
-                message = self.on_message and _message_of(self._data, self._peer)
-                if self.on_message and message:
-                    self.on_message(message)
+                if self.on_message:
+                    self.on_message(self._message())
             elif line.startswith("# send "):
                 _, _, number, _, octets = line.split(" ")
                 request = self._open[int(number)]
@@ -183,8 +156,6 @@ class Session:
             elif line.startswith("# "):
                 found = ENDED.fullmatch(line)
                 return self._end(int(found[2]), found[1], found[3]) if found else None
-        except (KeyError, ValueError):  # the line does not come from bacrun
-            pass
         return None
 
     def _end(self, ticket: int, how: str, outcome: str) -> Ended:
@@ -196,18 +167,21 @@ class Session:
         return Ended(TIMEOUT, b"", seconds, request.sends, ticket, self._hint(request))
 
     def _look_at_dropped(self) -> None:
-        """Notes a datagram that ends no request: a router's refusal of a network, or an answer to
-        an open request that came from another address."""
-        message = _message_of(self._data, self._peer)
-        if message and message.network:
+        """Notes a router's refusal of a network, or an answer that came from another address."""
+        message = self._message()
+        if message.network:
             host = self._peer.partition(":")[0]
             self._refusals.setdefault(host, Refusals()).heard(message.network)
-        elif message and message.apdu and message.apdu.is_answer:
+        elif message.apdu and message.apdu.is_answer:
             for request in self._open.values():
-                sent = _apdu_of(bytes.fromhex(request.sent))
+                sent = message_of(Datagram(0, "", "", bytes.fromhex(request.sent))).apdu
                 is_its = sent is not None and sent.invoke == message.apdu.invoke
                 if is_its and request.address != message.sender:
                     request.elsewhere = message.sender
+
+    def _message(self) -> Message:
+        """Returns the latest datagram, read."""
+        return message_of(Datagram(0, self._peer, "", self._data))
 
     def _hint(self, request: _Open) -> str:
         """Returns an explanation for the silence of a request; an empty text if there is none."""
@@ -218,45 +192,78 @@ class Session:
         return "; ".join(filter(None, [refusal, elsewhere]))
 
 
-def read_by(ended: Ended) -> str:
-    """Returns how the datagram ended the request, with the reader of captures.
+class Scan:
+    """A read of some addresses by one bacrun, whose socket may stay open to the end. Any datagram
+    from an address means that a device is there: a device that serves one request at a time may
+    answer when its answer is no longer awaited."""
 
-    That reader is not proved, and bacrun is: if they disagree, this program has a fault.
-    """
-    return ended.silence if ended.outcome == TIMEOUT else _read_by(ended, _apdu_of(ended.datagram))
+    def __init__(self, tools: Tools, addresses: Sequence[str]) -> None:
+        self._tools, self._addresses = tools, addresses
+        self._session: Session | None = None
+        self._peers: set[str] = set()  # who has sent a datagram
+
+    def run(self, then: Callable[[str, bool], None]) -> None:
+        """Reads; `then` gets each address as soon as it is known whether somebody is there. If
+        bacrun can't be run, each address is asked in another way."""
+        left = set(self._addresses)
+        for address, ended in self.ends(self._tools.timeout, self._tools.retries, "range"):
+            then(address, ended.outcome != TIMEOUT or address in self._peers)
+            left.discard(address)
+        for address in left:
+            then(address, True)
+
+    def ends(self, patience: int, retries: int, name: str = "") -> Iterator[tuple[str, Ended]]:
+        """Asks each address for its identity; yields how each of these reads ended."""
+        for _ in range(MOST_TRIES):
+            try:
+                process = self._tools.session(self._tools.times(patience, retries), MOST_OPEN)
+            except NotBegun:
+                return
+            self._session = session = Session(self._tools, process, name, MOST_OPEN)
+            self._peers = session.peers
+            asked = {session.put(f"read {it} {ITSELF.words()}"): it for it in self._addresses}
+            while asked:
+                ended = session.ended()
+                if ended is None:
+                    break
+                yield asked.pop(ended.ticket), ended
+            if not asked or self.end() != BIND_FAILED:
+                return
+
+    def late(self, looks: bool) -> set[str]:
+        """Ends the scan; returns the addresses that have sent a datagram by now, if `looks`."""
+        if looks and self._session:
+            self._session.hear(LOOK)
+        self.end()
+        return self._peers
+
+    def end(self) -> str:
+        """Ends bacrun; returns the first line of its standard error."""
+        session, self._session = self._session, None
+        return session.close().told if session else ""
 
 
-def _read_by(ended: Ended, apdu: Apdu | None) -> str:
-    found = outcome_of(apdu) if apdu else "no answer"
-    if found == ended.outcome:
-        return found
-    octets = ended.datagram.hex() or "nothing"
-    return f"{FAULT}it reads {found} and bactool {ended.outcome} in {octets}"
+def late_answers(tools: Tools, addresses: Sequence[str], patience: int) -> dict[str, str]:
+    """Returns the answers of devices that answer a read late. All are awaited together."""
+    count = len(addresses) if patience > 0 else 0
+    scans = [Scan(tools, addresses[at : at + MOST_OPEN]) for at in range(0, count, MOST_OPEN)]
+    told: dict[str, str] = {}
+
+    def wait(scan: Scan) -> None:
+        for address, ended in scan.ends(patience, retries=0):
+            if ended.outcome != TIMEOUT:
+                told[address] = _told(ended)
+        scan.end()
+
+    with ThreadPoolExecutor(tools.at_once) as pool:
+        list(pool.map(wait, scans))
+    return told
 
 
-def answer_of(ended: Ended, asked: PropertyRef) -> ReadResult:
-    """Returns the answer to a read that has ended.
-
-    bacrun matches an answer only by its number, which a late answer to an earlier request may have.
-    So a value is accepted only if the answer itself names the requested property.
-    """
-    if ended.outcome == TIMEOUT:
-        return ReadResult(reason=ended.silence)
-    apdu = _apdu_of(ended.datagram)
-    outcome = _read_by(ended, apdu)
-    body = read_ack(apdu.body) if apdu and outcome[:6] == "value " else None
-    if not body or body.value is None:
-        return ReadResult(reason="bad-ack" if outcome == "ok" else outcome)
-    if is_about(body.ref, asked):
-        return ReadResult(body.value)
-    lacks_index = asked.element is not None and is_about(body.ref, asked._replace(element=None))
-    return ReadResult(reason=NO_INDEX if lacks_index else STRANGE)
-
-
-def _apdu_of(octets: bytes) -> Apdu | None:
-    message = _message_of(octets)
-    return message.apdu if message else None
-
-
-def _message_of(octets: bytes, sender: str = "") -> Message | None:
-    return message_of(Datagram(0, sender, "", octets)) if len(octets) > 1 else None
+def _told(ended: Ended) -> str:
+    """Returns the identity, or otherwise the answer."""
+    answer = answer_of(ended, ITSELF)
+    device = device_in(answer.region)
+    if device is not None:
+        return f"device {device} answers a read very late"
+    return f"a read is answered very late: {answer.reason or 'by no device'}"

@@ -6,19 +6,18 @@ import re
 from functools import lru_cache
 from typing import Iterator, NamedTuple
 
-from .files import content_of
+from .streams import content_of
 
 NULL, BOOLEAN, UNSIGNED, SIGNED, REAL, DOUBLE, OCTETS, STRING, BITS, ENUMERATED = range(10)
 DATE, TIME, OBJECT = 10, 11, 12
 INTEGERS = (UNSIGNED, SIGNED, ENUMERATED)
 LOOK_ALIKE = (*INTEGERS, REAL, DOUBLE)  # the tags whose values bacrp prints only in digits
 LONG = 1 << 32
-# The types of values by their tags: their names, and the least and the most octets of a value. The
-# value of a Boolean is its length.
+# The types of values by their tags: their names, and the least and the most octets of a value.
 TAGS = "null boolean unsigned signed real double octets text bits enumerated".split()
 TAGS += ["date", "time", "object"]
-LEAST = (0, 0, 1, 1, 4, 8, 0, 1, 1, 1, 4, 4, 4)
-MOST = (0, 0, 8, 8, 4, 8, LONG, LONG, LONG, 4, 4, 4, 4)
+LEAST = (0, 1, 1, 1, 4, 8, 0, 1, 1, 1, 4, 4, 4)
+MOST = (0, 1, 8, 8, 4, 8, LONG, LONG, LONG, 4, 4, 4, 4)
 
 BINARY, MULTI_STATE = (3, 4, 5), (13, 14, 19)
 COMMAND_OBJECT, DEVICE = 7, 8
@@ -144,10 +143,8 @@ PROPERTIES, PROPERTY_TELLS = numbered("Properties")
 UNIT_NAMES = numbered("Units")[0]
 STATES = {0: "inactive", 1: "active"}
 MEANINGS = dict(meanings())
-MEANINGS.update(
-    {"object-type": OBJECT_TYPES, "property-list": PROPERTIES, "units": UNIT_NAMES},
-    **{name: UNIT_NAMES for name in PROPERTIES.values() if name.endswith("-units")},
-)
+MEANINGS.update({"object-type": OBJECT_TYPES, "property-list": PROPERTIES, "units": UNIT_NAMES})
+MEANINGS.update({name: UNIT_NAMES for name in PROPERTIES.values() if name.endswith("-units")})
 
 
 def tags_of(told: str) -> tuple[int, ...]:

@@ -1,23 +1,153 @@
-"""Finds which devices are at the addresses of a site, and what each has; `report` prints that."""
+"""Finds which devices are at the addresses of a site, what each has, and what has changed since an
+earlier survey; `report` prints that."""
 
 from __future__ import annotations
 
+import json
 from concurrent.futures import ThreadPoolExecutor
 from functools import partial
+from itertools import chain
 from threading import Event
-from typing import Iterator, Sequence
+from typing import Any, Iterator, Mapping, NamedTuple, Sequence
 
-from .addresses import Target, is_routed
 from .controller import Controller
-from .device import Bounds, Device, device_of, shortened
-from .output import stamp
-from .earlier import Earlier
-from .tools import MOST_TIMEOUT, Tools, deadline_of, side_by_side
-from .reasons import TIMEOUT
-from .search import MOST_OPEN, Scan, Search, late_answers
+from .device import TEXTS, Bounds, Device, Names, SiteObject, device_of, shortened
+from .points import Target, is_routed
+from .session import MOST_OPEN, Scan, late_answers
+from .standard import ObjectId
+from .streams import octets_of, stamp, wrong
+from .sweep import Sweep
+from .tools import MOST_TIMEOUT, Search, Tools, deadline_of, side_by_side
+from .values import TIMEOUT
 
 LATE = 8  # times --apdu-timeout: how long the silent addresses of a range are awaited at the end
 MOST_SCANS = 64  # at once
+
+
+class Known(NamedTuple):
+    """What an earlier survey has of a device, and what it asked for."""
+
+    instance: int
+    texts: dict[str, str]
+    revision: str
+    objects: dict[ObjectId, dict[str, str]]  # facts of each, by their names in changes
+    is_named: bool = False  # only address and instance
+    is_held: bool = False  # only the objects without the value of their program
+    is_whole: bool = True  # the survey has all objects that it asked for
+
+
+class Earlier:
+    """An earlier survey; an empty one if none is given."""
+
+    def __init__(self, devices: Mapping[str, Known] | None = None, reuses: bool = False) -> None:
+        self._devices = devices or {}  # by their addresses
+        self._addresses = {it.instance: address for address, it in self._devices.items()}
+        self._reuses = reuses
+        self.is_given = bool(self._devices)  # whether there is an earlier survey
+
+    def names_at(self, address: str) -> Names:
+        """Returns the names that are not read again if the device has this revision still."""
+        known = self._devices.get(address) if self._reuses else None
+        if not known or not known.revision:
+            return {}
+        names = {object_id: it["name"] for object_id, it in known.objects.items() if it["name"]}
+        return {(known.instance, known.revision): names}
+
+    def stations_at(self, reaches: Sequence[str]) -> list[str]:
+        """Returns the stations of the survey behind these routers, or in these networks."""
+        fronts = tuple(it.rstrip("*") for it in reaches)
+        return [it for it in self._devices if "/" in it and it.startswith(fronts)]
+
+    def compare(self, device: Device, bounds: Bounds) -> None:
+        """Notes what has changed at this address."""
+        known = self._devices.get(device.address)
+        if known and device.instance == known.instance:
+            device.changes = list(_changes(device, known, bounds))
+        elif known:
+            device.gone = known.instance
+            device.changes = [f"was device {known.instance} {known.texts['name']}".rstrip()]
+        elif self._devices and device.instance is not None:
+            before = self._addresses.get(device.instance)
+            device.changes = [f"was at {before}" if before else "new"]
+
+
+def _changes(device: Device, known: Known, bounds: Bounds) -> Iterator[str]:
+    """Yields the changes of what both surveys have."""
+    if device.is_named or known.is_named:
+        return
+    for name, before in known.texts.items():
+        text = device.texts[name]
+        if text != before and (text or device.is_whole):
+            yield f"{name} was {before or 'none'}"
+    if bounds.devices:
+        return
+    now = {it.object_id: it for it in device.objects}
+    for object_id, facts in known.objects.items():
+        told = f"{object_id} {facts['name']}".rstrip()
+        if device.listed is not None and object_id not in device.listed:
+            yield f"gone: {told}"
+        elif bounds.held and known.is_held and object_id not in now and device.is_whole:
+            yield f"has the value of its program: {told}"
+    for object_id, it in now.items():
+        told = f"{object_id} {it.name}".rstrip()
+        if object_id in known.objects and not it.reasons:
+            yield from _changed(it, known.objects[object_id], bounds, told)
+        elif object_id in known.objects or not known.is_whole:
+            continue
+        elif not known.is_held:
+            yield f"new: {told}"
+        elif bounds.held:
+            yield f"no longer has the value of its program: {told}"
+
+
+def _changed(
+    it: SiteObject, before: Mapping[str, str], bounds: Bounds, told: str
+) -> Iterator[str]:
+    now = {"name": it.name, "unit": it.unit}
+    now.update({"priority": it.held} if bounds.held else {})
+    now.update({"description": it.description, **it.settings} if bounds.details else {})
+    for name, text in now.items():
+        if text != before.get(name, text):
+            yield f"{name} of {told} was {before[name] or 'none'}"
+
+
+def earlier_of(path: str, reuses: bool = False) -> Earlier:
+    """Reads the survey in a file, as --json prints it."""
+    lines = octets_of(path).splitlines()
+    try:
+        return Earlier(dict(filter(None, map(_known_of, lines))), reuses)
+    except (ValueError, KeyError, TypeError, AttributeError):
+        raise wrong("no survey by --json: " + path) from None
+
+
+def _known_of(line: bytes) -> tuple[str, Known] | None:
+    """Reads a line of JSON; returns None for a device that was silent. Earlier versions do not say
+    what they asked for."""
+    told = json.loads(line)
+    address, instance, asked_for = str(told["address"]), told["device"], told.get("asked_for", {})
+    if instance is None:
+        return None
+    texts = {name: str(told[name]) for name in TEXTS if name in told or name == "name"}
+    lacks = [str(it) for it in told.get("reasons", [])]
+    is_cut = any(it.startswith("object-list: ") or it.endswith("not asked") for it in lacks)
+    return address, Known(
+        int(instance),
+        texts,
+        str(told.get("revision", "")),
+        {ObjectId(int(it["type"]), int(it["instance"])): _facts(it) for it in told["objects"]},
+        is_named=bool(asked_for.get("name_only", False)),
+        is_held=bool(asked_for.get("held", False)),
+        is_whole=not (is_cut or asked_for.get("devices", not told["objects"])),
+    )
+
+
+def _facts(told: Mapping[str, Any]) -> dict[str, str]:
+    """Returns the compared facts of an object, as far as the survey asked for them."""
+    found = {"name": told["name"], "unit": told["unit"]}
+    found.update({"priority": told["held"]} if "held" in told else {})
+    found.update({"description": told["description"]} if "description" in told else {})
+    found.update(told.get("settings", {}))
+    return {str(name): str(it) for name, it in found.items()}
 
 
 class _Turn:
@@ -38,43 +168,36 @@ class _Turn:
         self.is_scanned.set()
 
 
-def surveyed(
-    tools: Tools,
-    targets: Sequence[Target],
-    bounds: Bounds,
-    earlier: Earlier,
-    in_order: bool = False,
-) -> Iterator[Device]:
-    """Yields the devices at these addresses as they are ready, or in order. A device with the
-    instance of another is reported, and one that has moved is not gone."""
-    jobs = _Survey(tools, bounds, earlier).jobs(targets)
-    devices: Iterator[Device] = (it for some in side_by_side(tools, jobs, in_order) for it in some)
-    if in_order and any(it.in_range for it in targets):  # stations follow
-        places = {target.address: at for at, target in enumerate(targets)}
-        devices = iter(sorted(devices, key=lambda it: places.get(it.address, len(places))))
-    seen: dict[int, str] = {}
-    later: list[Device] = []
-    for device in devices:
-        if device.instance is not None:
-            first = seen.setdefault(device.instance, device.address)
-            if first != device.address:
-                device.reasons.append("same instance as " + first)
-        if device.gone is None and not (in_order and earlier.is_given):
-            yield device
-        else:
-            later.append(device)
-    for device in later:
-        if device.gone in seen:  # the line of the device's new address reports the move
-            device.changes = ["new"] if device.instance is not None else []
-        yield device
-
-
-class _Survey:
-    """The jobs of a survey, and what they have in common."""
+class Survey:
+    """A survey: its jobs, and what they have in common."""
 
     def __init__(self, tools: Tools, bounds: Bounds, earlier: Earlier) -> None:
         self.tools, self.bounds, self.earlier = tools, bounds, earlier
         self.scans: list[Scan] = []
+
+    def devices(self, targets: Sequence[Target], in_order: bool = False) -> Iterator[Device]:
+        """Yields the devices at these addresses as they are ready, or in order. A device with the
+        instance of another is reported, and one that has moved is not gone."""
+        groups = side_by_side(self.tools, self.jobs(targets), in_order)
+        devices: Iterator[Device] = chain.from_iterable(groups)
+        if in_order and any(it.in_range for it in targets):  # stations follow
+            places = {target.address: at for at, target in enumerate(targets)}
+            devices = iter(sorted(devices, key=lambda it: places.get(it.address, len(places))))
+        seen: dict[int, str] = {}
+        later: list[Device] = []
+        for device in devices:
+            if device.instance is not None:
+                first = seen.setdefault(device.instance, device.address)
+                if first != device.address:
+                    device.reasons.append("same instance as " + first)
+            if device.gone is None and not (in_order and self.earlier.is_given):
+                yield device
+            else:
+                later.append(device)
+        for device in later:
+            if device.gone in seen:  # the line of the device's new address reports the move
+                device.changes = ["new"] if device.instance is not None else []
+            yield device
 
     def jobs(self, targets: Sequence[Target]) -> list[partial[list[Device]]]:
         """Returns the jobs: addresses of ranges are scanned first, and looked at again last."""
@@ -124,11 +247,8 @@ class _Survey:
         turn.is_over.wait()
         router, search = turn.target.address + "/", turn.search
         heard = search.heard(by_now=True) if search else []
-        devices = [
-            Device(address, instance, asked=stamp(), is_named=True)
-            for instance, address in heard
-            if address.startswith(router)
-        ]
+        there = [it for it in heard if it[1].startswith(router)]
+        devices = [Device(address, at, asked=stamp(), is_named=True) for at, address in there]
         answered = {it.address for it in devices}
         known = [it for it in self.earlier.stations_at([router]) if it not in answered]
         devices += map(self._named, known)
@@ -148,8 +268,6 @@ class _Survey:
         """Returns all stations that answer a Who-Is which their routers broadcast, and a line for
         each reach that is not whole; a reach in `quiet` may have none. All routers are asked at the
         same time: all answers come to one port."""
-        from .sweep import Sweep  # pylint: disable=import-outside-toplevel
-
         sweep = Sweep(self.tools, reaches, self.bounds, quiet)
         sweep.run()
         stations = sweep.stations()
@@ -196,7 +314,8 @@ class _Survey:
                 hidden = not turn.is_heard and found == [TIMEOUT]
                 devices.append(Device(controller.address, reasons=found, hidden=hidden))
             elif all(device.instance is None for device in devices):
-                devices.append(device_of(controller, self.bounds, self.earlier.names_of))
+                names = self.earlier.names_at(controller.address)
+                devices.append(device_of(controller, self.bounds, names))
         for device in devices:
             device.asked = asked
             self.earlier.compare(device, self.bounds)

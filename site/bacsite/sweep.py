@@ -7,13 +7,12 @@ import time
 from collections import Counter, deque
 from typing import NamedTuple, Sequence, Tuple
 
-from .bodies import elements_of
+from .bodies import device_of, elements_of
 from .device import Bounds
-from .output import times
 from .messages import UNCONFIRMED, Message, Refusals
+from .streams import times
 from .tools import BIND_FAILED, Tools, NotBegun, deadline_of
 from .session import Session
-from .standard import DEVICE, OBJECT
 
 EVERYONE = (0, 4194303)  # all instances
 FEW = 16  # about this many of the known stations are asked at once
@@ -50,10 +49,10 @@ def station_of(message: Message) -> Station | None:
     if not apdu or (apdu.kind, apdu.service) != (UNCONFIRMED, I_AM):
         return None
     found = elements_of(apdu.body) or []
-    if len(found) != 4 or found[0].kind != OBJECT or found[0].of_object.object_type != DEVICE:
+    device = device_of(found[0]) if len(found) == 4 else None
+    if device is None or message.sender.count("/") != 2:
         return None
-    station = Station(found[0].of_object.instance, message.sender)
-    return station if message.sender.count("/") == 2 else None
+    return Station(device, message.sender)
 
 
 class Reach:
@@ -89,11 +88,6 @@ class Reach:
             self._answered.add(station)
         return is_here
 
-    def may_have(self, station: Station) -> bool:
-        """Returns whether a station that answered through another router is in a network of this
-        reach."""
-        return self.front[len(self.router) : -1] in ("", f"/{station.place[0]}")
-
     @property
     def is_complete(self) -> bool:
         """Whether all stations that were known in the range have answered, if any were known."""
@@ -113,12 +107,10 @@ class Reach:
 
 
 class Sweep:
-    """Asks all stations of some reaches for their instances, until no question finds a new one.
-
-    At first all stations are asked at once. A range of instances with a new station is then asked
+    """Asks all stations of some reaches for their instances, until no question finds a new one. At
+    first all stations are asked at once. A range of instances with a new station is then asked
     again in parts with few known stations each: an answer that a bus or a router lost, because all
-    answered at once, comes then.
-    """
+    answered at once, comes then."""
 
     def __init__(self, tools: Tools, words: Sequence[str], bounds: Bounds, quiet: Sequence[str]):
         self._tools, self._bounds = tools, bounds
@@ -218,8 +210,8 @@ class Sweep:
 def nearest(reaches: Sequence[Reach], station: Station) -> Sequence[Reach]:
     """Returns the reaches that list a station which answered through another router: those at the
     same host, otherwise those of its network, otherwise those that may have it."""
-    host = station.router.partition(":")[0]
-    there = [it for it in reaches if it.may_have(station)]
+    host, network = station.router.partition(":")[0], f"/{station.place[0]}"
+    there = [it for it in reaches if it.front[len(it.router) : -1] in ("", network)]
     near = [it for it in there if it.router.partition(":")[0] == host] or there
     named = [it for it in near if it.front != it.router + "/"]
     return named or (near if near != there else there[:1])

@@ -19,9 +19,8 @@ from queue import Empty, SimpleQueue
 from types import FrameType
 from typing import Callable, Iterator, NamedTuple, Sequence, TypeVar
 
-from .output import BROKEN, SIGNALS, Failure, clean, on_terminal, show
-from .files import Journals
-from .reasons import TOO_LATE
+from .streams import BROKEN, SIGNALS, Failure, Journals, clean, on_terminal, show
+from .values import TOO_LATE
 
 FOREVER = float("inf")
 LONGEST_START = 1.0  # seconds
@@ -239,22 +238,14 @@ class Tools:
             if not self.processes.ended.is_set():  # a write that was ended may have been made
                 self.writes -= 1
 
-    def write(self, words: Sequence[str]) -> Outcome:
-        """Runs bacwp, once, and as long as it takes."""
-        with self.writing():
-            return self.run(["bacwp", *words])
-
     def times(self, patience: int, retries: int | None = None) -> list[str]:
         """Returns the options for how long a tool waits."""
         retries = self.retries if retries is None else retries
         return ["--apdu-timeout", str(patience), "--apdu-retries", str(retries)]
 
-    def session(
-        self, patience: int, window: int, until: float = FOREVER, retries: int | None = None
-    ) -> Process:
+    def session(self, times: Sequence[str], window: int, until: float = FOREVER) -> Process:
         """Begins a bacrun."""
-        options = [*self.times(patience, retries), "--window", str(window)]
-        return self.start(["bacrun", *options], until)
+        return self.start(["bacrun", *times, "--window", str(window)], until)
 
     def listener(self, port: int, until: float) -> Process:
         """Begins a bacrun at this port, which receives the answers of stations."""
@@ -274,13 +265,45 @@ class Tools:
         os.kill(os.getpid(), number)
 
 
+class Search:
+    """A Who-Is to an address, or to the router there. It waits while other requests are made."""
+
+    def __init__(self, tools: Tools, address: str, patience: int, until: float) -> None:
+        where = address.partition("/")[0]
+        self._words = ["bacwi", "--mac", where, "--apdu-timeout", str(patience)]
+        self._tools, self._until = tools, until
+        self._begun: Process | None = None
+        self._lines: list[str] = []
+        self._is_over = False
+        tools.counted()
+        with suppress(NotBegun):  # `heard` tries again
+            self._begun = tools.start(self._words, until)
+
+    def wait_for(self, address: str, seconds: float) -> None:
+        """Waits until this address has answered, but no longer than this many seconds."""
+        latest = time.monotonic() + seconds
+        while self._begun and self._begun.is_ready(max(0.0, latest - time.monotonic())):
+            line = self._begun.line()
+            self._lines += [line] if line else []
+            if not line or address in line.split():
+                return
+
+    def heard(self, by_now: bool = False) -> list[tuple[int, str]]:
+        """Returns instances and addresses of those who have answered, at the end or by now."""
+        if by_now and self._begun:
+            self._begun.kill()
+        if not self._is_over:
+            self._lines += self._tools.run(self._words, self._until, self._begun).lines
+            self._is_over = True
+        words = [[*line.split(), "", ""] for line in self._lines]
+        return list(dict.fromkeys((int(it[0]), it[1]) for it in words if it[0].isdigit()))
+
+
 def _found(folder: str | None) -> str:
-    """Returns the path of bactool: in the folder that is named, or else beside this program, or on
-    PATH."""
+    """Returns the path of bactool: in this folder, or else beside this program, or on PATH."""
     beside = os.path.dirname(os.path.realpath(sys.argv[0]))
-    tool = shutil.which(
-        "bactool", path=folder or beside + os.pathsep + os.environ.get("PATH", os.defpath)
-    )
+    path = folder or beside + os.pathsep + os.environ.get("PATH", os.defpath)
+    tool = shutil.which("bactool", path=path)
     if not tool:
         hint = "" if folder else " nor beside bacsite; --tools FOLDER says where it is"
         raise Failure("no bactool in " + (folder or "PATH") + hint, BROKEN)
@@ -296,7 +319,9 @@ def side_by_side(
         try:
             futures = [pool.submit(job) for job in jobs]
             coming = _as_come(tools, futures, on_terminal() and not quiet)
-            for future in _in_order(futures, coming) if in_order else coming:
+            for future in futures if in_order else coming:
+                while not future.done():
+                    next(coming, None)
                 yield future.result()
         finally:
             tools.processes.end()
@@ -324,12 +349,3 @@ def _as_come(
                 told = f"{count} of {len(futures)} done, {tools.count} calls "
                 show("\r\x1b[K" if came else "\r" + told)
         yield came
-
-
-def _in_order(
-    futures: Sequence[Future[Result]], coming: Iterator[Future[Result]]
-) -> Iterator[Future[Result]]:
-    for future in futures:
-        while not future.done():
-            next(coming, None)
-        yield future

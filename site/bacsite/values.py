@@ -1,16 +1,69 @@
-"""Values in readable form, from the octets of an answer, whose tags show the types."""
+"""Values in readable form, from the octets of an answer, whose tags show the types; and the kinds
+of reasons why there is none."""
 
 from __future__ import annotations
 
 import enum
+import re
+from functools import lru_cache
 from typing import NamedTuple, Sequence
 
 from . import standard
-from .bodies import Element, Item, bits_of, element_of, element_text, elements_of, items_of
+from .bodies import Item, bits_of, element_text, elements_of, items_of
 from .decimals import NO_NUMBERS, shortest
-from .output import escaped
-from .reasons import Why, why_of
 from .standard import Form, ObjectId, PropertyRef
+from .streams import escaped
+
+TIMEOUT, NOT_ASKED, TOO_LATE = "timeout", "not asked", "not done in time"
+STRANGE, NO_INDEX = "an answer about another point", "an answer without its index"
+
+
+class Why(enum.Enum):
+    """The kind of a reason, whatever its words are."""
+
+    NONE = enum.auto()  # nothing is missing
+    SILENT = enum.auto()
+    NOT_ASKED = enum.auto()
+    TOO_LATE = enum.auto()
+    UNREACHABLE = enum.auto()  # nothing can be sent there
+    BUSY = enum.auto()  # for now
+    STRANGE = enum.auto()  # the answer is about something else
+    TOO_LONG = enum.auto()  # for one datagram
+    NO_OBJECT = enum.auto()
+    NO_PROPERTY = enum.auto()
+    NO_NUMBER = enum.auto()  # a Real that is NaN or infinite
+    OTHER = enum.auto()
+
+    @property
+    def is_gone(self) -> bool:
+        """Whether nobody answered, in time or at all: the controller or its network is down."""
+        return self in (Why.SILENT, Why.NOT_ASKED, Why.TOO_LATE, Why.UNREACHABLE)
+
+    @property
+    def is_for_now(self) -> bool:
+        """Whether the answer may differ if the value is asked for again."""
+        return self in (Why.BUSY, Why.STRANGE)
+
+
+# The kinds of reasons by their words; those of bactool have numbers of the standard in them.
+WORDS = {"": Why.NONE, TIMEOUT: Why.SILENT, NOT_ASKED: Why.NOT_ASKED, TOO_LATE: Why.TOO_LATE}
+WORDS.update({"bactool: sending failed": Why.UNREACHABLE})
+WORDS.update(dict.fromkeys(["error 0 3", "abort 3", "abort 8", "abort 9"], Why.BUSY))
+WORDS.update(dict.fromkeys([STRANGE, NO_INDEX], Why.STRANGE))
+WORDS.update(dict.fromkeys(["abort 1", "abort 4", "abort 11", "segmented"], Why.TOO_LONG))
+
+
+@lru_cache(maxsize=1024)
+def why_of(reason: str) -> Why:
+    """Returns the kind of a reason."""
+    if reason.startswith("no number: "):
+        return Why.NO_NUMBER
+    if reason.startswith(TIMEOUT + " ("):  # followed by what a router or another address said
+        return Why.SILENT
+    code = re.fullmatch("error [0-9]+ (31|32)", reason)
+    if code:
+        return Why.NO_OBJECT if code[1] == "31" else Why.NO_PROPERTY
+    return WORDS.get(reason, Why.OTHER)
 
 
 class Kind(enum.Enum):
@@ -97,7 +150,7 @@ def values_of(region: bytes, form: Form) -> list[Value]:
     return [_value(it, form) for it in elements_of(region) or []]
 
 
-def told(element: Element) -> str:
+def told(element: Item) -> str:
     """A value of any type, a text in quotation marks."""
     return _plain(element).told()
 
@@ -120,11 +173,11 @@ def _none(form: Form, found: str) -> Value:
     return fault(f'no {" and ".join(called)}: {found}')
 
 
-def _value(element: Element, form: Form) -> Value:
+def _value(element: Item, form: Form) -> Value:
     """Returns a value of this form. Whole numbers of all types fit, unless the sign is wrong."""
-    value, kind, tags = _plain(element, form.names), element.kind, form.tags
+    value, kind, tags = _plain(element, form.names), element.number, form.tags
     whole = kind in standard.INTEGERS and any(it in standard.INTEGERS for it in tags)
-    is_below = whole and element.number < 0 and standard.SIGNED not in tags
+    is_below = whole and element.value < 0 and standard.SIGNED not in tags
     if tags and (is_below or not (whole or kind in tags)):
         type_ = f"{standard.TAGS[kind]} " if kind in standard.LOOK_ALIKE else ""
         return _none(form, type_ + value.told())
@@ -135,16 +188,16 @@ def _value(element: Element, form: Form) -> Value:
     return value
 
 
-def _plain(element: Element, meanings: dict[int, str] | None = None) -> Value:
+def _plain(element: Item, meanings: dict[int, str] | None = None) -> Value:
     """Returns a value of any type, with the meaning of its number or its bits."""
-    kind, octets, known = *element, meanings or {}
+    kind, octets, known = element.number, element.octets, meanings or {}
     if kind == standard.STRING:
         return Value(Kind.TEXT, _decoded(element))
     text, meaning = element_text(element), ""
     if kind in (standard.REAL, standard.DOUBLE):
         return Value(Kind.NUMBER, shortest(text))
     if kind in standard.INTEGERS:
-        return Value(Kind.NUMBER, text, known.get(element.number, ""))
+        return Value(Kind.NUMBER, text, known.get(element.value, ""))
     if kind == standard.BITS:
         places = [at for at, bit in enumerate(bits_of(octets)) if bit == "1"] if known else []
         bits = tuple(known.get(at, f"bit {at}") for at in places)
@@ -152,11 +205,11 @@ def _plain(element: Element, meanings: dict[int, str] | None = None) -> Value:
     if kind in (standard.DATE, standard.TIME):
         text = _moment_of(kind, octets) or text
     elif kind == standard.OBJECT:
-        meaning = standard.OBJECT_TYPES.get(element.number >> 22, "")
+        meaning = standard.OBJECT_TYPES.get(element.of_object.object_type, "")
     return Value(Kind.OTHER, text, meaning)
 
 
-def _decoded(element: Element) -> str:
+def _decoded(element: Item) -> str:
     """Returns a text in its character set; as bacrp prints it if that can't be read."""
     octets = element.octets
     try:
@@ -210,11 +263,11 @@ def _constructed(items: Sequence[Item], form: Form = Form()) -> str:
     texts = []
     labels = form.labels if len(form.labels) == len(items) else ()
     for at, it in enumerate(items):
-        element, mark = element_of(it), f"[{it.number}]" if it.context else f"{it.number}:"
+        mark = f"[{it.number}]" if it.context else f"{it.number}:"
         entry = _entry(it) if form.has_entries and it.context and it.inner is None else ""
         mark = f"{labels[at]} " if labels else mark
-        if element or entry:
-            texts.append(entry if not element else _plain(element).told())
+        if it.is_element or entry:
+            texts.append(entry or _plain(it).told())
         elif it.inner is None:
             texts.append(f"{mark}X'{it.octets.hex()}'")
         else:

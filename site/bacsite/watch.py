@@ -3,6 +3,8 @@
 from __future__ import annotations
 
 import argparse
+import os
+import shutil
 import sys
 import threading
 import time
@@ -11,20 +13,24 @@ from datetime import datetime
 from queue import Empty, SimpleQueue
 from typing import Dict, List, Mapping, NamedTuple, Sequence, Union
 
-from .tools import LOOK_EVERY, Tools
-from .charts import Line, Live, Sample, is_terminal, page_of
 from .controller import Controller
-from .output import BROKEN, MISSING, Failure, csv_lines, harmless, moment, put, show, wrong
-from .files import is_replaceable, replace_file
-from .poll import Meaning, Meanings, Reading, readings_of
+from .decimals import DECIMAL
+from .page import Line, Sample, charts_page_of
 from .points import Point, by_address, distinct, point_of, points_of
-from .reasons import NOT_ASKED, why_of
-from .files import Rows
+from .poll import Meaning, Meanings, Reading, readings_of
+from .streams import BROKEN, MISSING, Failure, Rows, csv_lines, harmless, is_replaceable, moment
+from .streams import put, replace_file, show, table, width, wrong
+from .tools import LOOK_EVERY, Tools
+from .values import NOT_ASKED, why_of
 
 HEAD = "time,point,value,unit,state,flags,missing\n"
 LONGEST = 3  # times the pause: after a longer time a round was missed
 PAGE_EVERY = 5.0  # seconds
 MOST_EARLIER, LATEST = 32 << 20, 1 << 20  # octets of the file that are read: for the page, or not
+BARS = "▁▂▃▄▅▆▇█"
+NO_BAR = "·"
+COLUMNS = 30  # of a curve
+LEAST_SECONDS, LEAST_ROUNDS = 60, COLUMNS  # of the time that a curve shows
 
 
 class Row(NamedTuple):
@@ -39,8 +45,9 @@ class Row(NamedTuple):
     clock: int = 0  # the time by a clock that stops while the machine sleeps, and is never set
 
     def cells(self) -> list[str]:
-        """The cells of the row in the file, after time and point."""
-        return [self.text, self.meaning.unit, self.meaning.state, self.flags, self.fault]
+        """The cells of the row in the file: time, point, and what a watch may find changed."""
+        found = [self.text, self.meaning.unit, self.meaning.state, self.flags, self.fault]
+        return [moment(self.at), self.point.name, *found]
 
 
 Found = Union[List[Row], BaseException]  # rows, none of them at the end; or an error
@@ -97,7 +104,7 @@ class Rounds:
                 break
             with self._slots:
                 is_late = _clock() - last > LONGEST * step
-                rows = _asked(controller, points, meanings, self._flags)
+                rows = _asked(points, meanings, self._flags)
                 if not self._keeps:
                     controller.rest()
             if not ended.is_set():
@@ -126,10 +133,9 @@ def unasked(last: Row, step: int) -> Row:
     return Row(last.at + step, last.point, fault=NOT_ASKED)
 
 
-def _asked(
-    controller: Controller, points: Sequence[Point], meanings: Meanings, with_flags: bool
-) -> list[Row]:
+def _asked(points: Sequence[Point], meanings: Meanings, with_flags: bool) -> list[Row]:
     """Returns the present values; none if the device was another one before or after."""
+    controller = meanings.controller
     controller.again()
     found: List[Row] = []
     for part in controller.parts(points):
@@ -163,6 +169,85 @@ def _clock() -> int:
     return int(time.monotonic() * 1000)
 
 
+def is_terminal() -> bool:
+    """Whether standard output is a terminal on which lines can be overwritten."""
+    return sys.stdout is not None and os.isatty(1) and os.environ.get("TERM", "dumb") != "dumb"
+
+
+class Live:
+    """The lines on the terminal."""
+
+    def __init__(self, every: float) -> None:
+        self._every = every
+        self._height = 0  # lines that are shown
+
+    def clear(self) -> None:
+        """Removes the lines."""
+        if self._height:
+            put(f"\x1b[{self._height}A\r\x1b[J")
+        self._height = 0
+
+    def draw(self, lines: Sequence[Line]) -> None:
+        """Writes the lines again, as many as there is room for."""
+        columns, rows = shutil.get_terminal_size()
+        shown = table([self._cells(it) for it in lines[: max(1, rows - 2)]])
+        if len(shown) < len(lines):
+            shown.append(f"and {len(lines) - len(shown)} more points")
+        back = f"\x1b[{self._height}A\r" if self._height else ""
+        put(back + "".join(f"{_cut(it, columns)}\x1b[K\n" for it in shown) + "\x1b[J")
+        self._height = len(shown)
+
+    def _cells(self, line: Line) -> list[str]:
+        """Time, name, curve and value; in place of a value the reason."""
+        latest = line.samples[-1] if line.samples else Sample(0, "", "nothing yet")
+        note = f"({latest.note})" if latest.note else ""
+        value = [latest.text, line.unit, note, latest.set_flags]
+        seconds = max(LEAST_SECONDS, self._every * LEAST_ROUNDS)
+        return [
+            time.strftime("%H:%M:%S", time.localtime(latest.at // 1000)) if latest.at else "",
+            f"{line.name} {line.label}".rstrip(),
+            curve_of(line.samples, time.time_ns() // 10**6, seconds, self._every),
+            " ".join(filter(None, value if latest.text else ["no value:", latest.note])),
+        ]
+
+
+def curve_of(samples: Sequence[Sample], until: int, seconds: float, every: float) -> str:
+    """The values of the last seconds as bars: each is the latest value at the end of its part of
+    the time. The last value is shown for two rounds."""
+    part, first = seconds * 1000 / COLUMNS, until - seconds * 1000
+    places: dict[int, Sample] = {}
+    for it in reversed(samples):
+        place = max(-1, int((it.at - first) // part))
+        places.setdefault(min(place, COLUMNS - 1), it)
+        if place < 0:
+            break
+    shown: list[Sample | None] = [places.get(-1)]
+    for at in range(COLUMNS):
+        shown.append(places.get(at, shown[-1]))
+    last = (samples[-1].at + 2 * every * 1000 - first) // part if samples else -1
+    size = _sizes([it.text for it in shown if it and it.text])
+    found = ["" if it is None else size.get(it.text, NO_BAR) for it in shown[1:]]
+    return "".join(it if it and at <= last else " " for at, it in enumerate(found))
+
+
+def _sizes(texts: Sequence[str]) -> dict[str, str]:
+    """The bar for each text: by its number, or by its position among the others."""
+    names = sorted(set(texts))
+    numbers = [float(it) for it in names if DECIMAL.fullmatch(it)]
+    if len(numbers) < len(names):
+        numbers = [float(at) for at in range(len(names))]
+    least, most = min(numbers, default=0.0), max(numbers, default=0.0)
+    scale = (len(BARS) - 1) / (most - least) if most > least else 0.0
+    return {it: BARS[round((number - least) * scale)] for it, number in zip(names, numbers)}
+
+
+def _cut(text: str, columns: int) -> str:
+    """The text, as far as it fits into a line."""
+    while width(text) >= columns:
+        text = text[:-1]
+    return text
+
+
 class Watch:
     """All known values of the points, which are printed, kept and drawn."""
 
@@ -182,9 +267,8 @@ class Watch:
         """Notes the rows of an earlier watch: all for the page, otherwise the latest ones."""
         for cells in file.rows(MOST_EARLIER if self.words.page else LATEST):
             with suppress(ValueError, KeyError):
-                when, name, *texts = cells
+                when, name, text, unit, state, flags, fault = cells
                 at = round(datetime.fromisoformat(when.replace("Z", "+00:00")).timestamp() * 1000)
-                text, unit, state, flags, fault = texts
                 meaning = Meaning(unit=unit, state=state)
                 self._noted(Row(at, known[name], text, meaning, flags, fault))
 
@@ -205,10 +289,10 @@ class Watch:
                 found.append(self._noted(unasked(last, step)))
             self.earlier.discard(row.point.name)
             found.append(self._noted(row))
-            if self.words.all or not last or last.cells() != row.cells():
-                told += "\t".join(it or "-" for it in _cells(row)) + "\n"
+            if self.words.all or not last or last.cells()[2:] != row.cells()[2:]:
+                told += "\t".join(it or "-" for it in row.cells()) + "\n"
         if self.file and found:
-            self.file.add([csv_lines([_cells(it)]) for it in found])
+            self.file.add([csv_lines([it.cells()]) for it in found])
             self._tell("csv", self.file.fault)
         if self.live:
             self.live.draw(list(self.lines.values()))
@@ -227,7 +311,8 @@ class Watch:
         """Makes the page, if it is time for that."""
         if self.words.page and (is_over or time.monotonic() >= self.drawn):
             self.drawn = time.monotonic() + max(PAGE_EVERY, self.words.every)
-            page = page_of(self.lines, self.charts, self.words.every, is_over)
+            charts = [[self.lines[name] for name in chart] for chart in self.charts]
+            page = charts_page_of(charts, self.words.every, is_over)
             try:
                 replace_file(self.words.page, page)
                 self._tell("page", "")
@@ -243,10 +328,6 @@ class Watch:
             raise Failure(self.file.fault or f"{self.file.lost} lines are lost", BROKEN)
         missing = [it for it in self.lines if it not in self.latest or self.latest[it].fault]
         return MISSING if missing else 0
-
-
-def _cells(row: Row) -> list[str]:
-    return [moment(row.at), row.point.name, *row.cells()]
 
 
 def _chosen(words: Sequence[str]) -> tuple[list[Point], Charts]:

@@ -5,17 +5,14 @@ from __future__ import annotations
 import argparse
 import os
 import shlex
-from typing import NamedTuple, Sequence, Tuple
+from typing import NamedTuple, Sequence
 
-from . import addresses, standard
-from .addresses import is_routed
-from .bodies import elements_of
+from . import points, standard
+from .bodies import device_in
 from .controller import Controller
-from .output import BROKEN, MISSING, WRONG_WORDS, Failure, put, times, wrong
 from .parsing import COMMANDS, Parser
-from .points import WORD, index, instance, object_type, property_number, text_of
-from .tools import BIND_FAILED, Tools, Outcome, alone
-from .standard import OBJECT, OBJECT_ID, PRESENT_VALUE, ObjectId
+from .streams import BROKEN, MISSING, WRONG_WORDS, Failure, put, times, wrong
+from .tools import BIND_FAILED, Outcome, Tools, alone
 from .place import Encoded, Place, Priorities, encoded_for, looked_at, priorities
 from .values import Value
 
@@ -95,9 +92,8 @@ def _checked(control: Controller, order: Order, place: Place, value: Encoded, en
         why = "not sure, since no priority is read" if unread else "not as written"
         put(f"{why}: {place.shown(found)}\n")
         status = status or MISSING
-    answer = control.ask(control.own.ref(OBJECT_ID))
-    says = [(it.kind, it.of_object) for it in elements_of(answer.region) or []]
-    is_same = says == [(OBJECT, control.own)]
+    answer = control.ask(control.own.ref(standard.OBJECT_ID))
+    is_same = device_in(answer.region) == control.instance
     reason = answer.reason or ("" if is_same else "it says another number")
     if reason:  # as one that took over its address
         put(f"not sure that it is device {control.instance or 0} still: {reason}\n")
@@ -114,7 +110,7 @@ def prepared(controller: Controller, order: Order) -> tuple[Place, Encoded]:
     commandable = bool(place.priorities.values)
     if commandable and order.priority is None:
         raise wrong(f"{place.words()} is commanded by priorities: choose one with --priority")
-    if is_routed(place.address) and not WORD.fullmatch(os.fsencode(value.word)):
+    if points.is_routed(place.address) and not points.WORD.fullmatch(os.fsencode(value.word)):
         raise wrong("no text with a space, and no empty one, can be sent behind a router")
     may_let_go = commandable or (place.priorities.fault and order.priority)
     if value.tag == standard.NULL and not may_let_go:
@@ -124,10 +120,10 @@ def prepared(controller: Controller, order: Order) -> tuple[Place, Encoded]:
 
 def _sent(controller: Controller, order: Order, value: Encoded) -> Outcome:
     where = order.place.ref.words_at(order.priority)
-    if is_routed(order.place.address):
+    if points.is_routed(order.place.address):
         return controller.write(f"{where} {value.tag} {value.word}")
     words = [str(controller.own.instance), *where.split(), "--", str(value.tag), value.word]
-    return controller.tools.write([*controller.options(), *words])
+    return controller.run("bacwp", words)
 
 
 def _read_back(controller: Controller, order: Order, place: Place) -> Value:
@@ -152,13 +148,13 @@ def _read_back(controller: Controller, order: Order, place: Place) -> Value:
 
 def order_of(words: argparse.Namespace) -> Order:
     """Returns the order in the words; fails if they are wrong."""
-    device, address = addresses.one(words.address)
-    object_id = ObjectId(object_type(words.object_type), instance(words.instance))
-    at = None if words.index is None else index(words.index)
-    ref = object_id.ref(property_number(words.property), at)
+    device, address = points.address_of(words.address)
+    kind, number = points.object_type(words.object_type), points.instance(words.instance)
+    at = None if words.index is None else points.index(words.index)
+    ref = standard.PropertyRef(kind, number, points.property_number(words.property), at)
     if words.priority == 6:
         raise wrong("priority 6 is the device's own")
-    place = Place(address, ref, is_present_value=ref == object_id.ref(PRESENT_VALUE))
+    place = Place(address, ref, is_present_value=ref == ref.other(standard.PRESENT_VALUE))
     return Order(device, place, words.value, words.type, words.priority, words.dry_run)
 
 
@@ -169,14 +165,11 @@ def write(words: argparse.Namespace) -> int:
         return alone(tools, lambda: written(controller, order), quiet=True)
 
 
-Line = Tuple[int, Order]  # a number, from 1, and what the line with that number orders
-
-
-def lines_of(path: str, dry: bool) -> list[Line]:
-    """Returns the lines of a list; fails if one of them is wrong."""
+def lines_of(path: str, dry: bool) -> list[tuple[int, Order]]:
+    """Returns the numbers of the lines of a list, and their orders; fails if one is wrong."""
     parser = Parser(prog="bacsite write", add_help=False).take(COMMANDS["write"])
     lines = []
-    for number, line in enumerate(text_of(path).split("\n"), 1):
+    for number, line in enumerate(points.text_of(path).split("\n"), 1):
         try:
             if "\0" in line:
                 raise wrong("no word has the character 0")
@@ -193,7 +186,7 @@ def lines_of(path: str, dry: bool) -> list[Line]:
     return lines
 
 
-def _all_written(tools: Tools, lines: Sequence[Line], dry: bool) -> int:
+def _all_written(tools: Tools, lines: Sequence[tuple[int, Order]], dry: bool) -> int:
     """Checks all lines, then writes them; returns the status of the first that is not sure, or 0.
     Once a line was written, the status is not WRONG_WORDS, which means that none was."""
     for number, order in [] if dry else lines:

@@ -14,15 +14,17 @@ from concurrent.futures import ThreadPoolExecutor
 
 sys.path.insert(0, sys.path[0] + "/..")
 from tree import TOP, copy_crate, processors, ran, status_of, text_of, write
+from edits import entries_in
 from mutants import command
 
-ENTRY = re.compile(r"(?ms)^\[(\w+)\]\n(.*?)^(by|error): (.*?)$")
+BY = re.compile(r"(?m)^(by|error): (.*)$")
 PAIR = re.compile(r"(?m)^file: (.*)\nold: (.*)\nnew: (.*)$")
 
 
-def fault_of(over, pairs, how, by):
-    """Returns why this edit is not refused as it should be, or ""."""
-    pairs = [[cell.replace("\\n", "\n") for cell in pair] for pair in PAIR.findall(pairs)]
+def fault_of(over, text):
+    """Returns why the edit of an entry is not refused as it should be, or ""."""
+    pairs = [[cell.replace("\\n", "\n") for cell in pair] for pair in PAIR.findall(text)]
+    how, by = BY.search(text).groups()
     crate, example = pairs[0][0].split("/")[1], by if how == "by" else "nothing"
     with tempfile.TemporaryDirectory(prefix="refused-") as room:
         copy_crate(crate, f"{room}/crates/{crate}")
@@ -45,11 +47,11 @@ def fault_of(over, pairs, how, by):
 
 
 def main(over=TOP, pattern=""):
-    texts = (text_of(f"tests/bodies/{name}.edits") for name in ("out_of_reach", "definitions"))
-    tried = [it for text in texts for it in ENTRY.findall(text) if re.search(pattern, it[0])]
+    entries = [it for name in ("out_of_reach", "definitions") for it in entries_in(f"tests/bodies/{name}.edits", "")]
+    tried = [it for it in entries if it.name and re.search(pattern, it.name)]
     with ThreadPoolExecutor(processors()) as workers:
-        faults = [*workers.map(lambda edit: fault_of(over, *edit[1:]), tried)]
-    bad = [f"{edit[0]}: {fault}" for edit, fault in zip(tried, faults) if fault]
+        faults = [*workers.map(lambda it: fault_of(over, it.text), tried)]
+    bad = [f"{it.name}: {fault}" for it, fault in zip(tried, faults) if fault]
     return status_of(bad, tried, f"{len(tried)} drops, calls or definitions, {len(bad)} not refused")
 
 

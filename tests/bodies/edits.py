@@ -1,7 +1,7 @@
-"""Reads mutants. A mutant is a file NAME.edit in crates/CRATE/must-fail, with lines as `rt must-fail` reads them, or an
-entry of crates/CRATE/mutants/FILE.edits, which has those of src/FILE.rt: a line `[NAME]` and the lines below it.
-CONTRIBUTING.md (A mutant) explains the lines `file:`, `in:`, `old:`, `new:`, `body:`, `clause:`, `goal:`, `control:`,
-`at:`, `by:` and `survivor:`, and what is tried instead of the function, or with it.
+"""Reads mutants. A mutant is an entry of crates/CRATE/mutants/FILE.edits, which has those of src/FILE.rt: a line
+`[NAME]` and the lines below it. CONTRIBUTING.md (A mutant) explains the lines `file:`, `in:`, `old:`, `new:`, `body:`,
+`clause:`, `goal:`, `control:`, `at:`, `by:`, `survivor:` and `must-fail:`, and what is tried instead of the function,
+or with it.
 """
 import collections
 import functools
@@ -209,13 +209,16 @@ def entries_in(file, source):
 
 
 def entries_of(crate):
-    """The entries of a crate. In must-fail a line that `rt` would not accept begins with `# `."""
-    home = f"{ROOT}/crates/{crate}"
-    for file in tree.files(f"{home}/must-fail/*.edit"):
-        text = re.sub(r"(?m)^(?!file: |old: |new:|# )", "bare: ", text_of(file).rstrip("\n"))
-        yield Entry(file, os.path.basename(file)[: -len(".edit")], re.sub(r"(?m)^# (?!file|old|new)", "", text))
-    for file in tree.files(f"{home}/mutants/**/*.edits"):
-        yield from entries_in(file, f"file: src/{os.path.relpath(file, f'{home}/mutants')[: -len('.edits')]}.rt")
+    """The entries of a crate."""
+    home = f"{ROOT}/crates/{crate}/mutants"
+    for file in tree.files(f"{home}/**/*.edits"):
+        yield from entries_in(file, f"file: src/{os.path.relpath(file, home)[: -len('.edits')]}.rt")
+
+
+def must_fail(entry):
+    """The lines of an entry that `rt must-fail` reads, if it has a line `must-fail:`; otherwise none."""
+    lines = entry.text.split("\n")
+    return [it for it in lines if it.startswith(("file: ", "old: ", "new:"))] if "must-fail:" in lines else []
 
 
 # The parts of an entry that are tried: the mutant; its control; the control with one of its branches emptied, by their
@@ -224,6 +227,7 @@ def entries_of(crate):
 # arguments exist.
 WRONG, CONTROL, EMPTIED, GHOST = "", "control", "emptied control", "ghost clause alone"
 REFUTED, RIGHT_REFUTED, NEVER, UNMET = "refuted", "right one refuted", "never called", "right one never called"
+OF_VALUES = REFUTED, RIGHT_REFUTED, NEVER, UNMET  # those of an `at:`
 GHOSTS = re.compile(r"ghost .*?; (?=fn )")  # of an `impl`
 
 
@@ -247,7 +251,7 @@ class Edit:
         self.has_control, self.calls_right, self.condition = CONTROL in said, "body" in said, said.get("at", "")
         self.wrong, self.by = said.get("body", said.get("new", "")), said.get("by", "")
         self.survivor = said.get("survivor", "")
-        self.promised, self.bare = said.get("clause", "").split(), said.get("bare", "")
+        self.promised = said.get("clause", "").split()
         self.goals = said["goal"].split(", ") if "goal" in said and part in (WRONG, CONTROL) else []
         if part == RIGHT_REFUTED:
             path, within, _, _ = self.pairs[0]
@@ -263,7 +267,7 @@ class Edit:
         if part.startswith(EMPTIED):
             self.pairs = [self.pairs[0]._replace(new=self.emptied()[int(part.removeprefix(EMPTIED))])]
         # only ever tried as a copy, and without the answers of its function
-        self.is_apart = self.calls_right or part in (REFUTED, RIGHT_REFUTED, NEVER, UNMET) or part.startswith(EMPTIED)
+        self.is_apart = self.calls_right or part in OF_VALUES or part.startswith(EMPTIED)
         names = (it.strip("`,.") for it in self.survivor.split())
         self.test = next((it for it in names if "/" in it and os.path.isfile(f"{ROOT}/{it}")), "")
         self.is_unfit = next(self.faults(), "")
@@ -296,10 +300,11 @@ class Edit:
         """What is missing in the lines of this edit, or must not be there."""
         if not self.pairs:
             yield "it has no `new:`"
-        if self.bare:
-            yield f"`rt` does not read a line of it, which has no `# ` in front: {self.bare}"
-        if self.is_wide and not (law_of(self.crate, self.by) and "/mutants/" not in self.file):
-            yield "it is outside a function: it has to stand in must-fail, and its `by:` to name a law that refuses it"
+        texts = sources_of(self.crate)
+        if must_fail(self.entry) and any(texts[it.path].count(it.old) != 1 for it in self.pairs):
+            yield "it has a `must-fail:`, and its `old:` is not in the file once, as `rt must-fail` needs it"
+        if self.is_wide and not law_of(self.crate, self.by):
+            yield "it is outside a function: its `by:` has to name a law that refuses it"
         if not self.is_wide and len(self.pairs) > 1:
             yield "it has more than one `new:`"
         if self.survivor and (self.calls_right or not self.test):
@@ -394,7 +399,7 @@ class Edit:
         if self.is_unfit or self.is_wide or not self.is_beside():
             return
         path, of = self.functions[0]
-        if self.part in (REFUTED, RIGHT_REFUTED, NEVER, UNMET):
+        if self.part in OF_VALUES:
             head = self.refutation()
         elif self.part.startswith(EMPTIED):  # the empty branch is taken, whatever is ensured
             head = self.promises([])

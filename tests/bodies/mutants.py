@@ -32,8 +32,8 @@ import time
 
 sys.path.insert(0, os.path.dirname(__file__) + "/..")
 import controls
-from edits import CONTROL, EMPTIED, GHOST, GHOSTS, INVARIANT, NEVER, REFUTED, RIGHT_REFUTED, ROOT, UNMET, WRONG
-from edits import IMPL, Edit, entries_of, functions_of, home_of, module_of, sources_of, symbol_of
+from edits import CONTROL, EMPTIED, GHOST, GHOSTS, INVARIANT, NEVER, OF_VALUES, REFUTED, RIGHT_REFUTED, ROOT, UNMET
+from edits import IMPL, WRONG, Edit, entries_of, functions_of, home_of, module_of, sources_of, symbol_of
 from stubs import FAULTS, LINKED, PLACE, put_answers, put_searches, put_stubs
 from tree import all_crates, copy_crate, crates_below, end_by_signals, files, free_memory, processors, ran
 
@@ -383,7 +383,7 @@ def edits_of(crate, only=""):
 def with_controls(edits):
     """These bodies and the other parts of their entries that have a place."""
     for it in edits:
-        parts = [CONTROL] * it.has_control + [REFUTED, RIGHT_REFUTED, NEVER, UNMET] * bool(it.condition)
+        parts = [CONTROL] * it.has_control + [*OF_VALUES] * bool(it.condition)
         parts += [GHOST] * (it.has_control and bool(GHOSTS.search(it.entry.text)))
         it.beside = {part: Body(it.crate, it.entry, part) for part in parts}
         control = it.beside.get(CONTROL)
@@ -414,10 +414,9 @@ def build(crates):
 
 
 def strays():
-    """Returns the files in folders of edits that belong to no crate."""
-    known = re.compile(rf"{ROOT}/crates/({'|'.join(crates_below())})/(must-fail/.*\.edit|mutants/.*\.edits|.*\.md)")
-    there = files(f"{ROOT}/crates/*/must-fail/**", f"{ROOT}/crates/*/mutants/**")
-    return [it for it in there if not known.fullmatch(it)]
+    """Returns the files in folders of mutants that belong to no crate."""
+    known = re.compile(rf"{ROOT}/crates/({'|'.join(crates_below())})/mutants/.*\.(edits|md)")
+    return [it for it in files(f"{ROOT}/crates/*/mutants/**") if not known.fullmatch(it)]
 
 
 def unfit_of(edits):
@@ -434,7 +433,7 @@ def options_of(words):
     flag("--list", help="try nothing: name the bodies that don't fit the code")
     flag("--goals", help="print each refusal, and by what it is shown")
     flag("--clauses", help="print the clauses of public functions that no body leaves open")
-    flag("--sample", help=f"take {SAMPLE} of each crate that values show wrong, in one check, those of must-fail first")
+    flag("--sample", help=f"take the first {SAMPLE} of each crate that values show wrong, in one check")
     flag("--whole", help="make all searches for a proof, also where a line `goal:` gives a body two of them")
     word("--only", default="", metavar="PATTERN", help="take the bodies whose CRATE/NAME the pattern is found in")
     word("--over", metavar="TREE", help="take the crates below from this tree, each once `rt ci` has put it there")

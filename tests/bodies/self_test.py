@@ -9,7 +9,7 @@ import re
 import sys
 
 sys.path.insert(0, sys.path[0] + "/..")
-from edits import CONTROL, NEVER, REFUTED, RIGHT_REFUTED, UNMET, entries_in
+from edits import CONTROL, NEVER, OF_VALUES, REFUTED, RIGHT_REFUTED, UNMET, entries_in
 from mutants import BY_PROOF, REFUSED_ONLY, Bodies, Body, try_all, with_controls
 from tree import status_of
 
@@ -30,7 +30,7 @@ def faults_of_proofs(body):
     """Yields faults in the judgement of a body with an `at:`: a proof shows it wrong, but not if there also is a proof
     that no such arguments exist. Such proofs mostly come together, so here each outcome is set by hand."""
     for proved in ([REFUTED], [REFUTED, RIGHT_REFUTED], [REFUTED, NEVER], [REFUTED, UNMET], []):
-        for part in (REFUTED, RIGHT_REFUTED, NEVER, UNMET):
+        for part in OF_VALUES:
             body.beside[part].kind = "PROVED" if part in proved else "clause"
         wanted = BY_PROOF if proved == [REFUTED] else REFUSED_ONLY
         if body.shown() != wanted:

@@ -14,20 +14,6 @@ from tree import write
 # Another name in each run, so that no mutant and no control can call the functions that are only for stubs.
 PLACE = f"nowhere_{secrets.token_hex(8)}"
 STUB = f"crate::{PLACE}::never()"
-# No function can meet the first contract, so nothing after a call of it is ever reached. It is declared as a function
-# of the C library, which a check does not look for.
-NOWHERE = """ghost use Rattle.std.specs.Prelude.{◌≡◌, false, true};
-
-unsafe extern "C" {
-    safe fn nowhere()
-        ensures { false ≡ true };
-}
-
-pub(crate) fn never() -> ! {
-    nowhere();
-    unreachable!()
-}
-"""
 # An answer to a goal that does not exist: with such an answer `rattle` does not look for the beginning of an answer to
 # each goal that is left open, which takes a third of a check or more. And a hole for the invariant of a method's type,
 # because the search for its proof may take as long, and the fault hides it.
@@ -76,7 +62,7 @@ def put_stubs(crate, home, texts, is_tried):
         name = "::".join([crate, *os.path.relpath(place, f"{home}/proofs").split("/")])
         for answers in set(files) & set(ANSWERS) if any(it.match(name) for it in gone) else ():
             os.remove(f"{place}/{answers}")
-    write(f"{home}/src/{PLACE}.rt", NOWHERE)
+    write(f"{home}/src/{PLACE}.rt", text_of(f"{ROOT}/tests/bodies/nowhere.rattle"))
 
 
 def put_answers(crate, home, answers, place):

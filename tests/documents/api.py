@@ -1,21 +1,13 @@
-#!/usr/bin/env python3
-"""The public signatures of the program's crates: docs/API.txt, made from the sources with sources.py. For each crate it
-has the functions, types, traits and constants that src/lib.rt names, with the methods and the traits of the types;
-names from another crate are only listed. The promise of a call is in the source at the call.
-
-Usage: tests/documents/api.py [--write]: compares docs/API.txt with the tree, and exits with status 1 if they differ.
-With --write it writes the file anew (make reading). CHANGELOG.md must name a changed signature.
+"""The public signatures of the program's crates, the text of docs/API.txt, made from the sources with sources.py. For
+each crate it has the functions, types, traits and constants that src/lib.rt names, with the methods and the traits of
+the types; names from another crate are only listed. The promise of a call is in the source at the call.
 """
-import os
 import re
-import sys
 import textwrap
 
-sys.path.insert(0, os.path.dirname(__file__) + "/..")
-from sources import CRATES, OF_PROGRAM, SOURCES, public_calls, read_tree
-from tree import TOP, text_of, well_or, write
+from sources import CRATES, OF_PROGRAM, SOURCES, public_calls
+from tree import text_of
 
-LIST = "docs/API.txt"
 HEAD = """\
 The public signatures of the program's crates, made from the sources by `make reading` and compared by `make documents`.
 What a call promises stands at the call.
@@ -113,21 +105,3 @@ def made():
         lines = (re.sub(r"\bpub (?:const )?(?=\w)", "", line) for line in lines_of(crate))
         parts.append("\n".join([crate, *map(set_in, lines)]) + "\n")
     return "\n".join(parts)
-
-
-def main(arguments):
-    os.chdir(TOP)
-    read_tree()
-    text, problems = made(), []
-    if arguments == ["--write"]:
-        write(f"{TOP}/{LIST}", text)
-    else:
-        then = text_of(LIST) if os.path.exists(LIST) else ""
-        differ = {*text.splitlines()} ^ {*then.splitlines()}
-        problems = [f"{LIST} differs from the tree: {line.strip()[:100]}" for line in sorted(differ)[:9]]
-        problems += [f"{LIST} differs from the tree in its order"] if not differ and text != then else []
-    crates = len(re.findall(r"(?m)^\w+$", text))
-    return well_or(problems, f"{crates} crates in {LIST} agree with the tree")
-
-
-sys.exit(main(sys.argv[1:]))

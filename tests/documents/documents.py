@@ -16,16 +16,12 @@ sys.path[:0] = [os.path.dirname(__file__) + "/..", os.path.dirname(__file__) + "
 import bacsite_faults
 from program.rows import LETTERS
 from sources import OF_PROGRAM, code_of
-from tree import TOP, all_crates, crates_below, files, ran, sections_of, text_of, well_or
+from tree import TOP, all_crates, crates_below, files, ran, sections_of, table_of, text_of, well_or
+from weak_tests import asserted, weak
 
 SOURCES = ["crates/*/src/**/*.rt", "crates/*/specs/**/*.antt", "crates/*/proofs/**/*.antt"]
 OF_STD = {"arrayvec", "byteorder", "clap", "hex", "thiserror", "std", "fault_of", "map", "filter", "flat_map"}
-# How a name is defined: that of a type or a member, of a variant, in antt, and of a mutant.
-DEFINES = {
-    SOURCES[0]: r"\b(?:struct|enum|trait|const|type|mod|ghost|fn|ensures) +(\w+)|^ +([A-Z]\w*)(?=[,({])",
-    **dict.fromkeys(SOURCES[1:], r"^ *(?:(?:abbrev|record|data|pub|unfoldable) +)*(\w+)(?: [^:\n]*)? :"),
-    "crates/*/mutants/*.edits": r"^\[(\w+)\]$",
-}
+PATTERNS = dict(table_of("tests/documents/patterns.txt"))
 WHOLE = ["docs/", "bench/", "tests/", "tests/[a-z]*/"]  # folders whose row names each file
 WELL_KNOWN = set("README.md CONTRIBUTING.md SECURITY.md CHANGELOG.md LICENSE .gitignore .git crates out".split())
 WIDTH = 120
@@ -35,20 +31,6 @@ PATHS = re.compile(rf"(?<![\w/.])(?:\.\./)*((?:{FOLDERS})/(?!CRATE)[\w/.-]+\.(?:
 # Files with paths that are to be missing.
 MADE_UP = ["tests/planted_faults.txt", "tests/stand_in_tools.py", "tests/stand_in_tools.txt"]
 NUMBERS_AND_CODES = re.compile(r"`[^`]*`|\d[\d,]*\b")  # in a row of the rules
-# A test in Rattle with a known result, or none: it compares constants, a thing with itself, or goes over no rows.
-VACUOUS = re.compile(
-    r"assert!\([^;]*;\s*true\b|\|\| true\b|\btrue \|\|"
-    r"|(?<![\w.])([\w.]+) == \1(?![\w.(\[])|\bin (?:&?\[\]|.*\(&\[\]\)) \{"
-)
-UNSEEN = {
-    "a `Drop` by hand": (SOURCES[0], r"(?m)^ *impl\b[^{;]*?\bDrop\s+for\s+\w+"),
-    "a loop, whose work is not counted": ("crates/bac_pdu/src/**/*.rt", r"(?m)^ *((?:while|for|loop)\b.*)$"),
-}
-# Functions that test nothing unless they are called: those next to the tests of bacsite, and of the crates.
-BESIDE_TESTS = {
-    "tests/site/*.py": r"(?m)^    def (?!test_|setUp|tearDown|handle_|_)(\w+)\(self",
-    "crates/*_trials/src/**/*.rt": r"(?m)(?<!#\[test\]\n)^(?:pub(?:\(\w+\))? )?fn (\w+)",
-}
 
 
 def sections(text):
@@ -131,10 +113,10 @@ def targets():
 
 def what_tries_nothing():
     """Functions next to tests are called; each fault of bacsite_faults.txt has a place; Python can read its files."""
-    for place, pattern in BESIDE_TESTS.items():
+    for place, pattern in PATTERNS["functions beside tests"]:
         texts = "".join(map(text_of, files(place)))
         words = re.findall(r"\w+", texts)
-        for name in re.findall(pattern, texts):
+        for name in re.findall(pattern, texts, re.M):
             if words.count(name) == 1:
                 yield f"{place}: {name} is no test, and nothing calls it"
     for path, _, old, _ in bacsite_faults.faults():
@@ -177,26 +159,29 @@ def counts_are_told(section):
     for row in tables(section):
         for name in names(row["Script"]) or [name]:
             told[name] = told.get(name, []) + re.findall(r"\d+", row["How many"].replace(",", ""))
-    for name, numbers in (row.split(": ") for _, rows in sections_of("tests/documents/counts.txt") for row in rows):
+    counts = table_of("tests/documents/counts.txt")
+    for name, numbers in (row for _, rows in counts for row in rows):
         lost = {it for it in numbers.split() if name in told and it.isdigit()} - {"0", *told.get(name, [])}
         yield from (f"docs/TESTS.md does not say that {name} counts {it}" for it in sorted(lost))
-    for name, number in (row.split(": ") for row in dict(sections_of("tests/documents/counts.txt"))["by hand"]):
+    for name, number in dict(counts)["by hand"]:
         rows = sum(len(rows) for _, rows in sections_of(name))
         if str(rows) != number:
             yield f"{name} has {rows} rows, and counts.txt {number}"
+    for crate, number in dict(counts)["assertions and comparisons"]:
+        there = asserted("".join(map(code_of, files(f"crates/{crate}/src/**/*.rt"))))
+        if number != there:
+            yield f"the tests of {crate} have {there} assertions and comparisons: not as counts.txt has it"
 
 
 def compared_with_itself():
     """No test compares a thing with itself or with several others, tests a constant, loops over an empty list that it
-    writes, asserts nothing, or is always left out."""
+    writes, asserts nothing, or is always left out; and none is weak (weak_tests.py)."""
     for file in files("tests/**/*.py", "bench/*.py"):
         with contextlib.suppress(SyntaxError):  # what_tries_nothing reports it
             for node in filter(is_vacuous, ast.walk(ast.parse(text_of(file)))):
                 line = getattr(node, "lineno", 0) or node.iter.lineno
                 yield f"{file}:{line}: it compares a thing with itself, or nothing"
-    for file in files("crates/*_trials/src/**/*.rt"):
-        found = VACUOUS.finditer(code_of(file))
-        yield from (f"{file}: it compares a thing with itself, or nothing: {it[0]}" for it in found)
+            yield from (f"{file}:{line}: {why}" for line, why in weak(text_of(file)))
 
 
 def is_vacuous(node):
@@ -223,13 +208,18 @@ def is_vacuous(node):
     return isinstance(known, ast.Constant) and not isinstance(node, ast.While)
 
 
-def heads_of_sources():
-    """Each file of code says at its head what it has, except lists of modules and answers for single functions. The box
-    in the head of a library is in its examples, and the calls in it are in bac_uses."""
-    for file in files(*SOURCES[:2], "crates/*/proofs/*.antt"):
-        mark = "//!" if file.endswith(".rt") else "--"
-        if not text_of(file).startswith(mark + " ") and not file.endswith(("/Lib.antt", "/Inner.antt")):
-            yield f"{file}: its first line is no `{mark}` that says what it has"
+def what_must_not_be_there():
+    """Nothing of the sources matches the patterns of what must not be in their code, and in their texts. A list of
+    modules has no head."""
+    for section, read in (("not in code", code_of), ("not in a text", text_of)):
+        for what, places, pattern in PATTERNS[section]:
+            for file in (it for it in files(*places.split()) if not it.endswith(("/Lib.antt", "/Inner.antt"))):
+                found = re.finditer(pattern, read(file), re.M)
+                yield from (f"{file}: {what}: {on_one_line(it[0])}" for it in found)
+
+
+def examples_of_libraries():
+    """The box in the head of a library is in its examples, and the calls in it are in bac_uses."""
     uses = [on_one_line(text_of(file)) for file in files("crates/bac_uses/src/*.rt")]
     for file in files("crates/*/src/lib.rt"):
         examples = [on_one_line(text_of(it)) for it in files(file.replace("lib.rt", "examples.rt"))]
@@ -244,7 +234,7 @@ def heads_of_sources():
 def names_of_sources():
     """Each name that the sources define, and the clauses of each function."""
     known, clauses = {*os.listdir("crates"), *OF_STD}, {}
-    for place, pattern in DEFINES.items():
+    for place, pattern in PATTERNS["definitions"]:
         for file in files(place):
             found = re.finditer(pattern, code_of(file), re.M)
             known.update([os.path.splitext(os.path.basename(file))[0], *(it[1] or it[2] for it in found)])
@@ -264,6 +254,16 @@ def names_of_proofs(document, text, known, clauses):
     for function, clause in re.findall(r"`(?:\w+::)?(\w+)`, `(\w+)`", text):
         if function in clauses and clause not in clauses and clause not in clauses[function]:
             yield f"{document}: {function} has no clause {clause}"
+
+
+def names_of_documents(known, clauses):
+    """A name in backquotes is one of the sources or of std, or names.txt has it; and a file is in the tree."""
+    there = {os.path.basename(file) for file in files("*", "[!o]*/**", ".ci/*")}
+    for document, lines in sections_of("tests/documents/names.txt"):
+        text, others = re.sub(r"(?ms)^```.*?^```$", "", text_of(document)), {*" ".join(lines).split()}
+        yield from names_of_proofs(document, text, known | others, clauses)
+        named = {*re.findall(r"`(?:[\w/.-]+/)?([\w-]+\.[a-z]+)`", text)} - others
+        yield from (f"{document}: no file of the tree is {file}" for file in sorted(named - there))
 
 
 def what_stands_twice(readme, proofs):
@@ -320,17 +320,11 @@ def texts_of_faults(section):
     yield from (f"docs/PROTOCOL.md: the fault {text} is told in one place alone" for text in sorted(told ^ texts))
 
 
-def what_no_clause_sees():
-    """Code that no clause sees: a hand-written `Drop`, which could do anything; and work that no clause `walked_once`
-    would count: a loop in bac_pdu, or a count that is begun in a crate from there to bac_device."""
-    for what, (place, pattern) in UNSEEN.items():
-        for file in files(place):
-            yield from (f"{file}: {what}: {on_one_line(it)}" for it in re.findall(pattern, text_of(file)))
+def counts_of_work():
+    """No crate from bac_pdu to bac_device can begin a count of work, which a clause `walked_once` would not see."""
     for crate in ("bac_pdu", "bac_tsm", "bac_device"):
         if "bac_work" in crates_below()[crate]:
             yield f"crates.txt: {crate} can begin a count of work"
-        for file in files(f"crates/{crate}/proofs/**/Proof.antt"):
-            yield f"{file}: a proof by hand, by which a count of work can be begun"
 
 
 def public_names_without_a_law():
@@ -434,13 +428,13 @@ def main():
         *what_is_not_there(),
         *counts_are_told(sections(text_of("docs/TESTS.md"))["What is tried"]),
         *compared_with_itself(),
-        *heads_of_sources(),
-        *names_of_proofs("docs/PROOFS.md", proofs, *known),
-        *names_of_proofs("README.md", sections(readme)["What is proved"], *known),
+        *what_must_not_be_there(),
+        *examples_of_libraries(),
+        *names_of_documents(*known),
         *what_stands_twice(readme, sections(proofs)),
         *functions_without_a_contract(sections(proofs)["Functions without a clause"]),
         *texts_of_faults(rules["Statuses and faults"]),
-        *what_no_clause_sees(),
+        *counts_of_work(),
         *public_names_without_a_law(),
         *rows_are_read_back(rules),
         *links_and_lines(),

@@ -2,7 +2,7 @@
 """Finds the words of words.txt in prose, and names a plainer one for each. Prose is documents without boxes of code,
 manual pages without literal blocks, the texts of the help, and comments and docstrings of code.
 
-Usage: tests/documents/plain_words.py counts them in the tree, and fails if there are more than MOST allows. With
+Usage: tests/documents/plain_words.py counts them in the tree, and fails if there are more than it allows. With
 FILE.., or with `-` and a diff from `git diff -U0` on standard input, it prints `file:line: word -> better` for each,
 and fails if there are any.
 """
@@ -11,17 +11,10 @@ import re
 import sys
 
 sys.path.insert(0, os.path.dirname(__file__) + "/..")
-from tree import TOP, files, status_of, text_of
+from tree import TOP, files, status_of, table_of, text_of
 
-# How many places may be left: lower a number once there are fewer, and never raise it.
-MOST = {"pages": 20, "comments": 100}
+TABLE = dict(table_of("tests/documents/words.txt"))
 HELP = "crates/bac_words/src/help.rt"
-FILES = {
-    "pages": ["*.md", "docs/*.md", "man/*.[17]", HELP, "examples/*"],
-    "comments": [f"crates/*/{place}" for place in ("src/**/*.rt", "specs/**/*.antt", "proofs/**/*.antt")]
-    + [f"{place}/**/*.{ending}" for place in ("site", "tests", "bench") for ending in ("py", "sh", "txt", "c")]
-    + ["man/*.py", "completions/*", "packaging/*", "*.py"],
-}
 COMMENTS = {".rt": "//[/!]? ?(.*)", ".antt": "-- ?(.*)", ".txt": "^# (.*)"}
 CODE = {".md": r"`[^`]*`|\]\(\S*\)", ".1": r"^\.(?:Ql|Li|Cm|Fl|Pa|Xr|Ar) .*"}
 START = r"(?:(?<=[.:;!?] )|(?<=\n\n)|\A)"  # of a sentence
@@ -29,8 +22,7 @@ START = r"(?:(?<=[.:;!?] )|(?<=\n\n)|\A)"  # of a sentence
 
 def words():
     """Yields the pattern of each word, and a better word."""
-    for line in re.findall(r"(?m)^[^#\n].*", text_of("tests/documents/words.txt")):
-        wrong, right, _ = line.rsplit(" | ", 2)
+    for wrong, right, _ in TABLE["words"]:
         start = wrong.startswith(r"\A")
         wrong = (START + wrong[2:] if start else wrong).replace(" ", r"\s")
         yield re.compile(wrong, 0 if start else re.I), right
@@ -84,11 +76,11 @@ def whole(paths):
 def counted():
     """Counts the words in the tree, and returns the status."""
     wrong, tried = [], {}
-    for what, places in FILES.items():
-        paths = [os.path.relpath(it, TOP) for it in files(*(f"{TOP}/{place}" for place in places))]
+    for what, most, places in TABLE["files"]:
+        paths = [os.path.relpath(it, TOP) for it in files(*(f"{TOP}/{place}" for place in places.split()))]
         there = [*found(whole(it for it in paths if not re.search(r"\.(?:pcap|png)$|numbers\.txt$", it)))]
-        wrong += there if len(there) > MOST[what] else []
-        print(f"{what}: {len(there)} words of words.txt, at most {MOST[what]}")
+        wrong += there if len(there) > int(most) else []
+        print(f"{what}: {len(there)} words of words.txt, at most {most}")
         tried[f"{len(paths)} files of {what}"] = len(paths)
     return status_of(wrong, all(tried.values()), " and ".join(tried))
 

@@ -1,25 +1,29 @@
 #!/usr/bin/env python3
 """What to read to believe a promise: docs/reading/, made from the sources with sources.py. pages.txt is its first page,
 in whose table a row has a page's file, its title, and the calls whose lists it has; `*` stands for each public call of
-the crate that is on no page before.
+the crate that is on no page before. And docs/API.txt, the public signatures, which api.py makes; and must-fail/ of each
+crate, whose edits are in mutants/ in the form of all mutants.
 
-Usage: tests/documents/reading.py [--write]: compares docs/reading/, and the sizes in README.md, with the tree. It
-reports public calls that are on no page, definitions in the wrong folder, definitions of laws and public clauses
-without an example, fields of them (fields.txt) that no example refuses, and imported names that do not exist or are not
-used; it exits with status 1 if there are any. With --write it writes docs/reading/ anew (make reading).
+Usage: tests/documents/reading.py [--write]: compares these files, and the sizes in README.md, with the tree. It reports
+public calls that are on no page, definitions in the wrong folder, definitions of laws and public clauses without an
+example, fields of them (fields.txt) that no example refuses, and imported names that do not exist or are not used; it
+exits with status 1 if there are any. With --write it writes these files anew (make reading), and CHANGELOG.md must name
+a changed signature.
 """
+import collections
 import os
 import re
-import shutil
 import sys
 import textwrap
 
-sys.path.insert(0, os.path.dirname(__file__) + "/..")
+sys.path[:0] = [os.path.dirname(__file__) + "/..", os.path.dirname(__file__) + "/../bodies"]
+import api
+from edits import entries_of, must_fail
 from sources import CLAUSE, CRATES, OF_PROGRAM, ROOMS, SOURCES, SPECS, TOKEN, USE, Declared, Definition, Item
 from sources import closed, code_of, defined, parts_of, public_calls, read_tree, uses_in
-from tree import TOP, files, sections_of, text_of, well_or, write
+from tree import SCRIPT, TOP, files, table_of, text_of, well_or, write
 
-FOLDER = "docs/reading"
+FOLDER, SIGNATURES, EDITS = "docs/reading", "docs/API.txt", "crates/*/must-fail"
 SIZE = r"\[([\d,]+) lines\]\(docs/reading/(\w+)\.md\)"  # as in README.md
 PROBLEMS = []
 
@@ -92,13 +96,13 @@ def pages():
 
 
 def compare(texts, sizes):
-    there = {*files(f"{FOLDER}/*")}
+    there = {*files(f"{FOLDER}/*", f"{EDITS}/*")}
     yield from (f"{path} is not made by this script" for path in sorted(there - {*texts}))
     for path, text in texts.items():
-        now, then = text.splitlines(), text_of(path).splitlines() if path in there else []
+        now, then = text.splitlines(), text_of(path).splitlines() if os.path.exists(path) else []
+        differ = [line for line in [*now, *then] if line not in now or line not in then] or ["its order"]
         if now != then:
-            new, gone = [line for line in now if line not in then], [line for line in then if line not in now]
-            yield f"{path} differs from the tree: {[*new, *gone, 'its order'][0].strip()[:100]}"
+            yield from (f"{path} differs from the tree: {line.strip()[:100]}" for line in differ[:9])
     readme = text_of("README.md")
     told = {page: lines for lines, page in re.findall(SIZE, readme)}
     named = {*re.findall(r"docs/reading/(\w+)\.md", readme), "client", "device", "program"} - {"README"}
@@ -109,7 +113,8 @@ def compare(texts, sizes):
 
 
 def make(texts, sizes):
-    shutil.rmtree(FOLDER, ignore_errors=True)
+    for path in files(f"{FOLDER}/*", f"{EDITS}/*"):
+        os.remove(path)
     told = lambda found: f"[{sizes[found[2]]:,} lines](docs/reading/{found[2]}.md)"
     for path, text in [*texts.items(), ("README.md", re.sub(SIZE, told, text_of("README.md")))]:
         write(f"{TOP}/{path}", text)
@@ -202,14 +207,10 @@ def fields_of(record):
 def examples_of_fields():
     """Returns the rows of fields.txt by crate, record and field: an example, or why there is none; and the rows that
     are there twice."""
-    found, twice = {}, []
-    for crate, rows in sections_of("tests/documents/fields.txt"):
-        for record, _, row in (line.partition(": ") for line in rows):
-            names, _, reason = row.partition(" -- ")
-            for field, example in ((*it.split(" "), "")[:2] for it in names.split(", ")):
-                twice += [f"{crate} {record}: {field} twice"] * ((crate, record, field) in found)
-                found[crate, record, field] = (example, reason)
-    return found, twice
+    rows = [(crate, *row) for crate, rows in table_of("tests/documents/fields.txt") for row in rows]
+    found = {row[:3]: (*row[3:], "")[:2] for row in rows}
+    times = collections.Counter(row[:3] for row in rows)
+    return found, [f"{crate} {record}: {field} twice" for (crate, record, field), many in times.items() if many > 1]
 
 
 def unrefused():
@@ -265,11 +266,16 @@ def main(arguments):
     os.chdir(TOP)
     read_tree()
     texts, sizes = pages()
+    told = f"{len(texts)} pages of {FOLDER} agree with the tree"
+    texts[SIGNATURES] = api.made()
+    for crate, entry in ((crate, entry) for crate in CRATES for entry in entries_of(crate) if must_fail(entry)):
+        texts[EDITS.replace("*", crate) + f"/{entry.name}.edit"] = "\n".join([*must_fail(entry), ""])
     if arguments == ["--write"]:
         make(texts, sizes)
     else:
         PROBLEMS.extend([*compare(texts, sizes), *rooms(), *unheld(), *unrefused(), *unused_or_gone()])
-    return well_or(PROBLEMS, f"{len(texts)} pages of {FOLDER} agree with the tree")
+    crates = len(re.findall(r"(?m)^\w+$", texts[SIGNATURES]))
+    return well_or(PROBLEMS, f"{told}\n{SCRIPT}: {crates} crates in {SIGNATURES} agree with the tree")
 
 
 sys.exit(main(sys.argv[1:]))

@@ -8,28 +8,13 @@ import sys
 import tempfile
 
 sys.path.insert(0, os.path.dirname(__file__) + "/..")
-from tree import TOOLS, TOP, left_out, ran, same, shown, text_of, verdict, write
+from tree import TOOLS, TOP, left_out, ran, same, shown, table_of, verdict, write
 
 PROGRAM = os.path.realpath(sys.argv[1])
-BASH = """compopt() {
-    case "$*" in
-        "-o default") offered=($(compgen -f -- "$current")) ;;
-        "-o dirnames") offered=($(compgen -d -- "$current")) ;;
-        *) offered=("compopt $*") ;;
-    esac
-}
-for line in "${@:2}"; do
-    tool=${line%% *}; [[ $tool == bacsite ]] || tool=bactool
-    source "$1/$tool.bash"
-    COMP_LINE=$line COMP_POINT=${#line}; "_$tool"
-    printf "%s\\n" "of $line" "${COMPREPLY[@]}"
-done"""
-FISH = """for name in $argv[1]/*.fish; source $name; end
-for line in $argv[2..-1]; echo "of $line"; complete -C $line; end"""
-SHELLS = {
-    "bash": ["bash", "-c", BASH, "bash"],
-    "zsh": ["zsh", "-f", TOP + "/tests/package/complete.zsh"],
-    "fish": ["fish", "--no-config", "-c", FISH],
+SHELLS = {  # how each runs its script, complete.SHELL
+    "bash": ["bash"],
+    "zsh": ["zsh", "-f"],
+    "fish": ["fish", "--no-config"],
 }
 
 
@@ -43,7 +28,7 @@ def rows():
     site = ["python3", TOP + "/site/bacsite"]
     commands = re.findall(r"(?m)^    ([a-z-]+)(?: .*)?$", shown(*site, "--help"))
     lists = {"TOOLS": TOOLS, "COMMANDS": commands, "TAGS": [str(tag) for tag in range(13)]}
-    for line, words in re.findall(r"(?m)^([^#\n].*)\|(.*)$", text_of("tests/package/completions.txt")):
+    for line, words in (row for _, rows in table_of("tests/package/completions.txt") for row in rows):
         yield line, [it for word in words.split() for it in lists.get(word, [word])]
     for tool in TOOLS:
         yield f"{tool} --", options(PROGRAM, tool)
@@ -54,7 +39,8 @@ def rows():
 
 def completed(shell, folder, lines):
     """Returns the completions of each of these lines in the shell."""
-    parts = re.split(r"(?m)^of (.*)\n", ran(*SHELLS[shell], folder, *lines, cwd=folder).stdout)
+    script = f"{TOP}/tests/package/complete.{shell}"
+    parts = re.split(r"(?m)^of (.*)\n", ran(*SHELLS[shell], script, folder, *lines, cwd=folder).stdout)
     return {line: [*dict.fromkeys(it.split("\t")[0].rstrip("/") for it in told.split("\n") if it)]
             for line, told in zip(parts[1::2], parts[2::2])}
 

@@ -4,20 +4,18 @@ tests/package/imports.py PROGRAM; it needs nm. It reports differences, and then 
 """
 import os
 import re
-import shutil
 import sys
 
 sys.path.insert(0, os.path.dirname(__file__) + "/..")
-from tree import PROGRAM, sections_of, shown, status_of
+from tree import PROGRAM, left_out, shown, status_of, table_of
 
 LIST = "tests/package/imports.txt"
 
 
 def main(program=PROGRAM):
-    if not shutil.which("nm"):
-        print("nm is not installed: what the program takes from the C library, left out")
+    if left_out("nm"):
         return 0
-    listed = {name for _, lines in sections_of(LIST) for line in lines for name in line.split(": ")[0].split()}
+    listed = {name for _, rows in table_of(LIST) for names, *_ in rows for name in names.split()}
     taken = set(re.findall(r"(?m)^ +[UwW] (\w+)", shown("nm", "-D", "--undefined-only", program)))
     wrong = [f"{LIST} does not have {name}, which {program} takes" for name in sorted(taken - listed)]
     wrong += [f"{LIST} has {name}, which {program} does not take" for name in sorted(listed - taken)]

@@ -14,19 +14,13 @@ import sys
 import tempfile
 
 sys.path.insert(0, os.path.dirname(__file__) + "/..")
-from tree import TOOLS, TOP, WRONG, files, left_out, ran, same, says, shown, text_of, verdict
+from tree import TOOLS, TOP, WRONG, files, left_out, ran, same, says, shown, table_of, text_of, verdict
 
 PROGRAM = os.path.realpath(sys.argv[1])
 VERSION = re.match(r"bactool ([\d.]+\d)", shown(PROGRAM, "--help"))[1]
 DAY = re.search(rf"(?m)^## {re.escape(VERSION)} \((.*)\)$", text_of("CHANGELOG.md"))[1]
 DOC, LIST = "share/doc/bactool", "share/bactool/installed"
-# The installed files other than documents and examples, for each tool, for each program, and once: mode, or target of
-# the link.
-PUT = """bin/TOOL bactool, share/man/man1/TOOL.1 644, share/bash-completion/completions/TOOL bactool,
-    share/fish/vendor_completions.d/TOOL.fish bactool.fish, bin/PROGRAM 755, share/man/man1/PROGRAM.1 644,
-    share/bash-completion/completions/PROGRAM 644, share/fish/vendor_completions.d/PROGRAM.fish 644,
-    share/zsh/site-functions/_PROGRAM 644, share/man/man7/bactool-numbers.7 644,
-    share/man/man7/bactool-quick.7 644, share/bactool/installed 644"""
+TABLE = dict(table_of("tests/package/installed.txt"))
 
 
 def told(*words, status=0, **settings):
@@ -67,8 +61,7 @@ class Room:
 def what_is_put(room):
     """All files are there with their modes; documents and examples are the repository's, and their links work."""
     wanted = {}
-    for row in PUT.split(","):
-        path, mode = row.split()
+    for path, mode in TABLE["files"]:
         for name in TOOLS if "TOOL" in path else ("bactool", "bacsite"):
             wanted[path.replace("TOOL", name).replace("PROGRAM", name)] = mode
     there = tree_of(room.put)
@@ -87,9 +80,8 @@ def what_is_put(room):
     for source, path in [*pairs, (room.top / "made/bacsite", "bin/bacsite")]:
         same(f"{path} is {source}", filecmp.cmp(source, room.put / path, shallow=False), True)
     shutil.rmtree(room.top / "made")
-    for path, text in [("share/man/man7/bactool-numbers.7", f"\n.Os bactool {VERSION}\n"),
-                       ("share/man/man1/bacdev.1", "/opt/tools/share/doc/bactool/examples"),
-                       (f"{DOC}/examples/bacdev.service", "\nExecStart=/opt/tools/bin/bacdev ")]:
+    for path, row in TABLE["texts"]:
+        text = row.replace("\\n", "\n").replace("VERSION", VERSION)
         same(f"{path} has {text}", text in (room.put / path).read_text(encoding="utf-8"), True)
     for document in (room.put / DOC).glob("**/*.md"):
         for link in re.findall(r"\]\(([^)#:\s]+)[)#]", document.read_text(encoding="utf-8")):
@@ -187,7 +179,10 @@ def what_a_package_says(room, package):
     libc = max(called, key=lambda it: [int(part) for part in it.split(".")])
     machine = told("dpkg", "--print-architecture").strip()
     wanted = {"Package": "bactool", "Version": VERSION, "Architecture": machine, "Depends": f"libc6 (>= {libc})",
-              "Recommends": "python3 (>= 3.8)"}
+              "Recommends": "python3 (>= 3.8)", "Section": "net", "Priority": "optional"}
+    paths = [room.top / "there/usr", *(room.top / "there/usr").rglob("*")]
+    kilobytes = [(it.stat().st_size + 1023) // 1024 if it.is_file() and not it.is_symlink() else 1 for it in paths]
+    wanted["Installed-Size"] = str(sum(kilobytes))
     same("fields of the package", {name: fields.get(name) for name in wanted}, wanted)
     readme, name = text_of("README.md"), f"bactool_{VERSION}_{machine}.deb"
     same("the C library of README.md", re.search(r"GNU C library (\d[\d.]*)", readme)[1], libc)

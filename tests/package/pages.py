@@ -13,7 +13,7 @@ import sys
 import tempfile
 
 sys.path.insert(0, os.path.dirname(__file__) + "/..")
-from tree import TOOLS, TOP, device, files, left_out, plain, put_tools, ran, same, says, sections_of, shown
+from tree import TOOLS, TOP, device, files, left_out, plain, put_tools, ran, same, says, shown, table_of
 from tree import text_of, verdict, write
 
 sys.path.append(TOP + "/man")
@@ -27,20 +27,7 @@ SETTINGS = {
     "SILENT": "--mac 127.0.0.1:9 --apdu-timeout 20 --apdu-retries 0",
 }
 SECTIONS = {title: rows[1:] for title, _, _, rows in tables.sections()}
-# The fields of Wireshark that have the numbers of a section, and the names that it spells in its own way.
-FIELDS = {"Object types": "objectType", "Properties": "property_identifier", "Error classes": "error_class"}
-FIELDS.update({"Error codes": "error_code", "Reject reasons": "reject_reason", "Abort reasons": "abort_reason"})
-SPELLED = [(r"(acked-transition|event-time-stamp)$", r"\1s"), ("datelist", "date-list"), ("daylights", "daylight")]
-SPELLED += [(r"bacnet-(ip-subnet)", r"\1"), (" - ", "-"), (" ", "-"), (r"\bsq-", "square-"), (r"\bfeed\b", "feet")]
-SPELLED += [(r"\bkgs?\b", "kilograms"), (r"\bwatt$", "watts"), (r"\blux$", "luxes"), ("^relative", "percent-relative")]
-SPELLED += [("per-min$", "per-minute"), (r"\bkilograms-dry", "kilogram-dry")]
-# What the help says of numbers, and no page or document.
-ONLY_HELP = """
-analog input (0) 5, a Real (4), to analog output (1) 1 at priority 8; the devices 1000 to 1999; a port past 65535;
-B'1010' D; {1,2} null; the request, 9 unknown service; 20000000 is octets too; relinquishes priority 8 prints;
-like 4 20.0 or; segmentation (3: neither way); as the device 1234 prints; 192.0.2.1/5 the router; only port 47808 wait;
-a window above 1 end; a window above 1, a device; is the device 1234 at UDP port 47808
-"""
+HELP = dict(table_of("tests/package/help.txt"))
 DOUBT = r"[^.]*\.[^.]*read the property back"  # after a write: two sentences
 
 
@@ -104,10 +91,11 @@ def what_is_said_twice():
 
 
 def numbers_of_help():
-    """Each number of the tools' help stands with two words beside it in a page or a document, or in ONLY_HELP."""
+    """Each number of the tools' help stands with two words beside it in a page or a document, or in help.txt."""
     words = lambda text: re.findall(r"\w+(?:[.:]\w+)*|--?\w[\w-]*", plain(text.replace("\\", "")).lower())
     threes = lambda it: set(zip(it, it[1:], it[2:]))
-    places = [ONLY_HELP, *map(text_of, files(*(f"{TOP}/{it}" for it in ("man/*.[17]", "docs/*.md", "*.md"))))]
+    only_here = " ".join(line for line, in HELP["numbers that no page or document has"])
+    places = [only_here, *map(text_of, files(*(f"{TOP}/{it}" for it in ("man/*.[17]", "docs/*.md", "*.md"))))]
     known = {it for text in places for it in threes(words(re.sub(r"\b(Li|Ar|Ns|Ql|Pq) |\|", "", text)))}
     for tool in ("", *TOOLS):
         told = words(re.sub(r"(?m)^  bactool .*|Status:? \d|; \d(?= )", "", help_of(PROGRAM, *tool.split())))
@@ -147,14 +135,14 @@ def wireshark():
     if left_out("tshark", "text2pcap"):
         return
     fields = shown("sh", "-c", "tshark -G values 2>/dev/null | grep -a bacapp")
-    theirs = {title: re.findall(rf"(?m)^V\tbacapp\.{name}\t(\d+)\t(.*)$", fields) for title, name in FIELDS.items()}
+    theirs = {title: re.findall(rf"(?m)^V\tbacapp\.{name}\t(\d+)\t(.*)$", fields) for title, name in HELP["Wireshark"]}
     octets = (f"0000 81 0a 00 14 01 00 30 01 0c 0c 00 00 00 05 19 75 3e 91 {it:02x} 3f\n" for it in range(255))
     command = "text2pcap -q -u 47808,47808 - - | tshark -r - -V"
     units = ran("sh", "-c", command, input="".join(octets), stdin=None).stdout
     theirs["Units"] = [(number, name) for name, number in re.findall(r"(?m)^    units: *(.*) \((\d+)\)$", units)]
     for title, found in theirs.items():
         spelled = {number: name.lower() for number, name in found}
-        for pattern, name in SPELLED:
+        for pattern, name in HELP["how Wireshark spells a name"]:
             spelled = {number: re.sub(pattern, name, it) for number, it in spelled.items()}
         rows = {row[0]: row[1] for row in SECTIONS[title] if row[0].isdigit()}
         alike(f"what Wireshark calls {title}", [*rows.items()], [(number, spelled.get(number)) for number in rows])
@@ -177,14 +165,14 @@ def below(document, heading):
 def known(rows):
     """The matches of a pattern in a file or in the output of a command, by name, and values that follow from them."""
     found = {}
-    for name, place, pattern in (row.split(" | ") for row in rows):
+    for name, place, pattern in rows:
         text = run(place)[1] if " " in place else text_of(place)
         same(f"how often {place} has {pattern}", bool(re.search(pattern, text, re.M)), True)
         found[name] = int((re.findall(pattern, text, re.M) or [0])[0])
     sends = [found["timeout"] // 1000 * time for time in range(found["retries"] + 2)]
     found.update({"seconds": sends[1], "early": ", ".join(map(str, sends[:-2])), "last": sends[-2], "whole": sends[-1]})
     found.update({"hours": found["turns"] // 3600, "last port": found["first port"] + found["ports"] - 1})
-    titles = [*FIELDS, "Types of a value"]
+    titles = [*dict(HELP["Wireshark"]), "Types of a value"]
     found.update((f"{title.split()[0]} {row[1]}", row[0]) for title in titles for row in SECTIONS[title])
     found["others"] = 256 - found["most"]
     found["page"] = "no one two three four five six seven eight nine ten".split()[found["page every"]]
@@ -195,7 +183,7 @@ def known(rows):
 def seen(rows):
     """The status of each case, for the tools and for bacsite."""
     found = {}
-    for what, line in (row.split(": ", 1) for row in rows):
+    for what, line in rows:
         status = run(line)[0]
         same(f"the status of {line}", status, found.setdefault(what, status))
     with device("--count", "1", program=[PROGRAM]) as (process, port):
@@ -270,8 +258,9 @@ def examples():
 def facts():
     """The measured numbers are in the documents, by the rows of facts.txt."""
     put_tools(PROGRAM, ROOM.name)
-    rows = dict(sections_of("tests/package/facts.txt"))
-    same("sections of facts.txt", len(rows), len([*sections_of("tests/package/facts.txt")]))
+    table = table_of("tests/package/facts.txt")
+    rows = dict(table)
+    same("sections of facts.txt", len(rows), len(table))
     with device(program=[PROGRAM]) as (_, port):
         SETTINGS["DEV"] = f"127.0.0.1:{port}"
         measured = {"points": points(), **known(rows.pop("Numbers"))}
@@ -281,13 +270,12 @@ def facts():
         measured.update(seen(rows.pop("Statuses")))
     for document, said in rows.items():
         for row in said:
-            heading, tilde, rest = row.partition(" ~ ")
-            pattern, _, value = rest.rpartition(" = ")
-            if tilde:
+            if len(row) == 3:
+                heading, pattern, value = row
                 found = {*re.findall(pattern, plain(below(document, heading)))} or {"nothing"}
                 same(f"{document}, {heading}: {pattern}", sorted(found), [value.format_map(measured)])
-            else:
-                says(document, row.format_map(measured))
+            else:  # a sentence, which may have the sign between cells
+                says(document, " | ".join(row).format_map(measured))
     table_of_the_guide(measured)
 
 

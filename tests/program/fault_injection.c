@@ -12,7 +12,6 @@
 #include <errno.h>
 #include <linux/filter.h>
 #include <linux/seccomp.h>
-#include <poll.h>
 #include <signal.h>
 #include <stddef.h>
 #include <stdio.h>
@@ -84,7 +83,8 @@ static int is_refused(void)
     return 1;
 }
 
-/* A call with these parameters: where it fails it answers this, and else it hands these words to the C library. */
+/* A call with these parameters: where it fails it answers this, and else it hands these words to the C library. The
+   program takes no other call of this kind from there (tests/package/imports.txt). */
 #define CALL(type, name, parameters, fails, failed, words) \
     type name parameters \
     { \
@@ -96,14 +96,8 @@ static int is_refused(void)
 
 CALL(int, socket, (int domain, int type, int protocol), (sees_clock = 1, fails("socket")), -1, (domain, type, protocol))
 CALL(int, bind, (int fd, const struct sockaddr *at, socklen_t length), fails("bind"), -1, (fd, at, length))
-CALL(int, connect, (int fd, const struct sockaddr *to, socklen_t length), fails("connect"), -1, (fd, to, length))
 CALL(int, fcntl, (int fd, int command, long with), fails("fcntl"), -1, (fd, command, with))
 CALL(int, ioctl, (int fd, unsigned long request, void *with), fails_to_switch(request, with), -1, (fd, request, with))
-CALL(int, poll, (struct pollfd *files, nfds_t count, int wait), fails("poll"), -1, (files, count, wait))
-CALL(int, getsockname, (int fd, struct sockaddr *at, socklen_t *length), fails("getsockname"), -1, (fd, at, length))
-CALL(int, getpeername, (int fd, struct sockaddr *to, socklen_t *length), fails("getpeername"), -1, (fd, to, length))
-CALL(int, getsockopt, (int fd, int level, int name, void *value, socklen_t *length), fails("getsockopt"), -1,
-     (fd, level, name, value, length))
 CALL(int, setsockopt, (int fd, int level, int name, const void *value, socklen_t length),
      fails_to_set(level, name, value), -1, (fd, level, name, value, length))
 CALL(ssize_t, sendto,
@@ -112,17 +106,12 @@ CALL(ssize_t, sendto,
      (fd, octets, count, flags, to, length))
 CALL(ssize_t, recvfrom, (int fd, void *octets, size_t count, int flags, struct sockaddr *from, socklen_t *length),
      fails("recvfrom") || (waited += at_once ? 0 : wait_set, 0), -1, (fd, octets, count, flags, from, length))
-CALL(ssize_t, send, (int fd, const void *octets, size_t count, int flags), fails("send"), -1,
-     (fd, octets, count, flags))
-CALL(ssize_t, recv, (int fd, void *octets, size_t count, int flags), fails("recv"), -1, (fd, octets, count, flags))
 CALL(ssize_t, read, (int fd, void *octets, size_t count), fails("read"), -1,
      (fd, octets, count > 1 && getenv("ONE_OCTET") ? 1 : count))
 CALL(ssize_t, write, (int fd, const void *octets, size_t count), fails(fd == 2 ? "tell" : "write"), -1,
      (fd, octets, count))
 CALL(void *, malloc, (size_t size), is_refused(), NULL, (size))
 CALL(void *, realloc, (void *old, size_t size), is_refused(), NULL, (old, size))
-CALL(int, posix_memalign, (void **place, size_t alignment, size_t size), is_refused(), ENOMEM, (place, alignment, size))
-CALL(void *, aligned_alloc, (size_t alignment, size_t size), is_refused(), NULL, (alignment, size))
 
 /* What a program may ask of the system once it has begun: the calls that are said above, to let a descriptor go,
    memory, how a signal is taken, and the end. */

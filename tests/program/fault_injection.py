@@ -1,9 +1,9 @@
 #!/usr/bin/env python3
 """Makes each allocation of the program fail, one in each run: the run must end with `out of memory` and status 4. Then
-makes each system call of the program fail, with each of the errors below: the run must end with status 3 and the line
+makes each system call of the program fail, with each of some errors: the run must end with status 3 and the line
 of its fault, after the beginning of its usual output. But if a receive fails with an error that counts as silence, the
 run goes on as if nothing had come, and if the clock fails later, as if no time had passed; a device also goes on if it
-cannot send a reply. Each run makes the expected calls (RUNS, SERVED), and no others: with fault_injection.c the kernel
+cannot send a reply. Each run makes the calls of fault_injection.txt, and no others: with fault_injection.c the kernel
 ends it at any call that is not noted, except those for memory, signals and the end.
 
 Usage: tests/program/fault_injection.py PROGRAM [tried|calls]; it needs cc. With `calls` only system calls fail, and
@@ -20,54 +20,23 @@ import tempfile
 from collections import namedtuple
 
 sys.path.insert(0, os.path.dirname(__file__) + "/..")
-from tree import TOP, failing_library, files, free_port, text_of
+from tree import SCRIPT, TOP, failing_library, files, free_port, table_of, text_of
 
-# The errors, by the meaning of a receive that fails with them: a fault; a fault for the tool that sent, since its peer
-# refuses or cannot be reached, while the peers of a device are strangers; and silence for both.
-FAULTS = ["EIO", "EPERM", "ENOBUFS"]
-REFUSALS = ["ECONNREFUSED", "ECONNRESET", "ENETUNREACH", "EHOSTUNREACH"]
-SILENCE = ["EINTR", "EAGAIN", "ETIMEDOUT"]
+TABLE = dict(table_of("tests/program/fault_injection.txt"))
+FAULTS, REFUSALS, SILENCE = (names.split() for _, names in TABLE["errors"])
 ERRORS = FAULTS + REFUSALS + SILENCE
-# The text on standard error after `bactool: `, if a call of this kind has failed.
-LINES = {it: "bind failed" for it in ("socket", "bind", "fcntl", "clock_gettime")}
-LINES.update(memory="out of memory", **{it: "receiving failed" for it in ("setsockopt", "ioctl", "recvfrom")})
-LINES.update(sendto="sending failed", read="reading failed", write="writing failed")
-SCRIPT = "read 127.0.0.1:47808 0 5 85\ntick 3000\ntick 6000\ntick 9000\ntick 12000\n"
-NO_LINE_FEED = "read 127.0.0.1:47808 0 5 85\ntick 3000"
-PORT = str(free_port())
-SILENT = ["--mac", "127.0.0.1:" + PORT, "--apdu-timeout", "7"]
-READ, WRITE = ["bacrp", "1234", "0", "5", "85"], ["bacwp", "1234", "1", "1", "85", "8", "-1", "4", "41a00000"]
-BATCH, LINE = ["bacrun", "--apdu-timeout", "7"], f"read 127.0.0.1:{PORT} 0 5 85\n"
-BOUND = "socket bind fcntl clock_gettime"
-OPENED = f"{BOUND} clock_gettime sendto setsockopt 7000 recvfrom clock_gettime"
-# After a wait the time is read anew, and a look follows, before the client gets the time.
-BATCHED = f"{BOUND} write read clock_gettime sendto write clock_gettime setsockopt 7000 recvfrom clock_gettime ioctl 1"
-BATCHED += " recvfrom"
-AGAIN = "sendto write clock_gettime ioctl 0 recvfrom clock_gettime ioctl 1 recvfrom"
-# The runs: the status if nothing fails, the calls then, the words, and the input. The output for the lines of one read
-# is written at once.
-RUNS = [
-    (0, "write", ["bacrun", "--help"], ""),
-    (0, "read", ["bactrace"], ""),
-    (0, "read write read", ["bactrace"], SCRIPT),
-    (0, "read write read write", ["bactrace"], NO_LINE_FEED),
-    (1, f"{OPENED} write", [*READ, *SILENT, "--apdu-retries", "0"], ""),
-    (1, f"{OPENED} sendto recvfrom clock_gettime write", [*READ, *SILENT, "--apdu-retries", "1"], ""),
-    (1, f"{OPENED} write", [*WRITE, *SILENT, "--apdu-retries", "0"], ""),
-    (1, f"{OPENED} sendto recvfrom clock_gettime write", [*WRITE, *SILENT, "--apdu-retries", "1"], ""),
-    (1, OPENED, ["bacwi", *SILENT], ""),
-    (0, f"{BOUND} write read", ["bacrun"], ""),
-    (0, f"{BATCHED} write read", [*BATCH, "--apdu-retries", "0"], LINE),
-    (0, f"{BATCHED} {AGAIN} write read", [*BATCH, "--apdu-retries", "1"], LINE),
-    (2, f"{BOUND} write read tell", ["bacrun"], "no line\n"),
-    (2, "tell", [*READ, "--mac", "1.2.3"], ""),
-]
-# A device that waits for a second at a time, and its calls until it receives something.
-DEVICE = ["bacdev", "1234", "--port", PORT, "--count"]
-SERVED = f"{BOUND} setsockopt 1000000 recvfrom"
-NAME = "tests/program/fault_injection.py"
+LINES = {call: line for line, calls in TABLE["lines"] for call in calls.split()}
+OF = {"PORT": str(free_port())}  # the names of the table
+for each, text in TABLE["names"]:
+    OF[each] = text.format_map(OF).replace("\\n", "\n")
+READ, SERVED = OF["READ"].split(), OF["SERVED"]
 PROGRAM, ROOM = os.path.realpath(sys.argv[1]), tempfile.TemporaryDirectory()
 Ended = namedtuple("Ended", "status output error said words")
+
+
+def filled(section):
+    """The rows of a section of the table, with the texts of its names."""
+    return [[cell.format_map(OF).replace("\\n", "\n") for cell in row] for row in TABLE[section]]
 
 
 def run(words, given="", error="EIO", **settings):
@@ -111,11 +80,8 @@ def memory_refused(status, words, given=""):
 
 def memory():
     requests = sum(memory_refused(0, ["bactrace"], text_of(script)) for script in files(f"{TOP}/examples/*.trace"))
-    bad = [[], READ[:4], [*READ, "--mac", "1.2.3"], [*WRITE[:5], "16", "-1", "4", "zz", "--mac", "127.0.0.1"]]
-    bad.append(["bacwi", "1", "2", "--mac", "1.2.3"])
-    for status, words in [(0, ["--help"]), (0, ["bacwp", "--help"]), *((2, words) for words in bad)]:
-        requests += memory_refused(status, words)
-    print(f"{NAME}: {requests} requests for memory refused, each told as it is to be", flush=True)
+    requests += sum(memory_refused(int(status), words.split()) for status, words in filled("refused memory"))
+    print(f"{SCRIPT}: {requests} requests for memory refused, each told as it is to be", flush=True)
 
 
 def errors_of(call):
@@ -125,8 +91,9 @@ def errors_of(call):
 
 def in_turn(status, calls, words, given):
     """The words make these calls and no others, with this status; then each of them fails, with each error."""
+    words = words.split()
     whole, tried = run(words, given), 0
-    expect((whole.status, " ".join(whole.said)) == (status, calls), words, whole)
+    expect((str(whole.status), " ".join(whole.said)) == (status, calls), words, whole)
     names = [it for it in calls.split() if it != "tell" and not it.isdigit()]
     for number, call in enumerate(names, 1):
         for error in errors_of(call):
@@ -142,13 +109,13 @@ def in_turn(status, calls, words, given):
 
 def devices():
     """Each call of a device fails once; if the device goes on, it answers a later request, with the right calls."""
-    client = [PROGRAM, *READ, "--mac", "127.0.0.1:" + PORT, "--apdu-timeout", "300", "--apdu-retries", "9"]
+    client = [PROGRAM, *READ, "--mac", "127.0.0.1:" + OF["PORT"], "--apdu-timeout", "300", "--apdu-retries", "9"]
     names, tried = [it for it in f"{SERVED} sendto".split() if not it.isdigit()], 0
     for number, call in enumerate(["", *names]):
         for error in errors_of(call):
             goes_on = not call or call == "sendto" or call == "recvfrom" and error not in FAULTS
             with subprocess.Popen(client, stdout=subprocess.PIPE, text=True) as asking:
-                ended = run([*DEVICE, str(2 if call == "sendto" else 1)], error=error, FAILED=number)
+                ended = run([*OF["DEVICE"].split(), str(2 if call == "sendto" else 1)], error=error, FAILED=number)
                 if not goes_on:
                     asking.kill()
                 heard = asking.stdout.read()
@@ -163,15 +130,15 @@ def devices():
 
 
 def calls_of_the_system():
-    calls = sum(in_turn(*it) for it in RUNS) + devices()
+    calls = sum(in_turn(*it) for it in filled("runs")) + devices()
     # The text after the last line feed is not a line if the read after it fails.
-    front = run(["bactrace"], NO_LINE_FEED).output.splitlines(keepends=True)[0]
-    ended = run(["bactrace"], NO_LINE_FEED, FAILED=3)
+    front = run(["bactrace"], OF["NO_LINE_FEED"]).output.splitlines(keepends=True)[0]
+    ended = run(["bactrace"], OF["NO_LINE_FEED"], FAILED=3)
     expect(is_fault(ended, "read", front) and ended.output, "a last line without its line feed", ended)
     # A send of fewer octets than given has failed. It is the sixth call.
-    ended = run([*READ, *SILENT], FAILED=6, SHORT=1)
+    ended = run([*READ, *OF["SILENT"].split()], FAILED=6, SHORT=1)
     expect(is_fault(ended, "sendto"), "a short send", ended)
-    print(f"{NAME}: {calls} calls failed in turn, each told as it is to be, or taken for silence")
+    print(f"{SCRIPT}: {calls} calls failed in turn, each told as it is to be, or taken for silence")
 
 
 def searching():

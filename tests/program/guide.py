@@ -12,6 +12,7 @@ import os
 import re
 import shlex
 import shutil
+import subprocess
 import sys
 import tempfile
 
@@ -80,7 +81,9 @@ def run(text, program, room):
     outer = {**os.environ, "LC_ALL": "C", "PATH": f"{room}/bin:{os.environ['PATH']}"}
     shell = Job(["bash", "-c", text], f"{room}/came", cwd=f"{room}/work", env=outer)
     try:
-        shell.process.wait(300)
+        shell.process.wait(900)
+    except subprocess.TimeoutExpired:
+        print("the commands do not end; this is how far they are:")
     finally:
         shell.stop()
     return shell.said()

@@ -12,7 +12,7 @@ import tempfile
 import time
 
 sys.path.insert(0, sys.path[0] + "/..")
-from tree import PROGRAM, Job, device, left_out, local_socket, ran, same, sections_of, verdict
+from tree import PROGRAM, Job, device, left_out, local_socket, ran, same, table_of, verdict
 
 IS_BAD = "_ws.malformed or _ws.expert.severity >= 0x600000 or not bacapp"
 
@@ -51,20 +51,19 @@ def read_by_tshark(file, port):
 def main():
     if left_out("nmap", "tshark"):
         return 1
-    *rows, (_, by_hand), (_, of_nmap) = sections_of("tests/program/interop.txt")
+    *rows, (_, by_hand), (_, of_nmap) = table_of("tests/program/interop.txt")
     with tempfile.TemporaryDirectory() as room, device(stderr=subprocess.DEVNULL) as (_, port):
         words = ["tshark", "-q", "-i", "lo", "-f", f"udp port {port}", "-w", f"{room}/pcap"]
         recording = Job(words, f"{room}/log")
         while "Capturing" not in recording.said() and not recording.has_ended():
             time.sleep(0.1)
         time.sleep(2)
-        wanted = [it for head, lines in rows for line in lines
-                  for it in asked(port, *head.format(*line.split(" | ")).split(" | "))]
+        wanted = [it for head, lines in rows for row in lines for it in asked(port, *head.format(*row).split(" | "))]
         ours = len(wanted)
-        wanted += [it for line in by_hand for it in sent(port, *line.split(" | "))]
+        wanted += [it for row in by_hand for it in sent(port, *row)]
         told = ran("nmap", "-sU", "-Pn", "-n", "-p", str(port), "--script", "+bacnet-info", "127.0.0.1").stdout
         found = re.findall(r"(?m)^\|[ _]+(?!bacnet-info)([^:\n]+): (.+)$", told)
-        same("nmap", found, [tuple(line.split(" | ")) for line in of_nmap])
+        same("nmap", found, [tuple(row) for row in of_nmap])
         time.sleep(2)
         recording.stop()
         texts, datagrams, bad = read_by_tshark(f"{room}/pcap", port)

@@ -21,9 +21,10 @@ from concurrent.futures import ThreadPoolExecutor
 
 sys.path[:0] = [__file__.rpartition("/")[0] + "/.."]
 from rows import blocks, braced
-from tree import TOP, local_socket, processors, same, verdict
+from tree import TOP, framed, local_socket, processors, same, verdict
 
 LINE = 4096  # the most octets of a line
+CLOSING = "# end of the run"
 # A Reject of a request that nobody made, so long that a run reads it no faster than it comes.
 STRAY = bytes.fromhex("810a03e80100606309") + bytes(991)
 WHO_IS, I_AM = b"\x10\x08", bytes.fromhex("1000c40200000722058c91032105")
@@ -36,8 +37,7 @@ def answer_to(octets, has_route):
     route = octets[6 : 9 + octets[8]] if octets[5] & 32 else b""
     apdu = octets[6 + len(route) + bool(route) :]
     if apdu.startswith(WHO_IS):
-        network = b"\x01\x08\x00\x05\x01\x07" if route and has_route else b"\x01\x00"
-        return b"\x81\x0a" + (4 + len(network + I_AM)).to_bytes(2, "big") + network + I_AM
+        return framed(I_AM, b"\x01\x08\x00\x05\x01\x07" if route and has_route else b"\x01\x00")
     kind, instance = divmod(int.from_bytes(apdu[5:9], "big"), 1 << 22)
     value = b"\x24" + instance.to_bytes(4, "big")
     if kind == 2:
@@ -47,8 +47,7 @@ def answer_to(octets, has_route):
     reply = b"\x30" + apdu[2:] + b"\x3e" + value + b"\x3f"
     if kind == 3 or apdu[3] == 15:
         reply = (b"\x50" if kind == 3 else b"\x20") + apdu[2:4] + b"\x91\x01\x91\x1f" * (kind == 3)
-    network = b"\x01\x08" + route if route and has_route else b"\x01\x00"
-    return b"\x81\x0a" + (4 + len(network + reply)).to_bytes(2, "big") + network + reply
+    return framed(reply, b"\x01\x08" + route if route and has_route else b"\x01\x00")
 
 
 def act(words, heard, peers, process):
@@ -116,8 +115,7 @@ def who_is(line):
         network = b"\x01\x20" + number.to_bytes(2, "big") + bytes([len(station)]) + station + b"\xff"
     octets = [(at, int(limit).to_bytes(4, "big").lstrip(b"\0") or b"\0") for at, limit in enumerate(limits)]
     body = b"".join(bytes([at << 4 | 8 | len(one)]) + one for at, one in octets)
-    whole = b"\x81\x0a" + (4 + len(network + WHO_IS + body)).to_bytes(2, "big") + network + WHO_IS + body
-    return f"# who {peer if route[1:] else address} {whole.hex()}"
+    return f"# who {peer if route[1:] else address} {framed(WHO_IS + body, network).hex()}"
 
 
 def in_journal(line):
@@ -126,9 +124,12 @@ def in_journal(line):
 
 
 def check(name, program, options, text, it):
-    """Checks a run. Returns its remarks, whole, without their marks."""
+    """Checks a run. Returns its remarks, whole, without their marks and the closing one."""
     lines = it.journal.split("\n")
-    remarks = [line[2:] for line in it.journal.replace("\n#+", "").split("\n") if line.startswith("# ")]
+    same(f"{name}: where the closing remark is", [at for at, line in enumerate(lines) if line == CLOSING],
+         [len(lines) - 2] if it.status == 0 else [])
+    remarks = [line[2:] for line in it.journal.replace("\n#+", "").split("\n")
+               if line.startswith("# ") and line != CLOSING]
     replay = subprocess.run([program, "bactrace"], input=it.journal.encode(), capture_output=True, check=False)
     told = [remark for remark in remarks if not re.match("who |wait ", remark)]
     printed = "".join(f"{remark}\n" for remark in told).encode()

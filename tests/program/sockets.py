@@ -11,12 +11,12 @@ import subprocess
 import sys
 
 sys.path.insert(0, os.path.dirname(__file__) + "/..")
-from tree import TOP, device, is_taken, local_socket, ran, same, verdict
+from tree import TOP, device, framed, is_taken, local_socket, ran, same, verdict
 
 PROGRAM = os.path.realpath(sys.argv[1])
 LONGEST = 2047
 POINT = bytes.fromhex("0c004000011955")  # analog-output 1, its present value
-READ = ["bacrp", "1234", "1", "1", "85", "--mac"]
+READ = "bacrp 1234 1 1 85 --mac"
 # The lengths near which a buffer of the system, or of the code, may end.
 SOME = [1000, 1023, 1024, 1025, 1472, 1473, 1476, 1477, 1496, 1497, 1498, 1500, 1501, 1535, 1536, 2046, 2047]
 
@@ -52,15 +52,14 @@ def devices():
                       "bacwp 1234 1 1 85 8 -1 0 x --mac 127.0.0.1", "bacrun"):
             same(f"{words} at a taken port", told(*words.split(), "--port", str(port)), (3, "bactool: bind failed\n"))
         is_found(port, "127.0.0.1", "127.0.0.2")
-        same("what a device has", told(*READ, f"127.0.0.1:{port}"), (0, "00000000\n"))
+        same("what a device has", told(*READ.split(), f"127.0.0.1:{port}"), (0, "00000000\n"))
         has_ended(process)
 
 
 def datagram(length, head):
     """A datagram of this length: this head of an APDU, and a string between brackets."""
     octets = bytes(place % 251 for place in range(length - 12 - len(head)))
-    body = head + b"\x3e\x65\xfe" + len(octets).to_bytes(2, "big") + octets + b"\x3f"
-    return b"\x81\x0a" + length.to_bytes(2, "big") + b"\x01\x00" + body, octets
+    return framed(head + b"\x3e\x65\xfe" + len(octets).to_bytes(2, "big") + octets + b"\x3f"), octets
 
 
 def heard_by_a_device():
@@ -75,36 +74,33 @@ def heard_by_a_device():
             same(f"an answer to {length} octets", answer, f"810a000d010050{length % 256:02x}0f91029109")
 
 
+def answered(words, replies):
+    """The address of a peer that answers the first datagram of a tool with these replies, and what the tool prints."""
+    with local_socket() as field:
+        field.settimeout(10)
+        mac = "127.0.0.1:%d" % field.getsockname()[1]
+        command = [PROGRAM, *words.format(mac).split()]
+        with subprocess.Popen(command, stdout=subprocess.PIPE, text=True) as tool:
+            with contextlib.suppress(OSError):
+                _, desk = field.recvfrom(LONGEST)
+                for it in replies:
+                    field.sendto(it, desk)
+            return mac, tool.stdout.read()
+
+
 def heard_by_tools():
-    """A tool prints the octets of a string."""
+    """A tool prints the octets of a string. A vendor is printed as the I-Am has it, even above 65,535, the last number
+    of the standard."""
     head = bytes([0x30, 1, 12]) + POINT
     for length in SOME:
-        with local_socket() as field:
-            field.settimeout(10)
-            mac = "127.0.0.1:%d" % field.getsockname()[1]
-            words = [PROGRAM, *READ, mac, "--apdu-timeout", "5000", "--apdu-retries", "0"]
-            with subprocess.Popen(words, stdout=subprocess.PIPE, text=True) as tool:
-                with contextlib.suppress(OSError):
-                    _, desk = field.recvfrom(LONGEST)
-                    for it in (LONGEST + 1, length):
-                        field.sendto(datagram(it, head)[0], desk)
-                same(f"an answer of {length} octets", tool.stdout.read(), f"X'{datagram(length, head)[1].hex()}'\n")
-
-
-def found_by_a_search():
-    """A vendor is printed as the I-Am has it, even above 65,535, the last number of the standard."""
+        (longer, _), (whole, octets) = datagram(LONGEST + 1, head), datagram(length, head)
+        _, text = answered(f"{READ} {{}} --apdu-timeout 5000 --apdu-retries 0", [longer, whole])
+        same(f"an answer of {length} octets", text, f"X'{octets.hex()}'\n")
     for vendor in (65535, 65536, 2**32 - 1):
         number = vendor.to_bytes((vendor.bit_length() + 7) // 8, "big")
-        body = bytes.fromhex("1000c4020004d22205c49103") + bytes([0x20 + len(number)]) + number
-        with local_socket() as field:
-            field.settimeout(10)
-            mac = "127.0.0.1:%d" % field.getsockname()[1]
-            words = [PROGRAM, "bacwi", "--mac", mac, "--apdu-timeout", "500"]
-            with subprocess.Popen(words, stdout=subprocess.PIPE, text=True) as tool:
-                with contextlib.suppress(OSError):
-                    _, desk = field.recvfrom(LONGEST)
-                    field.sendto(b"\x81\x0a" + (6 + len(body)).to_bytes(2, "big") + b"\x01\x00" + body, desk)
-                same(f"the vendor {vendor}", tool.stdout.read(), f"1234 {mac} 1476 3 {vendor}\n")
+        i_am = bytes.fromhex("1000c4020004d22205c49103") + bytes([0x20 + len(number)]) + number
+        mac, text = answered("bacwi --mac {} --apdu-timeout 500", [framed(i_am)])
+        same(f"the vendor {vendor}", text, f"1234 {mac} 1476 3 {vendor}\n")
 
 
 def ports():
@@ -122,7 +118,6 @@ def main():
     devices()
     heard_by_a_device()
     heard_by_tools()
-    found_by_a_search()
     return verdict("answers and ends over sockets are as they are to be")
 
 

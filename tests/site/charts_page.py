@@ -3,7 +3,7 @@
 import json
 import re
 
-from bacsite.charts import Line, Sample, page_of
+from bacsite.page import Line, Sample, charts_page_of
 from bacsite.points import Point
 from bacsite.standard import PropertyRef
 
@@ -41,6 +41,12 @@ def lines():
         line_of("none", (0, 3), ()),
     ]
     return {it.name: it for it in made}
+
+
+def charts():
+    """The lines of each chart."""
+    found = lines()
+    return [[found[name] for name in chart] for chart in CHARTS]
 
 
 CHARTS = [["room", "valve", "supply"], ["pump"], ["text"], ["big"], ["none"]]
@@ -184,7 +190,7 @@ def quiet(browser, url):
 def old(browser, room_of):
     """Tests of a page that is no longer updated, and of one that was ended."""
     for is_over, wanted in (True, "Ended at "), (False, "As of "):
-        text = "".join(page_of(lines(), CHARTS, 1.0, is_over))
+        text = "".join(charts_page_of(charts(), 1.0, is_over))
         made = json.dumps({"made": FIRST})[1:-1].replace(" ", "")
         path = "%s/old-%d.html" % (room_of, is_over)
         with open(path, "w", encoding="utf-8") as file:
@@ -198,7 +204,7 @@ def tried(browser, room_of, folder):
     """All tests: what must be true, and whether it is."""
     path = room_of + "/charts.html"
     with open(path, "w", encoding="utf-8") as file:
-        file.writelines(page_of(lines(), CHARTS, 1.0, True))
+        file.writelines(charts_page_of(charts(), 1.0, True))
     browser.size(1100, 1500)
     browser.call("Emulation.setTimezoneOverride", timezoneId="UTC")
     browser.open("file://" + path)

@@ -57,10 +57,10 @@ def running_by(clock, *modules):
 def main(path, bacsite, *words):
     sys.path.insert(0, bacsite)
     sys.argv = ["bacsite", *words]
-    from bacsite import charts, main as program, watch
+    from bacsite import main as program, page, watch
 
     watch.PAGE_EVERY = 60.0
-    with running_by(Clock(path), watch, charts):
+    with running_by(Clock(path), watch, page):
         program.main()
 
 

@@ -1,9 +1,9 @@
 """Shared parts of the tests of bacsite: the program as it is installed, devices, and rows.
 
 BACTOOL names the program that bacsite runs, and PYTHON another Python to run bacsite. A row has words, `=>`, the status
-and standard output; `;` ends a line. If there is a `!`, standard output is empty and standard error begins with the
-text after it. In a row DEV is the address of a bacdev (1000), `ODD` that of a stand-in (77), HERE that of the latest
-stand-in, DEAD one where nobody is; IN is a folder, and '' is an empty word.
+and standard output; `;` ends a line. If there is a `!`, standard output is empty and standard error is the text after
+it; `..` at its end stands for more text. In a row DEV is the address of a bacdev (1000), `ODD` that of a stand-in (77),
+HERE that of the latest stand-in, DEAD one where nobody is; IN is a folder, and '' is an empty word.
 """
 
 import atexit
@@ -165,5 +165,8 @@ class SiteTest(unittest.TestCase):
         given = ["" if word == "''" else word for word in words.strip().split(" ")]
         status, out, err = self.world.run(*given, **more)
         if wanted[2:3] == "!" and err[:9] + err[-1:] == "bacsite: \n":
-            return row, wanted, "%d !%s" % (status, err[9 : 6 + len(wanted)]) + out
+            told = err[9:-1]
+            if wanted.endswith(".."):
+                told = err[9 : 4 + len(wanted)] + ".." * (len(told) > len(wanted) - 5)
+            return row, wanted, "%d !%s" % (status, told) + out
         return row, wanted, "%d %s" % (status, out.rstrip("\n").replace("\n", ";")) + err

@@ -8,6 +8,7 @@ file must be made by one of its tests.
 """
 
 import ast
+import collections
 import glob
 import os
 import re
@@ -35,13 +36,15 @@ def ran(name):
 
 def run_here(words):
     """Runs the tests of a file, or some of them. Returns whether one failed, or an assertion of a whole file was not
-    made: it stands in a loop over nothing, or behind a return."""
-    made, path = set(), "%s/%s.py" % (HERE, words[-1])
+    made: it is in a loop over nothing, or after a return."""
+    made, path = collections.Counter(), "%s/%s.py" % (HERE, words[-1])
 
     def noted(method):
         def call(*given, **more):
             frame = sys._getframe(1)
             made.update([frame.f_lineno] if frame.f_code.co_filename == path else [])
+            if method.__name__ == "assertRegex":
+                given[0].assertNotRegex(without_words(given[1]), given[2], "almost any text has this")
             return method(*given, **more)
 
         return call
@@ -52,18 +55,33 @@ def run_here(words):
     if not result.wasSuccessful() or result.skipped or not os.path.isfile(path):
         return not result.wasSuccessful()
     with open(path, encoding="utf-8") as file:
-        calls = (it for it in ast.walk(ast.parse(file.read())) if isinstance(it, ast.Call))
-    found = [(it.func.attr, it.lineno) for it in calls if getattr(it.func, "attr", "").startswith("assert")]
-    left = sorted({line for _, line in found} - made)
+        tree = ast.parse(file.read())
+    found = list(assertions(tree))
+    left = sorted({line for _, line in found} - set(made))
+    waits = {line for it in ast.walk(tree) if isinstance(it, ast.While) for _, line in assertions(it)}
     print(len(found), "assertions, of equality", sum(name == "assertEqual" for name, _ in found))
+    print("made", sum(made[line] for line in made if line not in waits), "times")
     print("".join("FAIL: %s, line %d: nobody made this assertion\n" % (words[-1], it) for it in left), end="")
     return bool(left)
 
 
+def without_words(text):
+    """Returns the text with another sign in place of each letter and digit."""
+    return re.sub(rb"\w", b"~", text) if isinstance(text, bytes) else re.sub(r"\w", "~", text)
+
+
+def assertions(tree):
+    """Yields the name and the line of each assertion."""
+    for it in ast.walk(tree):
+        if isinstance(it, ast.Call) and getattr(it.func, "attr", "").startswith("assert"):
+            yield it.func.attr, it.lineno
+
+
 def counts(status, said):
-    """Returns how many tests, rows and assertions a file has, how many of these are of equality, and how many tests
-    failed: 1 if it ran none."""
-    patterns = r"^Ran (\d+) test", r"^(\d+) rows$", r"^(\d+) assertions", r"^\d+ assertions, of equality (\d+)$"
+    """Returns how many tests, rows and assertions a file has, how many of these are of equality, how often they were
+    made (apart from those that wait for something), and how many tests failed: 1 if it ran none."""
+    patterns = [r"^Ran (\d+) test", r"^(\d+) rows$", r"^(\d+) assertions", r"^\d+ assertions, of equality (\d+)$"]
+    patterns.append(r"^made (\d+) times$")
     found = [re.search(it, said, re.M) for it in patterns]
     failed = set(re.findall(r"(?m)^(?:FAIL|ERROR): (\w+)", said))
     return *(int(it[1]) if it else 0 for it in found), len(failed) or int(status != 0 or not found[0])
@@ -73,7 +91,7 @@ def main(names):
     files = sorted(os.path.basename(it)[:-3] for it in glob.glob(HERE + "/test_*.py"))
     first = ["test_" + it for it in LONGEST.split()]
     names = names or [*first, *(it for it in files if it not in first)]
-    counted = (0, 0, 0, 0, 0)
+    counted = (0, 0, 0, 0, 0, 0)
     with ThreadPoolExecutor(2 * (os.cpu_count() or 1)) as pool:  # tests wait more than they work
         for name, status, said, seconds in pool.map(ran, names):
             print("%-16s %5.1f s" % (name, seconds), flush=True)
@@ -82,7 +100,7 @@ def main(names):
             if status:
                 print(said)
             counted = tuple(map(sum, zip(counted, counts(status, said))))
-    told = "%d tests with %d rows and %d assertions, %d of them of equality, %d not as they are to be"
+    told = "%d tests with %d rows and %d assertions, %d of them of equality, made %d times, %d not as they are to be"
     print("tests/site/run.py:", told % counted)
     return bool(counted[-1] or not counted[0])
 

@@ -6,15 +6,13 @@ import unittest
 import unittest.mock
 
 import harness
-from bacsite import addresses, reasons, survey, tools
+from bacsite import points, survey, tools
 from bacsite.controller import Controller
 from bacsite.device import Bounds, Device, SiteObject, shortened
-from bacsite.earlier import Earlier, Known
-from bacsite.reasons import Why
 from bacsite.report import Columns, Counts, PollList
-from bacsite.search import Search
 from bacsite.standard import PropertyRef, ObjectId
-from bacsite.values import Kind, Value
+from bacsite.survey import Earlier, Known
+from bacsite.values import Kind, Value, Why, why_of
 from instant_devices import QuickCalls
 from stand_ins import LateStandIn, StandIn, an_object, bits, enumerated, real, string, unsigned
 from test_survey import sensors
@@ -51,7 +49,7 @@ class Reasons(unittest.TestCase):
             ("bactool: sending failed", Why.UNREACHABLE),
             ("reject 9", Why.OTHER),
         ):
-            self.assertIs(reasons.why_of(reason), why, reason)
+            self.assertIs(why_of(reason), why, reason)
         gone = {Why.SILENT, Why.NOT_ASKED, Why.TOO_LATE, Why.UNREACHABLE}
         self.assertEqual({it for it in Why if it.is_gone}, gone)
         self.assertEqual({it for it in Why if it.is_for_now}, {Why.BUSY, Why.STRANGE})
@@ -61,12 +59,12 @@ class Order(unittest.TestCase):
     """Tests with controllers that answer at once."""
 
     def surveyed(self, many, words=(A, B), in_order=False, bounds=Bounds()):
-        targets = addresses.targets(words)
-        found = list(survey.surveyed(many, targets, bounds, Earlier(), in_order))
+        targets = points.targets(words)
+        found = list(survey.Survey(many, bounds, Earlier()).devices(targets, in_order))
         return [(it.address, it.instance, len(it.objects), it.reasons) for it in found]
 
     def test_as_they_are_ready_or_as_the_words_say(self):
-        targets = addresses.targets([A, B])
+        targets = points.targets([A, B])
         for in_order, wanted in ((False, [B, A]), (True, [A, B])):
             gate = threading.Event()
             many = QuickCalls({A: device(11), B: device(12)}, gates={A: gate})
@@ -75,7 +73,7 @@ class Order(unittest.TestCase):
                 many.over[B].wait(60)
                 gate.set()
 
-            found = survey.surveyed(many, targets, Bounds(), Earlier(), in_order)
+            found = survey.Survey(many, Bounds(), Earlier()).devices(targets, in_order)
             if in_order:
                 threading.Thread(target=opened, daemon=True).start()
             first = next(found)  # it is there before the other one may answer, if the order is not kept
@@ -89,7 +87,7 @@ class Order(unittest.TestCase):
             found = self.surveyed(many, in_order=in_order)
             self.assertEqual(found, [(A, None, 0, ["timeout"]), (B, 12, 3, [])])
             counts = Counts(2)
-            for it in survey.surveyed(many, addresses.targets([A, B]), Bounds(), Earlier()):
+            for it in survey.Survey(many, Bounds(), Earlier()).devices(points.targets([A, B])):
                 counts.add(it)
             self.assertTrue(counts.missing)
 
@@ -100,8 +98,8 @@ class Order(unittest.TestCase):
         found, asked = {}, {}
         for window in 1, 2, 4, 64:
             many = QuickCalls({A: {key: it[:] for key, it in values.items()}}, window, timeout=50, retries=1)
-            targets = addresses.targets([A])
-            (found[window],) = survey.surveyed(many, targets, Bounds(), Earlier())
+            targets = points.targets([A])
+            (found[window],) = survey.Survey(many, Bounds(), Earlier()).devices(targets)
             found[window].asked, asked[window] = "", sorted(many.asked)
             self.assertLessEqual(many.most, window)
             self.assertTrue(many.most == window or window == 64, many.most)
@@ -130,7 +128,7 @@ class Order(unittest.TestCase):
         self.assertEqual((len(many.asked), many.count), (6 + 4 * 60 + 2, 6 + 4 * 60 + 2 + 1))
         begun = [words[:1] + words[3:] for words in many.begun]
         self.assertEqual([words[0] for words in many.begun], ["bacrun", "bacwi"])
-        self.assertIn("1", begun[0])
+        self.assertEqual(begun[0][-2:], ["--window", "1"])
 
     def test_who_else_is_there_is_asked_beside_the_rest(self):
         many = QuickCalls({A: device(11)})
@@ -147,7 +145,7 @@ class Order(unittest.TestCase):
     def test_a_search_waits_for_whom_it_was_sent_to(self):
         lines = ["12 %s/5/01 480 3 9" % A, "11 %s 1476 3 9" % A, "", "12 %s/5/01 480 3 9" % A]
         many = QuickCalls({A: device(11)}, heard=lines)
-        search = Search(many, A + "/5/02", 1000, time.monotonic() + 9)
+        search = tools.Search(many, A + "/5/02", 1000, time.monotonic() + 9)
         search.wait_for(A, 5)
         self.assertEqual(many.search.lines, lines[2:], "what is behind its answer is not waited for")
         self.assertEqual(search.heard(), [(12, A + "/5/01"), (11, A)])
@@ -212,7 +210,7 @@ class Order(unittest.TestCase):
             values = device(11, 80)
             gone = {(0, at, number): "silent" for at in range(33, 81) for number in (77, 85, 111, 117)}
             many = QuickCalls({A: {**values, **gone}}, window, timeout=50)
-            (found,) = survey.surveyed(many, addresses.targets([A]), Bounds(), Earlier())
+            (found,) = survey.Survey(many, Bounds(), Earlier()).devices(points.targets([A]))
             told = " of 80 objects not asked"
             self.assertEqual([it.split(" ", 1)[-1] for it in found.reasons], [told[1:], "timeout"])
             self.assertEqual(int(found.reasons[0].split()[0]), 80 - len(found.objects))

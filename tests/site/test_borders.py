@@ -8,30 +8,27 @@ from unittest import mock
 
 from datagram_builders import CLIENT, DEVICE, ack, block, datagrams, enhanced, exchange, interface, pcap, section, udp
 from datagram_builders import wrapped
-from bacsite import addresses, read, standard
+from bacsite import points, poll, standard
 from bacsite.bodies import elements_of, region_text, write_body
 from bacsite.capture.command import is_slow, marks_of
 from bacsite.capture.lines import _who_is, line_of, millis
 from bacsite.capture.pcap import Damage, Packet, Passed, Passing, datagram_of, packets_of
 from bacsite.capture.talks import MILLI, Pairing, Talk
 from bacsite.capture.trace import Choice, clients_of, traced
-from bacsite.charts import _cut
-from bacsite.controller import Controller
+from bacsite.controller import Controller, Pace
 from bacsite.device import Bounds, Device, SiteObject, _Reader
-from bacsite.earlier import Earlier, Known
-from bacsite.messages import Datagram, message_of
-from bacsite.output import Failure
+from bacsite.messages import Datagram, Ended, message_of
 from bacsite.page import _reasons
 from bacsite.place import Place, _number, encode
 from bacsite.points import Point
-from bacsite.reasons import Why
-from bacsite.requester import Pace
-from bacsite.session import Ended, Session, _Open
+from bacsite.session import Session, _Open
 from bacsite.standard import Form, ObjectId, PropertyRef, form_of
+from bacsite.streams import Failure
+from bacsite.survey import Earlier, Known
 from bacsite.sweep import Reach, Station, Sweep, _within, parts_of
 from bacsite.tools import BIND_FAILED
-from bacsite.values import shown, value_of
-from bacsite.watch import Row, Watch, watch, with_gaps
+from bacsite.values import Why, shown, value_of
+from bacsite.watch import Row, Watch, _cut, watch, with_gaps
 from instant_devices import QuickCalls, QuickWhoIs
 from stand_ins import an_object, real, string, unsigned
 
@@ -60,9 +57,9 @@ def damage_of(octets):
 class Words(unittest.TestCase):
     def test_addresses(self):
         for reader, taken, refused in (
-            (addresses.one, "4194302@10.0.0.1 10.0.0.1:65535 10.0.0.1:0 0.0.0.1 255.255.255.255 10.0.0.1/1/07",
+            (points.address_of, "4194302@10.0.0.1 10.0.0.1:65535 10.0.0.1:0 0.0.0.1 255.255.255.255 10.0.0.1/1/07",
              "4194303@10.0.0.1 10.0.0.1:65536 0.0.0.0 10.0.0.256 10.0.0.1/0/07 10.0.0.1/65535/07"),
-            (addresses.network_at, "10.0.0.1/1/* 10.0.0.1/65534/*", "10.0.0.1/0/* 10.0.0.1/65535/*"),
+            (points.network_at, "10.0.0.1/1/* 10.0.0.1/65534/*", "10.0.0.1/0/* 10.0.0.1/65535/*"),
         ):
             for word in taken.split():
                 self.assertTrue(reader(word), word)
@@ -211,9 +208,9 @@ class Requests(unittest.TestCase):
         self.assertEqual(sorted(it.instance for it in sweep.reaches[0].elsewhere), [1, 2])
 
     def test_a_port_that_is_taken(self):
-        taken = f"port {addresses.PORT} is taken: answers by broadcast are not heard"
-        for told, port, ports, faults in (("", addresses.PORT, [addresses.PORT], []),
-                                          (BIND_FAILED, addresses.PORT, [addresses.PORT, 0], [taken]),
+        taken = f"port {points.PORT} is taken: answers by broadcast are not heard"
+        for told, port, ports, faults in (("", points.PORT, [points.PORT], []),
+                                          (BIND_FAILED, points.PORT, [points.PORT, 0], [taken]),
                                           (BIND_FAILED, 0, [0], [BIND_FAILED]), ("", 0, [0], [])):
             many, asked = QuickCalls({}), []
             ends = [QuickWhoIs(told), QuickWhoIs()]
@@ -263,13 +260,13 @@ class Requests(unittest.TestCase):
     def test_numbers_of_a_property_list(self):
         listed = b"".join(map(unsigned, (0, 4194303, 4194304)))
         with Controller(QuickCalls({A: {(0, 1, 371): listed}}), A) as controller:
-            self.assertEqual(read._numbers(controller, ObjectId(0, 1)), [0, 75, 77, 79, 4194303])
+            self.assertEqual(poll._numbers(controller, ObjectId(0, 1)), [0, 75, 77, 79, 4194303])
 
     def test_the_last_property_that_is_tried(self):
         many = QuickCalls({A: {(0, 1, 77): string("T"), (0, 1, 85): real("42290000")}})
         with Controller(many, A) as controller:
-            self.assertEqual([*read._values(controller, Point("", A, None, PropertyRef(0, 1, 85)), 84)], [77])
-            self.assertEqual([*read._values(controller, Point("", A, None, PropertyRef(0, 1, 85)), 85)], [77, 85])
+            self.assertEqual([*poll._values(controller, Point("", A, None, PropertyRef(0, 1, 85)), 84)], [77])
+            self.assertEqual([*poll._values(controller, Point("", A, None, PropertyRef(0, 1, 85)), 85)], [77, 85])
 
     def test_an_object_list_that_was_empty(self):
         now = SimpleNamespace(own=ObjectId(8, 77), controller=SimpleNamespace(count=lambda ref: (2, "")))

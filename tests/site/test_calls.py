@@ -11,7 +11,7 @@ import unittest
 
 import network_namespace
 import harness
-from bacsite import files, session, tools
+from bacsite import messages, streams, tools
 from bacsite.standard import PropertyRef
 from datagram_builders import wrapped
 from stand_ins import LateStandIn, StandIn, real, string, unsigned
@@ -43,7 +43,7 @@ def ack(what, value=FORTY, head="0100"):
 
 class WhoseAnswer(harness.SiteTest):
     def test_a_value_is_taken_only_for_what_the_answer_is_about(self):
-        good, strange = (FORTY, ""), (b"", session.STRANGE)
+        good, strange = (FORTY, ""), (b"", messages.STRANGE)
         for asked, told, wanted in (
             ((0, 1, 85), (0, 1, 85), good),
             ((0, 1, 85), (0, 2, 85), strange),
@@ -62,8 +62,8 @@ class WhoseAnswer(harness.SiteTest):
         ):
             for head in "0100", "01080005010a", "0120ffff00ff":
                 with self.subTest(asked=asked, told=told, head=head):
-                    ended = session.Ended("value 42290000", ack(told, head=head))
-                    self.assertEqual(session.answer_of(ended, PropertyRef(*asked)), wanted)
+                    ended = messages.Ended("value 42290000", ack(told, head=head))
+                    self.assertEqual(messages.answer_of(ended, PropertyRef(*asked)), wanted)
         for outcome, apdu, wanted in (
             ("ok", "20010c", "bad-ack"),
             ("bad-ack", "30010c0c", "bad-ack"),
@@ -73,9 +73,9 @@ class WhoseAnswer(harness.SiteTest):
             ("reject 9", "600109", "reject 9"),
             ("abort 4", "710104", "abort 4"),
         ):
-            ended = session.Ended(outcome, bytes.fromhex(wrapped(apdu)))
-            self.assertEqual(session.answer_of(ended, PropertyRef(0, 1, 85)), (b"", wanted))
-        self.assertEqual(session.answer_of(session.Ended("timeout"), PropertyRef(0, 1, 85)), (b"", "timeout"))
+            ended = messages.Ended(outcome, bytes.fromhex(wrapped(apdu)))
+            self.assertEqual(messages.answer_of(ended, PropertyRef(0, 1, 85)), (b"", wanted))
+        self.assertEqual(messages.answer_of(messages.Ended("timeout"), PropertyRef(0, 1, 85)), (b"", "timeout"))
 
     def test_the_reader_is_compared_with_the_proved_printer(self):
         octets = ack((0, 1, 85))
@@ -87,7 +87,7 @@ class WhoseAnswer(harness.SiteTest):
             ("value 3", b"", "it reads no answer and bactool value 3 in nothing"),
             ("value 3", b"\x81\x0a\0\4", "it reads no answer and bactool value 3 in 810a0004"),
         ):
-            found = session.answer_of(session.Ended(outcome, datagram), PropertyRef(0, 1, 85))
+            found = messages.answer_of(messages.Ended(outcome, datagram), PropertyRef(0, 1, 85))
             self.assertEqual((found.region, found.reason[:20]), (b"", "a fault of bacsite: "))
             end = datagram.hex() if told.endswith("in ") else ""
             self.assertEqual(found.reason[20:], told + end)
@@ -144,7 +144,8 @@ class Calls(harness.SiteTest):
     def test_a_write_that_is_ended_is_told(self):
         ended = tools.Tools("bactool", 1000, 0, 1)
         ended.processes.end()
-        ended.write([])
+        with ended.writing():
+            ended.run(["bacwp"])
         self.assertEqual(ended.writes, 1)
 
     def test_busy_controllers_are_asked_again(self):
@@ -210,7 +211,9 @@ class Calls(harness.SiteTest):
             replayed = subprocess.run(
                 [harness.TOOL, "bactrace"], input=told, stdout=subprocess.PIPE, encoding="ascii"
             )
-            said = [line[2:] for line in told.splitlines() if line.startswith("# ")]
+            *lines, closing = told.splitlines()
+            self.assertEqual(closing, "# end of the run")
+            said = [line[2:] for line in lines if line.startswith("# ")]
             self.assertEqual((replayed.returncode, replayed.stdout.splitlines()), (0, said))
             sends += told.count("# send")
         self.assertEqual(sends, device.heard)
@@ -244,13 +247,13 @@ class Calls(harness.SiteTest):
                 return super().write(octets[:5])
 
         file = Slow()
-        files.Journal(files.Journals(), file).add("# done 0 ok")
+        streams.Journal(streams.Journals(), file).add("# done 0 ok")
         self.assertEqual(file.getvalue(), b"# done 0 ok\n")
 
     def test_a_journal_that_can_not_be_begun(self):
         folder = self.world.folder + "/gone"
         os.mkdir(folder)
-        kept = files.Journals(folder)
+        kept = streams.Journals(folder)
         os.rmdir(folder)
         self.assertIsNone(kept.begun("192.0.2.7:47808/5/01"))
         told = "cannot write %s/192.0.2.7_47808_5_01: No such file or directory" % folder

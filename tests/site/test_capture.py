@@ -110,7 +110,7 @@ class Command(SiteTest):
             capture IN/one.pcap --trace --only slow => 2 !a script has no --json and no --only
             capture IN/one.pcap --timeout 5 => 2 !--timeout and --retries are for --trace
             capture IN/one.pcap --retries 0 => 2 !--timeout and --retries are for --trace
-            capture IN/one.pcap --summary --trace => 2 !argument --trace: not allowed with
+            capture IN/one.pcap --summary --trace => 2 !argument --trace: not allowed with argument --summary; see..
             """
         )
         found = self.run_site("capture", "-", before=lambda: os.close(0))

@@ -8,7 +8,7 @@ import unittest
 
 import harness
 from bacsite.decimals import encoded, octets_of, shortest
-from bacsite.output import Failure
+from bacsite.streams import Failure
 
 CHANCE = random.Random(1)
 EDGES = [
@@ -140,7 +140,7 @@ class Conversions(harness.SiteTest):
             real {41a00000,7f800000} => 1 {20, Inf}
             real 7fc00000 => 1 NaN
             real timeout => 2 !no Real: timeout
-            real '' => 2 !no Real:
+            real '' => 2 !no Real:..
             real 4290999 => 2 !no Real: 4290999
             real null,null => 2 !no Real: null,null
             real {41a00000 => 2 !no Real: {41a00000
@@ -153,13 +153,13 @@ class Conversions(harness.SiteTest):
             octets -0 => 0 80000000
             octets 20 --double => 0 4034000000000000
             octets 1e39 => 2 !past the range: 1e39
-            octets 1e-60 => 2 !past
-            octets -3.4028236e38 => 2 !past
-            octets 1e9999 --double => 2 !past the range: 1e9
+            octets 1e-60 => 2 !past the range: 1e-60
+            octets -3.4028236e38 => 2 !past the range: -3.4028236e38
+            octets 1e9999 --double => 2 !past the range: 1e9999
             octets nan => 2 !no number: 'nan'
-            octets '' => 2 !no number
-            octets 0x10 => 2 !no
-            octets ٣ => 2 !no
+            octets '' => 2 !no number: ''
+            octets 0x10 => 2 !no number: '0x10'
+            octets ٣ => 2 !no number: '٣'
             """
         )
 

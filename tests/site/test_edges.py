@@ -8,15 +8,14 @@ from types import SimpleNamespace
 from unittest import mock
 
 import harness  # noqa: F401  this sets the path to bacsite
-from bacsite import addresses, survey
-from bacsite.charts import Line, Sample
+from bacsite import points, survey
 from bacsite.device import Bounds, Device, SiteObject, _Reader
-from bacsite.earlier import Earlier, Known
-from bacsite.files import MOST_KEPT, Rows
-from bacsite.output import Failure, harmless
+from bacsite.page import Line, Sample
 from bacsite.points import Point
-from bacsite.search import Scan
+from bacsite.session import Scan
 from bacsite.standard import ObjectId, PropertyRef
+from bacsite.streams import MOST_KEPT, Rows, Failure, harmless
+from bacsite.survey import Earlier, Known
 from bacsite.sweep import Station, Sweep
 from bacsite.tools import Tools
 from bacsite.values import shown
@@ -29,14 +28,14 @@ class Edges(unittest.TestCase):
     @contextlib.contextmanager
     def surveys(self, devices):
         """Lets a survey find these devices."""
-        with mock.patch.object(survey, "_Survey"), mock.patch.object(survey, "side_by_side", lambda *_: [devices]):
+        with mock.patch.object(survey, "side_by_side", lambda *_: [devices]):
             yield
 
     def test_the_largest_range(self):
-        found = addresses.targets(["10.0.0.0-10.0.255.255"])
+        found = points.targets(["10.0.0.0-10.0.255.255"])
         self.assertEqual((len(found), found[-1].address), (65536, "10.0.255.255:47808"))
         with self.assertRaises(Failure):
-            addresses.targets(["10.0.0.0-10.1.0.0"])
+            points.targets(["10.0.0.0-10.1.0.0"])
 
     def test_a_question_ends_once_both_routers_are_complete(self):
         sweep = Sweep(None, [OLD + "/*", NEW + "/*"], Bounds(), [])
@@ -53,7 +52,7 @@ class Edges(unittest.TestCase):
         for instance, changes in ((78, ["new"]), (None, [])):
             successor = Device(OLD, instance, changes=["was device 77"], gone=77)
             with self.surveys([successor, Device(NEW, 77)]):
-                found = list(survey.surveyed(None, [], Bounds(), Earlier({})))
+                found = list(survey.Survey(None, Bounds(), Earlier({})).devices([]))
             self.assertEqual([(it.address, it.changes) for it in found], [(NEW, []), (OLD, changes)])
 
     def test_what_was_not_read_has_not_changed(self):

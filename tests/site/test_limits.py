@@ -10,26 +10,24 @@ from contextlib import nullcontext
 from types import SimpleNamespace
 
 import harness  # noqa: F401  this sets the path to bacsite
-from bacsite import addresses, files, search, standard, survey
+from bacsite import points, session, standard, streams, survey
 from bacsite.bodies import items_of
-from bacsite.capture import services
+from bacsite.capture import lines
 from bacsite.capture.lines import MOST_LISTED, _listed
 from bacsite.capture.pcap import FUNCTIONS, Packet, Passed, datagram_of
 from bacsite.capture.talks import Answer
 from bacsite.capture.trace import MOST_BODY, MOST_PROPERTY, ROUTE
-from bacsite.charts import Line, Sample
 from bacsite.controller import Controller
 from bacsite.device import Bounds
-from bacsite.output import moment, width
-from bacsite.earlier import Earlier
 from bacsite.messages import COMPLEX, Apdu, apdu_of
-from bacsite.output import Failure
-from bacsite.page import _address_number
+from bacsite.page import Line, Sample, _address_number
 from bacsite.parsing import duration_of, within
-from bacsite.points import Point
-from bacsite.tools import Outcome, Processes, Tools
-from bacsite.standard import PropertyRef
 from bacsite.place import Place, encoded_for
+from bacsite.points import Point
+from bacsite.standard import PropertyRef
+from bacsite.streams import moment, width, Failure
+from bacsite.survey import Earlier
+from bacsite.tools import Outcome, Processes, Tools
 from bacsite.watch import Watch
 from datagram_builders import CLIENT, DEVICE, udp
 from instant_devices import QuickCalls, QuickWhoIs
@@ -79,7 +77,7 @@ class Asked(unittest.TestCase):
         rows = (0, 9, []), (64, 9, [64]), (65, 9, [64, 1]), (129, 1, [64, 64, 1]), (9, 0, []), (9, -1, [])
         for count, patience, parts in rows:
             many, asked = Lost(), [f"192.0.2.1:{at}" for at in range(count)]
-            self.assertEqual(search.late_answers(many, asked, patience), {})
+            self.assertEqual(session.late_answers(many, asked, patience), {})
             lines = [text.split("\n") for text in many.put]
             lines = [[line for line in part if line] for part in lines]
             self.assertEqual(sorted(map(len, lines), reverse=True), parts)
@@ -97,10 +95,10 @@ class Asked(unittest.TestCase):
             (1000, 2, 0),
         ):
             many = QuickCalls({A: {(8, 4194303, 75): "silent"}}, timeout=timeout)
-            (target,) = addresses.targets(["192.0.2.1-1"])
+            (target,) = points.targets(["192.0.2.1-1"])
             with unittest.mock.patch("bacsite.survey.late_answers", return_value={}) as late:
                 bounds = Bounds(deadline=seconds)
-                found = list(survey.surveyed(many, [target], bounds, Earlier()))
+                found = list(survey.Survey(many, bounds, Earlier()).devices([target]))
             self.assertEqual((late.call_args[0][2], [it.hidden for it in found]), (patience, [True]))
 
     def test_so_many_are_asked_for_together(self):
@@ -181,9 +179,9 @@ class Octets(unittest.TestCase):
 
     def test_what_one_object_lacks_all_lack(self):
         one, odd = "0c000000011e29554e21054f1f", "0c000000021e29551f"
-        self.assertEqual(len(services.told_by(bytes.fromhex(one * 2))), 2)
+        self.assertEqual(len(lines.told_by(bytes.fromhex(one * 2))), 2)
         for octets in one + odd, odd + one, odd:
-            self.assertIsNone(services.told_by(bytes.fromhex(octets)), octets)
+            self.assertIsNone(lines.told_by(bytes.fromhex(octets)), octets)
 
     def test_32_tags_may_be_open(self):
         for count, is_read in ((0, True), (32, True), (33, False)):
@@ -242,10 +240,10 @@ class Texts(unittest.TestCase):
     def test_a_range_of_addresses(self):
         for word, count in (("192.0.2.5-5", 1), ("192.0.2.0/32", 1), ("192.0.2.0/31", 2), ("192.0.2.0/30", 2),
                             ("10.0.0.0/16", 65534)):
-            self.assertEqual(len(addresses.targets([word])), count, word)
+            self.assertEqual(len(points.targets([word])), count, word)
         for word in "10.0.0.0/15", "192.0.2.5-4", "192.0.2.0/33", "192.0.2.5:65536":
             with self.assertRaises(Failure):
-                addresses.targets([word])
+                points.targets([word])
 
     def test_no_number_stands_twice(self):
         titles = [it.split(" | ")[0] for it in standard.TEXT.split("\n= ")[1:]]
@@ -299,15 +297,15 @@ class Kept(unittest.TestCase):
         sizes = []
         with tempfile.TemporaryDirectory() as folder:
             with unittest.mock.patch("os.fsync", side_effect=lambda it: sizes.append(os.fstat(it).st_size)):
-                files.replace_file(folder + "/x", ["one", "two"])
-                files.replace_file(folder + "/x", [])
+                streams.replace_file(folder + "/x", ["one", "two"])
+                streams.replace_file(folder + "/x", [])
         self.assertEqual(sizes, [6, 0])
 
     def test_100000_lines_wait_for_the_disk(self):
         full = OSError(errno.ENOSPC, "No space left on device")
         for count, lost in ((0, 0), (99999, 0), (100000, 0), (100001, 1), (100005, 5)):
             with tempfile.TemporaryDirectory() as folder:
-                rows = files.Rows(folder + "/rows.csv", "head\n")
+                rows = streams.Rows(folder + "/rows.csv", "head\n")
                 with unittest.mock.patch("os.write", side_effect=full):
                     rows.add(["first\n"] * (count > 0) + ["%d\n" % at for at in range(1, count)])
                 self.assertEqual((bool(rows.fault), rows.lost), (count > 0, lost), count)
@@ -321,13 +319,13 @@ class Kept(unittest.TestCase):
 
     def test_a_journal_has_4_mib(self):
         for size, is_full in ((0, False), ((4 << 20) - 1, False), (4 << 20, True), ((4 << 20) + 1, True)):
-            journal = files.Journal(files.Journals())
+            journal = streams.Journal(streams.Journals())
             for length in ((size // 2, size - size // 2) if size else ()):
                 journal.add("x" * (length - 1))
             self.assertEqual(journal.is_full, is_full, size)
 
     def test_the_first_fault_of_a_journal_is_told(self):
-        journals = files.Journals()
+        journals = streams.Journals()
         for number, path in ((28, "one"), (5, "two")):
             journals.failed(path, OSError(number, os.strerror(number)))
         self.assertEqual(journals.fault, "cannot write one: No space left on device")

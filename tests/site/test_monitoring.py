@@ -12,9 +12,9 @@ import unittest
 import harness
 import bacsite
 from bacsite.check import OK, CRITICAL, UNKNOWN, WARNING, range_of, verdict_on, verdict_on_flags
-from bacsite.output import Failure
-from bacsite.poll import Reading
 from bacsite.points import Point
+from bacsite.poll import Reading
+from bacsite.streams import Failure
 from bacsite.values import NOTHING, Kind, Value, fault
 from stand_ins import an_object, bits, enumerated, real, string, unsigned
 
@@ -194,9 +194,9 @@ class Poll(harness.SiteTest):
         self.rows(
             """
             read check 0 5 85 => 2 !no address: check
-            poll IN/check --sort => 2 !unrecognized arguments: --sort
-            poll --at-once 257 IN/check => 2 !argument --at-once: not 1 to 256: 257
-            poll IN/check IN/check => 2 !unrecognized arguments: IN/check
+            poll IN/check --sort => 2 !unrecognized arguments: --sort; see bacsite --help
+            poll --at-once 257 IN/check => 2 !argument --at-once: not 1 to 256: 257; see bacsite poll --help
+            poll IN/check IN/check => 2 !unrecognized arguments: IN/check; see bacsite --help
             """
         )
 
@@ -210,7 +210,7 @@ class Poll(harness.SiteTest):
         self.path("latin", b"\xfc 1 0 5 85")
         self.rows(
             """
-            poll IN => 3 !cannot read IN
+            poll IN => 3 !cannot read IN: Is a directory
             poll IN/none => 3 !cannot read IN/none: No such file or directory
             poll IN/empty => 2 !no point in IN/empty
             poll IN/latin => 2 !not UTF-8: IN/latin
@@ -484,7 +484,7 @@ bacnet_flag{point="held",address="HERE",flag="overridden"} 1
         code = (
             "import os, signal, sys\n"
             "sys.path.insert(0, %r)\n"
-            "from bacsite.files import replace_file\n"
+            "from bacsite.streams import replace_file\n"
             "def parts():\n"
             "    assert any(it.startswith('whole.prom.') for it in os.listdir(%r))\n"
             "    yield 'new'\n"
@@ -517,9 +517,9 @@ bacnet_flag{point="held",address="HERE",flag="overridden"} 1
         self.rows(
             """
             prometheus IN/twice IN/keep.prom => 2 !two points have the name a
-            prometheus IN/no IN/keep.prom => 3 !can
+            prometheus IN/no IN/keep.prom => 3 !cannot read IN/no: No such file or directory
             prometheus IN/good IN/none/b.prom => 3 !writing failed: IN/none/b.prom: No such file or directory
-            prometheus IN/good /proc/b.prom => 3 !writing failed: /proc/b.prom
+            prometheus IN/good /proc/b.prom => 3 !writing failed: /proc/b.prom: No such file or directory
             """
         )
         self.rows(

@@ -10,8 +10,8 @@ from bacsite.capture.command import is_wanted
 from bacsite.capture.lines import line_of
 from bacsite.capture.talks import Pairing
 from bacsite.messages import Datagram, Refusals, message_of, network_message_of
-from bacsite.reasons import Why, why_of
 from bacsite.sweep import EVERYONE, MOST_STATIONS, Reach, Station, nearest, parts_of
+from bacsite.values import Why, why_of
 
 NAMED = {(8, 77, number): string("Router") for number in (70, 77, 121)}
 LISTEN = ["--listen", "1", "--listen-port", "0"]
@@ -235,6 +235,18 @@ class Messages(unittest.TestCase):
         self.assertFalse(reach.heard(Station(1, "10.0.0.2:2/5/01")), "behind another router")
         self.assertFalse(reach.heard(Station(1, "10.0.0.1:2/6/01")), "in another network")
         self.assertEqual(len(reach.found), MOST_STATIONS)
+
+    def test_all_that_were_known_have_answered(self):
+        """Then nobody waits longer for the range."""
+        reach, station = Reach("10.0.0.1:2/5/*"), Station(1, "10.0.0.1:2/5/01")
+        reach.question()
+        reach.heard(station)
+        self.assertFalse(reach.is_complete, "nobody was known before")
+        reach.end()
+        reach.question()
+        self.assertFalse(reach.is_complete, "nobody has answered")
+        reach.heard(station)
+        self.assertTrue(reach.is_complete)
 
     def test_parts(self):
         self.assertEqual(parts_of(EVERYONE, []), [EVERYONE])

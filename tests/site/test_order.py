@@ -9,6 +9,7 @@ import subprocess
 import sys
 import time
 import unittest
+from unittest import mock
 
 import harness
 from stand_ins import an_object, enumerated, real, string
@@ -143,6 +144,12 @@ class Group(harness.SiteTest):
 
 
 class Harness(unittest.TestCase):
+    def test_a_loaded_machine_has_more_time(self):
+        count = os.cpu_count() or 1
+        for load, seconds in ((0.0, 6), (count / 2, 6), (count * 1.0, 6), (count * 2.0, 12)):
+            with mock.patch("os.getloadavg", return_value=(load, 0.0, 0.0)):
+                self.assertEqual(harness.at_load(6), seconds)
+
     def test_devices_that_do_not_come_up_are_not_left(self):
         mark = "30%d" % (100000 + os.getpid())
         tool = harness.world().folder + "/failing"

@@ -5,8 +5,8 @@ import unittest
 from html.parser import HTMLParser
 
 import harness  # noqa: F401  this sets the path to bacsite
-from bacsite.page import SCRIPT, STYLE, hash_of, page_of, safe
 from bacsite.device import Device, SiteObject
+from bacsite.page import SCRIPT, STYLE, hash_of, page_of, safe
 from bacsite.values import Kind, Value
 
 HERE = "192.0.2.7:47808"

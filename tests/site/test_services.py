@@ -2,7 +2,7 @@
 import unittest
 
 from datagram_builders import CLIENT, DEVICE, datagrams, wrapped
-from bacsite.capture import services
+from bacsite.capture import lines
 from bacsite.capture.lines import line_of
 from bacsite.capture.talks import Pairing
 from bacsite.messages import message_of
@@ -76,9 +76,9 @@ class Bodies(unittest.TestCase):
     def test_every_cut_is_none(self):
         several = bytes.fromhex(VALUES)
         for reader, whole in (
-            (services.asked_for, bytes.fromhex(SEVERAL)),
-            (services.told_by, several),
-            (services.notice_of, bytes.fromhex(CHANGE)),
+            (lines.asked_for, bytes.fromhex(SEVERAL)),
+            (lines.told_by, several),
+            (lines.notice_of, bytes.fromhex(CHANGE)),
         ):
             self.assertIsNotNone(reader(whole))
             for length in range(len(whole)):
@@ -86,26 +86,26 @@ class Bodies(unittest.TestCase):
                     self.assertIsNone(reader(whole[:length]))
 
     def test_a_closing_tag_alone_is_none(self):
-        self.assertIsNone(services.items_of(b"\x3f"))
-        self.assertIsNone(services.items_of(b"\x09\x12\x1f"))
+        self.assertIsNone(lines.items_of(b"\x3f"))
+        self.assertIsNone(lines.items_of(b"\x09\x12\x1f"))
 
     def test_what_is_none(self):
         for reader, octets in (
-            (services.asked_for, "0c000000101e1f"),
-            (services.asked_for, SEVERAL + "0c00000010"),
-            (services.asked_for, "0c000000101e19011f"),
-            (services.asked_for, "0c000000101e095519011902" + "1f"),
-            (services.asked_for, SEVERAL + "0c000000111e19011f"),
-            (services.told_by, "0c000000101e2955390139024e004f1f"),
-            (services.asked_for, "0c000000101e09553e3f1f"),
-            (services.asked_for, "1c000000101e09551f"),
-            (services.asked_for, "0b0000101e09551f"),
-            (services.told_by, "0c000000101e29551f"),
-            (services.told_by, "0c000000101e4e004f1f"),
-            (services.told_by, "0c000000101e29554900" + "1f"),
-            (services.notice_of, CHANGE.replace("2c0000000a", "2e0000000a2f"[:10])),
-            (services.subscription_of, "09121c0000000a2901390049005900"),
-            (services.subscription_of, "0e0f1c0000000a"),
+            (lines.asked_for, "0c000000101e1f"),
+            (lines.asked_for, SEVERAL + "0c00000010"),
+            (lines.asked_for, "0c000000101e19011f"),
+            (lines.asked_for, "0c000000101e095519011902" + "1f"),
+            (lines.asked_for, SEVERAL + "0c000000111e19011f"),
+            (lines.told_by, "0c000000101e2955390139024e004f1f"),
+            (lines.asked_for, "0c000000101e09553e3f1f"),
+            (lines.asked_for, "1c000000101e09551f"),
+            (lines.asked_for, "0b0000101e09551f"),
+            (lines.told_by, "0c000000101e29551f"),
+            (lines.told_by, "0c000000101e4e004f1f"),
+            (lines.told_by, "0c000000101e29554900" + "1f"),
+            (lines.notice_of, CHANGE.replace("2c0000000a", "2e0000000a2f"[:10])),
+            (lines.subscription_of, "09121c0000000a2901390049005900"),
+            (lines.subscription_of, "0e0f1c0000000a"),
         ):
             with self.subTest(octets=octets):
                 self.assertIsNone(reader(bytes.fromhex(octets)))

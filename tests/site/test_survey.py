@@ -446,7 +446,7 @@ DEAD;device -;timeout
         told = "  firmware 2.1, software 7, status operational, protocol_revision 14, clock +"
         head, line = out.splitlines()
         self.assertEqual((head, line[: len(told)]), (self.spelled("HERE  device 77  D  V  M"), told))
-        self.assertRegex(line[len(told) :], r"\A(8[3-9]|9[01]) s\Z")
+        self.assertRegex(line[len(told) :], r"\A([67]\d|8\d|9[01]) s\Z")  # less what passed since, on a busy machine
         rows = list(csv.DictReader(io.StringIO(self.run_site("survey", "HERE", "--devices", "--csv")[1])))
         self.assertEqual((rows[0]["firmware"], rows[0]["status"]), ("2.1", "operational"))
         found = json.loads(self.run_site("survey", "HERE", "--devices", "--json")[1])
@@ -531,6 +531,8 @@ DEAD;device -;timeout
         told = ["name was D", "gone: 0:3 S3", "unit of 0:1 S1 was degrees-celsius"]
         told += ["name of 0:2 T2 was S2", "new: 0:4 S4"]
         self.assertEqual(out.splitlines()[-5:], ["  since: " + it for it in told])
+        out = self.run_site("survey", "HERE", "--since", before, "--reuse-names")[1]
+        self.assertEqual(out.splitlines()[-5:], ["  since: " + it for it in told], "names of another revision are read")
         found = json.loads(self.run_site("survey", "HERE", "--since", before, "--json")[1])
         self.assertEqual(found["changes"], told)
         device.values.update({**listed((0, 1), (0, 2), (0, 3)), (8, 77, 76, 3): ("error", 2, 42)})
@@ -541,9 +543,9 @@ DEAD;device -;timeout
         word = "127.0.0.1-1:" + self.names["HERE"].split(":")[1]
         out = self.run_site("survey", word, "--since", before)[1]
         self.assertEqual(out, self.spelled("HERE  device -  timeout\n  since: was device 77 D\n"))
-        self.rows("survey DEV --since IN/none => 3 !cannot read")
+        self.rows("survey DEV --since IN/none => 3 !cannot read IN/none: No such file or directory")
         self.path("no.json", "[1]\n")
-        self.rows("survey DEV --since IN/no.json => 2 !no survey by --json")
+        self.rows("survey DEV --since IN/no.json => 2 !no survey by --json: IN/no.json")
 
     def test_an_ede_file(self):
         """The columns of layout 2.1, in their order."""
@@ -589,9 +591,9 @@ DEAD;device -;timeout
         self.rows(
             """
             survey DEV nobody => 2 !no address: nobody
-            survey => 2 !the following arguments are required
-            survey 192.0.2.0/8 => 2 !no range of 1 to 65536 addresses
-            survey DEV --csv --json => 2 !argument --json: not allowed with
+            survey => 2 !the following arguments are required: [INSTANCE@]ADDRESS; see bacsite survey --help
+            survey 192.0.2.0/8 => 2 !no range of 1 to 65536 addresses: 192.0.2.0/8
+            survey DEV --csv --json => 2 !argument --json: not allowed with argument --csv; see bacsite survey --help
             """
         )
 

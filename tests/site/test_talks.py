@@ -2,10 +2,10 @@
 import unittest
 
 from datagram_builders import CLIENT, DEVICE, ack, datagrams, exchange, read_apdu, wrapped
-from bacsite.messages import message_of
-from bacsite.capture.talks import MILLI, Pairing, Talk
 from bacsite.capture.command import Group, marks_of
 from bacsite.capture.lines import json_of, line_of, millis
+from bacsite.capture.talks import MILLI, Pairing, Talk
+from bacsite.messages import message_of
 
 OTHER = "127.0.0.2:47808"
 # From the standard's examples of encoding: 65.0 of analog-input 10 of device 4, and status flags.

@@ -8,10 +8,10 @@ from collections import Counter
 from datagram_builders import CLIENT, DEVICE, ack, datagrams, exchange, wrapped
 from harness import TOOL
 from simulated import World
-from bacsite.output import Failure
-from bacsite.messages import message_of, outcome_of
 from bacsite.capture.talks import GRACE, MILLI, Pairing
 from bacsite.capture.trace import Choice, is_askable, traced
+from bacsite.messages import message_of, outcome_of
+from bacsite.streams import Failure
 
 SEEDS = int(os.environ.get("SEEDS", "20"))
 
@@ -103,6 +103,32 @@ class Lines(unittest.TestCase):
                 self.assertEqual(script[1], line % DEVICE)
                 self.assertEqual(printed(script[:2])[0][:7], "send 0 ")
 
+    def test_remarks(self):
+        """Each datagram that is not a plain answer, and each request that is not as it was, has a remark."""
+        long = wrapped(ack(2, "65fe0800" + "00" + "41" * 2047))
+        steps = [*exchange(0, 1), (2, DEVICE, CLIENT, wrapped(ack(1))), (3, DEVICE, CLIENT, wrapped("20090f"))]
+        steps += [*exchange(10, None, 2), (11, DEVICE, CLIENT, long), (20, CLIENT, DEVICE, wrapped("0005030c0c00"))]
+        steps += [(30, CLIENT, DEVICE, wrapped("0005040f0c0040000119553e603f")), *exchange(40, 20000, 5)]
+        script = list(traced(messages(steps), Choice(), None, None))
+        read = "read analog-input 5 present-value (0 5 85)"
+        write = "write analog-output 1 present-value (1 1 85) = X''"
+        self.assertEqual([it for it in script if it[0] == "#"], [
+            "# 4 requests of 127.0.0.1:50000",
+            "# request 3, at 00:00:00.040Z: its time is up before the answer comes",
+            "# 00:00:00.000Z #1 " + read,
+            "# 00:00:00.002Z a second answer",
+            "# 00:00:00.003Z #9 an answer to nothing seen: ok",
+            "# 00:00:00.010Z #2 " + read,
+            "# 00:00:00.011Z a datagram of %d octets" % (len(long) // 2),
+            "# 00:00:00.020Z #3 service 12 (ReadProperty), which can't be read; its body can't be read",
+            "# 00:00:00.030Z #4 %s; a script can't have this value: null stands for it" % write,
+            "# 00:00:00.040Z #5 " + read,
+        ])
+        first, second = datagrams(exchange(0, 1))
+        cut = [message_of(first), message_of(second._replace(octets=second.octets[:20], is_cut=True))]
+        script = list(traced(cut, Choice(), None, None))
+        self.assertEqual(script[-1], "# 00:00:00.001Z a datagram that the capture has cut")
+
     def test_long_remarks_are_cut(self):
         body = "0c0040000119553e75fe01f4" + "00" + "41" * 499 + "3f"
         steps = [(0, CLIENT, DEVICE, wrapped("0005010f" + body, "0104"))]
@@ -182,7 +208,7 @@ class Against(unittest.TestCase):
             if it.kind == "request" and is_askable(message) and message.sender == world.client
         ]
         truths = [end for end, service in zip(world.ends, world.services) if service != 14]
-        self.assertEqual(len(truths), len(talks))
+        self.assertEqual(len(truths) - len(talks), 0)
         odd = []
         for ticket, (truth, talk) in enumerate(zip(truths, talks)):
             if truth != "timeout":

@@ -7,8 +7,8 @@ import unittest
 
 import harness
 from bacsite import standard
-from bacsite.standard import PropertyRef, form_of
 from bacsite.points import FORMS
+from bacsite.standard import PropertyRef, form_of
 from bacsite.values import Kind, fault, flags_of, value_of, values_of
 from unusual_values import ODD, SHOWN_WEEK, WEEK
 from stand_ins import an_object, bits, enumerated, real, string, tagged, unsigned
@@ -240,23 +240,23 @@ class Devices(harness.SiteTest):
             read nobody.invalid 0 5 85 => 2 !no address: nobody.invalid
             read 127.0.0.256 0 5 85 => 2 !no address: 127.0.0.256
             read 0.0.0.0 0 5 85 => 2 !no address: 0.0.0.0
-            read 127.0.0.1:65536 0 5 85 => 2 !no address
+            read 127.0.0.1:65536 0 5 85 => 2 !no address: 127.0.0.1:65536
             read 127.0.0.1/5/7 0 5 85 => 2 !no address: 127.0.0.1/5/7
             read 127.0.0.1/0/07 0 5 85 => 2 !no address: 127.0.0.1/0/07
             read \x1b[2J 0 5 85 => 2 !no address: \\x1b[2J
-            read DEV 0 5 => 2 !wanted: [INSTANCE@]ADDRESS
-            read DEV 0 5 85 1 1 => 2 !wanted: [INSTANCE
-            read DEV 0 5 pv => 2 !no property: pv; perhaps present-value
+            read DEV 0 5 => 2 !wanted: [INSTANCE@]ADDRESS [real|double|integer] TYPE INSTANCE PROPERTY [INDEX]
+            read DEV 0 5 85 1 1 => 2 !wanted: [INSTANCE@]ADDRESS [real|double|integer] TYPE INSTANCE PROPERTY [INDEX]
+            read DEV 0 5 pv => 2 !no property: pv; perhaps present-value or protocol-version
             read DEV AI 5 85 => 2 !no object type: AI; perhaps analog-input
-            read DEV 0 5 presentvalue => 2 !no property: presentvalue; perhaps present-value
+            read DEV 0 5 presentvalue => 2 !no property: presentvalue; perhaps present-value or min-pres-value or..
             read DEV 1024 5 85 => 2 !no object type: 1024
             read DEV 0 4194304 85 => 2 !no instance: 4194304
             read DEV 0 5 85 -1 => 2 !no index: -1
-            read DEV 0 5 85 -x => 2 !unrecognized arguments: -x
-            read --apdu-retries 10 DEV 0 5 85 => 2 !argument --apdu-retries: not 0 to 9: 10
+            read DEV 0 5 85 -x => 2 !unrecognized arguments: -x; see bacsite --help; put a value like -x after --
+            read --apdu-retries 10 DEV 0 5 85 => 2 !argument --apdu-retries: not 0 to 9: 10; see bacsite read --help
             read --tools /nowhere DEV 0 5 85 => 3 !no bactool in /nowhere
             read DEV 0 5 85 -x => 2 !unrecognized arguments: -x; see bacsite --help; put a value like -x after --
-            bad => 2 !argument COMMAND
+            bad => 2 !argument COMMAND: invalid choice: 'bad'..
             --version => 0 bacsite 0.4.0
             -V => 0 bacsite 0.4.0
             """
@@ -271,7 +271,7 @@ class Devices(harness.SiteTest):
             properties DEV 4 4 --last 78 => 0 %s
             properties DEAD 0 5 => 1 77 object-name timeout
             properties DEV 0 99 => 1 77 object-name error 1 31
-            properties DEV 0 => 2 !the following arguments
+            properties DEV 0 => 2 !the following arguments are required: WORD; see bacsite properties --help
             properties 7@DEV 0 5 => 1 77 object-name another device: 8:1000
             """
             % fan

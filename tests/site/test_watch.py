@@ -16,16 +16,15 @@ import unittest.mock
 from contextlib import suppress
 
 import harness
-from bacsite.charts import COLUMNS, MOST, Line, Sample, curve_of, page_of
-from bacsite.files import Journals, Rows
-from bacsite.output import Failure
-from bacsite.parsing import duration_of, parsed
+from bacsite.controller import CALM, Controller, Pace
+from bacsite.messages import Ended
+from bacsite.page import MOST, Line, Sample, charts_page_of
+from bacsite.parsing import duration_of, parser_of
 from bacsite.points import Point
-from bacsite.reasons import Why
-from bacsite.requester import CALM, Pace, Requester
-from bacsite.session import Ended
 from bacsite.standard import PropertyRef
-from bacsite.watch import Row, with_gaps
+from bacsite.streams import Journals, Rows, Failure
+from bacsite.values import Why
+from bacsite.watch import COLUMNS, Row, curve_of, with_gaps
 from instant_devices import QuickCalls
 from stand_ins import StandIn, an_object, bits, enumerated, real, string, unsigned
 
@@ -149,6 +148,7 @@ class Watch(harness.SiteTest):
         self.stand_in({(0, 1, 85): real("42290000")})
         words = ["HERE", "0", "1", "85", "--all", "--every", "1.5"]
         self.assertEqual(len(self.watched(*words, "--for", "3.9s")[1]), 3)
+        self.assertEqual(len(self.watched(*words, "--for", "3s")[1]), 2)
         self.assertEqual(len(self.watched(*words, "--for", "1h1m", "--rounds", "2")[1]), 2)
         told = {"90": 90, "2.5s": 2.5, "10m": 600, "8h": 28800, "1d": 86400, "1h30m": 5400, "1d1s": 86401}
         self.assertEqual({it: duration_of(it) for it in told}, told)
@@ -281,7 +281,7 @@ class Watch(harness.SiteTest):
         values[(0, 1, 117)] = [enumerated(62), enumerated(64)]
         device = self.stand_in(values)
         page = self.world.folder + "/names.html"
-        words = "HERE 0 1 85 --no-flags --apdu-retries 0 --apdu-timeout 100 --rounds 4 --page".split() + [page]
+        words = "HERE 0 1 85 --no-flags --apdu-retries 0 --apdu-timeout 600 --rounds 4 --page".split() + [page]
         found = [it.split(" ", 1)[1] for it in self.watched(*words)[1]]
         wanted = ["42.25 degrees-celsius - - -", f"{NOTHING} - timeout", "42.25 degrees-fahrenheit - - -"]
         self.assertEqual(found, wanted)
@@ -337,7 +337,8 @@ class Watch(harness.SiteTest):
         self.assertEqual(len(found), 12)
 
     def test_a_thread_that_fails_ends_it(self):
-        words = parsed(["watch", "127.0.0.1", "0", "1", "85", "--tools", os.path.dirname(harness.TOOL)])
+        given = ["watch", "127.0.0.1", "0", "1", "85", "--tools", os.path.dirname(harness.TOOL)]
+        words = parser_of(given).parsed(given)
         with unittest.mock.patch("bacsite.watch.Controller", side_effect=ZeroDivisionError):
             with self.assertRaises(ZeroDivisionError):
                 words.work(words)
@@ -364,18 +365,18 @@ class Watch(harness.SiteTest):
         self.path("twice", "p DEV 0 5 85\np DEV 0 5 85\n")
         self.rows(
             """
-            watch IN/bad => 2 !p: wanted:
+            watch IN/bad => 2 !p: wanted: [INSTANCE@]ADDRESS [real|double|integer] TYPE INSTANCE PROPERTY [INDEX]
             watch IN/twice => 2 !two points have the name p
             watch IN/two_points nobody + a => 2 !no point of this name: nobody
             watch IN/two_points a + b + a => 2 !two charts of this name: a
-            watch DEV 0 5 85 --for 0 => 2 !argument --for: no duration, such as 90s, 10m, 8h or 1d: 0
-            watch DEV 0 5 85 --for 5x => 2 !argument --for: no duration, such as 90s, 10m, 8h or 1d: 5x
-            watch DEV 0 5 85 --for 1001d => 2 !argument --for: no duration, such as 90s, 10m, 8h or 1d: 1001d
-            watch DEV 0 5 85 --csv IN/other.csv => 2 !a file of something else:
+            watch DEV 0 5 85 --for 0 => 2 !argument --for: no duration, such as 90s, 10m, 8h or 1d: 0; see bacsite..
+            watch DEV 0 5 85 --for 5x => 2 !argument --for: no duration, such as 90s, 10m, 8h or 1d: 5x; see bacsite..
+            watch DEV 0 5 85 --for 1001d => 2 !argument --for: no duration, such as 90s, 10m, 8h or 1d: 1001d; see..
+            watch DEV 0 5 85 --csv IN/other.csv => 2 !a file of something else: IN/other.csv
             watch DEV 0 5 85 --csv /dev/null => 2 !no plain file: /dev/null
             watch DEV 0 5 85 --page /dev/null => 2 !no plain file: /dev/null
-            watch DEV 0 5 85 --every 0 => 2 !not 0.1 to 86400 seconds
-            watch DEV 0 5 85 --every nan => 2 !not 0.1 to 86400 seconds
+            watch DEV 0 5 85 --every 0 => 2 !not 0.1 to 86400 seconds: 0.0
+            watch DEV 0 5 85 --every nan => 2 !not 0.1 to 86400 seconds: nan
             """
         )
 
@@ -487,7 +488,7 @@ class Charts(unittest.TestCase):
     def test_texts_are_no_markup(self):
         line = Line(Point("</script><b>", ref=PropertyRef(40, 1, 85)))
         line.add(Sample(1, "</script><script>alert(1)</script>"))
-        page = "".join(page_of({line.name: line}, [[line.name]], 1.0, True))
+        page = "".join(charts_page_of([[line]], 1.0, True))
         self.assertEqual(page.count("</script>"), 2)
         self.assertEqual(data_of(page)["charts"][0][0]["name"], "</script><b>")
 
@@ -577,7 +578,7 @@ class Journal(unittest.TestCase):
         calls = QuickCalls({"HERE": {tuple(it[:3]): real("42290000") for it in whats}}, window=4)
         calls.journals = Journals(folder)
         for _ in range(2):  # another program goes on with the next number
-            with unittest.mock.patch("bacsite.files.MOST_JOURNAL", 1000), Requester(calls, "HERE") as asking:
+            with unittest.mock.patch("bacsite.streams.MOST_JOURNAL", 1000), Controller(calls, "HERE") as asking:
                 for at in range(0, 60, 10):
                     self.assertFalse(any(it.reason for it in asking.ask_all(whats[at : at + 10])))
             calls.journals = Journals(folder)

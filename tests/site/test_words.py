@@ -9,9 +9,9 @@ from unittest import mock
 
 import harness
 import bacsite
-from bacsite import addresses, parsing, points
-from bacsite.output import Failure, clean, put, table, width
+from bacsite import parsing, points
 from bacsite.standard import PropertyRef
+from bacsite.streams import Failure, clean, put, table, width
 
 
 class Addresses(unittest.TestCase):
@@ -25,7 +25,7 @@ class Addresses(unittest.TestCase):
             ("192.0.2.7/5/07", (None, "192.0.2.7:47808/5/07")),
             ("9@192.0.2.7:9/065/0A0b0C", (9, "192.0.2.7:9/65/0a0b0c")),
         ):
-            self.assertEqual(addresses.one(word), wanted)
+            self.assertEqual(points.address_of(word), wanted)
         for word in (
             "",
             "1.2.3",
@@ -53,28 +53,28 @@ class Addresses(unittest.TestCase):
             "4194303@1.2.3.4",
         ):
             with self.subTest(word=word), self.assertRaises(Failure):
-                addresses.one(word)
+                points.address_of(word)
 
     def test_a_host_name_is_looked_up_once(self):
         found = [(None, None, None, "", ("192.0.2.9", 0))]
         with mock.patch("socket.getaddrinfo", return_value=found) as lookup:
-            self.assertEqual(addresses.one("7@ahu.example:47809"), (7, "192.0.2.9:47809"))
-            self.assertEqual(addresses.one("ahu.example"), (None, "192.0.2.9:47808"))
-            self.assertEqual(addresses.one("ahu.example/5/01"), (None, "192.0.2.9:47808/5/01"))
-            self.assertEqual(addresses.one("192.0.2.7"), (None, "192.0.2.7:47808"))
+            self.assertEqual(points.address_of("7@ahu.example:47809"), (7, "192.0.2.9:47809"))
+            self.assertEqual(points.address_of("ahu.example"), (None, "192.0.2.9:47808"))
+            self.assertEqual(points.address_of("ahu.example/5/01"), (None, "192.0.2.9:47808/5/01"))
+            self.assertEqual(points.address_of("192.0.2.7"), (None, "192.0.2.7:47808"))
             for word in "0x7f.0.2.31 0x7f000001 1.2.3.0X4 a.0x 0177.1 127.1 a.9. 7:80".split():
                 with self.subTest(word=word), self.assertRaises(Failure):
-                    addresses.one(word)
+                    points.address_of(word)
         self.assertEqual(lookup.call_count, 1)
         with mock.patch("socket.getaddrinfo", side_effect=OSError) as lookup:
             for word in ("no.example", "8@no.example", "no.example:99999", "a b", "no/example"):
                 with self.subTest(word=word), self.assertRaises(Failure):
-                    addresses.one(word)
+                    points.address_of(word)
         self.assertEqual(lookup.call_count, 1)
 
     def test_ranges(self):
         def hosts(*given):
-            return [it.address.split(":")[0] for it in addresses.targets(given)]
+            return [it.address.split(":")[0] for it in points.targets(given)]
 
         self.assertEqual(hosts("192.0.2.0/30"), ["192.0.2.1", "192.0.2.2"])
         self.assertEqual(hosts("192.0.2.7/32"), ["192.0.2.7"])
@@ -83,7 +83,7 @@ class Addresses(unittest.TestCase):
             hosts("192.0.2.254-192.0.3.1"), ["192.0.2.254", "192.0.2.255", "192.0.3.0", "192.0.3.1"]
         )
         self.assertEqual(hosts("192.0.2.1-3"), ["192.0.2.1", "192.0.2.2", "192.0.2.3"])
-        target = addresses.targets(["192.0.2.1-2:47809"])[1]
+        target = points.targets(["192.0.2.1-2:47809"])[1]
         self.assertEqual(target, ("192.0.2.2:47809", (None,), True))
         for word in (
             "192.0.2.3-1",
@@ -96,15 +96,15 @@ class Addresses(unittest.TestCase):
             "10.0.0.0-11.0.0.0",
         ):
             with self.subTest(word=word), self.assertRaises(Failure):
-                addresses.targets([word])
+                points.targets([word])
 
     def test_targets_stand_once(self):
-        found = addresses.targets(
+        found = points.targets(
             ["77@192.0.2.1", "1026@192.0.2.1", "77@192.0.2.1", "192.0.2.0/30"]
         )
         self.assertEqual(found[0], ("192.0.2.1:47808", (77, 1026), False))
         self.assertEqual(found[1:], [("192.0.2.2:47808", (None,), True)])
-        named = addresses.targets(["192.0.2.0/30", "5@192.0.2.2"])
+        named = points.targets(["192.0.2.0/30", "5@192.0.2.2"])
         self.assertEqual(named[1], ("192.0.2.2:47808", (5,), False))
 
 
@@ -152,7 +152,7 @@ class Texts(unittest.TestCase):
         self.assertEqual(clean("Öl\x1b[2J\n\u202e"), "Öl\\x1b[2J\\n\\u202e")
 
     def test_times_are_those_of_utc(self):
-        code = "from bacsite.output import stamp; print(stamp(0), stamp(86399))"
+        code = "from bacsite.streams import stamp; print(stamp(0), stamp(86399))"
         told = subprocess.run(
             [sys.executable, "-c", code],
             cwd=harness.TOP + "/site",
@@ -184,7 +184,7 @@ class Texts(unittest.TestCase):
 class Words(unittest.TestCase):
     def test_every_command_is_in_the_table(self):
         found = parsing.COMMANDS
-        self.assertEqual(len({command.function for command in found.values()}), len(found))
+        self.assertEqual(len(found) - len({command.function for command in found.values()}), 0)
         for name, command in found.items():
             module, _, function = command.function.rpartition(".")
             self.assertTrue(callable(getattr(import_module("bacsite." + module), function)), msg=name)
@@ -196,10 +196,10 @@ class Words(unittest.TestCase):
         )
 
     def test_words_that_begin_as_negative_numbers_are_whole(self):
-        words = parsing.parsed(["prometheus", "-5.list", "-1.prom"])
+        words = parsing.parser_of([]).parsed(["prometheus", "-5.list", "-1.prom"])
         self.assertEqual((words.list, words.file), ("-5.list", "-1.prom"))
         with self.assertRaises(Failure) as caught:
-            parsing.parsed(["read", "--journal", "-5", "192.0.2.7", "0", "5", "85"])
+            parsing.parser_of([]).parsed(["read", "--journal", "-5", "192.0.2.7", "0", "5", "85"])
         self.assertEqual((str(caught.exception), caught.exception.status), ("no folder: -5", 3))
 
     def test_the_version_is_that_of_the_program(self):

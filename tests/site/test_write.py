@@ -9,11 +9,11 @@ from unittest import mock
 
 import harness
 from bacsite import standard, write
-from bacsite.tools import Outcome, Tools
 from bacsite.controller import Controller
-from bacsite.output import Failure
-from bacsite.standard import PropertyRef
 from bacsite.place import Place, encode
+from bacsite.standard import PropertyRef
+from bacsite.streams import Failure
+from bacsite.tools import Outcome, Tools
 from bacsite.write import ending_of
 from stand_ins import NULL, an_object, enumerated, real, string, tagged, unsigned
 
@@ -183,7 +183,7 @@ class Write(harness.SiteTest):
         self.rows(
             """
             write 78@HERE 1 1 20 --priority 8 => 1 !another device: 8:77; no write was sent
-            write HERE 1 1 20 => 2 !1:1 analog-output is commanded by priorities: choose one with --priority
+            write HERE 1 1 20 => 2 !1:1 analog-output is commanded by priorities: choose one with --priority; no..
             write HERE 1 1 20,5 --priority 8 => 2 !no number: '20,5'; no write was sent
             write HERE 1 1 on --priority 8 => 2 !no number: 'on'; no write was sent
             write HERE 1 1 nan --priority 8 => 2 !no number: 'nan'; no write was sent
@@ -197,21 +197,21 @@ class Write(harness.SiteTest):
             write HERE 14 2 1.5 => 2 !no number and no state: 1.5; it has off, heat; no write was sent
             write HERE 14 2 both => 2 !both may be 3 (Both) or 4 (both): give its number; no write was sent
             write HERE 5 3 2 => 2 !5:3 binary-value takes 0 to 1, not 2; no write was sent
-            write HERE 5 3 null => 2 !null releases a priority: 5:3 binary-value has no priority array
+            write HERE 5 3 null => 2 !null releases a priority: 5:3 binary-value has no priority array; no write was..
             write HERE 300 1 6 => 2 !the type of 300:1 is not known: give it with --type; no write was sent
-            write HERE 1 1 6 --type unsigned --priority 8 => 2 !1:1 analog-output is no unsigned, but real
+            write HERE 1 1 6 --type unsigned --priority 8 => 2 !1:1 analog-output is no unsigned, but real; no write..
             write HERE 0 9 1 --property out-of-service => 2 !neither true nor false: 1; no write was sent
             write HERE 0 9 parsec --property units => 2 !no number and no state: parsec; no write was sent
-            write HERE 14 2 x --property state-text => 2 !state-text has several values: choose one with --index
+            write HERE 14 2 x --property state-text => 2 !state-text has several values: choose one with --index; no..
             write HERE 1 2 20 => 1 !present-value: error 2 32; no write was sent
             write HERE 0 9 x --property 12 => 1 !application-software-version: error 2 32; no write was sent
             write HERE 1 1 20 --priority 6 => 2 !priority 6 is the device's own
-            write HERE 1 1 20 --priority 17 => 2 !argument --priority: not 1 to 16: 17
-            write HERE 1 1 20 --priority -5 => 2 !argument --priority: not 1 to 16: -5; see
-            write HERE 1 1 20 --priority 0 => 2 !argument --priority: not 1 to 16: 0
-            write HERE 1 1 20 --property pv => 2 !no property: pv
-            write HERE 1 1 => 2 !the following arguments are required: VALUE
-            write HERE 40 1 null => 2 !null releases a priority: 40:1 characterstring-value has no priority array
+            write HERE 1 1 20 --priority 17 => 2 !argument --priority: not 1 to 16: 17; see bacsite write --help
+            write HERE 1 1 20 --priority -5 => 2 !argument --priority: not 1 to 16: -5; see bacsite write --help; put..
+            write HERE 1 1 20 --priority 0 => 2 !argument --priority: not 1 to 16: 0; see bacsite write --help
+            write HERE 1 1 20 --property pv => 2 !no property: pv; perhaps present-value or protocol-version
+            write HERE 1 1 => 2 !the following arguments are required: VALUE; see bacsite write --help
+            write HERE 40 1 null => 2 !null releases a priority: 40:1 characterstring-value has no priority array; no..
             write HERE 45 1 -3 --property cov-increment => 2 !past the range: -3; no write was sent
             write DEAD 1 1 20 --priority 8 => 1 !timeout; no write was sent
             """
@@ -284,7 +284,7 @@ class Write(harness.SiteTest):
             wanted = ["before: 0", "priority-array: " + told, "write 20 at priority 8: ok"]
             wanted += ["now: 20", "priority-array: " + told]
             self.assertEqual((out[0], out[1].splitlines()[2:]), (0, wanted))
-        self.rows("write HERE 1 1 null => 2 !null releases a priority")
+        self.rows("write HERE 1 1 null => 2 !null releases a priority: 1:1 analog-output has no priority array; no..")
         device.keep = lambda *_: None
         found = self.run_site("write", "HERE", "1", "1", "null", "--priority", "8")
         self.assertEqual(device.written[-1], ((1, 1, 85), NULL, 8))

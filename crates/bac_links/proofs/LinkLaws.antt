@@ -114,7 +114,7 @@ module _ (refused : OnRefusal) (times : ℕ) {before mid after : List SystemCall
   }
   looked zero first some so_far one = absurd (omega (arith, some))
 
-  -- After a datagram that is passed over, the look continues.
+  -- After a datagram that is skipped, the look continues.
   pub looks_on : (left : ℕ) → 0 < left → Logs (HasLooked refused times left) before mid
       → Logs (ReceivesOnce refused None) mid after → Logs (HasLooked refused times (left - 1)) before after
   looks_on (suc left) some so_far one =

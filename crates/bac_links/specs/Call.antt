@@ -5,7 +5,7 @@ use Rattle.{bac_pdu.specs.station, bac_tsm.specs.{Accepted, Ask, client_rules, e
 use Rattle.{bac_tsm.specs.{Events.request_of, Lookahead.{accepted, End, sends}}, bac_text.specs.declared.jobs.Call.Call}
 use Rattle.bac_print.specs.{Took, Checked.TakesFront, declared.checked.Checked.Checked}
 use Rattle.bac_links.specs.Asking.{Asks, ForTime, Move, Over, Plays, ToSend, turn_after, waits_in}
-use Rattle.bac_links.specs.declared.{ending.Purpose.{Purpose, TheVariants.{Reading, Writing}}, exit.Exit.Exit}
+use Rattle.bac_links.specs.declared.{call.Purpose.{Purpose, TheVariants.{Reading, Writing}}, exit.Exit.Exit}
 use Rattle.bac_links.specs.declared.fault.ToolFault.{ToolFault, TheVariants.{ReceiveFailed, SendFailed, WriteFailed}}
 use Rattle.bac_links.specs.{Ending.{ending_line, exit_of}, Handed.handed}
 use Rattle.bac_links.specs.{History.{Account, Entry, Failure, Posted, Timed, Unposted, Waited}, Limits.turn_wait}

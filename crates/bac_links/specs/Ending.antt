@@ -3,7 +3,7 @@ use Rattle.std.specs.Option.{option_map_or}
 use Rattle.std.specs.Prelude.{[], codes, if◌then◌else◌, is_some, List, None, Option, Some, ℕ, ◌++◌, ◌∷◌}
 use Rattle.{bac_pdu.specs.{ack_of, ReadAck}, bac_tsm.specs.{Outcome, Simple, Events.Complex}}
 use Rattle.bac_print.specs.{Outcomes.outcome_text, Values.region_text}
-use Rattle.bac_links.specs.declared.ending.Purpose.{Purpose, TheVariants.{Reading, Writing}}
+use Rattle.bac_links.specs.declared.call.Purpose.{Purpose, TheVariants.{Reading, Writing}}
 use Rattle.bac_links.specs.declared.exit.Exit.{Exit, TheVariants.{Bad, Good}}
 
 -- The text of the end of a request: for a read the value; `bad-ack` if the acknowledgement can't be read, or is for

@@ -37,7 +37,7 @@ unfoldable pub use Search.*
 unfoldable pub use Sent.*
 unfoldable pub use Serve.*
 unfoldable pub use Progress.*
-pub use Rattle.bac_links.specs.{Answered.answers_of, Call.Tells, declared.ending.Purpose.{Purpose, TheVariants.Writing}}
+pub use Rattle.bac_links.specs.{Answered.answers_of, Call.Tells, declared.call.Purpose.{Purpose, TheVariants.Writing}}
 pub use Rattle.bac_links.specs.declared.{exit.Exit.{Exit, TheVariants.{Bad, Good}}, fault.ToolFault.ToolFault}
 pub use Rattle.bac_links.specs.declared.fault.ToolFault.TheVariants.{ReceiveFailed, SendFailed, TurnsSpent, WriteFailed}
 pub use Rattle.bac_links.specs.{declared.udp.OnRefusal.TheVariants.Fails, History.{Account, Arrived, Entry, Failure}}

@@ -1,7 +1,7 @@
 -- The sends over a link, from its history.
 use Rattle.std.specs.Prelude.{[], Err, length, List, map, Result, ℕ, ◌++◌, ◌-◌, ◌∷◌, ◌≡◌}
 use Rattle.{bac_pdu.specs.Station, bac_tsm.specs.Lookahead.sends, bac_text.specs.declared.jobs.Call.Call}
-use Rattle.bac_links.specs.{Call.{asked, events_of, rules_for}, declared.ending.Purpose.Purpose}
+use Rattle.bac_links.specs.{Call.{asked, events_of, rules_for}, declared.call.Purpose.Purpose}
 use Rattle.bac_links.specs.{declared.fault.ToolFault.{ToolFault, TheVariants.SendFailed}, History.{Entry, Posted}}
 
 -- The sends after these entries, in order, each with its note.

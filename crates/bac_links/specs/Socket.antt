@@ -37,7 +37,7 @@ pub record Binds (at : Peer) (calls : List SystemCall) : Type 0 where
   pub of_peer : IsAddressOf (station at) address
   pub asked : calls ≡ Bind address ∷ []
 
--- The calls are none, or one: for a socket at the address of this peer.
+-- There is at most one call: for a socket at the address of this peer.
 abbrev pub BindsAtMost : Peer → List SystemCall → Type 0
 BindsAtMost at calls = (calls ≡ []) ⊎ Binds at calls
 
@@ -89,7 +89,7 @@ is_quiet refused HostUnreachable = is_lost refused
 is_quiet refused NetworkUnreachable = is_lost refused
 is_quiet refused kind = false
 
--- The result of a receive with this answer: the datagram, silence or a failure; None if a datagram is passed over.
+-- The result of a receive with this answer: the datagram, silence or a failure; None if a datagram is skipped.
 abbrev pub brings : OnRefusal → Result (List ℕ × SocketAddr) ErrorKind → Option Heard
 brings refused (Ok (octets, from)) = option_map (λ peer. Arrived (station peer) octets) (heard_from from octets)
 brings refused (Err kind) = Some (if is_quiet refused kind then Silence else Failure)
@@ -99,8 +99,8 @@ abbrev pub Ends : Option Heard → (Heard → List SystemCall → Type 0) → He
 Ends (Some first) More heard calls = (heard ≡ first) × (calls ≡ [])
 Ends None More heard calls = More heard calls
 
--- The receives of a wait, each with room for one octet more than the longest datagram. After a datagram that is passed
--- over there is another receive, up to this many; if all are passed over, the result is silence.
+-- The receives of a wait, each with room for one octet more than the longest datagram. After a datagram that is skipped
+-- there is another receive, up to this many; if all are skipped, the result is silence.
 abbrev pub Looks : OnRefusal → (times : ℕ) → Heard → List SystemCall → Type 0
 Looks refused zero heard calls = (heard ≡ Silence) × (calls ≡ [])
 Looks refused (suc times) heard calls = (came : Result (List ℕ × SocketAddr) ErrorKind) × (rest : List SystemCall)

@@ -1,23 +1,40 @@
-//! One request to one peer, and its end.
-ghost use Rattle.std.specs.Option.{option_map};
-ghost use Rattle.std.specs.Prelude.{[], Err, false, IfErr, IfOk, MatchOption, Ok, OnErr, OnOk, suc, ℕ, ◌<◌, ◌≡◌, ◌≢◌};
-ghost use Rattle.{bac_tsm.specs.{outcome_seen, sent}, bac_text.specs.declared.jobs.Call.Call};
-ghost use Rattle.{bac_print.specs.has_failed, bac_links.specs.{Account, Failure, Gains, GainsAll, is_link_fault}};
-ghost use Rattle.bac_links.specs.{is_write_fault, most_turns, move, Plays, Purpose, service_of, Tells, Waited, Writing};
-ghost use Rattle.bac_links.specs.{declared.ending.Purpose.TheVariants.Reading, Inner.ending_seen};
+//! One request to one peer, its end, and the text of this end.
+ghost use Rattle.std.specs.Option.{option_map, option_map_or};
+ghost use Rattle.std.specs.Prelude.{[], codes, Err, false, if◌then◌else◌, IfErr, IfOk, is_err, is_some, MatchOption};
+ghost use Rattle.std.specs.Prelude.{Ok, OnErr, OnOk, suc, ℕ, ◌<◌, ◌≡◌, ◌≢◌};
+ghost use Rattle.{bac_pdu.specs.{ack_of, ReadAck}, bac_tsm.specs.{outcome_seen, sent}};
+ghost use Rattle.bac_text.specs.declared.jobs.Call.{Call};
+ghost use Rattle.bac_print.specs.{has_failed, Prints, Checked.TookOrFailed, Values.region_text};
+ghost use Rattle.bac_links.specs.{Account, ending_line, ending_text, exit_of, Failure, Gains, GainsAll, is_link_fault};
+ghost use Rattle.bac_links.specs.{is_write_fault, most_turns, move, Plays, service_of, Tells, Waited, Writing};
+ghost use Rattle.bac_links.specs.{declared.call.Purpose.{Purpose, TheVariants.Reading}, Inner.ending_seen};
 ghost use Rattle.bac_links.specs.Inner.{GainsLost, Hears, IsAlone, posts, Ticks, TicksLost, Underway, wait_of};
 
 use crate::datagram::Datagram;
-use crate::ending::{Ending, Purpose, show_ending};
 use crate::exit::Exit;
 use crate::fault::ToolFault;
-use crate::link::Link;
-use crate::turns::{most_turns, turn_wait};
-use bac_pdu::{READ_PROPERTY, WRITE_PROPERTY};
-use bac_print::Checked;
+use crate::link::{Link, most_turns, turn_wait};
+use bac_pdu::{READ_PROPERTY, WRITE_PROPERTY, read_ack};
+use bac_print::{Checked, Page, print_outcome};
 use bac_text::Call;
 use bac_tsm::{Client, Config, DueEntry, Outcome};
 use std::io::Write;
+
+/// The purpose of a call.
+#[derive(Clone, Copy)]
+pub enum Purpose {
+    /// To read a property.
+    Reading,
+    /// To write a property.
+    Writing,
+}
+
+// The end of a request.
+#[derive(Clone, Copy)]
+enum Ending<'d> {
+    Answered(Outcome<'d>),
+    TimedOut,
+}
 
 /// Reads a property (clause 15.5): sends the request, waits for its end, and prints the end in a line, such as
 /// `4290999a`, `error 2 32` or `timeout`. A value that was read is a good end. The object and the property in the
@@ -214,4 +231,62 @@ fn send_request<L: Link>(client: &Client, ticket: u64, link: &mut L) -> Result<(
         }
     }
     Ok(())
+}
+
+// Prints the line of the end of a request.
+fn show_ending<W: Write>(
+    purpose: Purpose,
+    ending: Ending<'_>,
+    writer: &mut Checked<W>,
+) -> Result<Exit, ToolFault>
+    requires { has_failed writer.old ≡ false }
+    ensures text { TookOrFailed W.contents writer.old writer.new
+        (ending_line purpose (ending_seen ending.entry)) result }
+    ensures failed { has_failed writer.new ≡ is_err result }
+    ensures exit { IfOk result (λ exit. exit ≡ exit_of purpose (ending_seen ending.entry)) }
+    ensures fault { IfErr result (λ fault. fault ≡ ToolFault.WriteFailed) }
+{
+    let mut page = Page::new(writer);
+    let exit = print_ending(&mut page, purpose, ending);
+    page.print(b"\n");
+    page.finish()?;
+    Ok(exit)
+}
+
+// Prints the end of a request, and returns whether it is good.
+fn print_ending<W: Write>(page: &mut Page<'_, W>, purpose: Purpose, ending: Ending<'_>) -> Exit
+    ensures text { Prints W.contents page.old page.new (ending_text purpose (ending_seen ending.entry)) }
+    ensures exit { result ≡ exit_of purpose (ending_seen ending.entry) }
+{
+    match (purpose, ending) {
+        (Purpose::Reading, Ending::Answered(Outcome::Complex(body))) => {
+            return print_value(page, body);
+        }
+        (Purpose::Writing, Ending::Answered(Outcome::Simple)) => {
+            page.print(b"ok");
+            return Exit::Good;
+        }
+        (_, Ending::Answered(Outcome::Simple | Outcome::Complex(_))) => page.print(b"bad-ack"),
+        (_, Ending::Answered(outcome)) => print_outcome(page, outcome),
+        (_, Ending::TimedOut) => page.print(b"timeout"),
+    }
+    Exit::Bad
+}
+
+// Prints the value of an acknowledgement, or that it cannot be read.
+fn print_value<W: Write>(page: &mut Page<'_, W>, body: &[u8]) -> Exit
+    ensures text { Prints W.contents page.old page.new
+        (option_map_or (λ (ack : ReadAck). region_text ack.value) (ack_of body.now) (codes "bad-ack")) }
+    ensures exit { result ≡ (if is_some (ack_of body.now) then Exit.Good else Exit.Bad) }
+{
+    match read_ack(body, &mut bac_work::begin()) {
+        Some(ack) => {
+            page.print_region(ack.value);
+            Exit::Good
+        }
+        None => {
+            page.print(b"bad-ack");
+            Exit::Bad
+        }
+    }
 }

@@ -11,8 +11,8 @@ ghost use Rattle.bac_links.specs.{events_of, Exit as ExitValue, IsAccepted, Logs
 ghost use Rattle.bac_links.specs.{PlaysItsScenes, Purpose, replies_of, Searched, sends_of_call, sent_at, sent_in};
 ghost use Rattle.bac_links.specs.{Serves, Tells, ToolFault as Fault, waits_in, who_is_to};
 
+use crate::call::Purpose as Aim;
 use crate::datagram::DATAGRAM_OCTETS;
-use crate::ending::Purpose as Aim;
 use crate::exit::Exit;
 use crate::fault::ToolFault;
 use crate::history::CallNote;

@@ -18,7 +18,6 @@
 
 mod call;
 mod datagram;
-mod ending;
 mod examples;
 mod exit;
 mod fault;
@@ -30,20 +29,17 @@ mod search;
 mod serving;
 mod socket;
 mod sockets;
-mod turns;
 mod udp;
 
-pub use call::{run_read, run_write};
+pub use call::{Purpose, run_read, run_write};
 pub use datagram::{DATAGRAM_OCTETS, Datagram};
-pub use ending::Purpose;
 pub use exit::Exit;
 pub use fault::ToolFault;
 pub use history::{CallNote, Log, SystemCallMade};
-pub use link::{Link, LinkFault};
+pub use link::{Link, LinkFault, most_turns, turn_wait};
 pub use memory::{MemoryLink, Step};
 pub use search::run_whois;
 pub use serving::serve;
 pub use socket::{Socket, SystemSocket};
 pub use sockets::{NoSocket, Sockets};
-pub use turns::{most_turns, turn_wait};
 pub use udp::{OnRefusal, UdpLink};

@@ -1,13 +1,17 @@
-//! The link through which the tools send and receive datagrams.
+//! The link through which the tools send and receive datagrams, and the turns in which they wait for one.
 ghost use Rattle.std.specs.{Option.option_flatten, Prelude.{Bool, false, IfNone, IfOk, IfSome, is_err, None, ◌≡◌}};
 ghost use Rattle.std.specs.Result.{result_ok};
 ghost use Rattle.{bac_pdu.specs.station, bac_print.specs.message_text};
-ghost use Rattle.bac_links.specs.{Account, Gains, heard_by, link_fault_text, posted, Timed, Waited};
+ghost use Rattle.bac_links.specs.{Account, Gains, heard_by, link_fault_text, most_turns, posted, Timed, turn_wait};
+ghost use Rattle.bac_links.specs.{Waited};
 
 use crate::datagram::Datagram;
 use bac_pdu::Peer;
 use bac_print::FaultMessage;
 use thiserror::Error;
+
+// The longest wait of a turn, in milliseconds.
+const LONGEST_WAIT: u32 = 50;
 
 /// A send or a receive failed, or a link could not be made.
 #[derive(Clone, Copy, Debug, PartialEq, Eq, Error)]
@@ -58,4 +62,19 @@ pub trait Link {
     /// Returns whether a send or a receive has failed.
     fn failed(&self) -> bool
         ensures { result ≡ has_failed self.now };
+}
+
+/// Returns the number of turns after which a tool gives up. It is a function, not a constant, so that its clause states
+/// the number.
+pub const fn most_turns() -> u32
+    ensures { result ≡ most_turns }
+{
+    65_536
+}
+
+/// Returns how long a turn of a call or a search with this timeout waits, in milliseconds.
+pub fn turn_wait(timeout: u32) -> u32
+    ensures { result ≡ turn_wait timeout }
+{
+    timeout.min(LONGEST_WAIT)
 }

@@ -4,8 +4,7 @@ ghost use Rattle.bac_links.specs.{is_link_fault, Serves, Inner.ServesTurn};
 
 use crate::datagram::Datagram;
 use crate::fault::ToolFault;
-use crate::link::Link;
-use crate::turns::most_turns;
+use crate::link::{Link, most_turns};
 use bac_device::Device;
 use bac_wire::Frame;
 use bac_work::begin;

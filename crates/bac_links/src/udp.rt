@@ -345,14 +345,14 @@ fn limit_wait<S: Socket>(socket: &mut S, before_ms: u32, wait_ms: u32) -> Result
         .map_err(|_| LinkFault)
 }
 
-// Returns how many receives a wait of this length makes at most: one more after each datagram that is passed over.
+// Returns how many receives a wait of this length makes at most: one more after each datagram that is skipped.
 fn most_looks(wait_ms: u32) -> u32
     ensures { result ≡ most_looks wait_ms }
 {
     if wait_ms == 0 { 256 } else { 4 }
 }
 
-// Returns the sender of the first datagram that is not passed over, if one comes in this many receives.
+// Returns the sender of the first datagram that is not skipped, if one comes in this many receives.
 fn look<S: Socket>(
     socket: &mut S,
     refused: OnRefusal,

@@ -1,13 +1,12 @@
-//! Whole datagrams: reading the contents of one, and writing one that carries an APDU to a peer.
+//! Whole datagrams, read and written: the link header, the network header, and the APDU after both.
 
-ghost use Rattle.std.specs.Prelude.{false, IfOk, IfSome, length, OnErr, OnOk, option_map, Some, ◌+◌, ◌<◌, ◌^◌, ◌≡◌};
-ghost use Rattle.std.specs.Prelude.{◌≤◌};
-ghost use Rattle.{bac_wire.specs.frame_room, bac_pdu.specs.{carried, everyone}};
-ghost use Rattle.bac_pdu.specs.{delivery, IsRoutable, link_at, origin_at, station, Takes, wrapped, Inner.front_octets};
+ghost use Rattle.std.specs.Prelude.{◌+◌, ◌<◌, ◌^◌, ◌≡◌, ◌≤◌, false, IfOk, IfSome, length, OnErr, OnOk, option_map};
+ghost use Rattle.{std.specs.Prelude.Some, bac_wire.specs.frame_room, bac_pdu.specs.{address_at, announced_at}};
+ghost use Rattle.bac_pdu.specs.{behind_hops, carried, delivery, everyone, header_at, IsRoutable, link_at};
+ghost use Rattle.bac_pdu.specs.{network_address, origin_at, plain_header, station, Takes, wrapped};
+ghost use Rattle.bac_pdu.specs.Inner.{address_seen, front_octets, header_seen};
 
-use crate::header::{
-    HEADER_OCTETS, broadcast_header, header_and_rest, local_header, network_header,
-};
+use crate::bits::has_bit;
 use crate::peer::Peer;
 use crate::route::Route;
 use arrayvec::ArrayVec;
@@ -25,6 +24,20 @@ pub struct Carried<'a> {
     pub apdu: &'a [u8],
 }
 
+// The contents of a network header (clause 6.2): the destination and the source, if they are in other networks.
+#[derive(Clone, Copy)]
+struct Header<'a> {
+    destination: Option<Address<'a>>,
+    source: Option<Address<'a>>,
+}
+
+// A station of another network, as in a network header.
+#[derive(Clone, Copy)]
+struct Address<'a> {
+    network: u16,
+    address: &'a [u8],
+}
+
 // The type of each BACnet/IP datagram.
 const BACNET_IP: u8 = 0x81;
 
@@ -37,6 +50,27 @@ const FORWARDED: u8 = 0x04;
 
 // The number that stands for all networks (clause 6.2.2).
 const ALL_NETWORKS: u16 = 0xffff;
+
+// The version of the network header.
+const VERSION: u8 = 1;
+
+// The numbers of the bits of the control octet.
+const NETWORK_MESSAGE: u8 = 7;
+
+const DESTINATION: u8 = 5;
+
+const SOURCE: u8 = 3;
+
+// The control octets that are written.
+const EXPECTS_REPLY: u8 = 0x04;
+
+const DESTINED: u8 = 1 << DESTINATION;
+
+// The hop count of a datagram that no router has passed on.
+const HOPS: u8 = 255;
+
+// The octets of the longest header that is written.
+const HEADER_OCTETS: usize = 13;
 
 // The most octets before an APDU: of the link header and of the network header.
 const FRONT_OCTETS: usize = 4 + HEADER_OCTETS;
@@ -172,6 +206,69 @@ fn origin_and_rest(function: u8, from: Peer, octets: &[u8]) -> Option<(Peer, boo
     }
 }
 
+// Returns the network header at the front, and the APDU after it. `None` if it is cut off, has another version, or is
+// a message of the network layer.
+#[tactic(auto, unfolding(crate::specs::header_at))]
+fn header_and_rest(octets: &[u8]) -> Option<(Header<'_>, &[u8])>
+    ensures { option_map (λ x. (header_seen x.0, x.1.now)) result ≡ header_at octets.now }
+{
+    let [version, control, rest @ ..] = octets else {
+        return None;
+    };
+    if *version != VERSION || has_bit(*control, NETWORK_MESSAGE) {
+        return None;
+    }
+    let destined = has_bit(*control, DESTINATION);
+    let (destination, rest) = announced_and_rest(destined, rest)?;
+    let (source, rest) = announced_and_rest(has_bit(*control, SOURCE), rest)?;
+    let rest = rest_behind_hops(destined, rest)?;
+    Some((
+        Header {
+            destination,
+            source,
+        },
+        rest,
+    ))
+}
+
+// Returns the address, if the control octet announces one, and the octets after it.
+fn announced_and_rest(announced: bool, octets: &[u8]) -> Option<(Option<Address<'_>>, &[u8])>
+    ensures { option_map (λ x. (option_map address_seen x.0, x.1.now)) result
+        ≡ announced_at announced octets.now }
+{
+    if !announced {
+        return Some((None, octets));
+    }
+    let (address, rest) = address_and_rest(octets)?;
+    Some((Some(address), rest))
+}
+
+// Returns a network and an address in it, whose length is in the octet before it, and the octets after.
+#[tactic(auto, unfolding(crate::specs::address_at))]
+fn address_and_rest(octets: &[u8]) -> Option<(Address<'_>, &[u8])>
+    ensures { option_map (λ x. (address_seen x.0, x.1.now)) result ≡ address_at octets.now }
+{
+    let [high, low, count, rest @ ..] = octets else {
+        return None;
+    };
+    let network = BigEndian::read_u16(&[*high, *low]);
+    let (address, rest) = rest.split_at_checked(usize::from(*count))?;
+    Some((Address { network, address }, rest))
+}
+
+// Returns the octets after the hop count, which is present if a destination is.
+fn rest_behind_hops(destined: bool, octets: &[u8]) -> Option<&[u8]>
+    ensures { option_map (λ x. x.now) result ≡ behind_hops destined octets.now }
+{
+    if !destined {
+        return Some(octets);
+    }
+    let [_, rest @ ..] = octets else {
+        return None;
+    };
+    Some(rest)
+}
+
 // Returns the octets before an APDU of this size: the link header and the network header. Returns `Full` if no frame
 // has room for these and the APDU.
 #[tactic(auto, unfolding(crate::specs::Inner::front_octets))]
@@ -220,4 +317,42 @@ fn front_across(network: u16, size: usize) -> [u8; 10]
     [
         BACNET_IP, UNICAST, high, low, version, control, first, second, count, hops,
     ]
+}
+
+// Returns the network header of a datagram to a station. A station of another network is its destination.
+fn network_header(route: Option<Route>, expect: bool) -> ArrayVec<u8, HEADER_OCTETS>
+    ensures value { result.items ≡ plain_header (option_map network_address route) expect }
+    ensures short { length result.items ≤ HEADER_OCTETS }
+    ensures routable { IfSome (option_map network_address route) IsRoutable }
+{
+    let mut header = ArrayVec::new();
+    let [version, control] = local_header(expect);
+    header.push(version);
+    let Some(route) = route else {
+        header.push(control);
+        return header;
+    };
+    let mut network = [0; 2];
+    BigEndian::write_u16(&mut network, route.network());
+    header.push(DESTINED + control);
+    header.try_extend_from_slice(&network).unwrap();
+    header.push(route.address().len() as u8);
+    header.try_extend_from_slice(route.address()).unwrap();
+    header.push(HOPS);
+    header
+}
+
+// Returns the network header of a datagram for a station of this network.
+fn local_header(expect: bool) -> [u8; 2]
+    ensures { result ≡ plain_header None expect }
+{
+    [VERSION, if expect { EXPECTS_REPLY } else { 0 }]
+}
+
+// Returns the network header of a datagram for all stations of a network.
+fn broadcast_header(network: u16) -> [u8; 6]
+    ensures { result ≡ plain_header (Some (everyone network)) false }
+{
+    let [high, low] = network.to_be_bytes();
+    [VERSION, DESTINED, high, low, 0, HOPS]
 }

@@ -5,9 +5,9 @@ ghost use Rattle.bac_wire.specs.{Appends, identifier, IsShortest, Inner.Writing.
 ghost use Rattle.bac_pdu.specs.{asks, i_am_octets, introduction, introduction_of, IsIAmBody, IsWhoIsBody};
 ghost use Rattle.bac_pdu.specs.{who_is_octets, who_is_of, Inner.HasLimits};
 
-use crate::parameter::{append_number, number_and_rest};
+use crate::property::number_and_rest;
 use crate::value::{enumerated_and_rest, identifier_and_rest, unsigned_and_rest};
-use crate::writing::whole_or_nothing;
+use crate::writing::{append_number, whole_or_nothing};
 use bac_wire::{Frame, Full, ObjectId, Value, write_value};
 
 /// The object type of devices (clause 21).

@@ -42,9 +42,7 @@ mod discovery;
 mod examples;
 mod failure;
 mod found;
-mod header;
 pub mod laws;
-mod parameter;
 mod peer;
 mod property;
 mod reject;
@@ -59,10 +57,8 @@ pub use discovery::{DEVICE, IAm, WhoIs, read_iam, read_whois, write_iam, write_w
 pub use failure::{read_error, write_error};
 pub use found::{Found, read_found};
 pub use peer::Peer;
-pub use property::{
-    Ack, ReadRequest, WriteRequest, begin_ack, end_ack, read_ack, read_read, read_write, write_ack,
-    write_read, write_write,
-};
+pub use property::{Ack, ReadRequest, WriteRequest, read_ack, read_read, read_write};
 pub use reject::RejectReason;
 pub use route::{ADDRESS_OCTETS, Route};
 pub use service::{I_AM, READ_PROPERTY, WHO_IS, WRITE_PROPERTY};
+pub use writing::{begin_ack, end_ack, write_ack, write_read, write_write};

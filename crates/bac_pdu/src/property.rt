@@ -1,18 +1,14 @@
-//! ReadProperty, its answer, and WriteProperty, read and written.
+//! The bodies of ReadProperty, its answer and WriteProperty, read.
 
-ghost use Rattle.std.specs.{List.AllByRecursion, Prelude.{IfSome, length, OnOk, option_map, ◌*◌, ◌+◌, ◌≡◌, ◌≤◌}};
-ghost use Rattle.bac_wire.specs.{Appends, IsRegion, IsShortest, result_seen, Inner.Writing.AppendsFront};
-ghost use Rattle.{bac_wire.specs.Limits.deepest, bac_pdu.specs.{ack_end, ack_front, ack_octets, ack_of, ack_seen}};
-ghost use Rattle.bac_pdu.specs.{IsAckBody, IsParameter, IsPriority, IsReadBody, IsWriteBody, order, read_octets};
-ghost use Rattle.bac_pdu.specs.{read_of, reference, reference_parameters, write_octets, write_of};
+ghost use Rattle.std.specs.Prelude.{IfSome, length, option_map, ◌*◌, ◌+◌, ◌<◌, ◌≡◌, ◌≤◌};
+ghost use Rattle.bac_wire.specs.{behind_closing, behind_opening, context_at, enclosed_at, identifier, number_at};
+ghost use Rattle.bac_wire.specs.{object_at, result_seen, DatumReading.number_within};
+ghost use Rattle.bac_pdu.specs.{ack_of, ack_seen, named, optional_at, order, read_of, reference, reference_at};
+ghost use Rattle.bac_pdu.specs.{write_of};
 
-use crate::parameter::{
-    PRIORITY, append_closing, append_enclosed, append_opening, append_optional, append_reference,
-    enclosed_and_rest, optional_and_rest, reference_and_rest,
-};
 use crate::reject::RejectReason;
-use crate::writing::whole_or_nothing;
-use bac_wire::{Frame, Full, ObjectId, Work};
+use bac_wire::{ObjectId, Shape, Work, region, tag_and_rest};
+use byteorder::{BigEndian, ByteOrder};
 
 /// The property, or the element of it, that a ReadProperty asks for (clause 15.5).
 #[derive(Clone, Copy, Debug, PartialEq, Eq)]
@@ -49,6 +45,17 @@ pub struct Ack<'a> {
     /// Whole items, as they are on the wire.
     pub value: &'a [u8],
 }
+
+/// The numbers of the parameters of ReadProperty and WriteProperty.
+pub(crate) const OBJECT: u8 = 0;
+
+pub(crate) const PROPERTY: u8 = 1;
+
+pub(crate) const INDEX: u8 = 2;
+
+pub(crate) const VALUE: u8 = 3;
+
+pub(crate) const PRIORITY: u8 = 4;
 
 /// Reads the body of a ReadProperty: returns the requested property, or the first reason to reject the body.
 ///
@@ -127,89 +134,114 @@ pub fn read_ack<'a>(body: &'a [u8], work: &mut Work) -> Option<Ack<'a>>
     })
 }
 
-/// Appends the body of a ReadProperty, each number in its fewest octets. Returns `Full`, with the frame unchanged, only
-/// if there is no room for it.
-pub fn write_read(frame: &mut Frame, request: &ReadRequest) -> Result<(), Full>
-    ensures appended { Appends frame.old (read_octets (reference request.now)) frame.new result }
-    ensures shortest { OnOk result
-        (IsShortest IsReadBody (read_octets (reference request.now)) (reference request.now)) }
-    ensures read_back { OnOk result (read_of (read_octets (reference request.now)) ≡ Ok (reference request.now)) }
+/// Returns the number in one to four octets under a context tag with this number.
+#[tactic(auto, unfolding(bac_wire::specs::ParameterReading::number_at))]
+pub(crate) fn number_and_rest(number: u8, octets: &[u8]) -> Option<(u32, &[u8])>
+    ensures { option_map (λ x. (x.0, x.1.now)) result ≡ number_at number octets.now }
 {
-    let start = frame.len();
-    let appended = append_reference(frame, request.object, request.property, request.index);
-    whole_or_nothing(frame, start, appended)
+    let (contents, rest) = context_and_rest(number, octets)?;
+    Some((number_in(contents)?, rest))
 }
 
-/// Appends the body of a WriteProperty, each number in its fewest octets. The value must be whole items, with at most
-/// 32 opening tags open at once, and a priority 1 to 16. Returns `Full`, with the frame unchanged, only if there is no
-/// room for it.
-pub fn write_write(frame: &mut Frame, request: &WriteRequest<'_>) -> Result<(), Full>
-    requires region { IsRegion deepest request.now.value.now }
-    requires priority { IfSome request.now.priority IsPriority }
-    ensures appended { Appends frame.old (write_octets (order request.now)) frame.new result }
-    ensures shortest { OnOk result (IsShortest IsWriteBody (write_octets (order request.now)) (order request.now)) }
-    ensures read_back { OnOk result (write_of (write_octets (order request.now)) ≡ Ok (order request.now)) }
+// Returns the object, the property and the index at the front of a body, and the octets after them.
+#[tactic(auto, unfolding(crate::specs::reference_at))]
+fn reference_and_rest(body: &[u8]) -> Result<(ObjectId, u32, Option<u32>, &[u8]), RejectReason>
+    ensures { result_seen (λ x. (named x.0 x.1 x.2, x.3.now)) result ≡ reference_at body.now }
 {
-    let start = frame.len();
-    let appended = append_order(frame, request);
-    whole_or_nothing(frame, start, appended)
+    if body.is_empty() {
+        return Err(RejectReason::MissingParameter);
+    }
+    let Some((object, rest)) = object_and_rest(OBJECT, body) else {
+        return Err(RejectReason::InvalidTag);
+    };
+    if rest.is_empty() {
+        return Err(RejectReason::MissingParameter);
+    }
+    let Some((property, rest)) = number_and_rest(PROPERTY, rest) else {
+        return Err(RejectReason::InvalidTag);
+    };
+    let (index, rest) = optional_and_rest(INDEX, rest);
+    Ok((object, property, index, rest))
 }
 
-/// Appends the body of a ReadProperty-ACK, each number in its fewest octets. The value must be whole items, with at
-/// most 32 opening tags open at once. Returns `Full`, with the frame unchanged, only if there is no room for it.
-pub fn write_ack(frame: &mut Frame, ack: &Ack<'_>) -> Result<(), Full>
-    requires { IsRegion deepest ack.now.value.now }
-    ensures appended { Appends frame.old (ack_octets (ack_seen ack.now)) frame.new result }
-    ensures shortest { OnOk result (IsShortest IsAckBody (ack_octets (ack_seen ack.now)) (ack_seen ack.now)) }
-    ensures read_back { OnOk result (ack_of (ack_octets (ack_seen ack.now)) ≡ Some (ack_seen ack.now)) }
+// Returns the number under a context tag with this number, if there is one, and the octets after it.
+fn optional_and_rest(number: u8, octets: &[u8]) -> (Option<u32>, &[u8])
+    ensures { let found = optional_at number octets.now in (result.0 ≡ found.0) × (result.1.now ≡ found.1) }
 {
-    let start = frame.len();
-    let appended = append_ack(frame, ack);
-    whole_or_nothing(frame, start, appended)
+    match number_and_rest(number, octets) {
+        Some((n, rest)) => (Some(n), rest),
+        None => (None, octets),
+    }
 }
 
-/// Appends the octets before the value in the body of a ReadProperty-ACK, each number in its fewest octets. Returns
-/// `Full`, with the frame unchanged, only if there is no room for it.
-pub fn begin_ack(frame: &mut Frame, request: &ReadRequest) -> Result<(), Full>
-    ensures { Appends frame.old (ack_front (reference request.now)) frame.new result }
+// Returns the whole items between an opening and a closing tag 3.
+#[tactic(auto, unfolding(bac_wire::specs::ParameterReading::enclosed_at))]
+fn enclosed_and_rest<'a>(octets: &'a [u8], work: &mut Work) -> Option<(&'a [u8], &'a [u8])>
+    ensures found { option_map (λ x. (x.0.now, x.1.now)) result ≡ enclosed_at 3 octets.now }
+    ensures walked_once { work.new.tags ≤ work.old.tags + 2 * length octets.now }
 {
-    let start = frame.len();
-    let appended = append_ack_front(frame, request);
-    whole_or_nothing(frame, start, appended)
+    let inside = rest_behind_opening(octets)?;
+    let (items, rest) = inside.split_at(region(inside, work)?);
+    let rest = rest_behind_closing(rest)?;
+    Some((items, rest))
 }
 
-/// Appends the octets after the value in the body of a ReadProperty-ACK. Returns `Full`, with the frame unchanged, only
-/// if there is no room for it.
-pub fn end_ack(frame: &mut Frame) -> Result<(), Full>
-    ensures { Appends frame.old ack_end frame.new result }
+// Returns the object's identifier under a context tag with this number.
+#[tactic(auto, unfolding(bac_wire::specs::ParameterReading::object_at))]
+fn object_and_rest(number: u8, octets: &[u8]) -> Option<(ObjectId, &[u8])>
+    ensures { option_map (λ x. (identifier x.0, x.1.now)) result ≡ object_at number octets.now }
 {
-    append_closing(frame)
+    let (contents, rest) = context_and_rest(number, octets)?;
+    if contents.len() != 4 {
+        return None;
+    }
+    let object = ObjectId::of_number(BigEndian::read_u32(contents));
+    Some((object, rest))
 }
 
-// Appends the body of a WriteProperty. If there is no room, the beginning of it may stay.
-fn append_order(frame: &mut Frame, request: &WriteRequest<'_>) -> Result<(), Full>
-    ensures appended { AppendsFront frame.old (write_octets (order request.now)) frame.new result }
-    ensures known { OnOk result (AllByRecursion IsParameter (reference_parameters (order request.now).reference)) }
+// Returns the contents under a context tag with this number.
+#[tactic(auto, unfolding(bac_wire::specs::ParameterReading::context_at))]
+#[inline(always)]
+fn context_and_rest(number: u8, octets: &[u8]) -> Option<(&[u8], &[u8])>
+    ensures { option_map (λ x. (x.0.now, x.1.now)) result ≡ context_at number octets.now }
 {
-    append_reference(frame, request.object, request.property, request.index)?;
-    append_enclosed(frame, request.value)?;
-    append_optional(frame, PRIORITY, request.priority.map(u32::from))
+    let (tag, rest) = tag_and_rest(octets)?;
+    match tag.shape {
+        Shape::Context(count) if tag.number == number => rest.split_at_checked(count as usize),
+        _ => None,
+    }
 }
 
-// Appends the body of a ReadProperty-ACK. If there is no room, the beginning of it may stay.
-fn append_ack(frame: &mut Frame, ack: &Ack<'_>) -> Result<(), Full>
-    ensures appended { AppendsFront frame.old (ack_octets (ack_seen ack.now)) frame.new result }
-    ensures known { OnOk result (AllByRecursion IsParameter (reference_parameters (ack_seen ack.now).reference)) }
+fn number_in(contents: &[u8]) -> Option<u32>
+    ensures { result ≡ number_within 4 contents.now }
 {
-    append_reference(frame, ack.object, ack.property, ack.index)?;
-    append_enclosed(frame, ack.value)
+    match contents {
+        [] => None,
+        [n] => Some(u32::from(*n)),
+        _ if 4 < contents.len() => None,
+        _ => Some(BigEndian::read_uint(contents, contents.len()) as u32),
+    }
 }
 
-// Appends the octets before the value in the body of a ReadProperty-ACK. If there is no room, the beginning of them may
-// stay.
-fn append_ack_front(frame: &mut Frame, request: &ReadRequest) -> Result<(), Full>
-    ensures { AppendsFront frame.old (ack_front (reference request.now)) frame.new result }
+#[tactic(auto, using(bac_wire::proofs::ItemLaws::after_shorter), unfolding(bac_wire::specs::ParameterReading::behind_opening))]
+fn rest_behind_opening(octets: &[u8]) -> Option<&[u8]>
+    ensures found { option_map (λ x. x.now) result ≡ behind_opening 3 octets.now }
+    ensures shorter { IfSome result (λ x. length x.now < length octets.now) }
 {
-    append_reference(frame, request.object, request.property, request.index)?;
-    append_opening(frame)
+    let (tag, rest) = tag_and_rest(octets)?;
+    match tag.shape {
+        Shape::Opening if tag.number == VALUE => Some(rest),
+        _ => None,
+    }
+}
+
+#[tactic(auto, unfolding(bac_wire::specs::ItemReading::behind_closing))]
+fn rest_behind_closing(octets: &[u8]) -> Option<&[u8]>
+    ensures { option_map (λ x. x.now) result ≡ behind_closing 3 octets.now }
+{
+    let (tag, rest) = tag_and_rest(octets)?;
+    match tag.shape {
+        Shape::Closing if tag.number == VALUE => Some(rest),
+        _ => None,
+    }
 }

@@ -1,11 +1,13 @@
 -- Texts that are printed in several pieces, folded or not; texts on a page of their own; and the texts of values.
 use Rattle.std.proofs.Common.{[], ap, append-nil, append_assoc, arith, Bool, codes, decimal, drop, Err, false, flat_map}
-use Rattle.std.proofs.Common.{get_or, IfSome, if◌then◌else◌, inl, inr, is_err, length, length-append, length-take, List}
-use Rattle.std.proofs.Common.{lit<, min, nat_lt, None, not, Ok, Option, option_map, pos, position, refl, Result, Some}
-use Rattle.std.proofs.Common.{subst, suc, sym, take, take-append-drop, true, unsigned_abs, unwrap_or, zero, ℕ, ℤ, ◌*◌}
+use Rattle.std.proofs.Common.{get_or, IfSome, if◌then◌else◌, inl, inr, is_err, is_some, length, length-append}
+use Rattle.std.proofs.Common.{length-take, List, lit<, min, nat_lt, None, not, Ok, Option, option_map, pos, position}
+use Rattle.std.proofs.Common.{refl, Result, Some, subst, suc, sym, take, take-append-drop, true, unsigned_abs}
+use Rattle.std.proofs.Common.{unwrap_or, zero, ℕ, ℤ, ◌*◌}
 use Rattle.std.proofs.Common.{◌++◌, ◌+◌, ◌-◌, ◌<ℤ◌, ◌<◌, ◌==◌, ◌^◌, ◌||◌, ◌∙◌, ◌∷◌, ◌≡◌, ◌≢◌, ◌≤◌}
 use Rattle.std.proofs.lemmas.{Bool.{cases_Bool, false≢true, Decides.nat_tests}, Fmt.length-decimal-le}
-use Rattle.std.proofs.lemmas.{Grind.flat_map-append, Int.{ints, to_z-of_z}, List.{take_more, Sums.fold-append}}
+use Rattle.std.proofs.lemmas.{Grind.flat_map-append, Int.{ints, to_z-of_z}, List.{take_all, take_more}}
+use Rattle.std.proofs.lemmas.List.Sums.{fold-append}
 use Rattle.std.proofs.{lemmas.{List.Sums.prefix_len-le-length, Option.none-some}, Math.Seq.take-append-add}
 use Rattle.std.specs.{declared.io.Error.Error, Fmt.signed_decimal, Io.KnownBytes.{Appends, WriteAppends}}
 use Rattle.std.specs.{List.position_or_len, Option.option_map_or, Result.result_unwrap_or}
@@ -81,6 +83,15 @@ plain_front text front room is =
     let (same, left) = plain_before text (min place room) room (omega arith) (omega arith) in
     let long : length front ≡ min place room = grind (arith, front_is, length-take, within) in
     (rw front_is same, rw front_is left ∙ ap (λ (n : ℕ). room - n) (sym long))
+
+-- A text in which no line feed was found stays as it is, if it fits in its line.
+pub plain_text : (text : List ℕ) (room : ℕ) (found : Option ℕ) → found ≡ position (λ octet. octet == 10) text
+    → is_some found ≡ false → length text ≤ room
+    → (folded room text ≡ text) × (left_after room text ≡ room - length text)
+plain_text text room found is none fits =
+    let place = unwrap_or (position (λ octet. octet == 10) text) (length text) in
+    let whole : place ≡ length text = grind (arith, is, none) in
+    plain_front text text room (sym (take_all (min place room) text (grind (arith, whole, fits))))
 
 -- ---- one call more
 

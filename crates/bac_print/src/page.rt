@@ -109,8 +109,26 @@ impl<'w, W: Write> Page<'w, W> {
         }
     }
 
-    // Adds a text to the page, folded, if its first line has this much room. Returns the room after it.
+    // Adds a text to the page, folded, if its first line has this much room. Returns the room after it. Most texts end
+    // before their line does, and fit in it: the compiler knows that of a constant.
+    #[inline(always)]
     fn fold(&mut self, text: &[u8], room: usize) -> usize
+        ensures text { Holds W.contents self.old self.new (folded room text.now) }
+        ensures left { result ≡ left_after room text.now }
+    {
+        if let [b'\n'] = text {
+            self.hold(text);
+            return FOLDED_LINE;
+        }
+        if text.len() <= room && feed_position(text).is_none() {
+            self.hold(text);
+            return room - text.len();
+        }
+        self.fold_lines(text, room)
+    }
+
+    // Adds a text of several lines, or of one that may not fit, and returns the room after it.
+    fn fold_lines(&mut self, text: &[u8], room: usize) -> usize
         ensures text { Holds W.contents self.old self.new (folded room text.now) }
         ensures left { result ≡ left_after room text.now }
     {

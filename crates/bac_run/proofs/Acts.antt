@@ -1,4 +1,5 @@
 -- Lemmas about acts one after another.
+use Rattle.bac_run.specs.{Closed}
 use Rattle.bac_run.specs.{Rested, sends_at, Sought}
 use Rattle.std.proofs.Common.{[], ap, append_assoc, arith, Bool, drop, Err, false, get_or, inl, inr, length, List}
 use Rattle.std.proofs.Common.{nat_lt, None, Ok}
@@ -198,6 +199,7 @@ within_append window client (Told time ∷ xs) ys here later =
     within_append window (turn_at client (Told time)).after xs ys here later
 within_append window client (Read time ∷ xs) ys here later =
     within_append window (turn_at client (Read time)).after xs ys here later
+within_append window client (Closed ∷ xs) ys here later = within_append window client xs ys here later
 
 -- Acts, and then acts of the client after them.
 pub within_more : (window : ℕ) (client middle : Client) (xs ys : List Act) → middle ≡ client_after client xs

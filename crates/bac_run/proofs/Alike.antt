@@ -1,4 +1,5 @@
 -- Two runs from one stage on: as far as they were answered alike, they did the same acts and made the same calls.
+use Rattle.bac_run.specs.{Closed}
 use Rattle.bac_run.specs.{Rested, Rests, sends_at, Sought}
 use Rattle.std.proofs.Common.{[], ap, append_assoc, Bool, false, inl, inr, length, List, map, refl, subst, suc, sym}
 use Rattle.std.proofs.Common.{true, ℕ, ◌++◌, ◌∙◌, ◌∷◌}
@@ -318,6 +319,7 @@ begins_cut (NoLine reading) due gained P on cut = on gained cut
 begins_cut (Sought to octets) due gained P on cut = on gained cut
 begins_cut (Rested time) due gained P on cut = on gained cut
 begins_cut (Told time) due gained P on cut = on gained cut
+begins_cut Closed due gained P on cut = on gained cut
 
 -- A list of acts, each of which was due, and their calls.
 pub steps_of : (timeout : ℕ) (stage : Stage) (client : Client) (acts : List Act) (gained : List Entry) (lost : Bool)

@@ -1,4 +1,5 @@
 -- The notes of a run are those of the look-ahead.
+use Rattle.bac_run.specs.{Closed}
 use Rattle.bac_run.specs.{Rested, Sought}
 use Rattle.std.proofs.Common.{[], ap, arith, length, List, map, None, refl, suc, sym, take_all, ℕ, ◌*◌, ◌++◌, ◌+◌, ◌∙◌}
 use Rattle.std.proofs.Common.{◌∷◌, ◌≡◌, ◌≤◌}
@@ -43,6 +44,7 @@ told client i (Came wait from octets ∷ later) =
     ∙ ap (λ (ns : List Note). (turn_at client (Came wait from octets)).notes ++ ns) (told (turn_at client
     (Came wait from octets)).after (suc i) later)
 told client i (Passed wait heard ∷ later) = told client i later
+told client i (Closed ∷ later) = told client i later
 told client i (Read time ∷ later) = told client i later
 told client i (Told time ∷ later) =
     bare-append (map (λ (note : Note). (i, note)) (turn_at client (Told time)).notes) _
@@ -62,6 +64,7 @@ left client i (Sought to octets ∷ later) = left client i later
 left client i (Rested time ∷ later) = left client i later
 left client i (Came wait from octets ∷ later) = left (turn_at client (Came wait from octets)).after (suc i) later
 left client i (Passed wait heard ∷ later) = left client i later
+left client i (Closed ∷ later) = left client i later
 left client i (Read time ∷ later) = left client i later
 left client i (Told time ∷ later) = left (turn_at client (Told time)).after (suc i) later
 

@@ -4,7 +4,7 @@ use Rattle.std.proofs.Common.{ℕ, ◌++◌, ◌∙◌, ◌∷◌, ◌≡◌, �
 use Rattle.{bac_tsm.specs.Client.Client, bac_print.proofs.Printed.{folded-append, laid_out-append, laid_out-none}}
 use Rattle.bac_print.specs.{folded_line, has_failed, held, octets_of, Prints, room_of, writer_of, Writes}
 use Rattle.{bac_print.specs.Page.{folded, laid_out, left_after, Wrote}, bac_run.proofs.Acts.journal-append}
-use Rattle.bac_run.specs.{Act, Checked, client_after, IsOut, WantsOut, journal, journal_lines, journal_of, new_client}
+use Rattle.bac_run.specs.{Act, Checked, client_after, WantsOut, journal, journal_lines, journal_of, new_client}
 use Rattle.{bac_run.specs.{Page, Setup, settings_line, Inner.{HasPassed, IsOutAt}}}
 use Rattle.{bac_script.specs.{IsFrontOf, NextLine.IsTurnedIn}}
 
@@ -50,14 +50,6 @@ split_at (x ∷ xs) ys (e ∷ earlier) later wait is =
 no_split : {A : Type 0} (xs ys : List A) (x : A) → [] ≡ xs ++ x ∷ ys → ⊥
 no_split [] ys x is = absurd (cc)
 no_split (z ∷ xs) ys x is = absurd (cc)
-
--- An act that needs no output to be written before it.
-pub out_unwaited : {W : Type 0} (setup : Setup) (before after : Checked W) (act : Act) → (WantsOut act → ⊥)
-    → IsOut setup before after (act ∷ [])
-out_unwaited setup before after act never [] later wait waits is =
-    let same : act ≡ wait = cc in absurd (never (subst (λ (a : Act). WantsOut a) (sym same) waits))
-out_unwaited setup before after act never (x ∷ []) later wait waits is = absurd (cc)
-out_unwaited setup before after act never (x ∷ y ∷ earlier) later wait waits is = absurd (cc)
 
 module _ {W : Type 0} where
   -- If no text is held, all printed text was written.

@@ -16,7 +16,7 @@ use Rattle.bac_tsm.specs.Events.{Aborted, BadError, Complex, Failed, Rejected, S
 use Rattle.bac_print.specs.{peer_text, Outcomes.outcome_text, PeerTexts.{address_text, route_text}}
 use Rattle.bac_print.specs.Values.{ack_text, bits_text, datum_text, lettered, octet_bits, quoted, quoted_octet}
 use Rattle.{bac_print.specs.Values.{region_text, values_text}, bac_script.specs.Text.{note_text, refusal_text}}
-use Rattle.bac_run.{proofs.ReadBack.{IsShown}, specs.{rest_text, seek_text}}
+use Rattle.bac_run.{proofs.ReadBack.{IsShown}, specs.{closing_text, rest_text, seek_text}}
 
 -- An octet of ASCII except the line feed.
 abbrev pub IsPlainOctet : ℕ → Type 0
@@ -234,7 +234,7 @@ note_plain Dropped = line_is (codes "drop") _ refl refl
 note_plain (TimedOut ticket) =
     line_is (codes "timeout " ++ decimal ticket) _ (decimal_plain ticket) (grind (arith, append_assoc))
 
--- ---- the remarks of a Who-Is and of a wait
+-- ---- the remarks of a Who-Is, of a wait and of the end
 
 pub seek_plain : (to : Station) (octets : List ℕ) → IsPlainLine (seek_text to octets)
 seek_plain to octets =
@@ -243,3 +243,6 @@ seek_plain to octets =
 
 pub rest_plain : (pause : ℕ) → IsPlainLine (rest_text pause)
 rest_plain pause = line_is (codes "wait " ++ decimal pause) _ (decimal_plain pause) (grind (arith, append_assoc))
+
+pub closing_plain : IsPlainLine closing_text
+closing_plain = line_is (codes "end of the run") _ refl refl

@@ -1,4 +1,5 @@
 -- The acts of a run are read back from its journal.
+use Rattle.bac_run.specs.{Closed}
 use Rattle.std.proofs.Common.{[], ap, append-nil, arith, Err, false, inl, inr, length, List, None, Ok, Option}
 use Rattle.std.proofs.Common.{option_map, refl, Result, Some, subst, sym}
 use Rattle.std.proofs.Common.{unwrap_or, ℕ, ◌++◌, ◌<◌, ◌∙◌, ◌∷◌, ◌≡◌, ◌≤◌, ◌⊎◌}
@@ -83,6 +84,7 @@ acts_back (Came wait from octets ∷ later) is (here, fit) = (came_back wait fro
 acts_back (Passed wait heard ∷ later) is (_, fit) = (tt, acts_back later is fit)
 acts_back (Told time ∷ later) is (here, fit) = (time_read_back time here, acts_back later is fit)
 acts_back (Read time ∷ later) is (_, fit) = (tt, acts_back later is fit)
+acts_back (Closed ∷ later) is (_, fit) = (tt, acts_back later is fit)
 
 -- The acts that were done are the first of those that the lines ask for.
 done_front : (result : Result TraceEnd RunFault) (taken : List (List ℕ)) (kept : List ℕ) (acts : List Act)

@@ -1,4 +1,5 @@
 -- The journal, read as a script.
+use Rattle.bac_run.specs.{Closed}
 use Rattle.bac_run.specs.{Rested, Sought}
 use Rattle.std.proofs.Common.{[], ap, append-nil, append_assoc, arith, codes, Bool, false, List, None, refl, subst}
 use Rattle.std.proofs.Common.{sym, ℕ, ◌++◌, ◌+◌, ◌∙◌}
@@ -8,7 +9,7 @@ use Rattle.bac_script.proofs.Courses.{settings_first, text_from, text_is, Chunks
 use Rattle.bac_script.specs.{Blank, Happens, lines, Remark, Said, Inner.Running.{ran, ScriptStage}}
 use Rattle.bac_script.specs.{Script.{all_said, fault_from, first_fault, said_from, text}, Text.notes_text}
 use Rattle.bac_run.proofs.{Folded.{lay, line_laid, plain_skipped, remarks_skipped}, Plain.{IsPlainLine, rest_plain}}
-use Rattle.bac_run.proofs.Plain.{seek_plain}
+use Rattle.bac_run.proofs.Plain.{closing_plain, seek_plain}
 use Rattle.bac_run.specs.{Act, AreSettings, Asked, AtEnd, Came, IsLineOf, IsReplayed, journal, journal_of, line_of}
 use Rattle.bac_run.specs.{new_client, NoLine, notes_of, Passed, Paused, Read, remarks, Setup, settings_line, Told}
 use Rattle.bac_run.specs.{Took, turn_at}
@@ -75,6 +76,7 @@ act_then client (Told time) rest is = event_then client (Tick time) _ rest is
 act_then client (Read time) rest is = refl
 act_then client (Took line) rest is = refl
 act_then client (NoLine reading) rest is = refl
+act_then client Closed rest is = plain_then client rest closing_plain
 
 notes_text-append : (xs ys : List Note) → notes_text (xs ++ ys) ≡ notes_text xs ++ notes_text ys
 notes_text-append = grind (arith, flat_map-append)
@@ -139,6 +141,7 @@ act_well client (Told time) rest is well = event_well _ rest is well
 act_well client (Read time) rest is well = well
 act_well client (Took line) rest is well = well
 act_well client (NoLine reading) rest is well = well
+act_well client Closed rest is well = plain_well rest closing_plain well
 
 journal_well : (client : Client) (acts : List Act) → AllByRecursion IsReplayed acts
     → Faultless (lay (journal client acts))

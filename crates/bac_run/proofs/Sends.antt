@@ -1,4 +1,5 @@
 -- A run sent the datagrams that its remarks name.
+use Rattle.bac_run.specs.{Closed}
 use Rattle.bac_run.specs.{Rested, sends_at, sends_of, Sought, sought_in}
 use Rattle.std.proofs.Common.{[], ap, append_assoc, arith, Bool, Err, false, inl, inr, List, Ok, Option, refl, Result}
 use Rattle.std.proofs.Common.{sym, true, ℕ, ◌++◌, ◌∙◌, ◌∷◌, ◌≡◌}
@@ -25,6 +26,7 @@ asked_none (Came wait from octets) = refl
 asked_none (Passed wait heard) = refl
 asked_none (Told time) = refl
 asked_none (Read time) = refl
+asked_none Closed = refl
 
 -- The sends of an act: a Who-Is, or those of the notes.
 sent_at : (client : Client) (act : Act)
@@ -39,6 +41,7 @@ sent_at client (NoLine reading) = refl
 sent_at client (Rested time) = refl
 sent_at client (Passed wait heard) = refl
 sent_at client (Read time) = refl
+sent_at client Closed = refl
 
 due_sent : (client : Client) (act : Act) → flat_map posted_in (asked_by act ++ sends_at client act)
     ≡ sought_in act ++ flat_map sent_in (turn_at client act).notes

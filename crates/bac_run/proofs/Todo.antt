@@ -11,14 +11,14 @@ use Rattle.bac_run.specs.{acts_of_result, limits_of, own_by, own_of, Rested, res
 use Rattle.{bac_tsm.specs.{Ask, Data, Tick, Client.Client}}
 use Rattle.bac_script.specs.{Blank, Happens, Remark, Said, Settings, Line.Asks}
 use Rattle.bac_links.specs.{Arrived, Failure, Heard, most_turns, Silence}
-use Rattle.bac_run.specs.{Act, acted, acts_or_none, Aim, aims_for, AllDone, Broken, Came, Does, DueIn}
+use Rattle.bac_run.specs.{Act, acted, acts_or_none, Aim, aims_for, AllDone, Broken, Came, closing, Does, DueIn, end_by}
 use Rattle.bac_run.specs.{Ends, EndsAt, first_stage, Fresh, freshened, Goes, heard_at, input_in, inputs_in, is_reached}
 use Rattle.bac_run.specs.{IsGood, left_of, line_in, lines_in, LineFault, longest_row, Looked, moved}
 use Rattle.bac_run.specs.{moved_in}
 use Rattle.bac_run.specs.{new_client, NextLine, NoLine, open_in, Outside, Passed, passed_at, Phase, Read, renewed}
 use Rattle.bac_run.specs.{result_in, RunFault}
 use Rattle.bac_run.specs.{said_of, Setup, settled_in, Stage, stage_after, stage_by, taking, Telling, telling}
-use Rattle.bac_run.specs.{TimeTold, Took, TraceEnd, Turns}
+use Rattle.bac_run.specs.{TimeTold, Took, TraceEnd, TraceFault, Turns}
 
 -- The acts of the taken lines that are still to be done, from the aims.
 abbrev todo : List Aim → List Act
@@ -87,6 +87,10 @@ renewed_todo : (aims : List Aim) → todo aims ≡ todo (renewed aims)
 renewed_todo [] = refl
 renewed_todo (Turns until left ∷ later) = refl
 renewed_todo (aim ∷ later) = refl
+
+closing_todo : (end : Result TraceEnd TraceFault) (later : List Aim) → [] ≡ todo (closing end later)
+closing_todo (Ok end) later = refl
+closing_todo (Err fault) later = refl
 
 -- ---- the act of a line `who` or `wait`
 
@@ -172,7 +176,8 @@ moved_todo timeout stage Outside (Does due ∷ later) act is (same, none) =
     ∙ ap (λ (ls : List (List ℕ)). (input_in act ++ todo later) ++ flat_map acts_or_none ls) none ∙ append-nil _
 moved_todo timeout stage Outside (NextLine window taken ∷ later) (Took line) is due =
     append-nil (acts_or_none line) ∙ sym (line_todo line window (suc taken) later)
-moved_todo timeout stage Outside (NextLine window taken ∷ later) (NoLine reading) is due = refl
+moved_todo timeout stage Outside (NextLine window taken ∷ later) (NoLine reading) is due =
+    closing_todo (end_by reading taken) later
 moved_todo timeout stage (Looked time) aims (Came wait from octets) is due =
     same_todo _ _ (ap todo (sym is ∙ sym (heard_aims (acted stage (Came wait from octets)) time)))
 moved_todo timeout stage (Looked time) aims (Passed wait heard) is due =

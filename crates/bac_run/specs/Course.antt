@@ -12,8 +12,8 @@ use Rattle.bac_links.specs.declared.fault.ToolFault.TheVariants.{ReceiveFailed, 
 use Rattle.bac_run.specs.declared.{fault.RunFault.{RunFault, TheVariants.{Link, Script}}}
 use Rattle.bac_run.specs.declared.turns.Until.{Until, TheVariants.{ClockAt, FewOpen, TimeTold}}
 use Rattle.bac_run.specs.Input.{acts_of_line, fault_of_line, line_in}
-use Rattle.bac_run.specs.Journal.{Act, Asked, Came, has_line, NoLine, Passed, Paused, Read, Rested, Sought, Told}
-use Rattle.bac_run.specs.Journal.{Took, turn_at}
+use Rattle.bac_run.specs.Journal.{Act, Asked, Came, Closed, has_line, NoLine, Passed, Paused, Read, Rested, Sought}
+use Rattle.bac_run.specs.Journal.{Told, Took, turn_at}
 
 -- An aim of a run: to take at most this many turns until a wait is over; to read the time for a request; to read the
 -- time from which a wait of this many milliseconds begins; to do what a line asks for; to take the next line, after
@@ -129,9 +129,14 @@ room_for window = Turns (FewOpen (window - 1)) most_turns
 abbrev pub taking : (window taken : ℕ) → List Aim → List Aim
 taking window taken later = room_for window ∷ NextLine window taken ∷ later
 
+-- A run that ends well closes its journal before.
+abbrev pub closing : Result TraceEnd TraceFault → List Aim → List Aim
+closing (Ok end) later = Does Closed ∷ Ends (Ok end) ∷ later
+closing (Err fault) later = Ends (Err fault) ∷ later
+
 -- No more lines are taken: once no request is open, the run ends with this result.
 abbrev pub ending : Result TraceEnd TraceFault → List Aim → List Aim
-ending end later = Turns (FewOpen 0) most_turns ∷ Ends end ∷ later
+ending end later = Turns (FewOpen 0) most_turns ∷ closing end later
 
 -- The aims after the line with this number: its acts, and then the next line; but after a bad line no more lines.
 abbrev pub aims_for : Option (List Act) → (window number : ℕ) → (line : List ℕ) → List Aim → List Aim

@@ -12,7 +12,7 @@ use Rattle.bac_links.specs.{Arrived, Entry, Heard, Posted, Timed, Waited}
 -- the request of a line; it has waited at a line without words; it sends a Who-Is, which opens no request; it has
 -- waited this many milliseconds for a line; it receives a datagram in a wait of this length, and passes it to the
 -- client; it waits this long and receives nothing for the client; it reads the time; the client gets a time that was
--- read.
+-- read; it ends well, and closes its journal.
 pub data Act : Type 0 where
   Took : (line : List ℕ) → Act
   NoLine : (reading : Reading) → Act
@@ -24,6 +24,7 @@ pub data Act : Type 0 where
   Passed : (wait : ℕ) (heard : Heard) → Act
   Read : (time : ℕ) → Act
   Told : (time : ℕ) → Act
+  Closed : Act
 
 -- The notes of the client, and the client after them.
 pub record Turn : Type 0 where
@@ -86,6 +87,10 @@ seek_text to octets = codes "who " ++ (peer_text to ++ 32 ∷ (encode_lower octe
 abbrev pub rest_text : ℕ → List ℕ
 rest_text time = codes "wait " ++ (decimal time ++ 10 ∷ [])
 
+-- The closing remark, which is the last line of a whole journal.
+abbrev pub closing_text : List ℕ
+closing_text = codes "end of the run\n"
+
 -- The line of an act in the journal.
 abbrev pub line_of : Act → List ℕ
 line_of (Asked line event) = whole_line line
@@ -94,6 +99,7 @@ line_of (Sought to octets) = codes "# " ++ seek_text to octets
 line_of (Rested time) = codes "# " ++ rest_text time
 line_of (Came wait from octets) = arrival_line from octets
 line_of (Told time) = time_line time
+line_of Closed = codes "# " ++ closing_text
 line_of _ = []
 
 -- The answer of the link fits its line: an address of 32 bits and a port of 16, without a route, and octets that have a

@@ -4,11 +4,11 @@ ghost use Rattle.std.specs.Prelude.{[], codes, Err, false, List, replicate, true
 ghost use Rattle.{bac_tsm.specs.Tick, bac_script.specs.{Blank, Happens, declared.line.LineFault.TheVariants.TooLong}};
 ghost use Rattle.std.specs.Prelude.{None, Some};
 ghost use Rattle.bac_run.specs.{acts_of_line, ClockAt, moved, Rested, Rests, sends_of, Sought, taking, Turns};
-ghost use Rattle.bac_run.specs.{AreSent, AreSteady, Asked, AskNext, AtEnd, BadLine, Came, Does, EndsAt, EndsWithFeed};
-ghost use Rattle.bac_run.specs.{events_of, Failed, Feeds, FitsLine, Fresh, Goes, HasNoFeed, IsAsked, IsDue, IsLineOf};
-ghost use Rattle.bac_run.specs.{IsOut, IsPassed, IsReplayed, IsWithin, journal, journal_of, Link, NextLine};
-ghost use Rattle.bac_run.specs.{NoLine, notes_of, Open, Passed, passed_at, Paused, posted_in, Read, ReadFailed};
-ghost use Rattle.bac_run.specs.{ReceiveFailed, room_for, Runs, said_of, Script};
+ghost use Rattle.bac_run.specs.{AreSent, AreSteady, Asked, AskNext, AtEnd, BadLine, Came, Closed, Does, EndsAt};
+ghost use Rattle.bac_run.specs.{EndsWithFeed, events_of, Failed, Feeds, FitsLine, Fresh, Goes, HasNoFeed, IsAsked};
+ghost use Rattle.bac_run.specs.{IsDue, IsLineOf, IsOut, IsPassed, IsReplayed, IsWithin, journal, journal_of, Link};
+ghost use Rattle.bac_run.specs.{NextLine, NoLine, notes_of, Open, Passed, passed_at, Paused, posted_in, Read};
+ghost use Rattle.bac_run.specs.{ReadFailed, ReceiveFailed, room_for, Runs, said_of, Script};
 ghost use Rattle.bac_run.specs.{SendFailed, sent_in, stage_after, time_line, Told, Took, TurnsSpent};
 ghost use Rattle.bac_run.specs.{FewOpen, LastIsDue, Telling, WantsLine, write_failed, Inner.drained};
 ghost use Rattle.bac_run.specs.Inner.{about, answer, asked, busy, deaf, desk, ended, filled, history_of, idle};
@@ -94,9 +94,19 @@ fn examples_of_lines()
     // A line of 4,096 octets that ends in a carriage return.
     ensures too_long { said_of (replicate 4095 32 ++ 13 ∷ []) ≡ Err TooLong }
 
+    // A run that ends well closes its journal once no request is open. No other run closes it.
+    ensures closed { Goes 3000 (about idle 0 (NextLine 2 1 ∷ [])) (NoLine AtEnd ∷ Closed ∷ []) }
+    ensures closed_twice { Goes 3000 (about idle 0 (NextLine 2 1 ∷ [])) (NoLine AtEnd ∷ Closed ∷ Closed ∷ []) → ⊥ }
+    ensures closed_early { Goes 3000 (about busy 0 (NextLine 2 1 ∷ [])) (NoLine AtEnd ∷ Closed ∷ []) → ⊥ }
+    ensures closed_unread { Goes 3000 (about idle 0 (NextLine 2 1 ∷ [])) (NoLine Failed ∷ Closed ∷ []) → ⊥ }
+    ensures closed_bad { Goes 3000 (about idle 0 (NextLine 2 1 ∷ [])) (Took (codes "tick 1\n") ∷ Closed ∷ []) → ⊥ }
+
     // The ends of a run.
-    ensures ended { EndsAt (ended 1) (stage_after 3000 (about idle 0 (NextLine 2 1 ∷ [])) (NoLine AtEnd ∷ [])) }
-    ensures other_count { EndsAt (ended 2) (stage_after 3000 (about idle 0 (NextLine 2 1 ∷ [])) (NoLine AtEnd ∷ []))
+    ensures ended { EndsAt (ended 1) (stage_after 3000 (about idle 0 (NextLine 2 1 ∷ [])) (NoLine AtEnd ∷ Closed
+        ∷ [])) }
+    ensures other_count { EndsAt (ended 2) (stage_after 3000 (about idle 0 (NextLine 2 1 ∷ [])) (NoLine AtEnd ∷ Closed
+        ∷ [])) → ⊥ }
+    ensures unclosed { EndsAt (ended 1) (stage_after 3000 (about idle 0 (NextLine 2 1 ∷ [])) (NoLine AtEnd ∷ []))
         → ⊥ }
     ensures still_open { EndsAt (ended 1) (stage_after 3000 (about busy 0 (NextLine 2 1 ∷ [])) (NoLine AtEnd ∷ [])) →
         ⊥ }
@@ -110,7 +120,7 @@ fn examples_of_lines()
     ensures unread { EndsAt (Err (Script ReadFailed))
         (stage_after 3000 (about idle 0 (NextLine 2 1 ∷ [])) (NoLine Failed ∷ [])) }
     ensures read_to_its_end { EndsAt (Err (Script ReadFailed))
-        (stage_after 3000 (about idle 0 (NextLine 2 1 ∷ [])) (NoLine AtEnd ∷ [])) → ⊥ }
+        (stage_after 3000 (about idle 0 (NextLine 2 1 ∷ [])) (NoLine AtEnd ∷ Closed ∷ [])) → ⊥ }
     ensures spent { EndsAt (Err (Link TurnsSpent)) (waiting 0 0) }
     ensures not_spent { EndsAt (Err (Link TurnsSpent)) (waiting 0 9) → ⊥ }
     ensures unheard { EndsAt (Err (Link ReceiveFailed)) deaf }
@@ -221,7 +231,8 @@ fn examples_of_acts()
 fn examples_of_runs()
     ensures answered { IsRunOf read_line
         (codes "client 3000 3 0\nread 127.0.0.1 0 5 85\n# send 0 127.0.0.1:47808 810a001101040005010c0c000000051955\n"
-        ++ codes "data 127.0.0.1:47808 810a0017010030010c0c0000000519553e444290999a3f\n# done 0 value 4290999a\n")
+        ++ codes "data 127.0.0.1:47808 810a0017010030010c0c0000000519553e444290999a3f\n# done 0 value 4290999a\n"
+        ++ codes "# end of the run\n")
         (Timed 0 ∷ Posted desk octets ∷ Timed 5 ∷ Waited 50 (Arrived desk answer) ∷ []) }
 
     // Whatever is printed: a remark uses no link, and the request of a line is sent.
@@ -230,10 +241,11 @@ fn examples_of_runs()
     ensures unsent { (printed : List ℕ) → IsRunOf read_line printed
         (Timed 0 ∷ Timed 5 ∷ Waited 50 (Arrived desk answer) ∷ []) → ⊥ }
 
-    // For a remark only the settings are printed, the time is not read, and the line is not bad.
-    ensures over_a_remark { IsRunOf (codes "# x\n") (codes "client 3000 3 0\n") [] }
+    // For a remark only the settings and the closing remark are printed, the time is not read, and the line is not bad.
+    ensures over_a_remark { IsRunOf (codes "# x\n") (codes "client 3000 3 0\n# end of the run\n") [] }
+    ensures unclosed { IsRunOf (codes "# x\n") (codes "client 3000 3 0\n") [] → ⊥ }
     ensures looked { (printed : List ℕ) → IsRunOf (codes "# x\n") printed (Timed 0 ∷ []) → ⊥ }
-    ensures printed_otherwise { IsRunOf (codes "# x\n") (codes "client 3000 3 1\n") [] → ⊥ }
+    ensures printed_otherwise { IsRunOf (codes "# x\n") (codes "client 3000 3 1\n# end of the run\n") [] → ⊥ }
     ensures ended_otherwise { (timed : 0 < 3000) (some : 0 < 1) → Runs unknown unknown (one_by_one timed some) (fresh 0)
         (drained (codes "# x\n")) (fresh 0) (filled (codes "client 3000 3 0\n")) (link_with []) (link_with [])
         (Err (Script (BadLine 1))) → ⊥ }

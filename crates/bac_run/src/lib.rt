@@ -21,7 +21,6 @@
 
 mod examples;
 mod fault;
-mod journal;
 pub mod laws;
 mod own;
 mod running;

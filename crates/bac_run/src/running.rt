@@ -11,10 +11,12 @@ ghost use Rattle.bac_run.specs.{write_failed, declared.own.Own.TheVariants.Seek,
 ghost use Rattle.bac_script.specs.declared.line.LineFault.TheVariants.{Bad};
 
 use crate::fault::RunFault;
-use crate::journal::{print_line, print_settings, remark, remark_any, remark_rest, remark_seek};
 use crate::own::{Own, read_own, who_is};
 use crate::setup::Setup;
-use crate::turns::{Runner, Until, send_any, send_seek};
+use crate::turns::{
+    Runner, Until, print_line, print_settings, remark, remark_any, remark_closing, remark_rest,
+    remark_seek, send_any, send_seek,
+};
 use bac_links::{Datagram, Link};
 use bac_pdu::{Peer, WRITE_PROPERTY, WhoIs};
 use bac_print::{Checked, Page};
@@ -282,7 +284,7 @@ impl Runner {
         }
     }
 
-    // Waits until no request is open, and then ends after this many lines.
+    // Waits until no request is open, and then closes the journal and ends after this many lines.
     fn end<L: Link, W: Write>(
         &mut self,
         lines: u64,
@@ -300,7 +302,10 @@ impl Runner {
         ensures cause { IfErr result IsOfWait }
     {
         match self.wait(Until::FewOpen(0), link, page) {
-            Ok(()) => Ok(TraceEnd { lines }),
+            Ok(()) => {
+                remark_closing(page);
+                Ok(TraceEnd { lines })
+            }
             Err(fault) => Err(fault),
         }
     }

@@ -1,26 +1,34 @@
-//! Turns of a run: each passes received datagrams and the time to the client, and sends the client's datagrams.
+//! Turns of a run: each passes received datagrams and the time to the client, and sends the client's datagrams. All
+//! this is printed as the lines of a script, with the client's notes as remarks.
 
 ghost use Rattle.std.specs.{List.flat_map, Option.{option_map, option_to_list}};
-ghost use Rattle.std.specs.Prelude.{[], Err, false, if◌then◌else◌, IfErr, IfOk, List, true, ℕ, ◌<◌, ◌∷◌, ◌≡◌, ◌≤◌};
+ghost use Rattle.std.specs.Prelude.{[], codes, decimal, Err, false, if◌then◌else◌, IfErr, IfOk, List, true, ℕ};
+ghost use Rattle.std.specs.Prelude.{◌++◌, ◌<◌, ◌∷◌, ◌≡◌, ◌≤◌};
 ghost use Rattle.{bac_pdu.specs.station, bac_print.specs.{has_failed, held, Prints, writer_of}};
-ghost use Rattle.{bac_tsm.specs.{due_notes, Seen.note_seen}, bac_links.specs.{most_turns, Posted, Silence}};
-ghost use Rattle.bac_run.specs.{Aim, Fresh, heard_at, is_of_link, is_reached, open_in, passed_at, posts, Rests};
-ghost use Rattle.bac_run.specs.{settled, Turns, wait_at, write_failed, Inner.{begins_turn, ends_turn, GainsDue}};
-ghost use Rattle.bac_run.specs.Inner.{heard_until, hearing};
-ghost use Rattle.bac_run.specs.Inner.{IsOfWait, looking, MovesClock, outside, send_failed, started, telling_in};
+ghost use Rattle.bac_tsm.specs.{due_notes, Client.end_seen, Machine.datagram_notes, Seen.note_seen};
+ghost use Rattle.bac_links.specs.{most_turns, Posted, Silence};
+ghost use Rattle.bac_run.specs.{Aim, arrival_line, closing_text, Fresh, has_line, heard_at, is_of_link, is_reached};
+ghost use Rattle.bac_run.specs.{open_in, passed_at, posts, remark, remarks, rest_text, Rests, seek_text, settings_line};
+ghost use Rattle.bac_run.specs.{settled, time_line, Turns, wait_at, whole_line, write_failed};
+ghost use Rattle.bac_run.specs.Inner.{begins_turn, ends_turn, GainsDue, heard_until, hearing, IsOfWait, looking};
+ghost use Rattle.bac_run.specs.Inner.{MovesClock, outside, send_failed, started, telling_in};
 ghost use Rattle.bac_run.specs.Inner.Went.{Went};
 
 use crate::fault::RunFault;
-use crate::journal::{has_line, print_arrival, print_time, remark_due, remark_end};
 use crate::setup::Setup;
 use bac_links::{Datagram, Link, ToolFault, most_turns, turn_wait};
 use bac_pdu::Peer;
 use bac_print::{Page, WriteFailed};
-use bac_tsm::{Client, DueEntry, Note};
+use bac_script::{print_datagram, print_note};
+use bac_tsm::{Client, Config, DueEntry, Ended, Note};
 use std::io::Write;
 
 // After this many waits in a row the client gets the time anyway.
 const LONGEST_ROW: u32 = 256;
+
+// The octets of the longest datagram that has a line: `data `, 21 octets of a peer, a space, and two digits for each
+// octet.
+const LONGEST_TOLD: usize = 2_034;
 
 // The state of a run, without its streams.
 #[derive(Drop)]
@@ -260,13 +268,6 @@ impl Runner {
     }
 }
 
-// Returns how many turns are left after a turn: all again if the client got a time, otherwise this many.
-fn left_after(told: bool, left: u32) -> u32
-    ensures { result ≡ (if told then most_turns else left) }
-{
-    if told { most_turns() } else { left }
-}
-
 /// Sends the datagram of a note, if the note is on a send.
 pub(crate) fn send_any<L: Link>(note: Option<Note<'_>>, link: &mut L) -> Result<(), RunFault>
     requires { L.has_failed link.old ≡ false }
@@ -296,6 +297,128 @@ pub(crate) fn send_seek<L: Link>(to: Peer, octets: &[u8], link: &mut L) -> Resul
     Ok(())
 }
 
+/// Prints the settings of the client.
+#[tactic(auto, using(bac_print::proofs::Printed::printing))]
+pub(crate) fn print_settings<W: Write>(page: &mut Page<'_, W>, config: Config)
+    ensures { Prints W.contents page.old page.new (settings_line config.timeout config.retries) }
+{
+    page.print(b"client ");
+    page.print_number(config.timeout.into());
+    page.print(b" ");
+    print_retries(page, config.retries);
+}
+
+/// Prints a line of the input. A last line without a line feed gets one, and before that one more carriage return if
+/// the line ends with one.
+#[tactic(auto, using(bac_print::proofs::Printed::printing))]
+pub(crate) fn print_line<W: Write>(page: &mut Page<'_, W>, line: &[u8])
+    ensures { Prints W.contents page.old page.new (whole_line line.now) }
+{
+    page.print(line);
+    match line.last() {
+        Some(b'\n') => {}
+        Some(b'\r') => page.print(b"\r\n"),
+        _ => page.print(b"\n"),
+    }
+}
+
+/// Prints a remark: this Who-Is was sent.
+#[tactic(auto, using(bac_print::proofs::Printed::printing))]
+pub(crate) fn remark_seek<W: Write>(page: &mut Page<'_, W>, to: Peer, octets: &[u8])
+    ensures { Prints W.contents page.old page.new (codes "# " ++ seek_text (station to) octets.now) }
+{
+    page.print(b"# who ");
+    print_datagram(page, to, octets);
+}
+
+/// Prints a remark: this wait is over.
+#[tactic(auto, using(bac_print::proofs::Printed::printing))]
+pub(crate) fn remark_rest<W: Write>(page: &mut Page<'_, W>, time: u32)
+    ensures { Prints W.contents page.old page.new (codes "# " ++ rest_text time) }
+{
+    page.print(b"# wait ");
+    page.print_number(time.into());
+    page.print(b"\n");
+}
+
+/// Prints the closing remark of a journal.
+#[tactic(auto, using(bac_print::proofs::Printed::printing))]
+pub(crate) fn remark_closing<W: Write>(page: &mut Page<'_, W>)
+    ensures { Prints W.contents page.old page.new (codes "# " ++ closing_text) }
+{
+    page.print(b"# end of the run\n");
+}
+
+/// Prints a note as a remark.
+#[tactic(auto, using(bac_print::proofs::Printed::printing))]
+pub(crate) fn remark<W: Write>(page: &mut Page<'_, W>, note: Note<'_>)
+    ensures { Prints W.contents page.old page.new (remark (note_seen note.entry)) }
+{
+    page.print(b"# ");
+    print_note(page, note);
+}
+
+/// Prints a note as a remark, if there is one.
+#[tactic(auto, using(bac_print::proofs::Printed::printing, std::proofs::lemmas::Grind::common_steps))]
+pub(crate) fn remark_any<W: Write>(page: &mut Page<'_, W>, note: Option<Note<'_>>)
+    ensures { Prints W.contents page.old page.new (remarks (option_to_list (option_map note_seen note.entry))) }
+{
+    if let Some(note) = note {
+        remark(page, note);
+    }
+}
+
+// Returns how many turns are left after a turn: all again if the client got a time, otherwise this many.
+fn left_after(told: bool, left: u32) -> u32
+    ensures { result ≡ (if told then most_turns else left) }
+{
+    if told { most_turns() } else { left }
+}
+
+// Returns whether a datagram of this length has a line in a script.
+fn has_line(octets: usize) -> bool
+    ensures { result ≡ has_line octets }
+{
+    octets > 0 && octets <= LONGEST_TOLD
+}
+
+// Prints the line of a datagram.
+#[tactic(auto, using(bac_print::proofs::Printed::printing))]
+fn print_arrival<W: Write>(page: &mut Page<'_, W>, from: Peer, octets: &[u8])
+    ensures { Prints W.contents page.old page.new (arrival_line (station from) octets.now) }
+{
+    page.print(b"data ");
+    print_datagram(page, from, octets);
+}
+
+// Prints the line of a time.
+#[tactic(auto, using(bac_print::proofs::Printed::printing))]
+fn print_time<W: Write>(page: &mut Page<'_, W>, now: u64)
+    ensures { Prints W.contents page.old page.new (time_line now) }
+{
+    page.print(b"tick ");
+    page.print_number(now);
+    page.print(b"\n");
+}
+
+// Prints the result of a datagram as a remark.
+#[tactic(auto, using(bac_print::proofs::Printed::printing, std::proofs::lemmas::Grind::common_steps))]
+fn remark_end<W: Write>(page: &mut Page<'_, W>, ended: Option<Ended<'_>>)
+    ensures { Prints W.contents page.old page.new (remarks (datagram_notes (option_map end_seen ended.entry))) }
+{
+    remark(page, ended.map_or(Note::Dropped, Note::Done));
+}
+
+// Prints remarks on the requests that were due, in their order.
+#[tactic(auto, using(bac_print::proofs::Printed::printing, std::proofs::lemmas::Grind::common_steps, std::proofs::lemmas::List::take_more))]
+fn remark_due<W: Write>(page: &mut Page<'_, W>, client: &Client, due: &[DueEntry])
+    ensures { Prints W.contents page.old page.new (remarks (flat_map (due_notes client.now.state) due.now)) }
+{
+    for entry in due {
+        remark_any(page, client.due(*entry));
+    }
+}
+
 // Sends the datagrams that are due.
 fn send_due<L: Link>(client: &Client, due: &[DueEntry], link: &mut L) -> Result<(), RunFault>
     requires { L.has_failed link.old ≡ false }
@@ -308,4 +431,13 @@ fn send_due<L: Link>(client: &Client, due: &[DueEntry], link: &mut L) -> Result<
         send_any(client.due(*entry), link)?;
     }
     Ok(())
+}
+
+// Prints the retries of a client, and its first ticket.
+#[tactic(auto, using(bac_print::proofs::Printed::printing))]
+fn print_retries<W: Write>(page: &mut Page<'_, W>, retries: u8)
+    ensures { Prints W.contents page.old page.new (decimal retries ++ codes " 0\n") }
+{
+    page.print_number(retries.into());
+    page.print(b" 0\n");
 }

@@ -1,7 +1,8 @@
 //! The lines of a script, run on its client and its device one after another.
 
 ghost use Rattle.std.specs.Prelude.{[], List, ◌≡◌};
-ghost use Rattle.{bac_device.specs.Write, bac_print.specs.Prints, bac_tsm.specs.{keeping, step_of, Seen.event_seen}};
+ghost use Rattle.{bac_device.specs.Write, bac_print.specs.Prints};
+ghost use Rattle.bac_tsm.specs.{keeping, step_of, Tick, Seen.event_seen};
 ghost use Rattle.bac_script.specs.{arrival_seen, line_seen, notes_text};
 ghost use Rattle.bac_script.specs.Inner.{device_with, ran, reply_after, ScriptStage, Stands, writes_with};
 
@@ -60,11 +61,17 @@ fn take<W: Write>(client: &mut Client, event: Event<'_>, page: &mut Page<'_, W>)
             Some(ended) => print_note(page, Note::Done(ended)),
             None => print_note(page, Note::Dropped),
         },
-        Event::Tick(now) => {
-            let due = client.tick(now);
-            print_due(page, client, due.as_slice());
-        }
+        Event::Tick(now) => tell_time(client, now, page),
     }
+}
+
+// Gives the client the time, and prints what is due then.
+fn tell_time<W: Write>(client: &mut Client, now: u64, page: &mut Page<'_, W>)
+    ensures client { client.new ≡ keeping client.old (step_of client.old (Tick now)).after }
+    ensures text { Prints W.contents page.old page.new (notes_text (step_of client.old (Tick now)).notes) }
+{
+    let due = client.tick(now);
+    print_due(page, client, due.as_slice());
 }
 
 // Passes the device a datagram, and prints its reply, which is written into the frame.

@@ -21,7 +21,7 @@ pub(crate) struct HexDigits<'a> {
 }
 
 /// Reads a word as a datagram: a positive even number of hexadecimal digits. Puts its octets into the room, and returns
-/// them; `None` if the word is no datagram.
+/// them; `None` if the word is not a datagram.
 pub fn read_datagram<'r>(word: &[u8], room: &'r mut [u8; LONGEST_DATAGRAM]) -> Option<&'r [u8]>
     ensures { option_map (λ octets. octets.now) result ≡ octets_of word.now }
 {

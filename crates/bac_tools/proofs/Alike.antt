@@ -13,7 +13,7 @@ use Rattle.bac_tools.specs.{declared.{program.Binding.Binding, report.Report.Rep
 use Rattle.bac_script.{proofs.Courses.{traces_alike, traces_front}, specs.GaveSame}
 use Rattle.bac_links.proofs.{CallLaws.calls_so_far, Listening.{searches_so_far, servings_so_far}}
 use Rattle.bac_links.specs.{Account, answers_of, Entry, Tells, Answered.{GoOnAlike, OneText, Printed}}
-use Rattle.bac_links.specs.declared.ending.Purpose.{Purpose}
+use Rattle.bac_links.specs.declared.call.Purpose.{Purpose}
 use Rattle.bac_words.{proofs.Tools.one_answer, specs.{Answers, IsRefusal, Command.bactool}}
 use Rattle.bac_words.specs.{declared.faults.UsageFault.TheVariants.Words, Marks.marked_words}
 use Rattle.bac_run.proofs.GoOn.{IsCutShort as IsBatchCut, IsTaken, Meets, one_text as one_journal, runs_on, taken}

@@ -11,7 +11,7 @@ use Rattle.bac_tools.specs.{RunsBatch, RunsOpened, RunsOver, RunsUnasked, RunsWi
 use Rattle.bac_tools.specs.{ToolRuns, Trace, trace_report, TraceEnd, TraceFault, UsageFault, Use, WhoIs, Write}
 use Rattle.bac_tools.specs.{WriteFailed, Writing, Outside.Outside, Program.Program, Runs.JobRuns}
 use Rattle.bac_tools.specs.declared.{program.Binding.Binding, report.{Fault.Fault, Report.Report}}
-use Rattle.bac_links.specs.{Account, Entry, GainsAll, Tells, declared.ending.Purpose.Purpose}
+use Rattle.bac_links.specs.{Account, Entry, GainsAll, Tells, declared.call.Purpose.Purpose}
 use Rattle.bac_links.specs.{declared.fault.ToolFault.TheVariants.{SendFailed, TurnsSpent}, Search.Searched}
 use Rattle.{bac_links.specs.SystemCall.SystemCall, bac_words.specs.{Answers, IsRefusal, words_called}}
 use Rattle.bac_tools.specs.declared.report.Fault.TheVariants as faults

@@ -20,7 +20,7 @@ unfoldable pub use Alike.*
 pub use Rattle.bac_words.specs.declared.faults.UsageFault.{UsageFault, TheVariants.{Help, Memory}}
 pub use Rattle.bac_words.specs.declared.job.{Batch.Batch, Job.{Job, TheVariants.{Run, Trace, Use}}}
 pub use Rattle.bac_words.specs.declared.job.Tool.{Tool, TheVariants.{Device, Read, WhoIs, Write}}
-pub use Rattle.bac_links.specs.declared.{ending.Purpose.TheVariants.{Reading, Writing}, exit.Exit.Exit}
+pub use Rattle.bac_links.specs.declared.{call.Purpose.TheVariants.{Reading, Writing}, exit.Exit.Exit}
 pub use Rattle.bac_links.specs.declared.fault.ToolFault.{ToolFault, TheVariants.{ReceiveFailed, WriteFailed}}
 pub use Rattle.bac_links.specs.declared.udp.OnRefusal.TheVariants.{IsLost}
 pub use Rattle.bac_script.specs.declared.tracing.{TraceEnd.TraceEnd, TraceFault.TraceFault}

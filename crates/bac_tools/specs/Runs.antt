@@ -3,7 +3,7 @@ use Rattle.std.specs.Prelude.{[], Err, List, Ok, Option, Result, Some, true, ℕ
 use Rattle.bac_device.specs.{demo_points, device_after, DeviceState}
 use Rattle.bac_print.specs.{has_failed, declared.checked.Checked.Checked}
 use Rattle.bac_script.specs.{declared.tracing.{TraceEnd.TraceEnd, TraceFault.TraceFault}, Tracing.Traces}
-use Rattle.bac_links.specs.{Account, Tells, declared.ending.Purpose.TheVariants.{Reading, Writing}}
+use Rattle.bac_links.specs.{Account, Tells, declared.call.Purpose.TheVariants.{Reading, Writing}}
 use Rattle.bac_links.specs.declared.{exit.Exit.{Exit, TheVariants.Good}, fault.ToolFault.ToolFault}
 use Rattle.bac_links.specs.{Fault.{is_link_fault, is_write_fault}, Search.Searched, Serve.Serves}
 use Rattle.bac_run.specs.declared.{fault.RunFault.RunFault, setup.Setup.Setup}

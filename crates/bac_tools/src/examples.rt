@@ -17,8 +17,8 @@ ghost use Rattle.bac_tools.specs.Inner.{any_at, asked_so, bad_read_words, bad_wo
 ghost use Rattle.bac_tools.specs.Inner.{device, device_words, ran_in_vain, script_words};
 ghost use Rattle.bac_tools.specs.Inner.{drained, FailsAfter, forgotten, gives_any, gives_none, GivesThat, having};
 ghost use Rattle.bac_tools.specs.Inner.{loopback, no_bind, no_contents, no_socket, no_text, not_received};
-ghost use Rattle.bac_tools.specs.Inner.{nothing_asked, one_bind, one_time, one_wait, ran_without, read_to_end};
-ghost use Rattle.bac_tools.specs.Inner.{settings_told, told_failed, told_no_socket, told_no_text, unasked, unknown};
+ghost use Rattle.bac_tools.specs.Inner.{empty_journal, nothing_asked, one_bind, one_time, one_wait, ran_without};
+ghost use Rattle.bac_tools.specs.Inner.{read_to_end, told_failed, told_no_socket, told_no_text, unasked, unknown};
 ghost use Rattle.bac_tools.specs.Inner.{well};
 ghost use Rattle.{bac_print.specs.octets_of, bac_tools.specs.{Outside.Outside, Program.Program}};
 ghost use Rattle.bac_words.specs.{Called.tool_named, declared.faults.UsageFault.TheVariants.{BadIndex, BadMac}};
@@ -248,11 +248,11 @@ fn examples_of_networks()
 // A run without requests: the settings are printed, and the link is not used.
 #[tactic(none)]
 fn examples_of_many_requests()
-    ensures none { BatchRuns no_contents no_contents (batch_of 3000) unasked drained unasked settings_told (asked_so [])
+    ensures none { BatchRuns no_contents no_contents (batch_of 3000) unasked drained unasked empty_journal (asked_so [])
         (asked_so []) (read_to_end 0) }
-    ensures counted { BatchRuns no_contents no_contents (batch_of 3000) unasked drained unasked settings_told
+    ensures counted { BatchRuns no_contents no_contents (batch_of 3000) unasked drained unasked empty_journal
         (asked_so []) (asked_so []) (read_to_end 1) → ⊥ }
-    ensures no_timeout { BatchRuns no_contents no_contents (batch_of 0) unasked drained unasked settings_told
+    ensures no_timeout { BatchRuns no_contents no_contents (batch_of 0) unasked drained unasked empty_journal
         (asked_so []) (asked_so []) (read_to_end 0) → ⊥ }
 
     // The words that the system gives, or why it gives none.

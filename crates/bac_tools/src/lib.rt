@@ -13,10 +13,8 @@
 
 mod examples;
 pub mod laws;
-mod network;
 mod program;
 mod report;
-mod running;
 mod telling;
 
 pub use bac_links::{
@@ -28,6 +26,7 @@ pub use bac_run::{RunFault, Setup, run_requests};
 pub use bac_script::{TraceEnd, TraceFault, trace};
 pub use bac_text::{Call, Search, read_peer};
 pub use bac_words::{Batch, Job, Serve, Telling, Tool, UsageFault, parse_words, words_of};
-pub use program::{Binding, Finished, Network, Ran, binding_for, run_program, run_words};
+pub use program::{
+    Binding, Finished, Network, Ran, binding_for, run_batch, run_program, run_tool, run_words,
+};
 pub use report::{Fault, Report, run_status, status, tell, trace_status, usage_status};
-pub use running::{run_batch, run_tool};

@@ -1,18 +1,19 @@
-//! The client.
+//! The client, and the answers that end its requests.
 
 ghost use Rattle.std.specs.{Option.option_to_list, Prelude.{length, option_map, ◌≡◌, ◌≤◌}};
-ghost use Rattle.{bac_pdu.specs.station, bac_tsm.specs.{client_of, datagram, due_notes, end_seen, initial, note_seen}};
-ghost use Rattle.bac_tsm.specs.{open_under, refusal_of, rules_of, sent, submit, table_size, TakesStep, tick, to_send};
+ghost use Rattle.bac_pdu.specs.{error_of, station, Apdu.message};
+ghost use Rattle.bac_tsm.specs.{answer_in_apdu, answer_in_datagram, client_of, datagram, due_notes, end_seen, initial};
+ghost use Rattle.bac_tsm.specs.{note_seen, open_under, outcome_seen, refusal_of, rules_of, sent, submit, table_size};
+ghost use Rattle.bac_tsm.specs.{TakesStep, tick, to_send, Inner.{answer_seen, error_outcome}};
 
-use crate::answer::read_answer;
 use crate::config::Config;
 use crate::due::{Due, DueEntry, Entries};
 use crate::event::Note;
 use crate::limits::PLACES;
-use crate::outcome::Ended;
+use crate::outcome::{Ended, Outcome};
 use crate::request::Asked;
 use crate::table::Table;
-use bac_pdu::{LONGEST_BODY, Peer};
+use bac_pdu::{Apdu, LONGEST_BODY, Peer, open_datagram, read_apdu, read_error};
 use std::marker::Model;
 
 /// Why a request was not accepted.
@@ -38,6 +39,16 @@ pub struct Client {
     last_invoke_id: u8,
     next_ticket: u64,
     table: Table,
+}
+
+/// An answer: its sender, the invoke id of the request that it answers, the service if it names one, and how it ends
+/// the request.
+#[derive(Clone, Copy)]
+pub(crate) struct Answer<'d> {
+    pub(crate) peer: Peer,
+    pub(crate) invoke_id: u8,
+    pub(crate) service: Option<u8>,
+    pub(crate) outcome: Outcome<'d>,
 }
 
 impl Model for Client {
@@ -197,5 +208,57 @@ impl Client {
         } else {
             None
         }
+    }
+}
+
+// Returns the answer that a datagram carries, if it carries one.
+#[tactic(auto, unfolding(crate::specs::answer_in_datagram))]
+fn read_answer(from: Peer, datagram: &[u8]) -> Option<Answer<'_>>
+    ensures { option_map answer_seen result ≡ answer_in_datagram (station from) datagram.now }
+{
+    let carried = open_datagram(from, datagram)?;
+    let apdu = read_apdu(carried.apdu)?;
+    answer_from(carried.peer, apdu)
+}
+
+// Returns the answer that an APDU is, if it is one.
+fn answer_from(peer: Peer, apdu: Apdu<'_>) -> Option<Answer<'_>>
+    ensures { option_map answer_seen result ≡ answer_in_apdu (station peer) (message apdu.entry) }
+{
+    let answer = |invoke_id, service, outcome| Answer {
+        peer,
+        invoke_id,
+        service,
+        outcome,
+    };
+    match apdu {
+        Apdu::SimpleAck { id, service } => Some(answer(id, Some(service), Outcome::Simple)),
+        Apdu::ComplexAck {
+            part: None,
+            id,
+            service,
+            body,
+        } => Some(answer(id, Some(service), Outcome::Complex(body))),
+        Apdu::ComplexAck { id, service, .. } => {
+            Some(answer(id, Some(service), Outcome::Segmented))
+        }
+        Apdu::Error { id, service, body } => Some(answer(id, Some(service), error_outcome(body))),
+        Apdu::Reject { id, reason } => Some(answer(id, None, Outcome::Reject(reason))),
+        Apdu::Abort {
+            server: true,
+            id,
+            reason,
+        } => Some(answer(id, None, Outcome::Abort(reason))),
+        _ => None,
+    }
+}
+
+// Returns how an Error with this body ends a request.
+fn error_outcome(body: &[u8]) -> Outcome<'_>
+    ensures { outcome_seen result ≡ error_outcome (error_of body.now) }
+{
+    match read_error(body) {
+        Some((class, code)) => Outcome::Error { class, code },
+        None => Outcome::BadError,
     }
 }

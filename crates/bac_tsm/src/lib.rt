@@ -34,7 +34,6 @@
 //! ```
 #![tactic(auto)]
 
-mod answer;
 mod client;
 mod comparing;
 mod config;

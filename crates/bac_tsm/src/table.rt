@@ -8,7 +8,7 @@ ghost use Rattle.{bac_pdu.specs.longest_body, bac_tsm.specs.{client_rules, due_a
 ghost use Rattle.bac_tsm.specs.{next_invoke_id, nothing, table_size, times, times_of_slot, Inner.{answer_seen, begun}};
 ghost use Rattle.bac_tsm.specs.Inner.{invoke_id_in, IsPassed, IsRankOf, IsTakenOut, sent_at, ticket_in, ticket_of};
 
-use crate::answer::Answer;
+use crate::client::Answer;
 use crate::config::Config;
 use crate::due::{DueEntry, Entries, sort_by_ticket};
 use crate::limits::PLACES;

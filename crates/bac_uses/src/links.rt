@@ -2,7 +2,7 @@
 
 ghost use Rattle.std.specs.Prelude.{[], false, IfErr, IfOk, List, Option, ◌<◌, ◌≡◌};
 ghost use Rattle.{bac_tsm.specs.Outcome, bac_print.specs.{has_failed, Took}};
-ghost use Rattle.bac_links.specs.{Binds, BindsAtMost, Tells, declared.ending.Purpose.TheVariants.Reading};
+ghost use Rattle.bac_links.specs.{Binds, BindsAtMost, Tells, declared.call.Purpose.TheVariants.Reading};
 ghost use Rattle.bac_links.specs.{declared.udp.OnRefusal.TheVariants.Fails, Ending.{ending_line, exit_of}};
 ghost use Rattle.{bac_links.specs.{Socket.account_over, SystemCall.SystemCall}, bac_uses.specs.Anywhere.anywhere};
 

@@ -1,4 +1,4 @@
-//! Where the items of a service body end; contents are skipped by their lengths.
+//! The end of the items of a service body. Contents are skipped by their lengths.
 
 ghost use Rattle.std.specs.Prelude.{◌*◌, ◌+◌, ◌<◌, ◌↔◌, ◌≡◌, ◌≤◌, IfSome, IsTrue, length, List, option_map, ℕ};
 ghost use Rattle.bac_wire.specs.{behind_closing, deepest, FindsRegion, IsRegion, LeavesRest, tag_at};
@@ -15,7 +15,7 @@ const REGION_END: u8 = 3;
 
 /// Returns how many octets at the front are whole items, up to a closing tag 3; `None` if no such tag follows them, or
 /// if more than 32 opening tags are open at once in them. Contents are skipped by their length, so no octet in them is
-/// taken for a tag (ANSI/ASHRAE 135, 20.2.1.3). At most two tags are read for each octet, and two more.
+/// read as a tag (ANSI/ASHRAE 135, 20.2.1.3). At most two tags are read for each octet, and two more.
 pub fn region(octets: &[u8], work: &mut Work) -> Option<usize>
     ensures found { FindsRegion deepest 3 octets.now result }
     ensures walked_once { work.new.tags ≤ work.old.tags + 2 * length octets.now + 2 }

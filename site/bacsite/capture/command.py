@@ -7,11 +7,10 @@ from collections import Counter
 from dataclasses import dataclass, field
 from typing import BinaryIO, Iterable, Iterator
 
-from ..output import BROKEN, MISSING, Failure, json_line, put, table, times, wrong
-from ..files import opened
-from ..messages import COMPLEX, SIMPLE, UNCONFIRMED, Message, message_of
+from ..messages import COMPLEX, SIMPLE, UNCONFIRMED, Message
+from ..streams import BROKEN, MISSING, Failure, json_line, opened, put, table, times, wrong
 from .lines import UNCONFIRMED_SERVICES, json_of, line_of, millis
-from .pcap import Damage, Passing, packets_of
+from .pcap import Passing
 from .talks import MILLI, Entry, Pairing, Talk
 from .trace import Choice, is_at, traced
 
@@ -112,7 +111,7 @@ class Tally:
             if counts:
                 yield f"{words}: " + ", ".join(f"{it} {counts[it]}" for it in sorted(counts))
 
-    def figures(self, passing: Passing, damage: str) -> dict[str, object]:
+    def figures(self, passing: Passing) -> dict[str, object]:
         """Returns the summary as an object of JSON."""
         return {
             "kind": "summary",
@@ -123,33 +122,17 @@ class Tally:
             "packets": passing.packets,
             "cut": passing.cut,
             "passed_over": dict(passing.counts),
-            "damage": damage or None,
+            "damage": passing.damage or None,
         }
 
 
-@dataclass
-class Capture:
-    """A capture that is read once; then `damage` says why the rest can't be read."""
-
-    file: BinaryIO
-    passing: Passing = field(default_factory=Passing)
-    damage: str = ""
-
-    def messages(self) -> Iterator[Message]:
-        """The BACnet/IP messages before any damage."""
-        try:
-            for datagram in self.passing.datagrams(packets_of(self.file)):
-                yield message_of(datagram)
-        except Damage as damage:
-            self.damage = str(damage)
-
-    def entries(self) -> Iterator[Entry]:
-        """The talks and other messages, in the order in which they began."""
-        pairing = Pairing()
-        for message in self.messages():
-            pairing.take(message)
-            yield from pairing.settled()
-        yield from pairing.rest(self.passing.last)
+def _entries(messages: Iterable[Message], passing: Passing) -> Iterator[Entry]:
+    """Yields the talks and other messages, in the order in which they began."""
+    pairing = Pairing()
+    for message in messages:
+        pairing.take(message)
+        yield from pairing.settled()
+    yield from pairing.rest(passing.last)
 
 
 def is_between(entry: Entry, choice: Choice) -> bool:
@@ -167,24 +150,25 @@ def is_wanted(entry: Entry, only: str | None, slow: int) -> bool:
     return not only or (only == "failed" and entry.is_fault)
 
 
-def _put_entries(capture: Capture, choice: Choice, words: argparse.Namespace) -> int:
+def _put_entries(file: BinaryIO, passing: Passing, words: argparse.Namespace) -> int:
     """Prints the lines of a capture, and its summary."""
+    choice = Choice(words.client, words.device)
     tally, is_any = Tally(words.slow * MILLI), choice == Choice()
-    for entry in capture.entries():
+    for entry in _entries(passing.messages(file), passing):
         if not is_between(entry, choice):
             continue
         is_any = True
         tally.add(entry)
         if not words.summary and is_wanted(entry, words.only, tally.slow):
             put(json_line(json_of(entry)) if words.json else line_of(entry) + "\n")
-    if capture.damage and not capture.passing.packets:
-        raise Failure(capture.damage, BROKEN)
-    if not is_any and not capture.damage:
+    if passing.damage and not passing.packets:
+        raise Failure(passing.damage, BROKEN)
+    if not is_any and not passing.damage:
         raise wrong(f"nothing between {choice.client or 'any'} and {choice.device or 'any'}")
     if words.json:
-        put(json_line(tally.figures(capture.passing, capture.damage)))
+        put(json_line(tally.figures(passing)))
     else:
-        lines = ([] if words.summary else [""]) + list(tally.lines(capture.passing))
+        lines = ([] if words.summary else [""]) + list(tally.lines(passing))
         put("\n".join(lines) + "\n")
     return MISSING if tally.all.marks["failed"] else 0
 
@@ -195,18 +179,17 @@ def print_capture(words: argparse.Namespace) -> int:
         raise wrong("a script has no --json and no --only")
     if not words.trace and (words.timeout, words.retries) != (None, None):
         raise wrong("--timeout and --retries are for --trace")
-    choice = Choice(words.client, words.device)
+    passing, status = Passing(), 0
     try:
         with opened(words.file) as file:
-            found = Capture(file)
             if words.trace:
-                status, messages = 0, list(found.messages())
+                choice, messages = Choice(words.client, words.device), list(passing.messages(file))
                 for line in traced(messages, choice, words.timeout, words.retries):
                     put(line + "\n")
             else:
-                status = _put_entries(found, choice, words)
+                status = _put_entries(file, passing, words)
     except OSError as error:
         raise Failure(f"cannot read {words.file}: {error.strerror}", BROKEN) from error
-    if found.damage:
-        raise Failure(found.damage, BROKEN)
+    if passing.damage:
+        raise Failure(passing.damage, BROKEN)
     return status

@@ -1,18 +1,18 @@
-"""The entries of a capture in words: a line for each, or an object of JSON."""
+"""The entries of a capture in words, a line for each, or as objects of JSON; also reads of several
+properties, and changes of values (COV)."""
 
 from __future__ import annotations
 
 from functools import lru_cache
 from typing import NamedTuple, Sequence
 
-from .. import output, standard
-from ..output import times
+from .. import standard
 from ..messages import ABORT, COMPLEX, READ, SEGMENT, UNCONFIRMED, WRITE, Apdu, Message, outcome_of
-from ..bodies import Body, elements_of, parameters, read_ack, read_body, write_body
-from ..standard import MEANINGS, Form, PropertyRef, form_of, numbered
+from ..bodies import Body, Item, device_of, elements_of, error_body, items_of, parameters
+from ..bodies import read_ack, read_body, write_body
+from ..standard import MEANINGS, Form, ObjectId, PropertyRef, form_of, numbered
+from ..streams import moment, times
 from ..values import value_of
-from . import services
-from .services import Told
 from .talks import GRACE, MILLI, Entry, Talk
 
 SERVICES = numbered("Confirmed services")[0]
@@ -20,12 +20,118 @@ UNCONFIRMED_SERVICES = numbered("Unconfirmed services")[0]
 CLASSES, CODES = numbered("Error classes")[0], numbered("Error codes")[0]
 REASONS = {"reject": numbered("Reject reasons")[0], "abort": numbered("Abort reasons")[0]}
 I_AM, WHO_IS = 0, 8
+NOTIFY, SUBSCRIBE, READ_MULTIPLE = 1, 5, 14  # confirmed
+UNCONFIRMED_NOTIFY = 2
+OBJECT, LIST = 0, 1  # the tags of an object, and of the properties asked for or reported
 MOST_LISTED = 16  # values of one request in a line
 
 
-def moment(nanos: int) -> str:
-    """Returns a time like 2026-11-27T08:13:42.123Z."""
-    return output.moment(nanos // MILLI)
+class Told(NamedTuple):
+    """A property, and its value, or the class and code of its error."""
+
+    ref: PropertyRef
+    value: bytes | None = None
+    error: tuple[int, int] | None = None
+
+
+class Notice(NamedTuple):
+    """A notification of changed values: the device, and the values."""
+
+    device: int
+    told: list[Told]
+
+
+class Subscription(NamedTuple):
+    """A request for notifications; without both it ends an earlier one."""
+
+    process: int
+    object_id: ObjectId
+    confirmed: bool | None
+    seconds: int | None
+
+
+def _tagged(items: Sequence[Item] | None) -> Sequence[Item] | None:
+    """Returns the items, if all of them have context tags."""
+    return items if items is not None and all(it.context for it in items) else None
+
+
+def _object(item: Item) -> ObjectId | None:
+    return item.of_object if item.inner is None and len(item.octets) == 4 else None
+
+
+def _each(octets: bytes, first: int, count: int) -> list[Told] | None:
+    """Reads objects, each with the properties in the brackets after it."""
+    items, every = _tagged(items_of(octets)) or [], []
+    for head, body in zip(items[::2], items[1::2]):
+        object_id = _object(head)
+        is_list = (head.number, body.number) == (OBJECT, LIST)
+        found = _properties(object_id, body, first, count) if object_id and is_list else None
+        if found is None:
+            return None
+        every += found
+    return None if len(items) % 2 else every or None
+
+
+def _properties(object_id: ObjectId, body: Item, first: int, count: int) -> list[Told] | None:
+    """Reads properties: the tag `first` has the property, and the tags after it an index, a value
+    and an error, as far as `count`. A notification may have a priority in place of the error, which
+    is skipped."""
+    items = _tagged(body.inner)
+    found: list[Told] = []
+    if items is None:
+        return None
+    for it in items:
+        at, is_open = it.number - first, it.inner is not None
+        if at not in range(count) or (at and not found) or is_open != (at == 2 or first + at == 5):
+            return None
+        if at == 0:
+            found.append(Told(object_id.ref(it.value)))
+        elif at == 1 and found[-1].ref.element is not None:
+            return None
+        elif at == 1:
+            found[-1] = found[-1]._replace(ref=found[-1].ref.at(it.value))
+        elif at == 2:
+            found[-1] = found[-1]._replace(value=it.octets)
+        elif is_open:
+            found[-1] = found[-1]._replace(error=error_body(it.octets))
+    return found
+
+
+def _all_told(told: list[Told] | None) -> list[Told] | None:
+    return None if any(it.value is None and it.error is None for it in told or []) else told
+
+
+def asked_for(octets: bytes) -> list[PropertyRef] | None:
+    """Returns the properties that a ReadPropertyMultiple asks for."""
+    found = _each(octets, first=0, count=2)
+    return [it.ref for it in found] if found else None
+
+
+def told_by(octets: bytes) -> list[Told] | None:
+    """Returns the values in the acknowledgement of a ReadPropertyMultiple."""
+    return _all_told(_each(octets, first=2, count=4))
+
+
+def notice_of(octets: bytes) -> Notice | None:
+    """Returns the contents of a notification of changed values."""
+    items = _tagged(items_of(octets)) or []
+    if [it.number for it in items] != [0, 1, 2, 3, 4]:
+        return None
+    device, object_id = _object(items[1]), _object(items[2])
+    told = _all_told(_properties(object_id, items[4], 0, 4)) if object_id else None
+    return Notice(device.instance, told) if device and told else None
+
+
+def subscription_of(octets: bytes) -> Subscription | None:
+    """Returns what a SubscribeCOV asks for."""
+    items = _tagged(items_of(octets)) or []
+    is_one = [it.number for it in items] in ([0, 1], [0, 1, 2], [0, 1, 2, 3])
+    object_id = _object(items[1]) if is_one else None
+    if object_id is None or any(it.inner is not None for it in items):
+        return None
+    confirmed, seconds = ([it.value for it in items[2:]] + [None, None])[:2]
+    is_confirmed = None if confirmed is None else bool(confirmed)
+    return Subscription(items[0].value, object_id, is_confirmed, seconds)
 
 
 def millis(nanos: int) -> str:
@@ -87,12 +193,12 @@ def shown(region: bytes, ref: PropertyRef) -> str:
 
 def _other_words(service: int, octets: bytes) -> str:
     """Returns a request of another service in words; an empty text if it is not known here."""
-    subscription = services.subscription_of(octets) if service == services.SUBSCRIBE else None
-    asked_for = (services.asked_for(octets) if service == services.READ_MULTIPLE else None) or []
-    if asked_for:
-        return "read several: " + _listed([point(it) for it in asked_for])
+    subscription = subscription_of(octets) if service == SUBSCRIBE else None
+    several = (asked_for(octets) if service == READ_MULTIPLE else None) or []
+    if several:
+        return "read several: " + _listed([point(it) for it in several])
     if not subscription:
-        return _notice(octets) if service == services.NOTIFY else ""
+        return _notice(octets) if service == NOTIFY else ""
     kind, instance = subscription.object_id
     where = f"{standard.OBJECT_TYPES.get(kind, str(kind))} {instance} ({kind} {instance})"
     if subscription.confirmed is None:
@@ -109,7 +215,7 @@ def _listed(texts: Sequence[str]) -> str:
 
 
 def _notice(octets: bytes) -> str:
-    notice = services.notice_of(octets)
+    notice = notice_of(octets)
     told = [f"{point(it.ref)} = {_told(it)}" for it in notice.told] if notice else []
     return f"change at device {notice.device}: {_listed(told)}" if notice else ""
 
@@ -133,8 +239,8 @@ def ended(apdu: Apdu, body: Body | None) -> str:
     ack = read_ack(apdu.body) if word == "value" else None
     if ack and ack.value is not None:
         return shown(ack.value, body.ref if body else ack.ref)
-    if (apdu.kind, apdu.service, apdu.is_cut) == (COMPLEX, services.READ_MULTIPLE, False):
-        told = services.told_by(apdu.body) if apdu.part is None else None
+    if (apdu.kind, apdu.service, apdu.is_cut) == (COMPLEX, READ_MULTIPLE, False):
+        told = told_by(apdu.body) if apdu.part is None else None
         return _listed([_told(it) for it in told]) if told else outcome
     if word == "error":
         return _error(int(numbers[0]), int(numbers[1]))
@@ -185,14 +291,14 @@ def line_of(entry: Entry) -> str:
     if isinstance(entry, Message):
         mark = "!" if entry.is_fault else " "
         ends = f"{entry.sender} > {entry.receiver}"
-        return f"{mark} {moment(entry.nanos)}  {ends}  {message_words(entry)}"
+        return f"{mark} {moment(entry.nanos // MILLI)}  {ends}  {message_words(entry)}"
     request = asked(entry.apdu)
     end = _end(entry, request.body)
     if entry.answers:
         end += f"  {millis(entry.took or 0)} ms"
     more = entry.resends or len(entry.answers) > 1 or entry.again is not None
     mark = "!" if entry.has_failed else "~" if more else " "  # ~: more than one answer needs
-    head = f"{mark} {moment(entry.nanos)}  {entry.client} > {entry.device}"
+    head = f"{mark} {moment(entry.nanos // MILLI)}  {entry.client} > {entry.device}"
     said = "  ".join([end, *remarks(entry, request.body)])
     return f"{head}  #{entry.apdu.invoke} {request.words}: {said}"
 
@@ -203,7 +309,7 @@ def message_words(message: Message) -> str:
     if not apdu:
         return message.words
     if apdu.kind == UNCONFIRMED:
-        readers = {I_AM: _i_am, WHO_IS: _who_is, services.UNCONFIRMED_NOTIFY: _notice}
+        readers = {I_AM: _i_am, WHO_IS: _who_is, UNCONFIRMED_NOTIFY: _notice}
         words = readers[apdu.service](apdu.body) if apdu.service in readers else ""
         return words or "unconfirmed service " + named(apdu.service, UNCONFIRMED_SERVICES)
     if apdu.is_answer:
@@ -215,13 +321,13 @@ def message_words(message: Message) -> str:
 def _i_am(octets: bytes) -> str:
     elements = elements_of(octets) or []
     kinds = [standard.OBJECT, standard.UNSIGNED, standard.ENUMERATED, standard.UNSIGNED]
-    is_whole = [it.kind for it in elements] == kinds
-    if not is_whole or elements[0].of_object.object_type != standard.DEVICE:
+    device = device_of(elements[0]) if [it.number for it in elements] == kinds else None
+    if device is None:
         return ""
-    most, number, vendor = (it.number for it in elements[1:])
+    most, number, vendor = (it.value for it in elements[1:])
     parts = MEANINGS["segmentation-supported"].get(number, str(number))
     told = f"APDUs of {most} octets, segmentation {parts}, vendor {vendor}"
-    return f"I-Am device {elements[0].of_object.instance}, {told}"
+    return f"I-Am device {device}, {told}"
 
 
 def _who_is(octets: bytes) -> str:
@@ -237,12 +343,12 @@ def _who_is(octets: bytes) -> str:
 def json_of(entry: Entry) -> dict[str, object]:
     """Returns an entry as an object of JSON."""
     if isinstance(entry, Message):
-        ends = {"client": entry.sender, "device": entry.receiver}
-        return {"kind": "other", "time": moment(entry.nanos), **ends, "what": message_words(entry)}
+        ends = {"client": entry.sender, "device": entry.receiver, "what": message_words(entry)}
+        return {"kind": "other", "time": moment(entry.nanos // MILLI), **ends}
     request, body = asked(entry.apdu), asked(entry.apdu).body
     return {
         "kind": "talk",
-        "time": moment(entry.nanos),
+        "time": moment(entry.nanos // MILLI),
         "client": entry.client,
         "device": entry.device,
         "invoke_id": entry.apdu.invoke,

@@ -8,7 +8,7 @@ from collections import Counter
 from dataclasses import dataclass, field
 from typing import BinaryIO, Iterable, Iterator, NamedTuple, Sequence
 
-from ..messages import Datagram
+from ..messages import Datagram, Message, message_of
 
 # The byte order of a pcap file, and the nanoseconds of its unit of time, by its first four octets.
 PCAP = {
@@ -102,20 +102,17 @@ def _pcap(source: Source, order: str, unit: int) -> Iterator[Packet]:
 
 
 class _Interface(NamedTuple):
-    """An interface: its link type, how many octets of a packet are kept, if not all, the units of
-    time of a second, and the seconds to add."""
+    """An interface: its link type, and how it keeps packets and their times."""
 
     link: int
-    kept: int
-    units: int
-    offset: int
+    kept: int  # octets of a packet; 0 means all
+    units: int  # of time in a second
+    offset: int  # seconds to add
 
 
 def _pcapng(source: Source) -> Iterator[Packet]:
-    """The packets of all sections. A section has only its own interfaces.
-
-    A packet without a time has that of the packet before it.
-    """
+    """The packets of all sections. A section has only its own interfaces. A packet without a time
+    has that of the packet before it."""
     interfaces: list[_Interface] = []
     nanos = 0
     for kind, order, body in _blocks(source):
@@ -242,13 +239,21 @@ def datagram_of(packet: Packet) -> Datagram:
 
 @dataclass
 class Passing:
-    """Counts skipped packets, and copies of a datagram from another interface."""
+    """Reads a capture once; counts skipped packets, and copies from another interface."""
 
     counts: Counter[str] = field(default_factory=Counter)
     packets: int = 0
     cut: int = 0  # datagrams of which the capture has only the first octets
     last: int = 0
+    damage: str = ""  # why the rest of the file can't be read
     seen: dict[tuple[str, str, bytes], tuple[int, bytes]] = field(default_factory=dict)
+
+    def messages(self, file: BinaryIO) -> Iterator[Message]:
+        """The BACnet/IP messages of a file, before any damage."""
+        try:
+            yield from map(message_of, self.datagrams(packets_of(file)))
+        except Damage as damage:
+            self.damage = str(damage)
 
     def datagrams(self, packets: Iterable[Packet]) -> Iterator[Datagram]:
         """The BACnet/IP datagrams of packets."""

@@ -21,13 +21,12 @@ WINDOW = 60_000 * MILLI  # after this time no answer is awaited
 
 
 class Answer(NamedTuple):
-    """An answer: its time, its APDU, and how it ends a request, in the words of bactrace; and its
-    parts so far, if it comes in parts."""
+    """An answer: its time, its APDU, and how it ends a request, in the words of bactrace."""
 
     nanos: int
     apdu: Apdu
     outcome: str
-    parts: list[Apdu]
+    parts: list[Apdu]  # so far, if it comes in parts
 
     @property
     def whole(self) -> Apdu | None:
@@ -172,7 +171,9 @@ class Pairing:
         again = None
         if talk and not self._is_new(message, apdu, talk):
             if not talk.answers:
-                self._note_gap(talk, message.nanos)
+                gap = message.nanos - talk.sends[-1]
+                if gap >= GRACE:  # the client waits no longer than this
+                    self.gaps[talk.client] = min(gap, self.gaps.get(talk.client, gap))
                 talk.sends.append(message.nanos)
                 return Event("resend", talk)
             again = talk.answers[-1].nanos
@@ -186,27 +187,17 @@ class Pairing:
         return Event("request", talk)
 
     def _is_new(self, message: Message, apdu: Apdu, talk: Talk) -> bool:
-        """Whether this is another request than the latest one with its number.
-
-        A request with the same octets is new if the client's numbers have gone round and this one
-        is next: those between the last one and this one have no answer yet.
-        """
+        """Whether this is another request than the latest one with its number. A request with the
+        same octets is new if the client's numbers have gone round and this one is next: those
+        between the last one and this one have no answer yet."""
         if talk.apdu != apdu or talk.has_settled(message.nanos):
             return True
         made, last = self.made[message.sender]
         if made - talk.order <= ROUND:
             return False
         between = range(last + 1, last + 1 + (apdu.invoke - last - 1) % NUMBERS)
-        return all(
-            any(not it.answers for it in self.latest.get((talk.client, at % NUMBERS), {}).values())
-            for at in between
-        )
-
-    def _note_gap(self, talk: Talk, nanos: int) -> None:
-        """Learns how long a client waits."""
-        gap = nanos - talk.sends[-1]
-        if gap >= GRACE:
-            self.gaps[talk.client] = min(gap, self.gaps.get(talk.client, gap))
+        others = [self.latest.get((talk.client, at % NUMBERS), {}).values() for at in between]
+        return all(any(not it.answers for it in some) for some in others)
 
     def _answer(self, message: Message, apdu: Apdu) -> Event | None:
         talk = self.latest.get((message.receiver, apdu.invoke), {}).get(message.sender)

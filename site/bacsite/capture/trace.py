@@ -9,11 +9,11 @@ from dataclasses import dataclass, field
 from typing import Iterator, NamedTuple, Sequence
 
 from .. import standard
-from ..bodies import Element, bits_of, element_text, elements_of, read_body, write_body
-from ..output import clean, times, wrong
+from ..bodies import Item, bits_of, element_text, elements_of, read_body, write_body
 from ..points import WORD
-from ..messages import CONFIRMED, READ, WRITE, Message
-from .lines import asked, message_words, moment
+from ..messages import CONFIRMED, READ, WRITE, Apdu, Message
+from ..streams import clean, moment, times, wrong
+from .lines import asked, message_words
 from .talks import GRACE, MILLI, NUMBERS, Event, Pairing, Talk
 
 MOST_LINE, MOST_WORDS = 4000, 400
@@ -30,11 +30,8 @@ def is_askable(message: Message) -> bool:
     return bool(is_whole and apdu and apdu.service in (READ, WRITE))
 
 
-def request_line(message: Message) -> tuple[str, str]:
+def request_line(apdu: Apdu, peer: str) -> tuple[str, str]:
     """Returns the line of a request, if a script can have one; and a comment on it."""
-    apdu, peer = message.apdu, message.receiver
-    if not apdu:
-        return "", "no request"
     body = read_body(apdu.body) if apdu.service == READ else write_body(apdu.body)
     if not body:
         return "", "its body can't be read"
@@ -45,16 +42,16 @@ def request_line(message: Message) -> tuple[str, str]:
     if body.value is None:
         return f"read {peer} {body.ref.words()}", ""
     elements = (elements_of(body.value) or []) if len(apdu.body) <= MOST_BODY else []
-    words = [(str(it.kind), _value(it)) for it in elements]
+    words = [(str(it.number), _value(it)) for it in elements]
     is_there = bool(words) and all(word for _, word in words)
     values = " ".join(word for pair in words for word in pair) if is_there else "0 null"
     why = "" if is_there else "a script can't have this value: null stands for it"
     return f"write {peer} {body.ref.words_at(body.priority)} {values}", why
 
 
-def _value(element: Element) -> str:
+def _value(element: Item) -> str:
     """Returns a value as a word of a script; an empty text if it can't be one."""
-    kind, octets = element
+    kind, octets = element.number, element.octets
     if kind == standard.STRING:
         with suppress(UnicodeDecodeError):
             return octets[1:].decode() if octets[0] == 0 and WORD.fullmatch(octets[1:]) else ""
@@ -171,7 +168,7 @@ class Trace:
             self._remark(message, asked(message.apdu).words)
 
     def _remark(self, message: Message, words: str) -> None:
-        self.lines.append(f"# {moment(message.nanos)[11:]} {clean(words)}"[:MOST_WORDS])
+        self.lines.append(f"# {moment(message.nanos // MILLI)[11:]} {clean(words)}"[:MOST_WORDS])
 
     def _tick(self, nanos: int) -> None:
         now = (nanos - self.start) // MILLI
@@ -181,7 +178,7 @@ class Trace:
 
     def _ask(self, message: Message, talk: Talk) -> None:
         """Adds the line of a request, which gets the first free number after the last one."""
-        line, why = request_line(message)
+        line, why = request_line(talk.apdu, talk.device)
         self._close(talk.nanos)
         if line and len(self.opened) == PLACES:
             why = "bactrace has no place for it"
@@ -226,7 +223,7 @@ class Trace:
         """Yields a line for each request that bactrace has given up when the answer comes."""
         for ticket, talk in enumerate(self.asked):
             if talk.answers and ends_at(talk, self.settings) < talk.answers[0].nanos:
-                when = moment(talk.nanos)[11:]
+                when = moment(talk.nanos // MILLI)[11:]
                 yield f"# request {ticket}, at {when}: its time is up before the answer comes"
 
 

@@ -6,7 +6,7 @@ use Rattle.bac_tsm.specs.{Ask, Data, Done, Dropped, Event, keeping, Note, Outcom
 use Rattle.bac_tsm.specs.{State, state_at, step, Stepped, Tick, Client.Client, Events.TimedOut, Lookahead.send_notes}
 use Rattle.{bac_tsm.specs.Machine.Waiting, bac_text.specs.declared.jobs.Call.Call}
 use Rattle.bac_links.specs.Asking.{Asks, Follows, Move, next_move, question_of, turn_after, waits_in}
-use Rattle.bac_links.specs.{Call.{asked, Comes, end_in, move, rules_for, service_of}, declared.ending.Purpose.Purpose}
+use Rattle.bac_links.specs.{Call.{asked, Comes, end_in, move, rules_for, service_of}, declared.call.Purpose.Purpose}
 use Rattle.bac_links.specs.{Handed.handed, History.{Account, Arrived, Entry, Failure, Gains, GainsAll, Heard, Posted}}
 use Rattle.bac_links.specs.{History.{Silence, Timed, Unposted, Waited}, Limits.turn_wait}
 

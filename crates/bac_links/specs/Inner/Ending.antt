@@ -1,7 +1,7 @@
 -- The end of a request, as a value.
 use Rattle.std.specs.Prelude.{None, Option, Some}
-use Rattle.{bac_tsm.specs.{Outcome, outcome_seen}, bac_links.specs.declared.ending.Ending.Ending}
-use Rattle.bac_links.specs.declared.ending.Ending.TheVariants as lent
+use Rattle.{bac_tsm.specs.{Outcome, outcome_seen}, bac_links.specs.declared.call.Ending.Ending}
+use Rattle.bac_links.specs.declared.call.Ending.TheVariants as lent
 
 -- The end of a request, with the octets that it borrows: the outcome of an answer, or none for a timeout.
 abbrev pub ending_seen : Ending → Option Outcome

@@ -1,6 +1,6 @@
 -- The network header that was read, as values.
 use Rattle.std.specs.Prelude.{option_map}
-use Rattle.bac_pdu.specs.{declared.header.{Address.Address, Header.Header}, Peer.NetworkAddress, Header.NetworkHeader}
+use Rattle.bac_pdu.specs.{declared.datagram.{Address.Address, Header.Header}, Peer.NetworkAddress, Header.NetworkHeader}
 
 -- A station of the code, as a network address.
 abbrev pub address_seen : Address → NetworkAddress

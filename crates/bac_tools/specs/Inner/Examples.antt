@@ -196,6 +196,6 @@ drained = record {
 abbrev pub read_to_end : ℕ → Result TraceEnd RunFault
 read_to_end lines = Ok (record { lines = lines })
 
--- A writer that took the line of the settings of these requests.
-abbrev pub settings_told : Checked ℕ
-settings_told = having (codes "client 3000 3 0\n")
+-- A writer that took the journal of no request.
+abbrev pub empty_journal : Checked ℕ
+empty_journal = having (codes "client 3000 3 0\n# end of the run\n")

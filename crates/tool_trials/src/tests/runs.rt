@@ -26,10 +26,11 @@ const JOURNAL: &[u8] = b"client 100 0 0\n\
     read 127.0.0.1:47808 0 5 85\n\
     # send 1 127.0.0.1:47808 810a001101040005020c0c000000051955\n\
     data 127.0.0.1:47808 810a0017010030020c0c0000000519553e444290999a3f\n\
-    # done 1 value 4290999a\n";
+    # done 1 value 4290999a\n\
+    # end of the run\n";
 
-/// The length of the journal up to each line `# send` and each line `# done`.
-const ENDS: [usize; 4] = [103, 195, 283, 375];
+/// The length of the journal up to each line `# send` and each line `# done`, and up to its end.
+const ENDS: [usize; 5] = [103, 195, 283, 375, 392];
 
 const FIRST: Step<'static> = Step::Packet(0, CONTROLLER, VALUE);
 
@@ -54,7 +55,8 @@ const SOUGHT: &[u8] = b"client 100 0 0\n\
     tick 100\n\
     # timeout 0\n\
     tick 120\n\
-    # wait 120\n";
+    # wait 120\n\
+    # end of the run\n";
 
 /// The two datagrams that these lines send.
 const SOUGHT_BY: &[u8] = b"\x81\x0a\x00\x0c\x01\x20\x00\x05\x00\xff\x10\x08";
@@ -114,15 +116,8 @@ fn links_fail(rt: HostRuntime) {
     let unsent = at_link(ToolFault::SendFailed);
     let spent = at_link(ToolFault::TurnsSpent);
     let bad = Err(RunFault::Script(TraceFault::BadLine(2)));
-    let [sent, done, sent_next, done_next] = ENDS;
-    assert!(rt;
-        ends(
-            rt.alloc(),
-            one,
-            (&[FIRST, SECOND], None),
-            (WHOLE, done_next)
-        )
-    );
+    let [sent, done, sent_next, _, ended] = ENDS;
+    assert!(rt; ends(rt.alloc(), one, (&[FIRST, SECOND], None), (WHOLE, ended)));
     assert!(rt; ends(rt.alloc(), one, (&[Step::Broken], None), (unheard, sent)));
     assert!(rt;
         ends(
@@ -223,6 +218,11 @@ fn writes_fail_in_turn(rt: HostRuntime) {
 /// before each read the journal of the lines so far is written.
 fn fails_at(alloc: Global, read: usize, answer: Ran) -> bool {
     let printed = [(0, 15), (28, 195), (56, 375)];
+    let whole = if answer == WHOLE {
+        JOURNAL.len()
+    } else {
+        printed_after(&printed, read)
+    };
     let progress = Progress::default();
     let reader = Asked {
         progress: &progress,
@@ -236,7 +236,7 @@ fn fails_at(alloc: Global, read: usize, answer: Ran) -> bool {
     };
     let got = run(1, &mut link, reader, writer);
     let is_read = progress.reads.get() == read.min(LINES.len()).saturating_add(1);
-    let is_written = progress.written.get() == printed_after(&printed, read);
+    let is_written = progress.written.get() == whole;
     got == Some(answer) && !progress.is_wrong.get() && is_read && is_written
 }
 

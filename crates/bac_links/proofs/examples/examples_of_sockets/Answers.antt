@@ -92,7 +92,7 @@ still_looking : Waits Fails looking 50 Silence (Receive 2048 (Err WouldBlock) �
 still_looking (inl it) = let sets = it.sets in let asked = it.asked in grind arith
 still_looking (inr it) = let failed = it.failed in grind arith
 
--- A datagram that is too long is passed over.
+-- A datagram that is too long is skipped.
 passed : (times : ℕ) (heard : Heard) (rest : List SystemCall) → Looks Fails (suc times) heard (long_came ∷ rest)
     → Looks Fails times heard rest
 passed times heard rest looks = looked times heard (Ok (too_long, local 47808)) rest None refl looks

@@ -9,10 +9,10 @@ use Rattle.bac_script.{proofs.Computed.computed, specs.{IsFrontOf, Limits.line_r
 use Rattle.bac_script.specs.declared.tracing.TraceEnd.{TraceEnd}
 use Rattle.bac_run.proofs.{Acts.asks_all, Cut.{AreFedAlike, ends, ends_so, fed_alike, has_feed}, Out.journal_front}
 use Rattle.bac_run.proofs.ReadBack.{settings_read_back}
-use Rattle.bac_run.specs.{Act, Asks, AtEnd, BadLine, Came, Does, end_by, Ends, EndsAt, Failed, Feeds, feeds_in, FewOpen}
+use Rattle.bac_run.specs.{Act, Asks, AtEnd, BadLine, Came, Closed, Does, Ends, EndsAt, Failed, Feeds, feeds_in, FewOpen}
 use Rattle.bac_run.specs.{FitsLine, Fresh, Goes, HasNoFeed, journal_of, lines_in, Looked, NextLine, NoLine, Open}
 use Rattle.bac_run.specs.{Passed, Read, Reading, ready, RunFault, Runs, Script, stage_after, taking, Telling, TimeTold}
-use Rattle.bac_run.specs.{Took, turn_at, Turns, WantsOut, Journal.{asked_by, sends_at}}
+use Rattle.bac_run.specs.{Took, TraceFault, turn_at, Turns, WantsOut, Journal.{asked_by, sends_at}}
 use Rattle.bac_run.specs.Inner.{about, answer, asked, busy, desk, drained, history_of, idle}
 use Rattle.bac_run.specs.Inner.{IsRunOf, link_with, octets, one_by_one, read_line, unknown}
 use Rattle.bac_links.specs.{Account, Arrived, Entry, most_turns, Posted, Silence, Timed, Unposted, Waited}
@@ -26,6 +26,7 @@ feedless (x ∷ xs) is = (grind (arith, nat_tests, is), feedless xs (grind (arit
 abbrev printed : List ℕ
 printed = codes "client 3000 3 0\nread 127.0.0.1 0 5 85\n# send 0 127.0.0.1:47808 810a001101040005010c0c000000051955\n"
     ++ codes "data 127.0.0.1:47808 810a0017010030010c0c0000000519553e444290999a3f\n# done 0 value 4290999a\n"
+    ++ codes "# end of the run\n"
 
 pub returns-clause-answered : goal.returns-clause-answered
 unfolding computed
@@ -33,7 +34,7 @@ returns-clause-answered c = (
   omega arith,
   omega arith,
   record {
-    acts = Took read_line ∷ Read 0 ∷ asked ∷ Read 5 ∷ Came 50 desk answer ∷ NoLine AtEnd ∷ [];
+    acts = Took read_line ∷ Read 0 ∷ asked ∷ Read 5 ∷ Came 50 desk answer ∷ NoLine AtEnd ∷ Closed ∷ [];
     takes = record {
       given = read_line;
       kept = [];
@@ -51,19 +52,19 @@ returns-clause-answered c = (
       );
       all_done = (refl, ((λ bad. grind arith), tt), refl, refl);
     };
-    goes = (tt, (tt, ((refl, refl), (tt, ((refl, refl), (tt, tt))))));
+    goes = (tt, (tt, ((refl, refl), (tt, ((refl, refl), (tt, ((refl, refl), tt)))))));
     ends = refl;
     read = inr (record {
       before = read_line;
       held = [];
       earlier = Took read_line ∷ Read 0 ∷ asked ∷ Read 5 ∷ Came 50 desk answer ∷ [];
-      later = NoLine AtEnd ∷ [];
+      later = NoLine AtEnd ∷ Closed ∷ [];
       order = refl;
       did = refl;
       took = refl;
       no_line = (tt, omega arith);
       wanted = (1, refl, refl, omega arith);
-      told = ([], refl);
+      told = (codes "# end of the run\n", refl);
     });
     printed = record {
       taken = printed;
@@ -88,13 +89,44 @@ returns-clause-answered c = (
       gains = refl;
       as_due = (
         false,
-        inl (_, refl, inl (_, refl, inl (_, refl, inl (_, refl, inl (_, refl, inl ([], refl, (refl, refl))))))),
+        inl (
+          _,
+          refl,
+          inl (
+            _,
+            refl,
+            inl (
+              _,
+              refl,
+              inl (
+                _,
+                refl,
+                inl (
+                  _,
+                  refl,
+                  inl (
+                    _,
+                    refl,
+                    inl (
+                      [],
+                      refl,
+                      (
+                        refl,
+                        refl,
+                      ),
+                    ),
+                  ),
+                ),
+              ),
+            ),
+          ),
+        ),
         refl,
       );
     };
     over = refl;
     within = (omega arith, (omega arith, tt));
-    fit = (tt, (tt, (tt, (tt, ((omega arith, omega arith, refl, search rules, refl), (tt, tt))))));
+    fit = (tt, (tt, (tt, (tt, ((omega arith, omega arith, refl, search rules, refl), (tt, (tt, tt)))))));
     settings = settings_read_back 3000 3 (omega arith) (omega arith) (omega arith);
   },
 )
@@ -144,19 +176,27 @@ ran input text entries (timed, some, runs) whole ended =
       fit = runs.fit;
     }
 
--- If no line is left and no request is open, no act is due.
-none_due : {entry : Entry} {later : List Entry} (reading : Reading) (acts : List Act)
-    → Goes 3000 (about idle 0 (Ends (end_by reading 1) ∷ [])) acts → entry ∷ later ≡ history_of idle acts → ⊥
+-- If no line is left and no request is open, only the end of the journal is due.
+none_due : {entry : Entry} {later : List Entry} (end : Result TraceEnd TraceFault) (acts : List Act)
+    → Goes 3000 (about idle 0 (Ends end ∷ [])) acts → entry ∷ later ≡ history_of idle acts → ⊥
 unfolding computed
-none_due reading [] goes is = absurd (cc)
-none_due reading (act ∷ acts) goes is = goes.0
+none_due end [] goes is = absurd (cc)
+none_due end (act ∷ acts) goes is = goes.0
+
+close_due : {entry : Entry} {later : List Entry} (end : TraceEnd) (acts : List Act)
+    → Goes 3000 (about idle 0 (Does Closed ∷ Ends (Ok end) ∷ [])) acts → entry ∷ later ≡ history_of idle acts → ⊥
+unfolding computed
+close_due end [] goes is = absurd (cc)
+close_due end (act ∷ acts) ((due, _), goes) is = none_due (Ok end) acts (rw due at goes) (rw due at is)
 
 nothing_more : {entry : Entry} {later : List Entry} (acts : List Act)
     → Goes 3000 (about idle 0 (NextLine 1 1 ∷ [])) acts → AreFedAlike (feeds_in acts) (NoLine AtEnd ∷ [])
     → entry ∷ later ≡ history_of idle acts → ⊥
 unfolding computed
 nothing_more [] goes fed is = absurd (cc)
-nothing_more (NoLine reading ∷ acts) (_, goes) fed is = none_due reading acts goes is
+nothing_more (NoLine AtEnd ∷ acts) (_, goes) fed is = close_due (record { lines = 1 }) acts goes is
+nothing_more (NoLine Open ∷ acts) goes (same, _) is = absurd (cc)
+nothing_more (NoLine Failed ∷ acts) goes (same, _) is = absurd (cc)
 nothing_more (Took line ∷ acts) goes (same, _) is = absurd (cc)
 nothing_more (_ ∷ acts) goes fed is = goes.0
 
@@ -293,13 +333,17 @@ returns-clause-kept_back c = λ timed some out.
 
 -- ---- a run over a remark
 
+-- The journal of the run: its settings, and its end.
+abbrev closed_settings : List ℕ
+closed_settings = codes "client 3000 3 0\n# end of the run\n"
+
 pub returns-clause-over_a_remark : goal.returns-clause-over_a_remark
 unfolding computed
 returns-clause-over_a_remark c = (
   omega arith,
   omega arith,
   record {
-    acts = Took (codes "# x\n") ∷ NoLine AtEnd ∷ [];
+    acts = Took (codes "# x\n") ∷ NoLine AtEnd ∷ Closed ∷ [];
     takes = record {
       given = codes "# x\n";
       kept = [];
@@ -309,27 +353,27 @@ returns-clause-over_a_remark c = (
       feeds = one_line (codes "# x") (feedless (codes "# x") refl) (omega arith);
       all_done = (refl, ((λ bad. grind arith), tt), refl, refl);
     };
-    goes = (tt, (tt, tt));
+    goes = (tt, (tt, ((refl, refl), tt)));
     ends = refl;
     read = inr (record {
       before = codes "# x\n";
       held = [];
       earlier = Took (codes "# x\n") ∷ [];
-      later = NoLine AtEnd ∷ [];
+      later = NoLine AtEnd ∷ Closed ∷ [];
       order = refl;
       did = refl;
       took = refl;
       no_line = (tt, omega arith);
       wanted = (1, refl, refl, omega arith);
-      told = ([], refl);
+      told = (codes "# end of the run\n", refl);
     });
     printed = record {
-      taken = codes "client 3000 3 0\n";
+      taken = closed_settings;
       rest = [];
       took = record {
         passed = refl;
         known = grind arith;
-        made = WriteCall (codes "client 3000 3 0\n") (Ok 16) ∷ [];
+        made = WriteCall closed_settings (Ok 33) ∷ [];
         calls = refl;
         asked = (refl, (λ none. grind arith), refl);
       };
@@ -344,11 +388,11 @@ returns-clause-over_a_remark c = (
     asks = record {
       gained = [];
       gains = refl;
-      as_due = (false, inl ([], refl, inl ([], refl, (refl, refl))), refl);
+      as_due = (false, inl ([], refl, inl ([], refl, inl ([], refl, (refl, refl)))), refl);
     };
     over = refl;
     within = (omega arith, tt);
-    fit = (tt, (tt, tt));
+    fit = (tt, (tt, (tt, tt)));
     settings = settings_read_back 3000 3 (omega arith) (omega arith) (omega arith);
   },
 )
@@ -360,20 +404,24 @@ returns-clause-looked c = λ text run.
     (fed_alike AtEnd (feeds_in over.acts) _ (codes "# x\n") over.kept [] over.feeds
     (one_line (codes "# x") (feedless (codes "# x") refl) (omega arith))) over.asks
 
--- A run over a remark takes it, and finds that no line is left; or it has not done so yet.
+-- A run over a remark takes it, finds that no line is left, and closes its journal; or it has not done so yet.
 last_left : (acts : List Act) → Goes 3000 (about idle 0 (NextLine 1 1 ∷ [])) acts
-    → AreFedAlike (feeds_in acts) (NoLine AtEnd ∷ []) → (acts ≡ []) ⊎ (acts ≡ NoLine AtEnd ∷ [])
+    → AreFedAlike (feeds_in acts) (NoLine AtEnd ∷ [])
+    → (acts ≡ []) ⊎ ((acts ≡ NoLine AtEnd ∷ []) ⊎ (acts ≡ NoLine AtEnd ∷ Closed ∷ []))
 unfolding computed
 last_left [] goes fed = inl refl
-last_left (NoLine reading ∷ []) goes (same, _) = inr (ap (λ (act : Act). act ∷ []) same)
+last_left (NoLine reading ∷ []) goes (same, _) = inr (inl (ap (λ (act : Act). act ∷ []) same))
 last_left (NoLine Open ∷ act ∷ acts) (_, goes) fed = absurd goes.0
-last_left (NoLine AtEnd ∷ act ∷ acts) (_, goes) fed = absurd goes.0
+last_left (NoLine AtEnd ∷ act ∷ []) (_, ((due, _), goes)) fed =
+    inr (inr (ap (λ (act : Act). NoLine AtEnd ∷ act ∷ []) due))
+last_left (NoLine AtEnd ∷ act ∷ other ∷ acts) (_, ((due, _), goes)) fed = absurd ((rw due at goes).0)
 last_left (NoLine Failed ∷ act ∷ acts) (_, goes) fed = absurd goes.0
 last_left (Took line ∷ acts) goes (same, _) = absurd (cc)
 last_left (_ ∷ acts) goes fed = absurd goes.0
 
 module _ (P : List Act → Type 0) (none : P []) (one : P (Took (codes "# x\n") ∷ []))
-    (both : P (Took (codes "# x\n") ∷ NoLine AtEnd ∷ [])) where
+    (both : P (Took (codes "# x\n") ∷ NoLine AtEnd ∷ []))
+    (all : P (Took (codes "# x\n") ∷ NoLine AtEnd ∷ Closed ∷ [])) where
   of_remark : (acts : List Act) → Goes 3000 (about idle 0 (NextLine 1 0 ∷ [])) acts
       → AreFedAlike (feeds_in acts) (Took (codes "# x\n") ∷ NoLine AtEnd ∷ []) → P acts
   unfolding computed
@@ -383,8 +431,10 @@ module _ (P : List Act → Type 0) (none : P []) (one : P (Took (codes "# x\n") 
       elim (last_left acts (rw is at goes) fed) as (λ _. P (Took line ∷ acts)) [
         | inl over ↦ subst (λ (l : List ℕ). P (Took l ∷ acts)) (sym is)
             (subst (λ (rest : List Act). P (Took (codes "# x\n") ∷ rest)) (sym over) one)
-        | inr over ↦ subst (λ (l : List ℕ). P (Took l ∷ acts)) (sym is)
+        | inr (inl over) ↦ subst (λ (l : List ℕ). P (Took l ∷ acts)) (sym is)
             (subst (λ (rest : List Act). P (Took (codes "# x\n") ∷ rest)) (sym over) both)
+        | inr (inr over) ↦ subst (λ (l : List ℕ). P (Took l ∷ acts)) (sym is)
+            (subst (λ (rest : List Act). P (Took (codes "# x\n") ∷ rest)) (sym over) all)
       ]
   of_remark (NoLine reading ∷ acts) goes (same, _) = absurd (cc)
   of_remark (_ ∷ acts) goes fed = absurd goes.0
@@ -405,24 +455,25 @@ head_of : List ℕ → ℕ
 head_of [] = 0
 head_of (x ∷ xs) = x
 
--- The journal of these acts is only the settings.
+-- The journal of these acts begins with the settings.
 abbrev printed_so : 0 < 3000 → 0 < 1 → List Act → Type 0
-printed_so timed some acts = journal_of (one_by_one timed some) acts ≡ codes "client 3000 3 0\n"
+printed_so timed some acts = head_of (drop 14 (journal_of (one_by_one timed some) acts)) ≡ 48
 
-not_settings : (text rest : List ℕ) → text ≡ codes "client 3000 3 0\n" → text ≡ codes "client 3000 3 1\n" ++ rest → ⊥
+not_settings : (text rest : List ℕ) → head_of (drop 14 text) ≡ 48
+    → text ≡ codes "client 3000 3 1\n# end of the run\n" ++ rest → ⊥
 unfolding computed head_of
 not_settings text rest is other =
-    let retries : 48 ≡ 49 = ap (λ (text : List ℕ). head_of (drop 14 text)) (sym is ∙ other) in omega (arith, retries)
+    let retries : 48 ≡ 49 = sym is ∙ ap (λ (text : List ℕ). head_of (drop 14 text)) other in omega (arith, retries)
 
-settings_alone : (timed : 0 < 3000) (some : 0 < 1) (acts : List Act) → Goes 3000 (about idle 0 (NextLine 1 0 ∷ [])) acts
+settings_first : (timed : 0 < 3000) (some : 0 < 1) (acts : List Act) → Goes 3000 (about idle 0 (NextLine 1 0 ∷ [])) acts
     → AreFedAlike (feeds_in acts) (Took (codes "# x\n") ∷ NoLine AtEnd ∷ []) → printed_so timed some acts
-unfolding computed
-settings_alone timed some = of_remark (printed_so timed some) refl refl refl
+unfolding computed head_of
+settings_first timed some = of_remark (printed_so timed some) refl refl refl refl
 
 pub returns-clause-printed_otherwise : goal.returns-clause-printed_otherwise
 returns-clause-printed_otherwise c = λ (timed, some, runs).
     let prints = runs.printed in
-    not_settings _ prints.rest (settings_alone timed some runs.acts runs.goes (of_remark_run runs))
+    not_settings _ prints.rest (settings_first timed some runs.acts runs.goes (of_remark_run runs))
     (prints.whole ∙ ap (λ (taken : List ℕ). taken ++ prints.rest) (sym prints.took.passed))
 
 -- After these acts a run ends with a bad line.
@@ -432,10 +483,35 @@ bad_at acts = EndsAt (Err (Script (BadLine 1))) (stage_after 3000 (about idle 0 
 never_bad : (acts : List Act) → Goes 3000 (about idle 0 (NextLine 1 0 ∷ [])) acts
     → AreFedAlike (feeds_in acts) (Took (codes "# x\n") ∷ NoLine AtEnd ∷ []) → bad_at acts
 unfolding computed
-never_bad = of_remark bad_at (λ is. absurd (cc)) (λ is. absurd (cc)) (λ is. absurd (cc))
+never_bad = of_remark bad_at (λ is. absurd (cc)) (λ is. absurd (cc)) (λ is. absurd (cc)) (λ is. absurd (cc))
 
 pub returns-clause-ended_otherwise : goal.returns-clause-ended_otherwise
 returns-clause-ended_otherwise c = λ timed some runs. never_bad runs.acts runs.goes (of_remark_run runs) runs.ends
+
+-- A run that ends well has closed its journal.
+abbrev closed_at : 0 < 3000 → 0 < 1 → List Act → Type 0
+closed_at timed some acts =
+    EndsAt (Ok (record { lines = 1 })) (stage_after 3000 (about idle 0 (NextLine 1 0 ∷ [])) acts)
+    → journal_of (one_by_one timed some) acts ≡ closed_settings
+
+is_closed : (timed : 0 < 3000) (some : 0 < 1) (acts : List Act) → Goes 3000 (about idle 0 (NextLine 1 0 ∷ [])) acts
+    → AreFedAlike (feeds_in acts) (Took (codes "# x\n") ∷ NoLine AtEnd ∷ []) → closed_at timed some acts
+unfolding computed
+is_closed timed some =
+    of_remark (closed_at timed some) (λ is. absurd (cc)) (λ is. absurd (cc)) (λ is. absurd (cc)) (λ is. refl)
+
+not_closed : (rest : List ℕ) → rest ≡ [] → closed_settings ≡ codes "client 3000 3 0\n" ++ rest → ⊥
+unfolding computed is_none
+not_closed rest none is =
+    let over : false ≡ is_none rest = ap (λ (text : List ℕ). is_none (drop 16 text)) is in
+    let all : is_none rest ≡ true = ap is_none none in absurd (cc)
+
+pub returns-clause-unclosed : goal.returns-clause-unclosed
+returns-clause-unclosed c = λ (timed, some, runs).
+    let prints = runs.printed in
+    let whole = is_closed timed some runs.acts runs.goes (of_remark_run runs) runs.ends in
+    not_closed prints.rest (prints.sound refl).1
+    (sym whole ∙ prints.whole ∙ ap (λ (taken : List ℕ). taken ++ prints.rest) (sym prints.took.passed))
 
 -- ---- a run over a bad line
 

@@ -1,9 +1,10 @@
 -- A run with an empty input is computed; a negative row follows from its lines or its settings.
-use Rattle.std.proofs.Common.{[], ap, arith, false, inl, inr, length, List, refl, subst, sym, ℕ, ◌<◌, ◌∙◌, ◌∷◌, ◌≡◌}
+use Rattle.std.proofs.Common.{[], ap, arith, codes, false, inl, inr, length, List, refl, subst, sym, ℕ, ◌<◌, ◌∙◌, ◌∷◌}
+use Rattle.std.proofs.Common.{◌≡◌}
 use Rattle.bac_script.{proofs.Computed.computed, specs.declared.input.Reading.{Reading, TheVariants.AtEnd}}
-use Rattle.bac_run.proofs.{Cut.{lines_fed, none_fed}, Out.out_unwaited, ReadBack.settings_read_back}
-use Rattle.bac_run.specs.{Input.{Feeds, feeds_in, lines_in}, Journal.{Act, NoLine}}
-use Rattle.bac_tools.{proofs.Worked.given, specs.{Setup, Inner.{settings_told, unasked}}}
+use Rattle.bac_run.proofs.{Cut.{lines_fed, none_fed}, Out.journal_front, ReadBack.settings_read_back}
+use Rattle.bac_run.specs.{Input.{Feeds, feeds_in, lines_in}, Journal.{Act, Closed, NoLine}, Run.journal_of}
+use Rattle.{bac_script.specs.IsFrontOf, bac_tools.{proofs.Worked.given, specs.Setup}}
 use Rattle.bac_tools.proofs.examples.examples_of_many_requests.Goals as goal
 
 abbrev setup : 0 < 3000 → 0 < 1 → Setup
@@ -24,7 +25,7 @@ returns c = record {
     setup = setup (omega arith) (omega arith);
     of_batch = record { timeout = refl; retries = refl; window = refl };
     requested = record {
-      acts = NoLine AtEnd ∷ [];
+      acts = NoLine AtEnd ∷ Closed ∷ [];
       takes = record {
         given = [];
         kept = [];
@@ -34,27 +35,33 @@ returns c = record {
         feeds = (refl, refl, refl);
         all_done = (refl, tt, refl, refl);
       };
-      goes = (tt, tt);
+      goes = (tt, ((refl, refl), tt));
       ends = refl;
       read = inr (record {
         before = [];
         held = [];
         earlier = [];
-        later = NoLine AtEnd ∷ [];
+        later = NoLine AtEnd ∷ Closed ∷ [];
         order = refl;
         did = refl;
         took = refl;
         no_line = (tt, omega arith);
         wanted = (0, refl, refl, omega arith);
-        told = ([], refl);
+        told = (codes "# end of the run\n", refl);
       });
       printed = given _ (λ none. grind arith) refl refl refl;
-      out = out_unwaited (setup (omega arith) (omega arith)) unasked settings_told (NoLine AtEnd) (λ waits. absurd
-          waits);
-      asks = record { gained = []; gains = refl; as_due = (false, inl ([], refl, (refl, refl)), refl) };
+      out = λ earlier later act wants is.
+          let these = setup (omega arith) (omega arith) in
+          subst (λ (acts : List Act). IsFrontOf (journal_of these earlier) (journal_of these acts)) (sym is)
+          (journal_front these earlier (act ∷ later));
+      asks = record {
+        gained = [];
+        gains = refl;
+        as_due = (false, inl ([], refl, inl ([], refl, (refl, refl))), refl);
+      };
       over = refl;
       within = tt;
-      fit = (tt, tt);
+      fit = (tt, (tt, tt));
       settings = settings_read_back 3000 3 (omega arith) (omega arith) (omega arith);
     };
   };

@@ -1,18 +1,16 @@
--- The first octets are in their line unchanged, and the rest is folded after them.
-use Rattle.std.proofs.Common.{arith, take-append-drop}
-use Rattle.bac_print.proofs.{folds_on, plain_front}
+-- A text without a line feed that fits in its line stays as it is.
+use Rattle.std.proofs.Common.{arith, sym}
+use Rattle.bac_print.proofs.{plain_text}
 use Rattle.bac_print.proofs.page.Page.fold.Goals as goal
 
-pub returns-clause-text : goal.returns-clause-text
-returns-clause-text g c =
-    let plain = plain_front c.args.text.now c.split_at.result.0.now c.args.room (grind arith) in
-    let whole = folds_on c.args.text.now c.split_at.result.0.now c.split_at.result.1.now c.args.room plain
-    (grind (arith, take-append-drop)) c.hold.ensures c.fold_octets.ensures.text c.fold_octets.ensures.left in
-    whole.held
+pub returns-then-is_none-clause-text : goal.returns-then-is_none-clause-text
+returns-then-is_none-clause-text g c =
+    let (same, left) = plain_text c.args.text.now c.args.room c.feed_position.result c.feed_position.ensures
+    c.if-is_none.ensures (grind arith) in
+    rw same c.hold-then-is_none.ensures
 
-pub returns-clause-left : goal.returns-clause-left
-returns-clause-left g c =
-    let plain = plain_front c.args.text.now c.split_at.result.0.now c.args.room (grind arith) in
-    let whole = folds_on c.args.text.now c.split_at.result.0.now c.split_at.result.1.now c.args.room plain
-    (grind (arith, take-append-drop)) c.hold.ensures c.fold_octets.ensures.text c.fold_octets.ensures.left in
-    whole.is_left
+pub returns-then-is_none-clause-left : goal.returns-then-is_none-clause-left
+returns-then-is_none-clause-left g c =
+    let (same, left) = plain_text c.args.text.now c.args.room c.feed_position.result c.feed_position.ensures
+    c.if-is_none.ensures (grind arith) in
+    sym left
