@@ -8,6 +8,7 @@ HERE that of the latest stand-in, DEAD one where nobody is; IN is a folder, and 
 
 import atexit
 import os
+import pty
 import re
 import shutil
 import signal
@@ -124,6 +125,19 @@ class SiteTest(unittest.TestCase):
 
     def run_site(self, *words, **more):
         return self.world.run(*map(self.spelled, words), **more)
+
+    def on_a_terminal(self, height, *words):
+        """The status of the program on a terminal of this height, and what it shows there."""
+        ours, theirs = pty.openpty()
+        env = {**os.environ, "TERM": "xterm", "COLUMNS": "100", "LINES": height}
+        done = subprocess.run([*self.world.command, *words], stdout=theirs, env=env, timeout=at_load(60))
+        os.close(theirs)
+        text = b""
+        with suppress(OSError):
+            while True:
+                text += os.read(ours, 65536)
+        os.close(ours)
+        return done.returncode, text.decode()
 
     def begun(self, *words, **more):
         """The running program: its streams are pipes, and signals end it."""

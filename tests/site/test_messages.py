@@ -1,10 +1,7 @@
 """Whole texts that a person reads: why a word is refused, what a watch shows, and the heads of tables and pages."""
 
 import os
-import pty
-import subprocess
 import unittest
-from contextlib import suppress
 
 import harness
 from datagram_builders import CLIENT, DEVICE, ack, datagrams, ether, exchange, pcap, udp, wrapped
@@ -78,16 +75,8 @@ class Refused(harness.SiteTest):
 class Watched(harness.SiteTest):
     def shown(self, lines, *words):
         """What a watch shows on a terminal of this height."""
-        ours, theirs = pty.openpty()
-        env = {**os.environ, "TERM": "xterm", "COLUMNS": "100", "LINES": lines}
-        subprocess.run([*self.world.command, "watch", *words], stdout=theirs, env=env, timeout=harness.at_load(60))
-        os.close(theirs)
-        text = b""
-        with suppress(OSError):
-            while True:
-                text += os.read(ours, 65536)
-        os.close(ours)
-        return text.decode().replace("\x1b[K", "").replace("\r\n", "\n")
+        _, text = self.on_a_terminal(lines, "watch", *words)
+        return text.replace("\x1b[K", "").replace("\r\n", "\n")
 
     def test_points_without_a_value_or_without_room(self):
         fast = self.stand_in(TWO).address

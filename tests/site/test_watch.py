@@ -5,10 +5,8 @@ import errno
 import glob
 import json
 import os
-import pty
 import re
 import signal
-import subprocess
 import threading
 import time
 import unittest
@@ -552,18 +550,10 @@ class Terminal(harness.SiteTest):
     def test_one_line_for_each_point_is_written_in_place(self):
         self.stand_in({(0, 1, 85): [real("42290000"), real("40000000")], (0, 2, 85): "silent", **DEGREES})
         points = self.path("shown", "room HERE 0 1 85\nlost HERE 0 2 85\n")
-        ours, theirs = pty.openpty()
         words = ["watch", points, "--every", "0.3", "--rounds", "3", "--apdu-timeout", "50", "--apdu-retries", "0"]
-        env = {**os.environ, "TERM": "xterm", "COLUMNS": "100", "LINES": "24"}
-        done = subprocess.run([*self.world.command, *words], stdout=theirs, env=env, timeout=60)
-        os.close(theirs)
-        text = b""
-        with suppress(OSError):
-            while True:
-                text += os.read(ours, 65536)
-        os.close(ours)
-        self.assertEqual(done.returncode, 1)
-        shown = text.decode().split("\x1b[J")
+        status, text = self.on_a_terminal("24", *words)
+        self.assertEqual(status, 1)
+        shown = text.split("\x1b[J")
         self.assertEqual({it.count("\n") for it in shown}, {2, 0})
         self.assertTrue(all(it.startswith("\x1b[2A\r") for it in shown[1:-1]), shown)
         last = [re.sub(r"\x1b\[\w+", "", it).strip() for it in shown[-2].split("\n")]
