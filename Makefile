@@ -1,18 +1,5 @@
-# make, make help: lists these targets with what they cost, and builds nothing
-# make try: runs a first script by the toolchain's runner, in a minute or two; nothing is proved yet
-# make program: proves and builds the program: 8 to 20 minutes the first time, then only what has changed
-# make demo: the same, and shows what it does, with a small device on this machine
-# make check: proves every crate, without tests and mutants, over what earlier checks kept; for daily work
-# make test: over what make demo keeps, the tests of the crates, some mutants, make examples and make lint; minutes
-# make gate: what a change has to pass: proves and tries everything from nothing; three quarters of an hour to an hour
-#     with four processors, two with two
-# make examples: runs examples/, the program's own tests, those of bacsite and the guide. Two minutes
-# make forget: takes away what the prover keeps, 3.2 GB, but not the program; the next check proves from nothing
-# make documents: compares the documents, the reading lists, the list of public signatures and what reads the rules
-#     back with the tree. Seconds
-# make reading: writes docs/reading/ anew, the sizes of its lists in README.md, docs/API.txt, and must-fail/ of each
-#     crate. Seconds
-# All but try, check, test, forget, documents and reading build the program first, where it is not as the sources.
+# The targets; docs/MAKE.txt, which `make help` prints, says what each does and costs. All but try, check, test, forget,
+# documents and reading build the program first, if it is not as the sources.
 
 PROGRAM = crates/bactool/out/bactool
 SOURCES := $(shell find crates -name out -prune -o \( -name '*.rt' -o -name '*.antt' \) -print) crates.txt
@@ -20,7 +7,7 @@ SOURCES := $(shell find crates -name out -prune -o \( -name '*.rt' -o -name '*.a
 .PHONY: help try demo check test gate examples forget program documents reading kit
 
 help:
-	@sed -n 's/^# \(make[ ,].*\)/\1/p; s/^#\(     .*\)/\1/p' Makefile packaging.mk measuring.mk
+	@sed '' docs/MAKE.txt
 
 program: $(PROGRAM)
 

@@ -33,21 +33,22 @@ def size(crate):
     return sum(map(os.path.getsize, tree.files(f"crates/{crate}/src/**")))
 
 
+def longest_first(crates, below):
+    """These crates, in the order in which they begin if all can: first those with the most code in themselves and in
+    the heaviest chain of crates above."""
+    weight = {}
+    for crate in sorted(crates, key=lambda it: -len(below[it])):
+        weight[crate] = size(crate) + max((weight[it] for it in weight if crate in below[it]), default=0)
+    return sorted(crates, key=weight.get, reverse=True)
+
+
 class Work(tree.Job):
     """A crate that is being proved in its folder."""
 
     def __init__(self, crate, below, jobs):
-        self.crate, self.jobs, self.home, self.room = crate, jobs, f"crates/{crate}", f"{ROOMS}/{crate}"
+        self.crate, self.home, self.room = crate, f"crates/{crate}", f"{ROOMS}/{crate}"
         self.held = os.open(self.home, os.O_RDONLY)
         fcntl.flock(self.held, fcntl.LOCK_EX)  # as rt does, to make rt wait
-        self.enter(below)
-        self.is_proved = crate != "tool_trials" or os.path.isfile(f"{self.room}/{self.home}/out/{crate}_tests")
-        verb = "test" if crate in TRIALS else "run" if crate == PROGRAM else "lib"
-        command = ["rt", verb, "--jobs", str(jobs), *(["--", "--help"] if verb == "run" else [])]
-        command = command if self.is_proved else ["rt", "try", "--test", "--seconds", "900"]
-        super().__init__(command, f"{self.room}.log", cwd=f"{self.room}/{self.home}")
-
-    def enter(self, below):
         self.leave()  # a build that was killed may have left the room as it was
         os.makedirs(self.room)
         tree.copy_sources(self.room)
@@ -55,6 +56,11 @@ class Work(tree.Job):
             shutil.copytree(f"crates/{it}/out/rlib", f"{self.room}/crates/{it}/out/rlib", copy_function=os.link)
         if os.path.isdir(f"{self.home}/out"):
             os.rename(f"{self.home}/out", f"{self.room}/{self.home}/out")
+        self.is_proved = crate != "tool_trials" or os.path.isfile(f"{self.room}/{self.home}/out/{crate}_tests")
+        verb = "test" if crate in TRIALS else "run" if crate == PROGRAM else "lib"
+        words = f"{verb} --jobs {jobs}" + " -- --help" * (verb == "run")
+        command = f"rt {words}" if self.is_proved else "rt try --test --seconds 900"
+        super().__init__(command.split(), f"{self.room}.log", cwd=f"{self.room}/{self.home}")
 
     def leave(self):
         if os.path.isdir(f"{self.room}/{self.home}/out"):
@@ -65,9 +71,8 @@ class Work(tree.Job):
     def came(self):
         """Returns the result of the process, once it has ended; "" if it failed."""
         tests = re.findall(r"^test result: ok\. ([1-9]\d*) passed; 0 failed", self.said(), re.M)
-        if self.process.returncode or (self.crate in TRIALS and not tests):
-            return ""
-        return f"{tests[-1]} tests passed{', not proved' * (not self.is_proved)}" if tests else "proved"
+        told = f"{tests[-1]} tests passed{', not proved' * (not self.is_proved)}" if tests else "proved"
+        return "" if self.process.returncode or (self.crate in TRIALS and not tests) else told
 
     def stop(self):
         super().stop()
@@ -76,8 +81,8 @@ class Work(tree.Job):
 
 
 def build(crates, below, done):
-    """Builds these crates, each once those below it are done. Returns whether each was proved."""
-    began, left, working = time.monotonic(), sorted(crates, key=size, reverse=True), []
+    """Builds these crates, each once those below it are done. Returns the status: 1 if one was not proved."""
+    began, left, working = time.monotonic(), longest_first(crates, below), []
     places = max(min(tree.processors(), tree.free_memory() // CRATE_MEMORY), 1)
     try:
         while left or working:
@@ -96,11 +101,11 @@ def build(crates, below, done):
                     what = "has a test that is not proved, or failed" if work.crate in TRIALS else "is not proved"
                     print(f"{work.crate} {what} ({clock}); the end of {work.log}:")
                     print("\n".join(work.said().splitlines()[-20:]))
-                    return False
+                    return 1
                 done = done | {work.crate}
                 count = len(crates) - len(left) - len(working)
                 print(f"{count:2} of {len(crates)}  {work.crate:12} {work.came()}  {clock}", flush=True)
-        return True
+        return 0
     finally:
         for work in working:
             work.stop()
@@ -113,15 +118,15 @@ def main(words):
     os.makedirs(ROOMS, exist_ok=True)
     below = {crate: rests_on - {crate} for crate, rests_on in tree.crates_below().items()}
     if words == ["--tests"]:
-        return 0 if build(TRIALS, below, set(below) - set(TRIALS)) else 1
+        return build(TRIALS, below, set(below) - set(TRIALS))
     crates = below[PROGRAM] | {PROGRAM}
     print(f"Proving {len(crates)} crates, the last of which is the program.", flush=True)
     if not all(os.path.isdir(f"crates/{crate}/out") for crate in crates):
         print(COST, flush=True)
-    if not build(crates, below, set()):
-        return 1
-    os.utime(f"crates/{PROGRAM}/out/{PROGRAM}")  # make compares its time with those of the sources
-    return 0
+    status = build(crates, below, set())
+    if status == 0:
+        os.utime(f"crates/{PROGRAM}/out/{PROGRAM}")  # make compares its time with those of the sources
+    return status
 
 
 tree.end_by_signals(main)

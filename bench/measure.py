@@ -11,7 +11,6 @@ BACTOOL names a program other than the repository's own, and ROUNDS how often tw
 """
 import os
 import re
-import shutil
 import statistics
 import subprocess
 import sys
@@ -19,13 +18,14 @@ import tempfile
 import time
 
 sys.path.insert(0, os.path.dirname(__file__) + "/../tests")
-from tree import PROGRAM, TOP, all_crates, device, left_out, processors, ran, resident, text_of, write
+from tree import PROGRAM, TOP, all_crates, device, left_out, processors, ran, resident, table_of, text_of, write
 
 ROUNDS = int(os.environ.get("ROUNDS", 15))
 REPLIES, MANY_REPLIES, RUNS, LINES = 20000, 60000, 200, 10000000
-UDP = f"{TOP}/out/udp"
+UDP, JOURNAL = f"{TOP}/out/udp", f"{TOP}/out/journal"
 BACRP = ["bacrp", "1234", "0", "5", "85", "--mac"]
 CALLGRIND = ["valgrind", "--tool=callgrind", "--callgrind-out-file=/dev/null", PROGRAM]
+BOXES = dict(table_of("bench/boxes.txt"))
 MIXED = text_of("bench/mixed.trace").splitlines(keepends=True)
 
 
@@ -36,18 +36,9 @@ def mixed(count):
 
 
 def timed(words, given=None, output=subprocess.DEVNULL):
-    """The seconds that a command takes."""
     begun = time.monotonic()
     subprocess.run(words, stdin=given, stdout=output, check=True)
     return time.monotonic() - begun
-
-
-def row(name, *cells):
-    return f"{name:34}" + "".join(f" {cell:>8}" for cell in cells)
-
-
-def wide(name, one, many):
-    return f"{name:34} {one:25}   {many}"
 
 
 def load(port, outstanding, count):
@@ -56,7 +47,6 @@ def load(port, outstanding, count):
 
 
 def spread(numbers, form="{}"):
-    """The median, the least and the greatest of the numbers."""
     shown = [form.format(it) for it in (statistics.median_low(numbers), min(numbers), max(numbers))]
     return "{:>8} ({} to {})".format(*shown)
 
@@ -64,64 +54,50 @@ def spread(numbers, form="{}"):
 def rounds(windows, asked):
     """Measures the echo server and bacdev in turn, with each of these numbers of open requests."""
     rates = {(program, window): [] for window in windows for program in (UDP, PROGRAM)}
-    for _ in range(ROUNDS):
-        for (program, window), found in rates.items():
-            with device(program=[program]) as (_, port):
-                found.append(asked(program, port, window))
+    for (program, window), found in list(rates.items()) * ROUNDS:
+        with device(program=[program]) as (_, port):
+            found.append(asked(program, port, window))
     return ([rates[program, window] for window in windows] for program in (UDP, PROGRAM))
 
 
-def network():
-    echoes, ours = rounds((1, 32), lambda _, port, window: load(port, window, REPLIES))
-    yield wide(f"replies a second, {ROUNDS} x {REPLIES}", "one outstanding", "32 outstanding")
-    yield wide("bare echo server", *map(spread, echoes))
-    yield wide("bacdev, a ReadProperty", *map(spread, ours))
-    ratios = [[one / echo for one, echo in zip(*both)] for both in zip(ours, echoes)]
-    yield wide("bacdev by echo, round by round", *(spread(it, "{:.2f}") for it in ratios))
-    yield wide("bacdev by echo, best by best", *(f"{max(one) / max(echo):8.2f}" for one, echo in zip(ours, echoes)))
-    yield from memory()
-
-
-def grown(words, lines, count):
-    """The most memory of a command after a tenth of these lines, and after all of them."""
+def grown(tool, lines, count):
+    """The most memory of a tool after a tenth of these lines, and after all of them."""
     how = {"stdin": subprocess.PIPE, "stdout": subprocess.DEVNULL, "text": True}
-    with subprocess.Popen(words, **how) as process:
+    with subprocess.Popen([PROGRAM, tool], **how) as process:
         for number, line in enumerate(lines):
             process.stdin.write(line)
             if number == count // 10:
                 early = resident(process)
-        return row(f"{words[1]}, {count} lines", early, resident(process))
+        return early, resident(process)
 
 
-def memory():
-    """The most memory so far. A child's `ru_maxrss` would include the memory of Python before the child began."""
-    yield row("\nresident memory, kilobytes", "early", "late")
+def network():
+    """Rates, and the most memory: a child's `ru_maxrss` would include the memory of Python before the child began."""
+    echoes, rates = rounds((1, 32), lambda _, port, window: load(port, window, REPLIES))
+    echo, ours = list(map(spread, echoes)), list(map(spread, rates))
+    ratios = [spread([one / by for one, by in zip(*both)], "{:.2f}") for both in zip(rates, echoes)]
+    best = [max(one) / max(by) for one, by in zip(rates, echoes)]
     with device() as (process, port):
-        load(port, 32, 1000)
-        early = resident(process)
-        load(port, 32, MANY_REPLIES)
-        yield row(f"bacdev, 1000 and {MANY_REPLIES} replies", early, resident(process))
+        bacdev = [load(port, 32, count) and resident(process) for count in (1000, MANY_REPLIES)]
     with device() as (_, port):
-        reads = [f"read 127.0.0.1:{port} 0 5 85\n"] * MANY_REPLIES
-        yield grown([PROGRAM, "bacrun"], reads, MANY_REPLIES)
-    yield grown([PROGRAM, "bactrace"], mixed(LINES), LINES)
+        bacrun = grown("bacrun", [f"read 127.0.0.1:{port} 0 5 85\n"] * MANY_REPLIES, MANY_REPLIES)
+    bactrace = grown("bactrace", mixed(LINES), LINES)
+    return locals()
 
 
 def batch(port, window):
     """The reads a second of one bacrun, all of which must be answered."""
-    with tempfile.TemporaryFile("w+") as lines, tempfile.TemporaryFile("w+") as journal:
-        lines.write(f"read 127.0.0.1:{port} 0 5 85\n" * REPLIES)
-        lines.seek(0)
-        seconds = timed([PROGRAM, "bacrun", "--window", str(window)], lines, journal)
-        journal.seek(0)
-        if journal.read().count("\n# done ") != REPLIES:
-            sys.exit("bacrun: a read has no answer")
-        return REPLIES / seconds
+    write(f"{TOP}/out/reads", f"read 127.0.0.1:{port} 0 5 85\n" * REPLIES)
+    with open(f"{TOP}/out/reads", encoding="utf-8") as reads, open(JOURNAL, "w", encoding="utf-8") as journal:
+        seconds = timed([PROGRAM, "bacrun", "--window", str(window)], reads, journal)
+    if text_of(JOURNAL).count("\n# done ") != REPLIES:
+        sys.exit("bacrun: a read has no answer")
+    return REPLIES / seconds
 
 
 def floor(window):
     """The reads a second of a plain client that makes the calls that the contract of bacrun requires."""
-    with device() as (_, port), tempfile.TemporaryFile() as journal:
+    with device() as (_, port), open(JOURNAL, "w", encoding="utf-8") as journal:
         words = [UDP, "batch", str(port), str(window), str(REPLIES)]
         return int(subprocess.run(words, stdout=journal, stderr=subprocess.PIPE, check=True).stderr)
 
@@ -129,21 +105,14 @@ def floor(window):
 def runs():
     read = lambda program, port, window: batch(port, window) if program == PROGRAM else load(port, window, REPLIES)
     bare, ours = (list(map(statistics.median, rates)) for rates in rounds((1, 8, 64), read))
-    wanted = [statistics.median([floor(window) for _ in range(ROUNDS)]) for window in (1, 8, 64)]
+    calls = [statistics.median([floor(window) for _ in range(ROUNDS)]) for window in (1, 8, 64)]
     with device() as (_, port):
-        alone = RUNS / sum(timed([PROGRAM, *BACRP, f"127.0.0.1:{port}"]) for _ in range(RUNS))
-    yield row(f"reads a second, {ROUNDS} x {REPLIES}", "1 open", "8 open", "64 open")
-    yield row("bare client, bare echo server", *(f"{it:.0f}" for it in bare))
-    yield row("bacrun, bacdev", *(f"{it:.0f}" for it in ours))
-    yield row("client with bacrun's calls, bacdev", *(f"{it:.0f}" for it in wanted))
-    yield row(f"bacrp, bacdev, {RUNS} processes", f"{alone:.0f}")
-    yield row("bacrun by the bare client", *(f"{one / by:.2f}" for one, by in zip(ours, bare)))
-    yield row("bacrun by the client with its calls", *(f"{one / by:.2f}" for one, by in zip(ours, wanted)))
-    yield row("bacrun by bacrp", *(f"{it / alone:.0f}" for it in ours))
+        bacrp = RUNS / sum(timed([PROGRAM, *BACRP, f"127.0.0.1:{port}"]) for _ in range(RUNS))
+    by_bare, by_calls, by_bacrp = ([one / by for one, by in zip(ours, it)] for it in (bare, calls, [bacrp] * 3))
+    return locals()
 
 
 def counted(said):
-    """The instructions of a run, from callgrind."""
     return int(re.search(r"refs: +([\d,]+)", said)[1].replace(",", ""))
 
 
@@ -161,13 +130,12 @@ def of_replies(count):
 def instructions():
     """Each of the first two is the difference of two runs, so the program's start is not included."""
     if left_out("valgrind"):
-        return
+        return None
     few, many = (of_a_run("bactrace", given="".join(mixed(count))) for count in (6000, 66000))
-    yield f"{(many - few) / 60000:9.0f} instructions for a line of a script of mixed lines"
-    yield f"{(of_replies(2200) - of_replies(200)) / 2000:9.0f} for a ReadProperty that bacdev answers"
+    line, reply = (many - few) / 60000, (of_replies(2200) - of_replies(200)) / 2000
     with device() as (_, port):
-        yield f"{of_a_run(*BACRP, f'127.0.0.1:{port}'):9} for a run of bacrp"
-    yield f"{of_a_run('--help'):9} for a run that prints the help"
+        read, help_text = of_a_run(*BACRP, f"127.0.0.1:{port}"), of_a_run("--help")
+    return locals()
 
 
 def calls():
@@ -179,44 +147,38 @@ def calls():
         subprocess.run(["cp", "-a", *(f"{TOP}/crates/{name}" for name in below), room], check=True)
         rows = [f"{name}: {' '.join(all_crates()[name])}\n" for name in below]
         for name, runs in (("values", 1), ("kinds", 1), ("clients", 9)):
-            os.makedirs(f"{room}/{name}/src")
-            shutil.copy(f"{TOP}/bench/{name}.rattle", f"{room}/{name}/src/main.rt")
+            write(f"{room}/{name}/src/main.rt", text_of(f"bench/{name}.rattle"))
             write(f"{room}/crates.txt", "".join(rows) + f"{name}: {' '.join(below)}\n")
             subprocess.run(["rt", "run"], cwd=f"{room}/{name}", check=True, capture_output=True)
             texts[name] = subprocess.check_output(["sh", "-c", f"{room}/{name}/out/{name};" * runs], text=True)
-    yield texts["values"] + texts["kinds"].rstrip("\n")
-    yield "| Call, with so many open | 2 | 8 | 16 | 64 |\n|---|---|---|---|---|"
+    table = "| Call, with so many open | 2 | 8 | 16 | 64 |\n|---|---|---|---|---|"
     times = {}
     for call, opened, nanos in re.findall("(.*); (.*); (.*)", texts["clients"]):
         times.setdefault(call, {}).setdefault(opened, []).append(float(nanos))
     for call, found in times.items():
-        yield " | ".join([f"| {call}", *(str(min(nanos)) for nanos in found.values())]) + " |"
-
-
-PARTS = {"network": network, "runs": runs, "instructions": instructions, "calls": calls}
+        table += "\n" + " | ".join([f"| {call}", *(str(min(nanos)) for nanos in found.values())]) + " |"
+    return {**texts, "table": table}
 
 
 def lines_of(part):
-    """A box: the command, when and where it was run, and its output."""
+    """A box: the command, when and where it was run, and the rows of its section of boxes.txt."""
     tree = subprocess.check_output(["git", "describe", "--always"], cwd=TOP, text=True).strip()
     yield f"$ bench/measure.py {part}"
     load_now = lambda: "{:.2f} {:.2f} {:.2f}".format(*os.getloadavg())
     yield f"# {time.strftime('%-d %B %Y')}, tree {tree}, {processors()} processors, load {load_now()}"
-    yield from PARTS[part]()
+    if values := globals()[part]():
+        rows = [[it.replace("\\n", "\n").format(**{**globals(), **values}) for it in row] for row in BOXES[part]]
+        yield from ((f"{name:34}" + "".join(f" {cell:>8}" for cell in cells)).rstrip() for name, *cells in rows)
     yield f"# load at the end {load_now()}"
 
 
-def main(words):
-    os.makedirs(f"{TOP}/out", exist_ok=True)
-    subprocess.run([os.environ.get("CC", "cc"), "-O2", "-Wall", "-o", UDP, f"{TOP}/bench/udp.c"], check=True)
-    for part in [it for it in words if it != "--write"] or PARTS:
-        box = ""
-        for line in lines_of(part):
-            print(line, flush=True)
-            box += line + "\n"
-        if "--write" in words:
-            shown = rf"(?m)^\$ bench/measure\.py {part}\n(?:.|\n)*?^(?=```$)"
-            write(f"{TOP}/docs/SPEED.md", re.sub(shown, lambda _, box=box: box, text_of("docs/SPEED.md")))
-
-
-main(sys.argv[1:])
+os.makedirs(f"{TOP}/out", exist_ok=True)
+subprocess.run([os.environ.get("CC", "cc"), "-O2", "-Wall", "-o", UDP, f"{TOP}/bench/udp.c"], check=True)
+for part in [it for it in sys.argv[1:] if it != "--write"] or BOXES:
+    box = ""
+    for line in lines_of(part):
+        print(line, flush=True)
+        box += line + "\n"
+    if "--write" in sys.argv:
+        shown = rf"(?m)^\$ bench/measure\.py {part}\n(?:.|\n)*?^(?=```$)"
+        write(f"{TOP}/docs/SPEED.md", re.sub(shown, lambda _, box=box: box, text_of("docs/SPEED.md")))

@@ -1,24 +1,8 @@
 #!/usr/bin/env python3
-"""Gives the built program random input, and checks its answers and its output. The input is the lines and datagrams of
-the test rows, unchanged and damaged.
-
-Usage: bench/soak.py device DATAGRAMS [SEED], script LINES [SEED], runs RUNS [SEED], or readers ANSWERS [SEED]; BACTOOL
-names a program other than the tree's.
-
-`device` sends datagrams to bacdev over 127.0.0.1, and reads every reply. The expected reply comes from bacsite's
-reading of the datagram, by the rules of docs/PROTOCOL.md: silence, an I-Am, or one reply to its confirmed request, with
-its own invoke id and no more octets than it announced.
-
-`script` runs one long script through bactrace, and follows each request through the output. Each line except a tick
-prints one line. A request that is sent gets the next ticket, and is sent again at most three times; it ends once, and
-only while it is open; at most 64 are open, with different invoke ids, and `full` comes only if 64 are.
-
-`runs` runs bacrun over random requests, against two peers that answer, lose, double, hold back and damage what they
-send, and checks each run as tests/program/runs.py does: bactrace prints the remarks of its journal, octet for octet.
-
-`readers` gives bactrace unusual answers to a read, and compares how each ended the request with bacsite's reading.
-
-It stops at the first difference, and shows it.
+"""Gives the built program random input, and checks its answers and its output, up to the first difference. The input is
+the lines and datagrams of the test rows, unchanged and damaged. Usage: bench/soak.py device DATAGRAMS [SEED], script
+LINES [SEED], runs RUNS [SEED], or readers ANSWERS [SEED]; BACTOOL names a program other than the tree's. The function
+of each, like `soak_device`, says what it does, and yields the kinds of what it has seen.
 """
 import contextlib
 import itertools
@@ -38,25 +22,22 @@ from runs import check, run
 from tree import PROGRAM, TOP, WRONG, device, files, framed, local_socket, resident
 
 
-def known():
-    """The contents of the scripts of the rows: lines with requests of the client, datagrams, and the answers among
-    these, each with the place of its invoke id."""
-    cases = [case for path in files(TOP + "/tests/program/rows/scripts-*.rows") for case in row_cases(path)]
-    asks = {line for case in cases if case.status == 0 for line in re.findall("(?m)^(?:read|write) .*", case.script)}
-    found = {it for case in cases for it in re.findall(r"\b81(?:0a|0b|04)[0-9a-f]{4,}", case.script)}
-    datagrams = [bytes.fromhex(it) for it in sorted(found)]
-    answers = [(it.datagram.octets, it.at + 1) for it in map(read, datagrams) if it.apdu and it.apdu.is_answer]
-    return sorted(asks), datagrams, answers
-
-
 def read(octets):
     """bacsite's reading of a datagram."""
     return message_of(Datagram(0, "", "", octets))
 
 
+# Of the scripts of the rows: lines with requests, datagrams, and the answers, each with the place of its invoke id.
+CASES = [case for path in files(TOP + "/tests/program/rows/scripts-*.rows") for case in row_cases(path)]
+WELL = "\n".join(case.script for case in CASES if case.status == 0)
+ASKS = sorted({*re.findall("(?m)^(?:read|write) .*", WELL)})
+FOUND = {it for case in CASES for it in re.findall(r"\b81(?:0a|0b|04)[0-9a-f]{4,}", case.script)}
+DATAGRAMS = [bytes.fromhex(it) for it in sorted(FOUND)]
+ANSWERS = [(it.datagram.octets, it.at + 1) for it in map(read, DATAGRAMS) if it.apdu and it.apdu.is_answer]
+
+
 def damaged(dice, datagram):
-    """The datagram with octets inserted, replaced or cut off, or a bit changed; most have their new length in the
-    header."""
+    """The datagram with octets inserted, replaced or cut off, or a bit changed; mostly it has its new length."""
     octets = bytearray(datagram)
     for _ in range(dice.randint(1, 3)):
         at = dice.randrange(len(octets) + 1)
@@ -69,38 +50,30 @@ def damaged(dice, datagram):
     return bytes(octets)
 
 
-def any_datagram(dice, datagrams, port):
-    """One of these datagrams, unchanged or damaged. If it is forwarded, it names only this machine, or port 0 there."""
-    datagram = dice.choice(datagrams)
-    if dice.random() < 0.6:
-        datagram = damaged(dice, datagram)
+def any_datagram(dice, port):
+    """A datagram of the rows, unchanged or damaged. If it is forwarded, it names only this machine, or port 0 there."""
+    datagram = dice.choice(DATAGRAMS)
+    datagram = damaged(dice, datagram) if dice.random() < 0.6 else datagram
     if datagram[1:2] == b"\x04":
         here = bytes([127, 0, 0, 1]) + (0 if dice.random() < 0.1 else port).to_bytes(2, "big")
         datagram = datagram[:4] + here[: max(0, len(datagram) - 4)] + datagram[10:]
     return datagram
 
 
-INSTANCE = 1234
-BATCH, BATCHES = 16, 3000  # of datagrams to one bacdev; each batch ends with one of ours
+INSTANCE, BATCH, BATCHES = 1234, 16, 3000  # a bacdev, and the datagrams to it; each batch ends with one of ours
 VENDOR = bytes.fromhex("810a0011010400059b0c0c020004d21978")
 ANNOUNCED = [50, 128, 206, 480, 1024, 1476] + [50] * 10
 I_AM = "1000c4020004d22205c49103220104"
-# Replies to a confirmed request, without the invoke id.
-KINDS = {
-    "SimpleACK": "200f",
-    "ComplexACK": "300c.*",
-    "Error {} {}": "500[cf]91(..)91(..)",
-    "Reject {}": "60(0[45679])",
-    "Abort {}": "71(04)",
-}
+# Replies to a confirmed request, without the invoke id: kind after kind, with the numbers that it has.
+KINDS = r"(?P<SimpleACK>200f)|(?P<ComplexACK>300c.*)|(?P<Error>500[cf]91(..)91(..))|(?P<Reject>60(0[45679]))"
+KINDS += "|(?P<Abort>71(04))"
 
 
 def is_asked(body):
     """Whether a Who-Is with this body asks for the device."""
-    limits = list(parameters(body))
-    if [number for number, _ in limits] not in ([], [0, 1]) or not all(1 <= len(it) <= 4 for _, it in limits):
-        return False
-    low, high = (int.from_bytes(it, "big") for _, it in limits) if limits else (0, 4194303)
+    limits = list(parameters(body)) or [(0, b"\0"), (1, b"\xff" * 4)]
+    is_right = [number for number, _ in limits] == [0, 1] and all(1 <= len(it) <= 4 for _, it in limits)
+    low, high = (int.from_bytes(it, "big") for _, it in limits) if is_right else (1, 0)
     return low <= INSTANCE <= high
 
 
@@ -108,45 +81,40 @@ def expected(datagram):
     """Returns the expected reply: None, or the route, the invoke id (of an I-Am None), and the announced size."""
     if len(datagram) < 4 or datagram[0] != 0x81 or int.from_bytes(datagram[2:4], "big") != len(datagram):
         return None
-    message = read(datagram)
+    message, route = read(datagram), b""
+    apdu = message.apdu
     origin, *source = message.sender.split("/")
     is_to_all = datagram[1] != UNICAST or message.receiver != ""
     is_here = datagram[1] != DISTRIBUTE and message.receiver.split("/")[1:2] in ([], ["65535"])
-    if not message.apdu or not is_here or origin.endswith(":0"):  # no reply can be sent to port 0
+    if not apdu or not is_here or origin.endswith(":0"):  # no reply can be sent to port 0
         return None
-    route = b""
     if source:
         network, station = int(source[0]), bytes.fromhex(source[1].strip("*"))
         if network in (0, 65535) or not 1 <= len(station) <= 7:
             return None
         route = network.to_bytes(2, "big") + bytes([len(station)]) + station
-    apdu = message.apdu
-    if apdu.kind == UNCONFIRMED:
-        return (route, None, 50) if apdu.service == 8 and is_asked(apdu.body) else None
-    if apdu.kind != CONFIRMED or is_to_all:
-        return None
-    return route, apdu.invoke, ANNOUNCED[datagram[message.at + 1] & 15]
+    if apdu.kind == UNCONFIRMED and apdu.service == 8 and is_asked(apdu.body):
+        return route, None, 50
+    is_for_us = apdu.kind == CONFIRMED and not is_to_all
+    return (route, apdu.invoke, ANNOUNCED[datagram[message.at + 1] & 15]) if is_for_us else None
 
 
 def kind_of(reply, route, invoke_id, room):
     """Returns the kind of a reply, if it can be read and fits; otherwise None."""
     network = b"\x01\x20" + route + b"\xff" if route else b"\x01\x00"
-    head = b"\x81\x0a" + len(reply).to_bytes(2, "big") + network
-    octets = reply[len(head) :]
-    if not reply.startswith(head) or len(octets) > room:
+    octets = reply[4 + len(network) :]
+    if reply != framed(octets, network) or len(octets) > room:
         return None
     if invoke_id is None:
         return "I-Am" if octets.hex() == I_AM else None
-    if octets[1:2] != bytes([invoke_id]) or octets[:1] == b"\x30" and not read_ack(octets[3:]):
+    found = re.fullmatch(KINDS, (octets[:1] + octets[2:]).hex())
+    if not found or octets[1] != invoke_id or octets[0] == 0x30 and not read_ack(octets[3:]):
         return None
-    without = (octets[:1] + octets[2:]).hex()
-    matches = ((kind, re.fullmatch(form, without)) for kind, form in KINDS.items())
-    return next((kind.format(*(int(it, 16) for it in found.groups())) for kind, found in matches if found), None)
+    return " ".join([found.lastgroup, *(str(int(it, 16)) for it in found.groups() if it and len(it) == 2)])
 
 
 def tried(desk, batch):
-    """The kinds of the replies to a batch. The reply to the last datagram is known; it is in its place only if there
-    were no additional replies."""
+    """The kinds of the replies to a batch. The known reply to the last datagram shows that no other reply came."""
     wanted, replies = [it for it in map(expected, batch) if it], []
     with contextlib.suppress(OSError):
         for datagram in batch:
@@ -160,87 +128,60 @@ def tried(desk, batch):
 
 
 def soak_device(dice, left):
-    """Sends this many datagrams, and counts the replies."""
-    counts, (_, datagrams, _) = Counter(), known()
-    while left > 0:
-        batches = min(BATCHES, -(-left // BATCH))
-        left -= batches * BATCH
-        how = {"stderr": subprocess.PIPE}
-        with device("--count", str(batches * (BATCH + 1)), **how) as (process, port), local_socket() as desk:
-            desk.settimeout(5)
-            desk.connect(("127.0.0.1", port))
+    """Sends datagrams to bacdev, and reads every reply. The expected one comes from bacsite's reading of the datagram,
+    by the rules of docs/PROTOCOL.md."""
+    for first in range(0, left, BATCH * BATCHES):
+        batches = min(BATCHES, -(-(left - first) // BATCH))
+        count = str(batches * (BATCH + 1))
+        with device("--count", count, stderr=subprocess.PIPE) as (process, port), local_socket(port, 5) as desk:
             for _ in range(batches):
-                batch = [any_datagram(dice, datagrams, desk.getsockname()[1]) for _ in range(BATCH)]
-                counts.update(tried(desk, [*batch, VENDOR]))
+                batch = [any_datagram(dice, desk.getsockname()[1]) for _ in range(BATCH)]
+                yield from tried(desk, [*batch, VENDOR])
             if process.wait(10) != 0 or process.stderr.read() != b"":
                 sys.exit("it didn't end by its count")
-    return counts
 
 
-PLACES, RETRIES = 64, 3
-BLOCK = 200
+PLACES, RETRIES, BLOCK = 64, 3, 200
 # Each block ends with a request to the device, whose reply shows that everything before it was printed.
 ASK, REPLY = "ask 127.0.0.9:9 810a001101040005010c0c000000051955", "reply 127.0.0.9:9 810a0017010030010c"
-PRINTED = re.compile(
-    r"send \d+ \S+ [0-9a-f]+|done \d+ .+|timeout \d+|full|too-long|drop|silent|reply \S+ 810a[0-9a-f]+"
-)
+PRINTED = r"send \d+ \S+ [0-9a-f]+|done \d+ .+|timeout \d+|full|too-long|drop|silent|reply \S+ 810a[0-9a-f]+"
 
 
-def any_answer(dice, answers, number):
+def any_answer(dice, number):
     """The digits of one of the answers, with this invoke id; it may be damaged."""
-    octets, at = dice.choice(answers)
+    octets, at = dice.choice(ANSWERS)
     octets = octets[:at] + bytes([number]) + octets[at + 1 :]
     return (damaged(dice, octets) if dice.random() < 0.2 else octets).hex()
 
 
-def pool(dice):
-    """Returns lines to choose from, except ticks, in their shares. An answer has any invoke id."""
-    asks, datagrams, answers = known()
-    peers = [line.split()[1].split("/")[0] for line in asks]
-    lines = dice.choices(asks, k=6000) + ["", "# a comment", "  \t"]
-    for _ in range(24000):
-        lines.append(f"data {dice.choice(peers)} {any_answer(dice, answers, dice.randrange(256)) or '81'}")
-    for _ in range(6000):
-        lines.append(f"ask {dice.choice(peers)} {any_datagram(dice, datagrams, 47808).hex() or '81'}")
-    return lines
-
-
-class Followed:
-    """The requests in the printed lines: those that are open, each with its datagram, its invoke id, and how often it
-    was sent again."""
-
-    def __init__(self):
-        self.open, self.next, self.counts = {}, 0, Counter()
-
-    def holds(self, line):
-        """Whether a line is possible after those before it."""
-        if not PRINTED.fullmatch(line):
-            return False
-        word, *words = line.split(" ", 2)
-        self.counts[word] += 1
-        if word not in ("send", "done", "timeout"):
-            return word != "full" or len(self.open) == PLACES
-        ticket = int(words[0])
-        if word == "send" and ticket == self.next:
-            number = read(bytes.fromhex(words[1].split()[1])).apdu.invoke
-            is_free = len(self.open) < PLACES and all(number != it[1] for it in self.open.values())
-            self.open[ticket], self.next = [words[1], number, 0], ticket + 1
-            return is_free
-        datagram, number, again = self.open.pop(ticket, (None, None, None))
-        if word == "send" and datagram:
-            self.counts["sent again"] += 1
-            self.open[ticket] = [datagram, number, again + 1]
-            return words[1] == datagram and again < RETRIES
-        return bool(datagram) and (word == "done" or again == RETRIES)
-
-    def asked(self):
-        """The lines of the script that these lines answer."""
-        return sum(self.counts.values()) - 2 * self.counts["sent again"] - self.counts["timeout"]
+def followed(line, opened, count):
+    """The kind of a printed line, if it is possible after this many requests. Those that are open have their datagram,
+    their invoke id, and how often they were sent."""
+    word, *words = line.split(" ", 2)
+    if not re.fullmatch(PRINTED, line) or word == "full" and len(opened) < PLACES:
+        return None
+    if word not in ("send", "done", "timeout"):
+        return word
+    ticket = int(words[0])
+    datagram, number, times = opened.pop(ticket, (words[-1], None, 0))
+    if word != "send":
+        return word if times and (word == "done" or times > RETRIES) else None
+    is_possible = words[1] == datagram and times <= RETRIES
+    if not times:
+        number = read(bytes.fromhex(datagram.split()[1])).apdu.invoke
+        is_possible = ticket == count and len(opened) < PLACES and number not in [it[1] for it in opened.values()]
+    opened[ticket] = (datagram, number, times + 1)
+    return ("sent again" if times else "send") if is_possible else None
 
 
 def soak_script(dice, lines):
-    """Runs a script of this many lines, with a tick now and then, and counts the printed lines."""
-    seen, chosen, asked, now = Followed(), pool(dice), 0, 0
+    """Runs one long script through bactrace, with a tick now and then, and follows each request through the output."""
+    # Lines to choose from, except ticks, in their shares. An answer has any invoke id.
+    peers = [line.split()[1].split("/")[0] for line in ASKS]
+    chosen = dice.choices(ASKS, k=6000) + ["", "# a comment", "  \t"]
+    chosen += [f"data {dice.choice(peers)} {any_answer(dice, at % 256) or '81'}" for at in range(24000)]
+    chosen += [f"ask {dice.choice(peers)} {any_datagram(dice, 47808).hex() or '81'}" for _ in range(6000)]
+    counts, opened, asked, now = Counter(), {}, 0, 0
     how = {"stdin": subprocess.PIPE, "stdout": subprocess.PIPE, "text": True}
     with subprocess.Popen([PROGRAM, "bactrace"], **how) as process:
         for _ in range(0, lines, BLOCK):
@@ -252,51 +193,51 @@ def soak_script(dice, lines):
             process.stdin.write("\n".join([*part, ASK, ""]))
             process.stdin.flush()
             while not (line := process.stdout.readline()).startswith(REPLY):
-                if not seen.holds(line.rstrip("\n")):
+                counts[followed(line.rstrip("\n"), opened, counts["send"])] += 1
+                if counts[None]:
                     sys.exit(f"does not fit: {line!r}; it was printed over:\n" + "\n".join(part))
-            if seen.asked() != asked:
-                sys.exit(f"{seen.asked()} lines printed for {asked}, the last of them:\n" + "\n".join(part))
-        seen.counts["KB of memory at most"] = resident(process)
+            told = sum(counts.values()) - counts["sent again"] - counts["timeout"]
+            if told != asked:
+                sys.exit(f"{told} lines printed for {asked}, the last of them:\n" + "\n".join(part))
+        counts["KB of memory at most"] = resident(process)
         process.stdin.close()
         if process.wait(10) != 0:
             sys.exit(f"status {process.returncode}")
-    return seen.counts
+    return counts
 
 
-def plan(dice, answers):
+NEVER_SENT = ["127.0.0.1:0", "255.255.255.255:47808"]  # the system refuses to send there
+
+
+def plan(dice):
     """A plan for the peers, as in tests/program/runs.txt: mostly they answer each datagram."""
     for number in itertools.count():
-        words = [str(number)] * dice.choice([0, 1, 1, 1, 1, 2])
-        if dice.random() < 0.2:
-            words.append(dice.choice(["", "other:", "plain:"]) + str(dice.randint(0, number)))
-        if dice.random() < 0.3:
-            invoke_id = (number + dice.randint(-7, 2)) % 256
-            words.append("octets:" + dice.choice([any_answer(dice, answers, invoke_id), ""]))
-        if dice.random() < 0.004:
-            words.append("stop")
+        words = [str(number)] * dice.choice([0, 1, 1, 1, 1, 2]) + ["stop"] * (dice.random() < 0.004)
+        words += [dice.choice(["", "other:", "plain:"]) + str(dice.randint(0, number))] * (dice.random() < 0.2)
+        octets = dice.choice([any_answer(dice, (number + dice.randint(-7, 2)) % 256), ""])
+        words += [f"octets:{octets}"] * (dice.random() < 0.3)
         yield dice.sample(words, len(words))
 
 
 def soak_runs(dice, count):
-    """Makes this many runs, and counts their remarks."""
-    counts, (asks, _, answers) = Counter(), known()
-    asks += [f"read P 2 {dice.randrange(17000)} 85" for _ in range(len(asks) // 10)]  # bits of many lines
-    asks = [re.sub("(?<=[de]) [^/ ]+", f" {peer}", ask, count=1) for ask in asks if len(ask) < 4000 for peer in "AB"]
+    """Runs bacrun over random requests, against two peers that answer, lose, double, hold back and damage what they
+    send, and some to which the system refuses to send; each run is checked as tests/program/runs.py does."""
+    peers = [*"ABABABAB", *NEVER_SENT]
+    asks = ASKS + [f"read P 2 {dice.randrange(17000)} 85" for _ in range(len(ASKS) // 10)]  # bits of many lines
+    asks = [re.sub("(?<=[de]) [^/ ]+", f" {peer}", ask, count=1) for ask in asks if len(ask) < 4000 for peer in peers]
     reaches = ["", "/*", "/1", "/65534", "/5/07", "/9/01020304050607"]
     for _ in range(count):
-        timeout, retries, window = dice.choice([5, 20, 60]), dice.randint(0, 2), dice.choice([1, 2, 8, 64])
-        options = f"--apdu-timeout {timeout} --apdu-retries {retries} --window {window}"
+        words = f"bacrun --apdu-timeout {dice.choice([5, 20, 60])} --apdu-retries {dice.randint(0, 2)}"
+        words += f" --window {dice.choice([1, 2, 8, 64])}"
         low = dice.choice([0, 255, 256, 65535, 65536, 4194303])
         limits = dice.choice(["", f" {low} {dice.randint(low, 4194303)}"])
-        who = f"who {dice.choice('AB')}{dice.choice(reaches)}{limits}"
+        who = f"who {dice.choice(peers)}{dice.choice(reaches)}{limits}"
         others = ["", "# a remark", who, f"wait {dice.choice([0, 1, 5, 30])}"]
         lines = [dice.choice(asks if dice.random() < 0.9 else others) for _ in range(dice.randint(1, 80))]
-        text, it = run(PROGRAM, options, "\n".join([*lines, ""]), plan(dice, answers))
-        remarks = check("a run", PROGRAM, options, text, it)
+        it = run(PROGRAM, words, "\n".join([*lines, ""]), plan(dice))
+        yield from (remark.split()[0] for remark in check("a run", PROGRAM, it))
         if WRONG or it.status != 0:
-            sys.exit("\n".join([*WRONG, options, it.fault, text, it.journal]))
-        counts.update(remark.split()[0] for remark in remarks)
-    return counts
+            sys.exit("\n".join([*WRONG, it.words, it.fault, it.text, it.journal]))
 
 
 ASKED, HEADS = "127.0.0.9:47808", ["0100"] * 4 + ["0103", "0120ffff00ff", "0157"]
@@ -318,33 +259,30 @@ def odd_answer(dice, number, body=bytes.fromhex("0c4b00000119553e")):
 
 
 def soak_readers(dice, count):
-    """Each answer is for a request of its own. A Reject ends the request if the answer does not: if it is invalid, has
-    another number, or is for another service."""
-    answers = [odd_answer(dice, (at + 1) % 256) for at in range(count)]
-    ends = ["810a0009010060%02x09" % ((at + 1) % 256) for at in range(count)]
-    lines = (f"read {ASKED} 300 1 85\ndata {ASKED} {it.hex()}\ndata {ASKED} {end}\n" for it, end in zip(answers, ends))
+    """Gives bactrace unusual answers to a read, and compares how each ended the request with bacsite's reading. A
+    Reject ends it if the answer does not: if it is invalid, has another number, or is for another service."""
+    numbers = [number % 256 for number in range(1, count + 1)]
+    answers = [odd_answer(dice, number) for number in numbers]
+    lines = (f"read {ASKED} 300 1 85\ndata {ASKED} {answer.hex()}\ndata {ASKED} 810a0009010060{number:02x}09\n"
+             for number, answer in zip(numbers, answers))
     done = subprocess.run([PROGRAM, "bactrace"], input="".join(lines), stdout=subprocess.PIPE, text=True, check=True)
-    told, counts = done.stdout.splitlines(), Counter()
+    told = done.stdout.splitlines()
     if not 0 < 3 * count == len(told):
         sys.exit(f"bactrace prints {len(told)} lines, not three for each of {count} answers")
-    for at, (octets, line, end) in enumerate(zip(answers, told[1::3], told[2::3])):
+    for at, (octets, number, line, end) in enumerate(zip(answers, numbers, told[1::3], told[2::3])):
         apdu = read(octets).apdu
-        taken = bool(apdu and apdu.is_answer and apdu.invoke == (at + 1) % 256)
+        taken = apdu and apdu.is_answer and apdu.invoke == number
         taken = taken and (apdu.kind in (REJECT, ABORT) or apdu.service == READ)
         wanted = (f"done {at} {outcome_of(apdu)}", "drop") if taken else ("drop", f"done {at} reject 9")
         if (line, end) != wanted:
             sys.exit(f"{octets.hex()}: bactrace prints {line!r} and {end!r}, bacsite reads {wanted!r}")
-        counts[line.split(" ")[2] if taken else line] += 1
-    return counts
-
-
-SOAKS = {"device": soak_device, "script": soak_script, "runs": soak_runs, "readers": soak_readers}
+        yield line.split(" ")[2] if taken else line
 
 
 def main(what, count, seed=random.randrange(1 << 32)):
     print(f"seed {seed}", flush=True)
     begun = time.time()
-    counts = SOAKS[what](random.Random(int(seed)), int(count))
+    counts = Counter(globals()[f"soak_{what}"](random.Random(int(seed)), int(count)))
     if not counts or not int(count):
         sys.exit(f"{what}: nothing was tried")
     print(f"{what}: {count} in {time.time() - begun:.0f} s")

@@ -20,36 +20,17 @@ static unsigned char request[] = { 0x81, 0x0a, 0x00, 0x11, 0x01, 0x04, 0x00, 0x0
                                    0x0c, 0x00, 0x00, 0x00, 0x05, 0x19, 0x55 };
 enum { INVOKE_ID = 8, ANSWER = 23, ASKED_TEXT = 90, ANSWERED_TEXT = 89, MOST_HELD = 16384 };
 
-static void echo(int server)
-{
-    unsigned char octets[2048];
-    struct sockaddr_in from;
-    for (;;) {
-        socklen_t size = sizeof from;
-        ssize_t length = recvfrom(server, octets, sizeof octets, 0, (struct sockaddr *)&from, &size);
-        if (length < 0 || sendto(server, octets, length, 0, (struct sockaddr *)&from, size) != length)
-            err(1, "echo");
-    }
-}
+/* The last datagram that was received. */
+static unsigned char octets[2048];
+static struct sockaddr_in from;
 
-static double seconds_now(void)
-{
+static double seconds_now(void) {
     struct timespec now;
     clock_gettime(CLOCK_MONOTONIC, &now);
     return now.tv_sec + now.tv_nsec / 1e9;
 }
 
-/* Receives answer at once from now on, or wait. The system is asked only if they did not. */
-static void answer_at_once(int client, int on)
-{
-    static int is_on;
-    if (on != is_on && ioctl(client, FIONBIO, &on) != 0)
-        err(1, "ioctl");
-    is_on = on;
-}
-
-static size_t written(size_t held)
-{
+static size_t written(size_t held) {
     static char journal[MOST_HELD + 64 * ASKED_TEXT];
     memset(journal, 'x', held);
     if (write(1, journal, held) < 0)
@@ -57,27 +38,35 @@ static size_t written(size_t held)
     return 0;
 }
 
-/* The next datagram, by the calls that bacrun's contract wants. */
-static ssize_t looked(int client, unsigned char *reply, size_t room, size_t *held)
-{
-    struct sockaddr_in from;
+/* The next datagram, at once or after a wait; the system is asked only if the last one was received in another way. */
+static ssize_t received(int client, int at_once) {
+    static int was_at_once;
     socklen_t size = sizeof from;
+    if (at_once != was_at_once && ioctl(client, FIONBIO, &at_once) != 0)
+        err(1, "ioctl");
+    was_at_once = at_once;
+    return recvfrom(client, octets, sizeof octets, 0, (struct sockaddr *)&from, &size);
+}
+
+static void echo(int server) {
+    for (;;) {
+        ssize_t length = received(server, 0);
+        if (length < 0 || sendto(server, octets, length, 0, (struct sockaddr *)&from, sizeof from) != length)
+            err(1, "echo");
+    }
+}
+
+/* The next datagram, by the calls that bacrun's contract wants. */
+static ssize_t looked(int client, size_t *held) {
     seconds_now();
-    answer_at_once(client, 1);
-    ssize_t length = recvfrom(client, reply, room, 0, (struct sockaddr *)&from, &size);
+    ssize_t length = received(client, 1);
     if (length < 0 || *held > MOST_HELD)
         *held = written(*held);
-    if (length < 0) {
-        answer_at_once(client, 0);
-        length = recvfrom(client, reply, room, 0, (struct sockaddr *)&from, &size);
-    }
-    return length;
+    return length < 0 ? received(client, 0) : length;
 }
 
 /* How many requests are answered a second: by a socket that has its peer, or, with an address, by bacrun's calls. */
-static double rate(int client, const struct sockaddr_in *to, long outstanding, long count)
-{
-    unsigned char reply[2048];
+static double rate(int client, const struct sockaddr_in *to, long outstanding, long count) {
     double begun = seconds_now();
     socklen_t size = to ? sizeof *to : 0;
     long asked = 0;
@@ -88,9 +77,9 @@ static double rate(int client, const struct sockaddr_in *to, long outstanding, l
             if (sendto(client, request, sizeof request, 0, (struct sockaddr *)to, size) != sizeof request)
                 err(1, "send");
         }
-        ssize_t length = to ? looked(client, reply, sizeof reply, &held) : recv(client, reply, sizeof reply, 0);
+        ssize_t length = to ? looked(client, &held) : recv(client, octets, sizeof octets, 0);
         int at = length == sizeof request ? INVOKE_ID : INVOKE_ID - 1;
-        if ((length != sizeof request && length != ANSWER) || reply[at] != answered % 256)
+        if ((length != sizeof request && length != ANSWER) || octets[at] != answered % 256)
             errx(1, "not the answer to request %ld, but %zd octets", answered, length);
         held += ANSWERED_TEXT;
     }
@@ -99,8 +88,7 @@ static double rate(int client, const struct sockaddr_in *to, long outstanding, l
     return count / (seconds_now() - begun);
 }
 
-int main(int count, char **words)
-{
+int main(int count, char **words) {
     if (count != 5)
         errx(2, "usage: udp bacdev 1234 --port PORT, or udp load|batch PORT OUTSTANDING COUNT");
     int is_echo = strcmp(words[1], "bacdev") == 0, is_batch = strcmp(words[1], "batch") == 0;

@@ -24,8 +24,7 @@ SHELLS = {
 }
 
 
-# The kinds of the words that stand for a value; `-` is a word without suggestions. If `..` is at the end, the last two
-# kinds repeat.
+# The kinds of the words for a value; `-` is a word without suggestions. Before `..` the last two kinds repeat.
 KINDS = {"FILE": "FILE", "file": "FILE", "list": "FILE", "FOLDER": "FOLDER", "PROPERTY": "NAME", "": ""}
 KINDS.update({"TYPE": "NAME", "tool": "TOOL", "COMMAND": "COMMAND", "tag value": "TAG - .."})
 
@@ -47,7 +46,6 @@ class Tool:
 
 
 def words_of_kinds(tools):
-    """The words of each kind, with their texts."""
     numbers = {title: rows[1:] for title, _, _, rows in tables.sections()}
     found = {"COMMAND": {tool.name: tool.text for tool in tools[1:]}}
     found["TOOL"] = {name: text for name, text in found["COMMAND"].items() if name != "help"}

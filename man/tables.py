@@ -6,11 +6,11 @@ help, which is what bactool prints, or the parser of bacsite has. The order of t
 of an entry below its comment `by hand`. A new entry is put at the end of the last list. completions/make.py reads the
 same help. Usage: man/tables.py PROGRAM
 """
+import collections
 import os
 import re
 import sys
 import textwrap
-import typing
 
 sys.path[:0] = [os.path.dirname(__file__) + "/../tests", os.path.dirname(__file__) + "/../site"]
 from bacsite import parsing
@@ -22,15 +22,9 @@ LINKED = '\n.\\" of --help, without what bacrp(1) lists\n'
 ENTRY = r'(?m)^\.It (.*)\n(?:(?!\.It |\.El|\.\\").*\n)*(\.\\" by hand\n(?:(?!\.It |\.El).*\n)*)?'
 
 
-class Word(typing.NamedTuple):
-    """An argument or an option: the names of an option, the name of its value, and its help."""
-
-    names: list = []
-    value: str = ""
-    text: str = ""
-    choices: tuple = ()
-    required: bool = False
-    repeated: bool = False
+# An argument or an option: the names of an option, the name of its value, its help, and more.
+FIELDS = "names value text choices required repeated"
+Word = collections.namedtuple("Word", FIELDS, defaults=([], "", "", (), False, False))
 
 
 def sections():
@@ -84,7 +78,6 @@ def words_of_tool(program, name):
 
 
 def words_of_parser(parser):
-    """The arguments and options of a parser of bacsite."""
     for it in parser._actions:
         value = it.metavar or (it.dest.upper() if it.option_strings and not it.choices else it.dest)
         value = "" if it.nargs == 0 else it.help if value == "WORD" else value
@@ -137,12 +130,10 @@ def part_of(path, part, words, linked=()):
 
 
 def usage_of(words):
-    """The lines of a SYNOPSIS for arguments and options."""
     return "".join(f".{'Op ' * (not it.required)}{marked(it.names[:1], it)}{' ...' * it.repeated}\n" for it in words)
 
 
 def page_of_tool(path, words, linked):
-    """The page of a tool of bactool."""
     words = [it for it in words if "--help" not in it.names]
     usage = ".Nm\n" + usage_of(sorted(words, key=lambda it: bool(it.names)))
     page = re.sub(r"(?ms)^(\.Sh SYNOPSIS\n).*?(?=^\.Sh )", lambda found: found[1] + usage, text_of(path))

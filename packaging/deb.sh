@@ -25,14 +25,9 @@ strip --strip-unneeded --remove-section=.comment --remove-section=.note "$root/u
 gzip -9n "$root"/usr/share/man/man[17]/*.[17]
 
 install -d "$root/DEBIAN"
-change='CHANGELOG.md, beside this file, says what has changed.'
-printf 'bactool (%s) unstable; urgency=medium\n\n  * %s\n\n -- %s  %s\n' "$version" "$change" "$maintainer" \
-    "$(date -uRd "$date")" | gzip -9n >"$doc/changelog.gz"
-{
-    printf 'Format: https://www.debian.org/doc/packaging-manuals/copyright-format/1.0/\n\n'
-    printf 'Files: *\nCopyright: 2026 the bactool authors\nLicense: Expat\n'
-    sed 's/^$/./; s/^/ /' LICENSE
-} >"$doc/copyright"
+printf 'bactool (%s) unstable; urgency=medium\n\n  * CHANGELOG.md, beside this file, says what has changed.\n
+ -- %s  %s\n' "$version" "$maintainer" "$(date -uRd "$date")" | gzip -9n >"$doc/changelog.gz"
+sed 's/^$/./; s/^/ /' LICENSE | cat packaging/copyright - >"$doc/copyright"
 
 # The C library of the least version that has what the program calls.
 libc=$(objdump -T "$root/usr/bin/bactool" | sed -n 's/.*GLIBC_\([0-9.]*\).*/\1/p' | sort -V | tail -n 1)

@@ -20,50 +20,39 @@ import tempfile
 TOP = pathlib.Path(__file__).resolve().parent.parent
 LIST, DOC = "share/bactool/installed", "share/doc/bactool"
 BASH, FISH = "share/bash-completion/completions", "share/fish/vendor_completions.d"
+DOCUMENTS = ["*.md", "LICENSE", "docs/**/*.md", "docs/**/*.png", "examples/*"]
 TOOLS = ["bacrp", "bacwp", "bacwi", "bacdev", "bacrun", "bactrace"]
 
 
-def lay_out(program, version, tree, prefix, zsh):
+def lay_out(program, version, room, prefix, zsh):
     """Makes in a folder the tree of all files below a prefix. A manual page has the version at its foot, and places
     below /usr/local are named below the prefix instead. Documents keep their folders, for their links."""
-
-    def put(source, path, mode=0o644):
-        target = tree / path
+    subprocess.run([TOP / "packaging/onefile.py", room / "bacsite"], check=True)
+    subprocess.run([TOP / "completions/make.py", program, room], check=True)
+    sources = {"bin/bactool": program, "bin/bacsite": room / "bacsite"}
+    for name in ("bactool", "bacsite"):
+        made = {f"{BASH}/{name}": f"{name}.bash", f"{zsh}/_{name}": f"_{name}", f"{FISH}/{name}.fish": f"{name}.fish"}
+        sources.update((path, room / file) for path, file in made.items())
+    sources.update((f"share/man/man{page.suffix[1:]}/{page.name}", page) for page in TOP.glob("man/*.[17]"))
+    sources.update((f"{DOC}/{it.relative_to(TOP)}", it) for place in DOCUMENTS for it in TOP.glob(place))
+    for path, source in sources.items():
+        target = room / "tree" / path
         target.parent.mkdir(parents=True, exist_ok=True)
+        shutil.copyfile(source, target)
         if path.startswith("share/man/") or path.endswith(".service"):
             text = re.sub(r"(?m)^\.Os$", f".Os bactool {version}", source.read_text(encoding="utf-8"))
             target.write_text(re.sub("/usr/local/(share|bin)", rf"{prefix}/\1", text), encoding="utf-8")
-        else:
-            shutil.copyfile(source, target)
-        target.chmod(mode)
-
-    with tempfile.TemporaryDirectory() as folder:
-        room = pathlib.Path(folder)
-        subprocess.run([TOP / "packaging/onefile.py", room / "bacsite"], check=True)
-        subprocess.run([TOP / "completions/make.py", program, room], check=True)
-        put(program, "bin/bactool", 0o755)
-        put(room / "bacsite", "bin/bacsite", 0o755)
-        for name in ("bactool", "bacsite"):
-            put(room / f"{name}.bash", f"{BASH}/{name}")
-            put(room / f"_{name}", f"{zsh}/_{name}")
-            put(room / f"{name}.fish", f"{FISH}/{name}.fish")
+        target.chmod(0o755 if os.access(source, os.X_OK) else 0o644)
     for tool in TOOLS:
-        (tree / f"bin/{tool}").symlink_to("bactool")
-        (tree / f"{BASH}/{tool}").symlink_to("bactool")
-        (tree / f"{FISH}/{tool}.fish").symlink_to("bactool.fish")
-    for page in TOP.glob("man/*.[17]"):
-        put(page, f"share/man/man{page.suffix[1:]}/{page.name}")
-    documents = [it for suffix in ("md", "png") for it in TOP.glob(f"docs/**/*.{suffix}")]
-    for source in [*TOP.glob("*.md"), TOP / "LICENSE", *documents, *TOP.glob("examples/*")]:
-        put(source, f"{DOC}/{source.relative_to(TOP)}", 0o755 if os.access(source, os.X_OK) else 0o644)
+        for link in (f"bin/{tool}", f"{BASH}/{tool}", f"{FISH}/{tool}.fish"):
+            (room / "tree" / link).symlink_to("bactool.fish" if link.endswith(".fish") else "bactool")
 
 
 def sums(root, paths):
     """Returns for each path that exists the target of a link, or the checksum of a file."""
     there = [path for path in paths if os.path.lexists(root / path)]
     files = [path for path in there if (root / path).is_file() and not (root / path).is_symlink()]
-    command = ["cksum", "/dev/null", *(root / path for path in files)]
-    told = subprocess.run(command, check=True, stdout=subprocess.PIPE, text=True).stdout.splitlines()[1:]
+    told = subprocess.check_output(["cksum", "/dev/null", *(root / path for path in files)], text=True).splitlines()[1:]
     found = {path: ":".join(line.split()[:2]) for path, line in zip(files, told)}
     links = {path: f"link:{os.readlink(root / path)}" for path in there if (root / path).is_symlink()}
     return {**dict.fromkeys(there, "other"), **found, **links}
@@ -86,7 +75,6 @@ def remove(root, prefix):
         else:
             print(f"left there, since it is not as it was put: {prefix}/{path}")
     (root / LIST).unlink()
-    # The folders that contained only installed files.
     folders = {str(folder) for path in had for folder in pathlib.Path(path).parents if str(folder).startswith(DOC)}
     for folder in [os.path.dirname(LIST), *sorted(folders, reverse=True)]:
         with contextlib.suppress(OSError):
@@ -95,7 +83,6 @@ def remove(root, prefix):
 
 
 def install(tree, root, prefix):
-    """Installs a tree, and returns how many files and links it has."""
     paths = sorted(str(path.relative_to(tree)) for path in tree.rglob("*") if path.is_symlink() or path.is_file())
     had = listed(root)
     new, there = sums(tree, paths), sums(root, {*paths, *had})
@@ -122,17 +109,14 @@ def main(word):
     prefix = os.path.abspath(os.path.expanduser(os.environ.get("PREFIX") or "/usr/local"))
     root = pathlib.Path(os.environ.get("DESTDIR", "") + prefix)
     if word == "--remove":
-        remove(root, prefix)
-        return
+        return remove(root, prefix)
     zsh = os.environ.get("ZSH_COMPLETIONS") or f"{prefix}/share/zsh/site-functions"
     if not zsh.startswith(f"{prefix}/"):
         sys.exit(f"packaging/install.py: ZSH_COMPLETIONS is not below {prefix}: {zsh}")
-    told = subprocess.run([word, "--help"], check=True, stdout=subprocess.PIPE, text=True).stdout
-    version = re.match(r"bactool ([\d.]+\d)", told)[1]
+    version = re.match(r"bactool ([\d.]+\d)", subprocess.check_output([word, "--help"], text=True))[1]
     with tempfile.TemporaryDirectory() as folder:
-        tree = pathlib.Path(folder)
-        lay_out(pathlib.Path(word), version, tree, prefix, os.path.relpath(zsh, prefix))
-        count = install(tree, root, prefix)
+        lay_out(pathlib.Path(word), version, pathlib.Path(folder), prefix, os.path.relpath(zsh, prefix))
+        count = install(pathlib.Path(folder, "tree"), root, prefix)
     print(f"bactool {version} and {count - 1} files and links beside it are below {prefix}")
 
 

@@ -14,16 +14,6 @@ import zipfile
 
 PACKAGE = pathlib.Path(__file__).resolve().parent.parent / "site" / "bacsite"
 PARTS = (".py", ".txt", ".html", ".css", ".js")
-MAIN = b"""\
-import signal
-
-if signal.getsignal(signal.SIGINT) is signal.default_int_handler:
-    signal.signal(signal.SIGINT, signal.SIG_DFL)  # ^C while the rest is loaded ends it silently
-
-from bacsite.main import run
-
-run()
-"""
 
 
 def compiled(name, text):
@@ -33,13 +23,13 @@ def compiled(name, text):
 
 
 def main(target, *options):
-    paths = sorted(path for path in PACKAGE.rglob("*.*") if path.suffix in PARTS and path.name != "__main__.py")
+    paths = sorted(path for path in PACKAGE.rglob("*.*") if path.suffix in PARTS)
     parts = [(f"bacsite/{path.relative_to(PACKAGE)}", path.read_bytes()) for path in paths]
     if options == ("--compiled",):
         parts += [(f"{name}c", compiled(f"{target}/{name}", text)) for name, text in parts if name.endswith(".py")]
     target.write_bytes(b"#!/usr/bin/env python3\n")
     with zipfile.ZipFile(target, "a") as file:
-        for name, text in [("__main__.py", MAIN), *parts]:
+        for name, text in [("__main__.py", b"import bacsite.__main__\n"), *parts]:
             part = zipfile.ZipInfo(name)
             part.create_system, part.external_attr = 3, 0o100644 << 16  # of Unix
             file.writestr(part, text)

@@ -11,7 +11,7 @@ import sys
 import tempfile
 from concurrent.futures import ThreadPoolExecutor
 
-from tree import TOP, end_by_signals, processors, ran, status_of, table_of, text_of, write
+from tree import TOP, end_by_signals, left_out, processors, ran, status_of, table_of, text_of, write
 
 NOT_COPIED = shutil.ignore_patterns(".git", "out", "__pycache__", "*_cache")
 
@@ -42,10 +42,8 @@ def tries(program, only):
     """The command of each section, its faults, and one check that passes always, or none, with a name."""
     for head, rows in table_of("tests/planted_faults.txt"):
         script, needed, words = re.fullmatch(r"(\S+)(?: if ([\w+]+))?(.*)", head).groups()
-        is_here = lambda it: shutil.which(it) or it == "root" and os.geteuid() == 0
-        if needed and not all(map(is_here, needed.split("+"))):
-            print(f"tests/planted_faults.py: {needed}: not here, left out")
-        elif only in head:
+        tools = [it for it in (needed or "").split("+") if it and (it != "root" or os.geteuid() != 0)]
+        if only in head and not left_out(*tools):
             command = [script, *words.replace("PROGRAM", program).split()]
             faults = [[cell.replace("\\n", "\n") for cell in row] for row in rows if len(row) == 4]
             yield f"{head}: faults", command, faults, []

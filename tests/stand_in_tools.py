@@ -6,96 +6,55 @@ also tries the message of make without rt. Usage: tests/stand_in_tools.py [COMMA
 import os
 import re
 import shutil
-import signal
-import subprocess
 import sys
 import tempfile
-import time
 from concurrent.futures import ThreadPoolExecutor
 
 from tree import ran, status_of, table_of, text_of, write
 
-# A stand-in does what the rule in RULE says, if its words begin as there. Otherwise it succeeds.
-RULE = r"""#!/bin/bash
-[[ "${0##*/} $* " != "${FALSE%%: *} "* ]] || { eval "${FALSE#*: }"; exit; }
+# A stand-in does what the first rule says whose words it begins with. Otherwise it succeeds.
+TOOL = r"""#!/bin/bash
+while IFS= read -r rule; do
+    [[ "${0##*/} $* " != "${rule%%: *} "* ]] || { eval "${rule#*: }"; exit; }
+done <<<"$RULES"
 """
-RT = RULE + r"""
-case $1 in
-    lib | run) mkdir -p out/rlib out/incremental; echo built >"out/${PWD##*/}" ;;
-    test | try) echo 'test result: ok. 7 passed; 0 failed' ;;
-    ci) mkdir -p crates/bactool/out; echo built >crates/bactool/out/bactool; echo '20 passed, 0 failed' ;;
-esac
-"""
-SCRIPT = RULE + 'echo "$0: 5 calls as they are to be"\n'
-BODIES = "bodies/mutants.py bodies/self_test.py bodies/definition_mutants.py planted_faults.py"
-(_, PARTS), *RUNS = table_of("tests/stand_in_tools.txt")
+SCRIPT = TOOL + 'echo "$0: 5 calls as they are to be"\n'
+(_, FILES), (_, USUAL), *RUNS = table_of("tests/stand_in_tools.txt")
 
 
-def made(room, rule, is_built=True):
-    """A tree with a crate below the program, and the trials, with this rule; and with the results of a build."""
-    crates = "low:\nbactool: low\nbac_trials: low\ntool_trials: low\n"
-    texts = {"Makefile": "", "HANDLES": "", "crates.txt": crates, "../bin/rt": RT, "tests/documents/counts.txt": ""}
-    for part, *rows in PARTS:
-        scripts = [row.split(": ")[0] for row in rows]
-        texts["Makefile"] += f"{part}:\n" + "".join(f"\t@{script}\n" for script in scripts)
-        texts["tests/documents/counts.txt"] += "\n".join([f"= {part}", *rows, ""]).replace(": ", " | ")
-        texts.update(dict.fromkeys(scripts, SCRIPT))
-    texts.update((path, text_of(path)) for path in ("build.py", "tests/suite.py", "tests/tree.py", ".ci/run"))
-    texts.update((f"crates/{name}/src/lib.rt", "//! x\n") for name in re.findall(r"(\w+):", crates))
-    texts.update((f"tests/{name}", SCRIPT) for name in BODIES.split())
+def made(room):
+    """Makes a tree of the files in the table, and a stand-in for rt and for each tool that .ci/run would install."""
     wanted = re.search(r"for tool in (.*); do", text_of(".ci/run"))[1].split()
-    texts.update((f"../bin/{name}", RULE) for name in wanted if name != "rt")
+    texts = {f"bin/{name}": TOOL for name in ("rt", *wanted)}
+    for path, text in FILES:
+        text = text_of(path) if text == "*" else text.replace("\\n", "\n")
+        texts[f"tree/{path}"] = SCRIPT if text == "SCRIPT" else text
     for path, text in texts.items():
-        write(f"{room}/tree/{path}", text)
-        os.chmod(f"{room}/tree/{path}", 0o755)
-    how = {"cwd": f"{room}/tree", "env": {**os.environ, "PATH": f"{room}/bin:{os.environ['PATH']}", "FALSE": "none"}}
-    if is_built:
-        ran("./build.py", **how)
-    how["env"]["FALSE"] = rule
-    return how
+        write(f"{room}/{path}", text)
+        os.chmod(f"{room}/{path}", 0o755)
 
 
-def tried(command, rule, status, wanted):
+def of_tree(room, rule):
+    """How a command is run in a tree, in which a rule says what fails."""
+    settings = {"PATH": f"{room}/bin:{os.environ['PATH']}", "RULES": "\n".join([rule, *sum(USUAL, [])])}
+    return {"cwd": f"{room}/tree", "env": {**os.environ, **settings}}
+
+
+def tried(rooms, command, rule, status, wanted):
     """Returns how a row failed, or "". A row that takes five minutes ends the script."""
     with tempfile.TemporaryDirectory() as room:
-        done = ran(*command, timeout=300, **made(room, rule, command != ["./build.py"]))
+        kind = "new" if command == "./build.py" else "built"
+        shutil.copytree(f"{rooms}/{kind}", room, dirs_exist_ok=True)
+        done = ran("bash", "-c", command, timeout=300, **of_tree(room, rule))
     if done.returncode == int(status) and re.search(wanted, done.stdout.rstrip("\n")):
         return ""
-    return f"{' '.join(command)} by [{rule}]: status {done.returncode}, not {status} with /{wanted}/:\n{done.stdout}"
-
-
-def stopped(command):
-    """A run that gets a signal ends, and then a crate's own folder is in its place."""
-    with tempfile.TemporaryDirectory() as room:
-        how = {"text": True, "stdout": subprocess.PIPE, "stderr": subprocess.STDOUT}
-        how.update(made(room, "rt: touch ../../../begun ../../begun; sleep 60"))
-        with subprocess.Popen(command, **how) as process:
-            while not os.path.exists(f"{room}/tree/out/build/begun") and process.poll() is None:
-                time.sleep(0.05)
-            process.send_signal(signal.SIGTERM)
-            said = process.stdout.read()
-        is_kept = os.path.isdir(f"{room}/tree/crates/low/out/rlib")
-    if process.returncode == 130 and "stopped" in said and is_kept:
-        return ""
-    return f"{' '.join(command)}, told to end: status {process.returncode}, the crate's folder kept: {is_kept}:\n{said}"
-
-
-def timed():
-    """After a build that had nothing to do the program is newer than its sources, so that make does not build it
-    again."""
-    with tempfile.TemporaryDirectory() as room:
-        how, program = made(room, "rt run: true"), f"{room}/tree/crates/bactool/out/bactool"
-        os.utime(program, (1, 1))
-        ran("./build.py", **how)
-        if os.path.getmtime(program) < os.path.getmtime(f"{room}/tree/crates/low/src/lib.rt"):
-            yield "./build.py left a program that is older than its sources"
+    return f"{command} by [{rule}]: status {done.returncode}, not {status} with /{wanted}/:\n{done.stdout}"
 
 
 def without_kit():
-    """make without a target lists the targets and builds nothing. If rt is missing, a target that needs it prints one
-    line."""
-    texts = [text_of(name) for name in ("Makefile", "packaging.mk", "measuring.mk")]
-    targets = {name for text in texts for row in re.findall(r"(?m)^\.PHONY: (.*)", text) for name in row.split()}
+    """make without a target lists the targets and builds nothing. Without rt a target that needs it prints a line."""
+    texts = "".join(map(text_of, ("Makefile", "packaging.mk", "measuring.mk")))
+    targets = {*" ".join(re.findall(r"(?m)^\.PHONY: (.*)", texts)).split()}
     with tempfile.TemporaryDirectory() as room:
         for name in ("sh", "bash", "env", "make", "sed", "find", "python3"):
             os.symlink(sys.executable if name == "python3" else shutil.which(name), f"{room}/{name}")
@@ -103,9 +62,9 @@ def without_kit():
         listed = told("make", "--no-print-directory")
         if listed.returncode or listed.stdout != told("make", "--no-print-directory", "help").stdout:
             yield f"make alone is not make help: status {listed.returncode}: {listed.stdout}"
-        for name in sorted(targets - {"documents", "kit"}):  # targets that are parts of others
-            if not re.search(rf"(?m)^(make, )?make {name}\b", listed.stdout):
-                yield f"make help does not list {name}"
+        named = {name for name in targets if re.search(rf"(?m)^(make, )?make {name}\b", listed.stdout)}
+        parts = {"documents", "kit"}  # targets that are parts of others
+        yield from (f"make help does not list {name}" for name in sorted(targets - named - parts))
         for words in (["make", "-s", "try"], ["make", "-s", "check"], ["make", "-s", "test"], ["./build.py"]):
             ended = told(*words)
             lines = [line for line in ended.stdout.splitlines() if not line.startswith("make: ***")]
@@ -113,14 +72,11 @@ def without_kit():
                 yield f"{' '.join(words)}, without rt: status {ended.returncode}: {ended.stdout}"
 
 
-def main(only):
-    every = [(command.split(), *row) for command, rows in RUNS for row in rows if only in command]
-    told_to_end = ["./build.py"], ["tests/suite.py", "test"]
-    with ThreadPoolExecutor(4) as pool:
-        wrong = [it for it in (*pool.map(lambda row: tried(*row), every), *pool.map(stopped, told_to_end)) if it]
-    wrong += [*timed(), *without_kit()]
-    runs = len(every) + len(told_to_end) + 1
-    return status_of(wrong, runs, f"{runs} runs of build.py and suite.py, {len(wrong)} not as they are to be")
-
-
-sys.exit(main(" ".join(sys.argv[1:])))
+every = [(command, *row) for command, rows in RUNS for row in rows if " ".join(sys.argv[1:]) in command]
+with tempfile.TemporaryDirectory() as rooms, ThreadPoolExecutor(4) as pool:
+    made(f"{rooms}/new")
+    shutil.copytree(f"{rooms}/new", f"{rooms}/built")
+    ran("./build.py", **of_tree(f"{rooms}/built", "none"))
+    wrong = [it for it in pool.map(lambda row: tried(rooms, *row), every) if it]
+wrong += without_kit()
+sys.exit(status_of(wrong, every, f"{len(every)} runs of build.py and suite.py, {len(wrong)} not as they are to be"))

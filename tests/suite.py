@@ -2,26 +2,27 @@
 """Runs the tests of the tree, part by part, and ends with a line of counts. Usage: tests/suite.py test|gate|counts
 
 CONTRIBUTING.md (The gate) says what the parts of each are, in which order they come, and when one has failed. In `test`
-a failed part does not end the others; in `gate` it ends all. There `rt ci` would set aside the kept proofs, so it runs
-in a copy of the tree, without must-fail/, whose edits it would try one by one. The last line is `N passed, M failed, K
-skipped`: parts are skipped for example if a tool is not installed.
+a failed part does not end the others; in `gate` it ends all. The last line is `N passed, M failed, K skipped`: parts
+are skipped for example if a tool is not installed.
 
 The counts that each script prints are compared with counts.txt. `counts` writes that file anew, from what the parts
 printed when they last ran.
 """
+import contextlib
 import os
 import re
 import shutil
 import sys
 import tempfile
 import time
-import typing
+from collections import namedtuple
 
 from tree import TOP, Job, crates_below, end_by_signals, free_memory, processors, ran, table_of, text_of, write
 
 LOGS, GENTLY, COUNTS = "out/parts", ["nice", "-n", "5"], "tests/documents/counts.txt"
 PROGRAM = "crates/bactool/out/bactool"
 BEGAN = time.monotonic()
+RESULTS = {}  # how many passed and failed in each part that has ended
 LEFT_OUT, SHOWN = [], []  # what the parts print of skipped tests, and of how mutants were shown to be wrong
 MISCOUNTED = []  # the scripts that compared less than expected
 TOOK = {}  # the seconds of each script that printed its counts, and of the rest of its part
@@ -31,19 +32,15 @@ FAILED = r"(\d+) (?:not |don't |failed$)"
 # A line of counts, and whose they are: those of a script, or of the tests of a crate.
 COUNTED = r"(?m)^(?:(tests/\S+): |[ \d]+of \d+ +(\w+) +)(\d.*?)(?: +\d+:\d\d)?$"
 
+# A part, and how its output is read: its scripts that must print their counts, each after its own path; the numbers of
+# what it tried, where without one each match counts as one, and of what failed; which lines are shown as they come; the
+# line which shows that it will fail.
+Part = namedtuple("Part", "name command scripts tried failed shown lost place settings",
+                  defaults=([], TRIED, FAILED, ".", "$^", ".", {}))
 
-class Part(typing.NamedTuple):
-    """A part, and how its output is read."""
 
-    name: str
-    command: list
-    scripts: list = []  # those of its scripts that must print their counts, each after its own path
-    tried: str = TRIED  # the numbers of what it tried; without one, each match counts as one
-    failed: str = FAILED
-    shown: str = "."  # which lines are shown as they come
-    lost: str = "$^"  # the line which shows that it will fail
-    place: str = "."
-    settings: dict = {}
+class GateFailed(Exception):
+    """A part of the gate has failed."""
 
 
 def beside(*rows):
@@ -52,29 +49,22 @@ def beside(*rows):
 
 
 def target(name):
-    """A target of make that runs the built program."""
     command = ["make", "--no-print-directory", name]
     return Part(name, command, re.findall(r"(?m)^tests/\S+", ran(*command, "-n").stdout))
 
 
 def whole_proof(room):
-    """`rt ci` in a copy of the tree without must-fail/, in this folder."""
+    """`rt ci` in a copy of the tree, since it sets aside kept proofs, and without must-fail/, which it tries slowly."""
     shutil.copytree(".", f"{room}/tree", symlinks=True, ignore=shutil.ignore_patterns(".git", "out", "must-fail"))
     os.mkdir(f"{room}/tree/.git")  # the top of a repository, for rt ci
     os.mkdir(f"{room}/rooms")
     for it in (room, f"{room}/rooms"):
         os.chmod(it, 0o711)  # rt runs programs as nobody
-    return Part(
-        "rt ci",
-        ["rt", "ci"],
-        tried=r"^(\d+) passed, (\d+) failed$",
-        failed=r"^\d+ passed, (\d+) failed$",
-        shown=r"^rt: |^\d+ passed",
-        lost=r"^rt: .* NOT PROVED",
-        place=f"{room}/tree",
-        # with a number given, it proves that many crates at a time, each in one process
-        settings={"RT_JOBS": str(processors()), "TMPDIR": f"{room}/rooms"},
-    )
+    # with a number given, it proves that many crates at a time, each in one process
+    settings = {"RT_JOBS": str(processors()), "TMPDIR": f"{room}/rooms"}
+    how = {"tried": r"^(\d+) passed, (\d+) failed$", "failed": r"^\d+ passed, (\d+) failed$"}
+    how.update(shown=r"^rt: |^\d+ passed", lost=r"^rt: .* NOT PROVED", place=f"{room}/tree", settings=settings)
+    return Part("rt ci", ["rt", "ci"], **how)
 
 
 def counts_in(said):
@@ -90,21 +80,18 @@ def miscounted(part, said):
     found, wanted = counts_in(said), dict(dict(table_of(COUNTS)).get(part.name, []))
     yield from (f"{COUNTS} has nothing of {name}" for name in part.scripts if name not in wanted)
     for name, numbers in wanted.items():
-        least = [int(it.strip("+")) for it in numbers.split()]
-        is_so = [at >= it if "+" in numbers else at == it for at, it in zip(found.get(name, []), least)]
-        if re.search(rf"(?m)^{re.escape(name)}: ", said) and name not in found:
-            continue  # it skipped something
-        if is_so != [True] * len(least) or len(found[name]) != len(least):
-            told = f"{name} counted {found.get(name)}, and {COUNTS} has {numbers}"
-            yield f"{told}; `tests/suite.py counts` writes it anew"
+        came, least = found.get(name, []), [int(it.strip("+")) for it in numbers.split()]
+        is_more = "+" in numbers and len(came) == len(least) and all(at >= it for at, it in zip(came, least))
+        skipped = name not in found and re.search(rf"(?m)^{re.escape(name)}: ", said)
+        if came != least and not is_more and not skipped:
+            yield f"{name} counted {came}, and {COUNTS} has {numbers}; `tests/suite.py counts` writes it anew"
 
 
 def counts():
     """Writes counts.txt again. A line with `+` keeps the `+`, and the section of a part without a log stays."""
-    head, *_ = text_of(COUNTS).partition("\n= ")
-    text = head + "\n"
+    text = text_of(COUNTS).partition("\n= ")[0] + "\n"
     for part, rows in table_of(COUNTS):
-        log, old = f"{LOGS}/{part}.log", dict(rows)
+        log, old = log_of(part), dict(rows)
         found = counts_in(text_of(log)) if os.path.exists(log) else {}
         told = {name: " ".join(f"{it}{'+' * ('+' in old.get(name, ''))}" for it in found[name]) for name in found}
         text += f"\n= {part}\n" + "".join(f"{name} | {it}\n" for name, it in {**old, **told}.items())
@@ -112,84 +99,63 @@ def counts():
     return 0
 
 
+def log_of(name):
+    return f"{TOP}/{LOGS}/{name.replace(' ', '_')}.log"
+
+
 def say(text):
-    """Prints this after the minutes since the beginning."""
     minutes, seconds = divmod(int(time.monotonic() - BEGAN), 60)
     print(f"{minutes:3}:{seconds:02}  {text}", flush=True)
 
 
-class Work(Job):
-    """A running part."""
-
-    def __init__(self, part):
-        self.part, self.told, self.is_lost, self.since = part, 0, False, time.monotonic()
-        outer = {name: it for name, it in os.environ.items() if name not in ("MAKEFLAGS", "MFLAGS", "MAKELEVEL")}
-        log = f"{TOP}/{LOGS}/{part.name.replace(' ', '_')}.log"
-        super().__init__(part.command, log, cwd=part.place, env={**outer, **part.settings})
-
-    def has_ended(self):
-        """Shows the output since the last look, and returns whether the part has ended, or will fail."""
-        ended, lines = super().has_ended(), self.said().split("\n")[:-1]
-        for line in lines[self.told :]:
-            if re.search(self.part.shown, line):
-                say(f"{self.part.name}: {line}")
-            if script := re.match(r"(tests/\S+): \d", line):
-                self.takes(script[1])
-            self.is_lost = self.is_lost or bool(re.search(self.part.lost, line))
-        self.told = len(lines)
-        return ended or self.is_lost
-
-    def takes(self, name):
-        """Notes the time since the last one under this name."""
-        TOOK[name], self.since = time.monotonic() - self.since, time.monotonic()
-
-    def counts(self):
-        """How many passed and failed. A part that tried nothing has failed, and so has one with a script that printed
-        no counts."""
-        said = self.said()
-        rows = [row.groups() for row in re.finditer(self.part.tried, said, re.M)] if self.part.tried else []
-        tried = [sum(int(it) for it in row if it) if any(row) else 1 for row in rows]
-        failed = sum(map(int, re.findall(self.part.failed, said, re.M)))
-        silent = [it for it in self.part.scripts if not re.search(rf"^{re.escape(it)}: ", said, re.M)]
-        is_empty = bool(self.part.tried) and (not tried or 0 in tried)
-        failed = failed or int(self.is_lost or self.process.returncode != 0 or is_empty or bool(silent))
-        return max(sum(tried) - failed, 0), failed
-
-    def tell(self):
-        """Prints its result, after its last lines if it failed."""
-        (passed, failed), said = self.counts(), self.said()
-        self.takes(self.part.name)
-        LEFT_OUT.extend(it for it in said.splitlines() if re.search(r"(?<!none )left out", it))
-        MISCOUNTED.extend(miscounted(self.part, said) if not failed else [])
-        SHOWN.extend(re.findall(r"\d+ mutants: .*?(?=; \d+ of .* failed$)", said, re.M))
-        if failed:
-            print("".join(f"    {line}\n" for line in said.splitlines()[-40:]), end="")
-        how = f"FAILED, see {os.path.relpath(self.log)}" if failed else "ended well"
-        say(f"{self.part.name} {how}: {passed} passed, {failed} failed")
-        return passed, failed
+def work(part):
+    """Runs a part, and shows its output, until it has ended, or will fail; each value is a look at it."""
+    outer = {name: it for name, it in os.environ.items() if name not in ("MAKEFLAGS", "MFLAGS", "MAKELEVEL")}
+    has_ended, is_lost, told, since = False, False, 0, time.monotonic()
+    with Job(part.command, log_of(part.name), cwd=part.place, env={**outer, **part.settings}) as job:
+        while not has_ended and not is_lost:
+            yield part
+            has_ended, lines = job.has_ended(), job.said().split("\n")[:-1]
+            for line in lines[told:]:
+                if re.search(part.shown, line):
+                    say(f"{part.name}: {line}")
+                if script := re.match(r"(tests/\S+): \d", line):
+                    TOOK[script[1]], since = time.monotonic() - since, time.monotonic()
+                is_lost = is_lost or bool(re.search(part.lost, line))
+            told = len(lines)
+        TOOK[part.name] = time.monotonic() - since
+        tell(part, job.said(), is_lost or job.process.returncode != 0)
 
 
-def run(steps, ends_at_failure):
-    """Runs step after step, the rows of each at the same time. Returns how many passed and failed."""
-    passed, lost = 0, {}
+def tell(part, said, is_lost):
+    """Notes how many passed and failed, and prints it, after the last lines of a part that failed. It fails, too, if it
+    tried nothing, or if one of its scripts printed no counts. Then the gate ends."""
+    rows = [row.groups() for row in re.finditer(part.tried, said, re.M)] if part.tried else []
+    tried = [sum(int(it) for it in row if it) if any(row) else 1 for row in rows]
+    is_silent = not all(re.search(rf"^{re.escape(it)}: ", said, re.M) for it in part.scripts)
+    is_lost = is_lost or is_silent or bool(part.tried) and (not tried or 0 in tried)
+    failed = sum(map(int, re.findall(part.failed, said, re.M))) or int(is_lost)
+    passed, _ = RESULTS[part.name] = max(sum(tried) - failed, 0), failed
+    LEFT_OUT.extend(it for it in said.splitlines() if re.search(r"(?<!none )left out", it))
+    MISCOUNTED.extend(miscounted(part, said) if not failed else [])
+    SHOWN.extend(re.findall(r"\d+ mutants: .*?(?=; \d+ of .* failed$)", said, re.M))
+    if failed:
+        print("".join(f"    {line}\n" for line in said.splitlines()[-40:]), end="")
+    how = f"FAILED, see {os.path.relpath(log_of(part.name))}" if failed else "ended well"
+    say(f"{part.name} {how}: {passed} passed, {failed} failed")
+    if failed and sys.argv[1] == "gate":
+        raise GateFailed
+
+
+def run(steps):
+    """Runs step after step, the rows of each at the same time."""
     for rows in steps:
-        left, working = [list(row) for row in rows], {}
-        try:
-            while (any(left) or working) and not (lost and ends_at_failure):
-                for at, row in enumerate(left):
-                    if row and at not in working:
-                        working[at] = Work(row.pop(0))
+        with contextlib.ExitStack() as stack:
+            looks = [contextlib.closing(look for part in row for look in work(part)) for row in rows]
+            left = list(map(stack.enter_context, looks))
+            while left:
+                left = [row for row in left if next(row, None)]
                 time.sleep(0.5)
-                for at in [at for at, work in working.items() if work.has_ended()]:
-                    some, failed = working[at].tell()
-                    passed, lost = passed + some, {**lost, **({working[at].part.name: failed} if failed else {})}
-                    working.pop(at).stop()
-        finally:
-            for work in working.values():
-                work.stop()
-        if lost and ends_at_failure:
-            break
-    return passed, lost
 
 
 def test(_):
@@ -221,13 +187,14 @@ def main(words):
     if words == ["counts"]:
         return counts()
     os.makedirs(LOGS, exist_ok=True)
-    with tempfile.TemporaryDirectory(prefix="gate-") as room:
-        passed, lost = run((test if words == ["test"] else gate)(room), words == ["gate"])
+    with tempfile.TemporaryDirectory(prefix="gate-") as room, contextlib.suppress(GateFailed):
+        run({"test": test, "gate": gate}[words[0]](room))
     longest = sorted(TOOK, key=TOOK.get, reverse=True)[:5]
     print("longest: " + ", ".join(f"{name} {TOOK[name]:.0f} s" for name in longest))
-    lost.update({"counts": len(MISCOUNTED)} if MISCOUNTED else {})
-    print("\n".join([*LEFT_OUT, *SHOWN, *MISCOUNTED, *(f"failed: {name}" for name in lost)]))
-    print(f"{passed} passed, {sum(lost.values())} failed, {len(LEFT_OUT)} skipped")
+    RESULTS["counts"] = 0, len(MISCOUNTED)
+    lost = [f"failed: {name}" for name, (_, failed) in RESULTS.items() if failed]
+    print("\n".join([*LEFT_OUT, *SHOWN, *MISCOUNTED, *lost]))
+    print("{} passed, {} failed, {} skipped".format(*map(sum, zip(*RESULTS.values())), len(LEFT_OUT)))
     return 1 if lost else 0
 
 

@@ -26,7 +26,6 @@ COMPARED, WRONG = [], []  # the number of comparisons of a script, and the diffe
 
 
 def text_of(path):
-    """The text of a file of the repository."""
     return pathlib.Path(TOP, path).read_text(encoding="utf-8")
 
 
@@ -50,7 +49,6 @@ def table_of(path):
 
 
 def write(path, text):
-    """Writes a file, and the folder that it is in."""
     os.makedirs(os.path.dirname(path), exist_ok=True)
     pathlib.Path(path).write_text(text, encoding="utf-8")
 
@@ -88,18 +86,28 @@ def same(what, one, other):
         WRONG.append(f"{what}: {one!r}, not {other!r}"[:600])
 
 
+def follow(rows, values, **how):
+    """Runs rows: a line of the shell, its status, and all that it prints; `..` is any text, a name its value."""
+    for line, status, text in rows:
+        done = ran("sh", "-c", line, **how)
+        for name, value in values.items():
+            text = text.replace(name, value)
+        same(f"status of {line} ({done.stdout.strip()[-200:]})", done.returncode, int(status))
+        is_so = re.fullmatch(re.escape(text).replace(r"\.\.", ".*"), done.stdout, re.S)
+        same(f"{line} prints {done.stdout[-200:]}, for {text}", bool(is_so), True)
+
+
 def plain(text):
     """A text on one line, without the marks of pages and documents."""
     text = re.sub(r"(?m)^\.(?:\\\".*$|[A-Z][a-z] )?", "", text)
     return re.sub(r" ([.,;:])", r"\1", " ".join(re.sub(r"[`*]|\\&|\bFl Fl |\bFl (?=[a-z]\b)", "", text).split()))
 
 
-def says(document, *sentences):
-    """Notes each sentence that a document must have, however its lines break, and those that are missing."""
-    for sentence in sentences:
-        COMPARED.append(sentence)
-        if not sentence or plain(sentence).lower() not in plain(text_of(document)).lower():
-            WRONG.append(f"{document} does not say: {sentence}")
+def says(document, sentence):
+    """Notes a sentence that a document must have, however its lines break, and whether it is missing."""
+    COMPARED.append(sentence)
+    if not sentence or plain(sentence).lower() not in plain(text_of(document)).lower():
+        WRONG.append(f"{document} does not say: {sentence}")
 
 
 def verdict(well):
@@ -129,10 +137,8 @@ def copy_sources(room):
 
 
 def copy_crate(crate, room):
-    """Copies the sources of a crate to a folder."""
-    for folder in (f"{TOP}/crates/{crate}/{part}" for part in ("src", "specs", "proofs")):
-        if os.path.isdir(folder):
-            shutil.copytree(folder, f"{room}/{os.path.basename(folder)}")
+    for part in {"src", "specs", "proofs"}.intersection(os.listdir(f"{TOP}/crates/{crate}")):
+        shutil.copytree(f"{TOP}/crates/{crate}/{part}", f"{room}/{part}")
 
 
 def put_tools(program, room):
@@ -159,8 +165,8 @@ def failing_library(room):
     return library
 
 
-class Job:
-    """A running command, in its own group of processes. Its output goes to a file."""
+class Job(contextlib.AbstractContextManager):
+    """A running command, in its own group of processes, which ends with a `with`. Its output goes to a file."""
 
     def __init__(self, command, log, **how):
         self.log = log
@@ -174,6 +180,9 @@ class Job:
     def has_ended(self):
         return self.process.poll() is not None
 
+    def __exit__(self, *_):
+        self.stop()
+
     def stop(self):
         """Ends the processes of the group that are still there."""
         for number in (signal.SIGTERM, signal.SIGKILL):
@@ -183,8 +192,7 @@ class Job:
 
 
 def end_by_signals(main):
-    """Exits with the status of a call with the words of the script. Signals stop it as ^C does, except one that nohup
-    has ignored."""
+    """Exits with the status of a call with the script's words. Signals stop it like ^C, unless nohup ignores them."""
     for number in (signal.SIGTERM, signal.SIGHUP):
         if signal.getsignal(number) != signal.SIG_IGN:
             signal.signal(number, signal.default_int_handler)
@@ -199,10 +207,13 @@ def processors():
     return len(os.sched_getaffinity(0))
 
 
-def local_socket():
-    """Returns a UDP socket at a port of 127.0.0.1 that no other socket of this machine has."""
+def local_socket(peer=None, patience=None):
+    """Returns a UDP socket at a free port of 127.0.0.1, if given with a peer's port, and the seconds for a receive."""
     it = socket.socket(socket.AF_INET, socket.SOCK_DGRAM)
     it.bind(("127.0.0.1", 0))
+    it.settimeout(patience)
+    if peer:
+        it.connect(("127.0.0.1", peer))
     return it
 
 
@@ -212,8 +223,7 @@ def framed(apdu, network=b"\x01\x00"):
 
 
 def free_port(first=47808):
-    """Returns the first UDP port from this one on that no socket has; no other call returns it until this process
-    ends."""
+    """Returns the first UDP port from here that no socket has; until this process ends no other call returns it."""
     for port in range(first, 65536):
         lock = open(f"{tempfile.gettempdir()}/bactool-port-{port}-{os.getuid()}", "a", encoding="utf-8")
         with contextlib.suppress(BlockingIOError):

@@ -1,4 +1,4 @@
-"""Runs bacsite from the tree: python3 site/bacsite, or python3 -m bacsite."""
+"""Runs bacsite: as one file, or from the tree by python3 site/bacsite or python3 -m bacsite."""
 
 import signal
 import sys

@@ -332,8 +332,7 @@ class Controller:
         return "" if device is None else self.identify(device)
 
     def comes_back(self) -> bool:
-        """Returns whether a device that fell silent answers after a pause, as the same one: it may
-        have restarted."""
+        """Returns whether a silent device, which may have restarted, answers after a pause."""
         pause = min(MOST_PAUSE, PAUSE * self.tools.timeout / 1000)
         instance, left = self.instance, self.deadline - time.monotonic()
         if left <= 0 or self.tools.processes.ended.wait(min(pause, left)):

@@ -227,7 +227,7 @@ class _Reader:
             device.objects = [whole[it] for it in wanted if it in whole]
         for it in device.objects:
             it.priorities, reason = held.get(it.object_id, ((), ""))
-            it.reasons += filter(None, [reason])
+            it.reasons += [reason] if reason and reason not in it.reasons else []
         left -= len(device.objects)
         if left > 0:
             device.reasons.append(f"{left} of {len(objects)} objects not asked")

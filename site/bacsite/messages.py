@@ -247,9 +247,8 @@ class Ended(NamedTuple):
 
 
 def answer_of(ended: Ended, asked: PropertyRef) -> ReadResult:
-    """Returns the answer to a read that has ended. bacrun matches an answer only by its number,
-    which a late answer to an earlier request may have. So a value is accepted only if the answer
-    itself names the requested property."""
+    """Returns the answer to a read that has ended. bacrun matches answers by their number, which a
+    late answer to an earlier request may have: so a value needs to name the requested property."""
     apdu = ended.apdu
     outcome = ended.read(apdu)
     body = read_ack(apdu.body) if apdu and outcome[:6] == "value " else None

@@ -1,5 +1,4 @@
-"""Pages of HTML that need no other file: a survey, which can be read without its script, and charts
-of points over time."""
+"""Pages of HTML that need no other file: a survey, readable without its script, and charts."""
 
 from __future__ import annotations
 
@@ -250,8 +249,7 @@ class Line:
 
 
 def _ends(samples: Sequence[Sample]) -> list[Sample]:
-    """The least and the greatest sample, missing values between others, and one sample for each
-    other flag, in their order."""
+    """The least and the greatest sample, missing values, and one for each other flag, in order."""
     size = {it: float(it.text) if DECIMAL.fullmatch(it.text) else 0.0 for it in samples}
     there = sorted((it for it in samples if it.text), key=size.__getitem__)
     ends = [*there[:1], *there[1:][-1:]]

@@ -19,16 +19,17 @@ MOST_LINE, MORE = 4096, "#+"  # longer remarks go on in a line with MORE
 NUMBERS, SAFE = 256, 60.0  # the numbers of requests, and the seconds before one may be used again
 MOST_OPEN = 64  # requests of one bacrun
 LOOK = 50  # milliseconds for datagrams that wait at a socket
+REFUSED = "the system refused to send it"
 ITSELF = PropertyRef(DEVICE, THIS_DEVICE, OBJECT_ID)  # which device it is
 
 
 class _Open:
-    """An open request: when it was first sent, how often, to which address, the datagram in
-    hexadecimal digits, and the other address from which an answer with its number came."""
+    """An open request: when it was first sent, to which address, how often, how many of its sends
+    the system refused, its datagram, and the other address from which an answer to it came."""
 
     def __init__(self, address: str) -> None:
         self.since, self.address = time.monotonic(), address
-        self.sends, self.sent, self.elsewhere = 0, "", ""
+        self.sends, self.refused, self.sent, self.elsewhere = 0, 0, "", ""
 
 
 class Session:
@@ -45,9 +46,9 @@ class Session:
         self._text = ""  # still to be handed over
         self._has_settled = False
         self._kept: str | None = None  # a line that is read next
-        self._data = b""  # the latest datagram
-        self._peer = ""  # the sender of that datagram
+        self._latest = Datagram(0, "", "", b"")
         self.peers: set[str] = set()  # the senders of all datagrams
+        self.refused: set[str] = set()  # peers to which the system refused to send a datagram
         self.on_message: Callable[[Message], None] | None = None  # called with each one
         self._refusals: dict[str, Refusals] = {}  # by the hosts of routers
         self._begun = time.monotonic()
@@ -70,8 +71,7 @@ class Session:
         return self._tickets > NUMBERS // 2 and age * NUMBERS < SAFE * self._tickets
 
     def close(self) -> Outcome:
-        """Ends the session, and returns how bacrun ended. If it ended well, its last lines go to
-        the journal."""
+        """Ends the session; returns how bacrun ended. If it ended well, the journal is whole."""
         outcome = self._tools.processes.over(self.process)
         if self.journal:
             for line in outcome.lines if outcome.status == 0 else []:
@@ -140,9 +140,9 @@ class Session:
         """Notes a line about a request; returns the request if it has ended."""
         with suppress(KeyError, ValueError):  # of a line that does not come from bacrun
             if line.startswith("data "):
-                _, self._peer, octets = line.split(" ")
-                self._data = bytes.fromhex(octets)
-                self.peers.add(self._peer)
+                _, peer, octets = line.split(" ")
+                self._latest = Datagram(0, peer, "", bytes.fromhex(octets))
+                self.peers.add(peer)
                 if self.on_message:
                     self.on_message(self._message())
             elif line.startswith("# send "):
@@ -150,6 +150,11 @@ class Session:
                 request = self._open[int(number)]
                 request.since = request.since if request.sends else time.monotonic()
                 request.sends, request.sent = request.sends + 1, octets
+            elif line.startswith("# unsent "):
+                _, _, peer, octets = line.split(" ")
+                self.refused.add(peer)
+                for request in self._open.values():
+                    request.refused += request.sent == octets
             elif line == "# drop":
                 self.is_owed = True
                 self._look_at_dropped()
@@ -163,14 +168,14 @@ class Session:
         self.is_owed = self.is_owed or how == "timeout" or request.sends > 1
         seconds = time.monotonic() - request.since
         if how == "done":
-            return Ended(outcome, self._data, seconds, request.sends, ticket)
+            return Ended(outcome, self._latest.octets, seconds, request.sends, ticket)
         return Ended(TIMEOUT, b"", seconds, request.sends, ticket, self._hint(request))
 
     def _look_at_dropped(self) -> None:
         """Notes a router's refusal of a network, or an answer that came from another address."""
         message = self._message()
         if message.network:
-            host = self._peer.partition(":")[0]
+            host = self._latest.sender.partition(":")[0]
             self._refusals.setdefault(host, Refusals()).heard(message.network)
         elif message.apdu and message.apdu.is_answer:
             for request in self._open.values():
@@ -181,7 +186,7 @@ class Session:
 
     def _message(self) -> Message:
         """Returns the latest datagram, read."""
-        return message_of(Datagram(0, self._peer, "", self._data))
+        return message_of(self._latest)
 
     def _hint(self, request: _Open) -> str:
         """Returns an explanation for the silence of a request; an empty text if there is none."""
@@ -189,7 +194,8 @@ class Session:
         refusals = self._refusals.get(router.partition(":")[0])
         refusal = refusals.of(int(route.partition("/")[0])) if refusals and route else ""
         elsewhere = f"answered from {request.elsewhere}" if request.elsewhere else ""
-        return "; ".join(filter(None, [refusal, elsewhere]))
+        unsent = REFUSED if request.refused == request.sends else ""
+        return "; ".join(filter(None, [unsent, refusal, elsewhere]))
 
 
 class Scan:
@@ -202,15 +208,17 @@ class Scan:
         self._session: Session | None = None
         self._peers: set[str] = set()  # who has sent a datagram
 
-    def run(self, then: Callable[[str, bool], None]) -> None:
-        """Reads; `then` gets each address as soon as it is known whether somebody is there. If
-        bacrun can't be run, each address is asked in another way."""
+    def run(self, then: Callable[[str, str], None]) -> None:
+        """Reads; `then` gets each address as soon as it is known whether somebody is there, and the
+        reason if nobody is. If bacrun can't be run, each address is asked in another way."""
         left = set(self._addresses)
         for address, ended in self.ends(self._tools.timeout, self._tools.retries, "range"):
-            then(address, ended.outcome != TIMEOUT or address in self._peers)
+            is_heard = ended.outcome != TIMEOUT or address in self._peers
+            silence = ended.read(None) if ended.hint == REFUSED else TIMEOUT
+            then(address, "" if is_heard else silence)
             left.discard(address)
         for address in left:
-            then(address, True)
+            then(address, "")
 
     def ends(self, patience: int, retries: int, name: str = "") -> Iterator[tuple[str, Ended]]:
         """Asks each address for its identity; yields how each of these reads ended."""

@@ -121,8 +121,7 @@ def earlier_of(path: str, reuses: bool = False) -> Earlier:
 
 
 def _known_of(line: bytes) -> tuple[str, Known] | None:
-    """Reads a line of JSON; returns None for a device that was silent. Earlier versions do not say
-    what they asked for."""
+    """Reads a line of JSON; None for a silent device. Earlier versions lack `asked_for`."""
     told = json.loads(line)
     address, instance, asked_for = str(told["address"]), told["device"], told.get("asked_for", {})
     if instance is None:
@@ -160,11 +159,11 @@ class _Turn:
         self.search: Search | None = None  # for other devices there, if one was needed
         self.silent: list[Device] = []  # devices that may still answer at the end
         self.is_scanned = Event()  # if the address is in a range
-        self.is_heard = not target.in_range  # or a device is there
+        self.silence = TIMEOUT if target.in_range else ""  # why it is not asked; or empty
 
-    def scanned(self, is_heard: bool) -> None:
-        """Notes whether somebody is at an address of a range."""
-        self.is_heard = is_heard
+    def scanned(self, silence: str) -> None:
+        """Notes why an address of a range is not asked; an empty text if somebody is there."""
+        self.silence = silence
         self.is_scanned.set()
 
 
@@ -220,7 +219,7 @@ class Survey:
         scan = Scan(self.tools, list(by_address))
         self.scans.append(scan)
         try:
-            scan.run(lambda address, is_heard: by_address[address].scanned(is_heard))
+            scan.run(lambda address, silence: by_address[address].scanned(silence))
         finally:
             for turn in turns:
                 turn.is_scanned.set()
@@ -241,9 +240,8 @@ class Survey:
         return [it for it in devices if it not in turn.silent]
 
     def stations_behind(self, turn: _Turn) -> list[Device]:
-        """Returns the stations behind a router that have answered a Who-Is, only by address and
-        instance. The Who-Is was sent once the router's identity was known, and is awaited no longer
-        than the router is asked."""
+        """Returns the stations behind a router that answered a Who-Is, by address and instance. It
+        was sent once the router's identity was known, and is awaited while the router is asked."""
         turn.is_over.wait()
         router, search = turn.target.address + "/", turn.search
         heard = search.heard(by_now=True) if search else []
@@ -311,7 +309,7 @@ class Survey:
             reason = _identified(controller, wanted, turn)
             if reason:
                 found = [reason, *_others(controller, turn)]
-                hidden = not turn.is_heard and found == [TIMEOUT]
+                hidden = turn.silence == TIMEOUT and found == [TIMEOUT]
                 devices.append(Device(controller.address, reasons=found, hidden=hidden))
             elif all(device.instance is None for device in devices):
                 names = self.earlier.names_at(controller.address)
@@ -325,10 +323,10 @@ class Survey:
 def _identified(controller: Controller, wanted: int | None, turn: _Turn) -> str:
     """Returns why the controller must not be asked as this device. A silent device is asked once
     more if it answers a Who-Is: another client kept it busy, or the request was lost."""
-    if turn.is_heard:
-        reason = controller.identify(wanted)
+    if turn.silence:
+        controller.silent, reason = True, turn.silence
     else:
-        controller.silent, reason = True, TIMEOUT
+        reason = controller.identify(wanted)
     is_silent = controller.silent and not is_routed(controller.address)
     if turn.search or not (is_silent or turn.target.may_be_router):
         return reason

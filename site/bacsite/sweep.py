@@ -12,7 +12,7 @@ from .device import Bounds
 from .messages import UNCONFIRMED, Message, Refusals
 from .streams import times
 from .tools import BIND_FAILED, Tools, NotBegun, deadline_of
-from .session import Session
+from .session import REFUSED, Session
 
 EVERYONE = (0, 4194303)  # all instances
 FEW = 16  # about this many of the known stations are asked at once
@@ -96,8 +96,7 @@ class Reach:
         return bool(self._before) and _within(self._asked, self._before) <= self._answered
 
     def end(self) -> None:
-        """Ends a question. A range with a new station is asked again, in parts; a reach without any
-        station is asked twice."""
+        """Ends a question. A range with a new station is asked in parts, an empty reach twice."""
         self._silent += not self.found
         if self._silent == 1:
             self.left.append(EVERYONE)
@@ -118,6 +117,7 @@ class Sweep:
         self._last = 0.0  # when the last station answered
         self._begin(words)
         self.faults: list[str] = []  # why the reaches are not whole
+        self._refused: set[str] = set()  # routers to which the system did not send all questions
         self.rounds = 0
 
     def _begin(self, words: Sequence[str]) -> None:
@@ -134,7 +134,7 @@ class Sweep:
                 self.faults.insert(0, str(why))
                 break
             session, fault = Session(self._tools, process, "stations"), ""
-            session.on_message = self._take
+            session.on_message, self._refused = self._take, session.refused
             while self._ask(session):
                 if self.rounds == MOST_ROUNDS:
                     fault = f"new stations still answered after {MOST_ROUNDS} questions"
@@ -203,7 +203,8 @@ class Sweep:
         for router, count in through.items():
             reasons.append(f"{times(count, 'station')} answered through {router}")
         if not reach.found and (reasons or reach.word not in self._quiet):
-            reasons.append("no station answers")
+            is_refused = reach.router in self._refused
+            reasons.append("no station answers" + f" ({REFUSED})" * is_refused)
         return reasons
 
 

@@ -1,5 +1,4 @@
-"""Values in readable form, from the octets of an answer, whose tags show the types; and the kinds
-of reasons why there is none."""
+"""Values in readable form, from the octets of an answer and their tags; and why there is none."""
 
 from __future__ import annotations
 
@@ -25,7 +24,6 @@ class Why(enum.Enum):
     SILENT = enum.auto()
     NOT_ASKED = enum.auto()
     TOO_LATE = enum.auto()
-    UNREACHABLE = enum.auto()  # nothing can be sent there
     BUSY = enum.auto()  # for now
     STRANGE = enum.auto()  # the answer is about something else
     TOO_LONG = enum.auto()  # for one datagram
@@ -37,7 +35,7 @@ class Why(enum.Enum):
     @property
     def is_gone(self) -> bool:
         """Whether nobody answered, in time or at all: the controller or its network is down."""
-        return self in (Why.SILENT, Why.NOT_ASKED, Why.TOO_LATE, Why.UNREACHABLE)
+        return self in (Why.SILENT, Why.NOT_ASKED, Why.TOO_LATE)
 
     @property
     def is_for_now(self) -> bool:
@@ -47,7 +45,6 @@ class Why(enum.Enum):
 
 # The kinds of reasons by their words; those of bactool have numbers of the standard in them.
 WORDS = {"": Why.NONE, TIMEOUT: Why.SILENT, NOT_ASKED: Why.NOT_ASKED, TOO_LATE: Why.TOO_LATE}
-WORDS.update({"bactool: sending failed": Why.UNREACHABLE})
 WORDS.update(dict.fromkeys(["error 0 3", "abort 3", "abort 8", "abort 9"], Why.BUSY))
 WORDS.update(dict.fromkeys([STRANGE, NO_INDEX], Why.STRANGE))
 WORDS.update(dict.fromkeys(["abort 1", "abort 4", "abort 11", "segmented"], Why.TOO_LONG))
@@ -58,7 +55,7 @@ def why_of(reason: str) -> Why:
     """Returns the kind of a reason."""
     if reason.startswith("no number: "):
         return Why.NO_NUMBER
-    if reason.startswith(TIMEOUT + " ("):  # followed by what a router or another address said
+    if reason.startswith(TIMEOUT + " ("):  # and an explanation
         return Why.SILENT
     code = re.fullmatch("error [0-9]+ (31|32)", reason)
     if code:

@@ -30,17 +30,27 @@ EMPTY = "unreachable!()"
 
 
 def words(text):
-    """The words and signs of a text, without its comments."""
     return TOKEN.findall(re.sub(r"//.*", "", text))
+
+
+def depths(text, begin):
+    """The places of a text from this one on, each with the number of brackets that are open after it."""
+    depth = 0
+    for at in range(begin, len(text)):
+        depth += (text[at] in "([{") - (text[at] in ")]}")
+        yield at, depth
+
+
+def closing(text, begin):
+    """Returns where the bracket at this place is closed, or 0 if it is closed after the text."""
+    return next((at for at, depth in depths(text, begin) if not depth), 0)
 
 
 def parts(text, begin):
     """The parts between the commas in the bracket at this place of a text."""
-    found, depth = [""], 0
-    for it in text[begin + 1 : closing(text, begin)]:
-        depth += (it in "([{") - (it in ")]}")
-        found = [*found, ""] if it == "," and not depth else [*found[:-1], found[-1] + it]
-    return found
+    end = closing(text, begin)
+    cuts = [begin, *(at for at, depth in depths(text[:end], begin) if text[at] == "," and depth == 1), end]
+    return [text[one + 1 : other] for one, other in zip(cuts, cuts[1:])]
 
 
 def unfolded(said):
@@ -88,7 +98,6 @@ def call_of(head):
 
 
 def calls_more(old, wrong):
-    """The functions that the mutant calls, and the old text does not."""
     plainly = lambda text: re.sub(r"//.*|::<[^()]*>(?=\()", "", text)
     calls = lambda text: {*re.findall(r"(?<!\bfn )\b([a-z]\w*)\(", plainly(text))}
     return sorted(calls(wrong) - calls(old))
@@ -106,7 +115,6 @@ def hard(text):
 
 
 def harder(old, wrong):
-    """Returns the hard operators in the mutant that the old text does not have."""
     return [it for it in hard(wrong) if it[0] not in {sign for sign, *_ in hard(old)}]
 
 
@@ -128,30 +136,18 @@ def doubt(old, wrong, control):
     return "" if common else "the tool can't tell more: body and control share nothing that did not stand there"
 
 
-def closing(text, begin):
-    """Returns where the bracket at this place is closed, or 0 if it is closed after the text."""
-    depth = 0
-    for at in range(begin, len(text)):
-        depth += (text[at] in "([{") - (text[at] in ")]}")
-        if not depth:
-            return at
-    return 0
-
-
 def branches(control):
     """The conditions of a control's branches, and where they begin and end: of `if` and `else`, and arms."""
     for it in re.finditer(r"(?:\bif (?:let .*? = )?[^{}]*?|\belse )\{(?!\s*\})", control):
         end = closing(control, it.end() - 1)
         if " => " not in it[0] and end:
             yield it[0], it.end(), end
-    for it in re.finditer(r"([^,{}]*(?:\{[^{}]*\}[^,{}]*)?) => ", control):
-        begin, end, depth = it.end(), it.end(), 0
+    for it in re.finditer(r"((?:(?! => )[^,{}])*(?:\{[^{}]*\}(?:(?! => )[^,{}])*)?) => ", control):
+        begin, ends = it.end(), ((",", 0), ("}", -1))
         if control[begin] == "{":
             begin, end = begin + 1, closing(control, begin)
         else:
-            while end < len(control) and (depth or control[end] not in ",}"):
-                depth += (control[end] in "([{") - (control[end] in ")]}")
-                end += 1
+            end = next((at for at, depth in depths(control, begin) if (control[at], depth) in ends), len(control))
         if end and control[begin:end].strip() != it[1].strip():
             yield it[0], begin, end
 

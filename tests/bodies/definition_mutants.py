@@ -6,52 +6,75 @@ the edit, because examples are tried without the code.
 
 Usage: tests/bodies/definition_mutants.py [TREE [PATTERN]]: tries all edits, or those whose names contain the pattern,
 with the libraries of the crates below in this tree, or another, as `make demo` keeps them. Each takes some seconds.
+Several changed definitions of a crate are tried in one check, each in a copy of the crate.
 """
+import functools
 import re
 import sys
-import tempfile
 from concurrent.futures import ThreadPoolExecutor
 
 sys.path.insert(0, sys.path[0] + "/..")
-from tree import TOP, copy_crate, processors, ran, status_of, text_of, write
+from tree import TOP, copy_crate, processors, status_of, text_of, write
 from edits import entries_in
-from mutants import command
+from mutants import TOGETHER, command, said_of
+from stubs import put_stubs
 
 BY = re.compile(r"(?m)^(by|error): (.*)$")
+ERROR = re.compile(r"(?m)^(?:\./)?(\S+): error")
 PAIR = re.compile(r"(?m)^file: (.*)\nold: (.*)\nnew: (.*)$")
 
 
-def fault_of(over, text):
-    """Returns why the edit of an entry is not refused as it should be, or ""."""
-    pairs = [[cell.replace("\\n", "\n") for cell in pair] for pair in PAIR.findall(text)]
+def pairs_of(text):
+    return [[cell.replace("\\n", "\n") for cell in pair] for pair in PAIR.findall(text)]
+
+
+def example_of(text):
+    """The example that has to refuse the edit of an entry, or "" if the language has to."""
     how, by = BY.search(text).groups()
-    crate, example = pairs[0][0].split("/")[1], by if how == "by" else "nothing"
-    with tempfile.TemporaryDirectory(prefix="refused-") as room:
-        copy_crate(crate, f"{room}/crates/{crate}")
-        for file, old, new in pairs:
-            text = text_of(f"{room}/{file}")
-            if text.count(old) != 1:
-                return f"its old text does not stand once in {file}"
-            write(f"{room}/{file}", text.replace(old, new))
-        words = [word for word in command(crate, over) if not word.startswith("--links")] + [f"--only={example}"]
-        said = ran(*words, cwd=f"{room}/crates/{crate}").stdout
-    answers = f"./proofs/examples/{example}/Answers.antt"
-    places = {line.startswith(answers) for line in re.findall(r"(?m)^(\S+): error", said)}
-    if example == by:
+    return f"examples::{by}" if how == "by" else ""
+
+
+def put(crate, text, home):
+    copy_crate(crate, home)
+    if example_of(text):
+        put_stubs(crate, home, {}, lambda *_: False)
+    for path, old, new in pairs_of(text):
+        file = path.replace(f"crates/{crate}", home)
+        write(file, text_of(file).replace(old, new))
+
+
+def fault_of(crate, text, said):
+    """Returns why the edit of an entry is not refused as it should be, or ""."""
+    by, example = BY.search(text)[2], example_of(text)
+    if lost := [path for path, old, _ in pairs_of(text) if text_of(path).count(old) != 1]:
+        return f"its old text does not stand once in {lost[0]}"
+    places = {place.startswith(f"proofs/examples/{by}/Answers.antt") for place in ERROR.findall(said)}
+    if example:
         # an example without answers of its own was proved by search alone
         told = "not proved" if places else "no proof: expected answers"
-        is_so = f"fn {crate}::examples::{by}: {told}" in said and places <= {True}
+        is_so = f"fn {crate}::{example}: {told}" in said and places <= {True}
     else:
         is_so = {*re.findall(r"error\[([\w-]+)\]", said)} == {*by.split()}
     return "" if is_so else f"it is not refused by {by} alone: {said[-600:]}"
 
 
+def faults_of(over, crate, entries):
+    copies = [(functools.partial(put, crate, it.text), [example_of(it.text) or "nothing"]) for it in entries]
+    said = said_of(command(crate, over), copies)
+    found = [(it.name, fault_of(crate, it.text, its)) for it, its in zip(entries, said)]
+    return [f"{name}: {fault}" for name, fault in found if fault]
+
+
 def main(over=TOP, pattern=""):
     entries = [it for name in ("out_of_reach", "definitions") for it in entries_in(f"tests/bodies/{name}.edits", "")]
-    tried = [it for it in entries if it.name and re.search(pattern, it.name)]
+    tried, groups = [it for it in entries if it.name and re.search(pattern, it.name)], {}
+    for at, it in enumerate(tried, 1):
+        alone = 0 if example_of(it.text) else at  # the language refuses all that is checked with it
+        groups.setdefault((pairs_of(it.text)[0][0].split("/")[1], alone), []).append(it)
+    parts = lambda of: [of[at : at + TOGETHER] for at in range(0, len(of), TOGETHER)]
+    checks = [(crate, part) for (crate, _), of in groups.items() for part in parts(of)]
     with ThreadPoolExecutor(processors()) as workers:
-        faults = [*workers.map(lambda it: fault_of(over, it.text), tried)]
-    bad = [f"{it.name}: {fault}" for it, fault in zip(tried, faults) if fault]
+        bad = sum(workers.map(lambda check: faults_of(over, *check), checks), [])
     return status_of(bad, tried, f"{len(tried)} drops, calls or definitions, {len(bad)} not refused")
 
 

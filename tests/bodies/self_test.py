@@ -9,9 +9,10 @@ import re
 import sys
 
 sys.path.insert(0, sys.path[0] + "/..")
-from edits import CONTROL, NEVER, OF_VALUES, REFUTED, RIGHT_REFUTED, UNMET, entries_in
-from mutants import BY_PROOF, REFUSED_ONLY, Bodies, Body, try_all, with_controls
-from tree import status_of
+import controls
+from edits import BY_PROOF, CONTROL, OF_VALUES, PROVED, REFUSED_ONLY, REFUTED, Body, entries_in
+from mutants import Bodies, try_all, with_controls
+from tree import status_of, table_of
 
 CRATE = "bac_wire"
 
@@ -29,10 +30,10 @@ def outcome(body):
 def faults_of_proofs(body):
     """Yields faults in the judgement of a body with an `at:`: a proof shows it wrong, but not if there also is a proof
     that no such arguments exist. Such proofs mostly come together, so here each outcome is set by hand."""
-    for proved in ([REFUTED], [REFUTED, RIGHT_REFUTED], [REFUTED, NEVER], [REFUTED, UNMET], []):
+    for proved in (*({REFUTED, it} for it in OF_VALUES), set()):
         for part in OF_VALUES:
-            body.beside[part].kind = "PROVED" if part in proved else "clause"
-        wanted = BY_PROOF if proved == [REFUTED] else REFUSED_ONLY
+            body.beside[part].kind = PROVED if part in proved else "clause"
+        wanted = BY_PROOF if proved == {REFUTED} else REFUSED_ONLY
         if body.shown() != wanted:
             yield f"FAILED, not {wanted}: {body.entry.name}, where what is proved is: {', '.join(proved)}"
 
@@ -44,6 +45,9 @@ def main(pattern=""):
     crate = Bodies(CRATE, [it for it in tried if it.entry.name not in unfit])
     try_all([crate], 1)
     wrong = [f"FAILED {it}" for it in crate.strange]
+    for name, rows in table_of("tests/bodies/controls.txt"):
+        told = [(given, str(getattr(controls, name)(*given)), wanted) for *given, wanted in rows]
+        wrong += [f"FAILED, {name} of {given} is {got}, not {wanted}" for given, got, wanted in told if got != wanted]
     for it in bodies:
         wanted, got = re.search(r"(?m)^wanted: (.*)", it.entry.text)[1], outcome(it)
         kinds = [f"{part or 'body'}: {of.is_unfit or of.kind}" for part, of in {"": it, **it.beside}.items()]

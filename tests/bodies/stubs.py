@@ -8,8 +8,8 @@ import os
 import re
 import secrets
 
-from edits import ANSWERS, ROOT, functions_of, sources_of, text_of
-from tree import write
+from edits import ANSWERS, ROOT, answered, functions_of, sources_of, text_of
+from tree import files, write
 
 # Another name in each run, so that no mutant and no control can call the functions that are only for stubs.
 PLACE = f"nowhere_{secrets.token_hex(8)}"
@@ -33,15 +33,12 @@ pub {{}} : {PLACE}.{{}}
 USED = f"""use Rattle.std.proofs.{{{{Common.{{{{arith, rules}}}}, lemmas.Grind.common_steps}}}}
 use Rattle.{{}}.proofs.{{}}.Goals as {PLACE}
 """
-LINKED = "//bazel/native:glibc"
 
 
 def may_be_stub(lines, it):
     """Returns whether a function may have a stub: it is not of a trait, not constant and not in a cycle of calls."""
-    head = lines[it.first]
-    indent = head[: len(head) - len(head.lstrip())]
-    is_of_trait = bool(indent) and "::" not in it.shown
-    is_bound = is_of_trait or re.search(r"\bconst\b.*\bfn\b", head) or it.in_cycle
+    indent, is_constant = re.match(r"( *).*?(\bconst\b.*)?\bfn\b", lines[it.first]).groups()
+    is_bound = (indent and "::" not in it.shown) or is_constant or it.in_cycle
     return not is_bound and it.last > it.body + 1 and lines[it.body].endswith("{") and lines[it.last] == indent + "}"
 
 
@@ -58,10 +55,9 @@ def put_stubs(crate, home, texts, is_tried):
             lines.append(f"mod {PLACE};\n")
         write(f"{home}/{path}", "\n".join(lines))
         gone += [it.symbols for it in found]
-    for place, _, files in os.walk(f"{home}/proofs"):
-        name = "::".join([crate, *os.path.relpath(place, f"{home}/proofs").split("/")])
-        for answers in set(files) & set(ANSWERS) if any(it.match(name) for it in gone) else ():
-            os.remove(f"{place}/{answers}")
+    for name in (name for name in answered(crate) if any(it.match(name) for it in gone)):
+        for file in files(*(f"{home}/proofs/{'/'.join(name.split('::')[1:])}/{it}" for it in ANSWERS)):
+            os.remove(file)
     write(f"{home}/src/{PLACE}.rt", text_of(f"{ROOT}/tests/bodies/nowhere.rattle"))
 
 

@@ -1,8 +1,8 @@
 #!/usr/bin/env python3
 """What to read to believe a promise: docs/reading/, made from the sources with sources.py. pages.txt is its first page,
 in whose table a row has a page's file, its title, and the calls whose lists it has; `*` stands for each public call of
-the crate that is on no page before. And docs/API.txt, the public signatures, which api.py makes; and must-fail/ of each
-crate, whose edits are in mutants/ in the form of all mutants.
+the crate that is on no page before. And docs/API.txt, the public signatures; and must-fail/ of each crate, whose edits
+are in mutants/ in the form of all mutants.
 
 Usage: tests/documents/reading.py [--write]: compares these files, and the sizes in README.md, with the tree. It reports
 public calls that are on no page, definitions in the wrong folder, definitions of laws and public clauses without an
@@ -11,15 +11,15 @@ exits with status 1 if there are any. With --write it writes these files anew (m
 a changed signature.
 """
 import collections
+import difflib
 import os
 import re
 import sys
 import textwrap
 
 sys.path[:0] = [os.path.dirname(__file__) + "/..", os.path.dirname(__file__) + "/../bodies"]
-import api
 from edits import entries_of, must_fail
-from sources import CLAUSE, CRATES, OF_PROGRAM, ROOMS, SOURCES, SPECS, TOKEN, USE, Declared, Definition, Item
+from sources import CLAUSE, CRATES, OF_PROGRAM, SOURCES, SPECS, TOKEN, USE, Declared, Definition, Item
 from sources import closed, code_of, defined, parts_of, public_calls, read_tree, uses_in
 from tree import SCRIPT, TOP, files, table_of, text_of, well_or, write
 
@@ -28,17 +28,11 @@ SIZE = r"\[([\d,]+) lines\]\(docs/reading/(\w+)\.md\)"  # as in README.md
 PROBLEMS = []
 
 
-def called(crate):
-    """The public calls of a crate that have a clause, by their names."""
-    return {f"{crate}::{name}": item for name, item in public_calls(crate)[0].items() if item.clauses}
-
-
 def size(items):
     return sum(item.lines for item in items)
 
 
 def columns(text):
-    """Lines of at most 120 columns; the later ones are indented."""
     return textwrap.fill(text, 120, subsequent_indent="  ", break_long_words=False, break_on_hyphens=False)
 
 
@@ -73,7 +67,8 @@ def page_of(title, calls):
 def pages():
     """The text of each page by its path, and the lines of each page by its name."""
     texts, sizes, index = {}, {}, text_of("tests/documents/pages.txt")
-    every = {name: call for crate in CRATES if crate in OF_PROGRAM for name, call in called(crate).items()}
+    calls = ((f"{crate}::{name}", call) for crate in OF_PROGRAM for name, call in public_calls(crate)[0].items())
+    every = {name: call for name, call in calls if call.clauses}
     rest = dict(every)
     for row, page, title, names in re.findall(r"(?m)^((\w+) \| (.*) \| (.*))$", index):
         calls, shown = {}, []
@@ -95,34 +90,99 @@ def pages():
     return texts, sizes
 
 
-def compare(texts, sizes):
-    there = {*files(f"{FOLDER}/*", f"{EDITS}/*")}
+def one_line(text):
+    """A signature on one line, without the line breaks of rt fmt."""
+    text = re.sub(r"([(<\[]) ", r"\1", re.sub(r"\s+", " ", text).strip())
+    text = re.sub(r",? ([)>\]])", r"\1", text)
+    return re.sub(r",? *\}", " }", re.sub(r"\{ *", "{ ", text))
+
+
+def signature(code, start):
+    """From here to the end of the signature: its clauses, its body, or only a semicolon."""
+    return one_line(re.split(r"\n *(?:requires|ensures)\b|\s*\{|;\s*\n", code[start:], maxsplit=1)[0])
+
+
+def type_lines(item):
+    """A type with its public parts: the cases of an enum, the fields of a struct, the methods of a trait."""
+    start, end = next(iter(item.file.blocks(0, item.place, len(item.file.code))))
+    block = item.file.code[start:end]
+    if item.kind in ("const", "static", "type"):
+        yield f"{item.kind} {block.split(item.kind, 1)[1].partition(' =' if item.kind == 'const' else ';')[0].strip()}"
+        return
+    head, opening, body = block.partition("{")
+    if item.kind == "enum":
+        head = f"{head}{{{body.rstrip()[:-1]}}}"
+    elif item.kind == "struct" and opening:
+        fields = ", ".join(re.findall(r"(?m)^    pub (?!ghost)(\w+: .*),$", body))
+        head = f"{head}{{{fields}}}" if fields else head
+    yield one_line(head.rstrip(";\n ")) + traits_of(item)
+    if item.kind == "trait":
+        for found in re.finditer(r"(?m)^    (?:unsafe |const )*fn ", body):
+            yield f"    {item.name}: {signature(body, found.start())}"
+        for found in re.findall(r"(?m)^    (type .*);$", body):
+            yield f"    {item.name}: {found}"
+
+
+def traits_of(item):
+    """The traits that the attributes before a type derive; those of `impl` blocks have lines of their own."""
+    before = text_of(item.file.path)[: item.place].rstrip("\n").split("\n\n")[-1]
+    traits = sorted(name for found in re.findall(r"#\[derive\((.*?)\)\]", before) for name in found.split(", "))
+    return f" (derives {', '.join(traits)})" if traits else ""
+
+
+def passed_on(crate, top):
+    """The names of other crates that a crate passes on, one line for each crate."""
+    others = {}
+    for parts in (top.uses[name] for name in top.passed):
+        if parts[0] in CRATES and parts[0] != crate:
+            others.setdefault(parts[0], []).append(parts[-1])
+    return [f"use {other}::{{ {', '.join(sorted(names))} }}" for other, names in sorted(others.items())]
+
+
+def lines_of(crate):
+    calls, types = public_calls(crate)
+    types = sorted((it for it in types if it.file.crate == crate), key=lambda it: it.name)
+    owners, sources = {it.name for it in types}, [it for it in SOURCES.values() if it.crate == crate]
+    yield from passed_on(crate, SOURCES[f"crates/{crate}/src/lib.rt"])
+    for item in types:
+        yield from type_lines(item)
+    heads = (re.findall(r"(?m)^(impl(?:<.*?> | )\S.*? for (\w+).*?) \{", source.code) for source in sources)
+    yield from sorted({one_line(head) for found in heads for head, owner in found if owner in owners})
+    for name, item in sorted(calls.items()):
+        if item.kind == "call" and "::" not in name.removeprefix("laws::"):
+            module = name.rpartition("::")[0]
+            yield (f"{module}: " if module else "") + signature(item.file.code, item.place)
+    methods = ((owner, it) for source in sources for owner, it in source.methods if owner in owners)
+    public = (it for it in methods if it[1].kind == "call" and re.match(r"\s*pub ", it[1].file.code[it[1].place :]))
+    yield from sorted(f"{owner}: {signature(item.file.code, item.place)}" for owner, item in public)
+
+
+def api():
+    """The whole text of docs/API.txt. For each crate it has the functions, types, traits and constants that src/lib.rt
+    names, with the methods and the traits of the types; names from another crate are only listed."""
+    parts = [text_of("tests/documents/api.txt")]
+    for crate in (it for it in OF_PROGRAM if f"crates/{it}/src/lib.rt" in SOURCES):
+        lines = (f"    {line}" for line in lines_of(crate))
+        parts.append(re.sub(r"\bpub (?:const )?(?=\w)", "", "\n".join([crate, *lines, ""])))
+    return "\n".join(parts)
+
+
+def compare(texts):
+    """The files that this script makes, or has a part of, and that are not as it makes them."""
+    there, readme = {*files(f"{FOLDER}/*", f"{EDITS}/*")}, text_of("README.md")
     yield from (f"{path} is not made by this script" for path in sorted(there - {*texts}))
     for path, text in texts.items():
         now, then = text.splitlines(), text_of(path).splitlines() if os.path.exists(path) else []
-        differ = [line for line in [*now, *then] if line not in now or line not in then] or ["its order"]
-        if now != then:
-            yield from (f"{path} differs from the tree: {line.strip()[:100]}" for line in differ[:9])
-    readme = text_of("README.md")
-    told = {page: lines for lines, page in re.findall(SIZE, readme)}
+        differ = [line[1:] for line in [*difflib.unified_diff(then, now, n=0)][2:] if line[0] != "@"]
+        yield from (f"{path} differs from the tree: {line.strip()[:100]}" for line in differ[:9])
     named = {*re.findall(r"docs/reading/(\w+)\.md", readme), "client", "device", "program"} - {"README"}
-    yield from (f"README.md: it does not tell the lines of {page}, on one line" for page in sorted(named - {*told}))
-    for page in told:
-        if page in sizes and told[page] != f"{sizes[page]:,}":
-            yield f"README.md: {page} has {sizes[page]:,} lines, not {told[page]}"
-
-
-def make(texts, sizes):
-    for path in files(f"{FOLDER}/*", f"{EDITS}/*"):
-        os.remove(path)
-    told = lambda found: f"[{sizes[found[2]]:,} lines](docs/reading/{found[2]}.md)"
-    for path, text in [*texts.items(), ("README.md", re.sub(SIZE, told, text_of("README.md")))]:
-        write(f"{TOP}/{path}", text)
+    lost = sorted(named - {page for _, page in re.findall(SIZE, readme)})
+    yield from (f"README.md: it does not tell the lines of {page}, on one line" for page in lost)
 
 
 def rooms():
     """Definitions in the wrong folder: those that no public clause needs belong in Inner, and no others."""
-    public = [public_calls(crate) for crate in CRATES if crate in OF_PROGRAM]
+    public = map(public_calls, OF_PROGRAM)
     needed = closed([item for calls, types in public for item in (*calls.values(), *types)], kept=True)
     for specs in SPECS.values():
         for item in specs.items.values() if specs.crate in OF_PROGRAM else ():
@@ -146,13 +206,12 @@ def said_by(calls):
 
 
 def of_files(name):
-    """Returns the items of the files of src/ whose path contains this."""
     return [it for path, file in SOURCES.items() if name in path for it in file.items.values()]
 
 
 def named():
     """The definitions that laws and public clauses name, in order."""
-    calls = [call for crate in CRATES if crate in OF_PROGRAM for call in public_calls(crate)[0].values()]
+    calls = [call for crate in OF_PROGRAM for call in public_calls(crate)[0].values()]
     calls += [it for name in ("/laws.rt", "/theorems.rt", "/comparing.rt") for it in of_files(name)]
     return sorted(set().union(*(said for _, said in said_by(calls))), key=lambda it: (it.file.path, it.place))
 
@@ -204,19 +263,12 @@ def fields_of(record):
     return [name for name, what in found if says(record, what)]
 
 
-def examples_of_fields():
-    """Returns the rows of fields.txt by crate, record and field: an example, or why there is none; and the rows that
-    are there twice."""
-    rows = [(crate, *row) for crate, rows in table_of("tests/documents/fields.txt") for row in rows]
-    found = {row[:3]: (*row[3:], "")[:2] for row in rows}
-    times = collections.Counter(row[:3] for row in rows)
-    return found, [f"{crate} {record}: {field} twice" for (crate, record, field), many in times.items() if many > 1]
-
-
 def unrefused():
-    """The fields without an example, of the records that laws and public clauses name."""
-    examples, wrong = examples_of_fields()
-    clauses = {}
+    """The fields without an example, of the records that laws and public clauses name. A row of fields.txt has the
+    crate, the record, the field, and its example, or why there is none."""
+    rows = [(crate, *row) for crate, rows in table_of("tests/documents/fields.txt") for row in rows]
+    examples, times = {row[:3]: (*row[3:], "")[:2] for row in rows}, collections.Counter(row[:3] for row in rows)
+    wrong, clauses = [f"tests/documents/fields.txt: {' '.join(it)} twice" for it in times if times[it] > 1], {}
     for call in of_files("/examples.rt"):
         for (text, said), (_, whole) in zip(said_by([call]), call.clauses):
             name = re.search(rf"ensures (\w+) {re.escape(whole)}", call.file.code)[1]
@@ -241,7 +293,7 @@ def unused_or_gone():
             for module, name, here, public in uses_in(uses):
                 if not public and here != "*" and not {*parts_of(here)} <= said:
                     yield f"{path} brings in what it doesn't say: {here}"
-                if name and module in {*SPECS, *ROOMS} and not defined(module, name):
+                if name and module in SPECS and not defined(module, name):
                     yield f"{path} brings in {name}, which {module} hasn't"
 
 
@@ -267,13 +319,18 @@ def main(arguments):
     read_tree()
     texts, sizes = pages()
     told = f"{len(texts)} pages of {FOLDER} agree with the tree"
-    texts[SIGNATURES] = api.made()
+    size_of = lambda lines, page: f"[{sizes[page]:,} lines](docs/reading/{page}.md)" if page in sizes else lines
+    readme = re.sub(SIZE, lambda found: size_of(found[0], found[2]), text_of("README.md"))
+    texts.update({"README.md": readme, SIGNATURES: api()})
     for crate, entry in ((crate, entry) for crate in CRATES for entry in entries_of(crate) if must_fail(entry)):
         texts[EDITS.replace("*", crate) + f"/{entry.name}.edit"] = "\n".join([*must_fail(entry), ""])
     if arguments == ["--write"]:
-        make(texts, sizes)
+        for path in files(f"{FOLDER}/*", f"{EDITS}/*"):
+            os.remove(path)
+        for path, text in texts.items():
+            write(f"{TOP}/{path}", text)
     else:
-        PROBLEMS.extend([*compare(texts, sizes), *rooms(), *unheld(), *unrefused(), *unused_or_gone()])
+        PROBLEMS.extend([*compare(texts), *rooms(), *unheld(), *unrefused(), *unused_or_gone()])
     crates = len(re.findall(r"(?m)^\w+$", texts[SIGNATURES]))
     return well_or(PROBLEMS, f"{told}\n{SCRIPT}: {crates} crates in {SIGNATURES} agree with the tree")
 

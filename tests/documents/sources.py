@@ -9,49 +9,30 @@ case. The layout is rt fmt's. Lines are counted without comments, blank lines an
 import functools
 import re
 
-from tree import all_crates, crates_below, files, text_of
+from tree import all_crates, crates_below, files, table_of, text_of
 
-CRATES, OF_PROGRAM = all_crates(), crates_below()["bactool"]
+CRATES = all_crates()
+OF_PROGRAM = [crate for crate in CRATES if crate in crates_below()["bactool"]]
 OUTSIDE = {"std", "core"}.union(*CRATES.values()) - {*CRATES}
 SPECS = {}  # the file of each module of specs/
-ROOMS = {}  # the modules that specs/ and specs/Inner pass on, and the names of src/ with them
 SOURCES = {}  # the files of src/, by their paths
 RUST = {}  # the definitions of src/, by crate and name
 MEMBERS = {}  # the ghost members of impl blocks, by type, trait and name
-STD = set("""Option Result Vec String Box Drop Copy Clone Debug Default Iterator IntoIterator FnOnce
-    FnMut Fn From Into Sized PartialEq Eq PartialOrd Ord Send Sync AsRef ToOwned TryFrom TryInto HostRuntime""".split())
-CONSTRUCTORS = {"true", "false", "zero", "suc", "pos", "negsuc", "tt"}  # of std, in small letters
 
-NO_CODE = {
-    "rt": re.compile(r"""//.*|[bc]?"(?s:\\.|[^"\\])*"|b?'(?:\\[^'\n]*|[^'\\\n])'|#!?\[[^\]]*\]"""),
-    "antt": re.compile(r"(?m)(?:^| )--(?: .*)?$"),
-    "edits": re.compile(r"(?m)^#.*"),
-}
-TOKEN = re.compile(r'"(?:\\.|[^"\\])*"|\[\]|λ|[(){}\[\],;]|[^\s(){}\[\],;λ"]+')
-LABEL = re.compile(r"(?<=[{;])\s*[^\s={;]+ =(?=\s)")  # a field, or an argument by its name
-# How a term binds names: before a colon, after a λ or a `let`.
-BINDER = re.compile(r"[({]\s*((?:[^\W\d][\w'-]*\s+)+):(?=\s)|λ ([^.]*)\.|\blet (\S+)\s+=")
-
-# A use line, which may span several lines; a group in it; and how definitions and the items of src/ begin.
-USE = re.compile(
-    r"(?ms)^ *(?:ghost |(?:unfoldable )?(pub )?)use (?:Rattle\.)?([^\s{;]+?)(?:\.(\{.*?\}))?(?: as (\S+?))?;?$"
-)
-GROUP = re.compile(r"([^{},\s]*)\{([^{}]*)\}")
-DEFINITION = re.compile(r" *(?:(?:abbrev|unfoldable|opaque|abstract|pub|(data|record)) )*(\S+)")
-ITEM = re.compile(
-    r" *(?:(pub )|pub\(\w+\) )?(?:unsafe |const )*(fn|struct|enum|trait|impl|const|static|type|use|ghost)\b ?(\w*)"
-)
-# A clause or a ghost member, and the proof after it; and a member of an impl, as a clause names it.
+PATTERNS = dict(table_of("tests/documents/patterns.txt"))
+NO_CODE = {ending: re.compile(pattern) for ending, pattern in PATTERNS["no code"]}
+TOKEN, LABEL, BINDER, USE, GROUP, DEFINITION, ITEM, IMPL = (re.compile(pattern) for _, pattern in PATTERNS["grammar"])
+STD, CONSTRUCTORS = (names.split() for _, names in PATTERNS["names of the languages"])
+# A clause or a ghost member, and the proof after it.
 BRACES = functools.reduce(lambda inner, _: rf"\{{(?:[^{{}}]|{inner})*\}}", range(5), r"\{[^{}]*\}")
 CLAUSE = re.compile(rf"\b(requires|ensures|ghost)\*?(?: (?!use\b)(\w+))?\s*[:=]?\s*({BRACES}(?:\s*by\s*{BRACES})?)")
-IMPL = re.compile(r"⟦<((\w+)[^⟧]*? as (\w+)[^⟧]*)>⟧\.(\w+)")
 
 
 def blank(pattern, text):
-    """The text with blanks in place of each match of the pattern."""
     return pattern.sub(lambda found: re.sub(r"[^\n]", " ", found[0]), text)
 
 
+@functools.lru_cache(maxsize=None)
 def code_of(path):
     """The text of a file without comments, and in src/ without strings and attributes."""
     return blank(NO_CODE[path.rpartition(".")[2]], text_of(path))
@@ -88,9 +69,9 @@ def brought_in(code):
 
 
 class Item:
-    """Returns the definitions of a file."""
+    """A definition of a file."""
 
-    keeps = ()
+    kept = ()  # the clauses of an invariant
 
     def __init__(self, file, name, kind, start, end):
         self.file, self.name, self.kind, self.place, self.lines = file, name, kind, start, file.lines_in(start, end)
@@ -134,10 +115,6 @@ class Declared(Item):
     def says(self):
         return [*self.file.said_in(self.clauses), *self.file.types(self.text), *self.file.said_in(self.shown)]
 
-    @functools.cached_property
-    def keeps(self):
-        return list(self.file.said_in(self.kept))
-
 
 class File:
     """A file of specs/ or src/, with its definitions, and the names that it imports."""
@@ -175,10 +152,13 @@ class File:
 class Specs(File):
     def __init__(self, crate, path):
         super().__init__(crate, path)
-        self.module = path[len("crates/") : -len(".antt")].replace("/", ".")
-        self.passed = {here: (module, name) for module, name, here, public in uses_in(self.code) if public}
+        self.module = path[len("crates/") : -len(".antt")].replace("/", ".").removesuffix(".Lib")
+        passed = [it for it in uses_in(self.code) if it[3]]
+        self.passed = {here: (module, name) for module, name, here, _ in passed if name}
+        self.whole = [f"{self.module}.{module[:-2]}" for module, name, *_ in passed if not name]
         self.names = brought_in(self.code)
-        self.read(0, 0, len(self.code), [])
+        if not path.endswith(("specs/Lib.antt", "specs/Inner.antt")):  # which only pass on
+            self.read(0, 0, len(self.code), [])
 
     def read(self, depth, start, end, around):
         """Reads the definitions between two places with this indent, with the parameters around them."""
@@ -200,8 +180,11 @@ class Specs(File):
                 self.known.update(dict.fromkeys([*constructors, *parts_of(name), name], item))
 
     def find(self, name):
-        passed = defined(*self.passed[name]) if name in self.passed else None
-        return self.known.get(name, passed)
+        """Returns the item of this name, which the file has or passes on, perhaps with a whole module."""
+        if name in self.known:
+            return self.known[name]
+        passed = (SPECS[module].find(name) for module in self.whole)
+        return defined(*self.passed[name]) if name in self.passed else next(filter(None, passed), None)
 
 
 class Source(File):
@@ -271,14 +254,11 @@ class Source(File):
             return self.items[head]
         if parts[0] in OUTSIDE:
             return parts[0], parts[-1]
-        if parts[0] in CRATES:
-            return in_crate(parts[0], parts[1:])
         if parts[0][0].islower():
-            return in_crate(self.crate, parts)
+            return in_crate(parts[0], parts[1:]) if parts[0] in CRATES else in_crate(self.crate, parts)
         return ("std", head) if head in STD else None
 
     def types(self, text):
-        """The types and constants in a signature, a field or a value."""
         return filter(None, map(self.find, re.findall(r"(?<![\w:.'])(?:\w+::)*[A-Z]\w*", text)))
 
     def meant(self, names, token):
@@ -301,19 +281,7 @@ def defined(module, name):
     if ".declared" in module:  # a type of src/, also by its variants and views, or a constant
         *_, last = (part for part in module.split(".") if part not in ("TheVariants", "TheViews"))
         return in_crate(crate, [name if last == "TheConstants" else last])
-    if module in ROOMS:
-        modules, names = ROOMS[module]
-        found = (SPECS[it].find(name) for it in modules)
-        return defined(*names[name]) if name in names else next(filter(None, found), None)
     return SPECS[module].find(name) if module in SPECS else None
-
-
-def read_room(path):
-    """Notes the modules that specs/Lib or specs/Inner passes on whole, and the names that it passes on."""
-    room = path[len("crates/") :].removesuffix(".antt").removesuffix("/Lib").replace("/", ".")
-    uses = [it for it in uses_in(code_of(path)) if it[3]]
-    modules = [f"{room}.{module[:-2]}" for module, name, *_ in uses if not name]
-    ROOMS[room] = modules, {here: (module, name) for module, name, here, _ in uses if name}
 
 
 def in_crate(crate, parts):
@@ -328,11 +296,8 @@ def in_crate(crate, parts):
 def read_tree():
     for crate in CRATES:
         for path in files(f"crates/{crate}/specs/**/*.antt"):
-            if path.endswith(("specs/Lib.antt", "specs/Inner.antt")):
-                read_room(path)
-            else:
-                file = Specs(crate, path)
-                SPECS[file.module] = file
+            file = Specs(crate, path)
+            SPECS[file.module] = file
         for path in files(f"crates/{crate}/src/**/*.rt"):
             SOURCES[path] = Source(crate, path)
     for source in SOURCES.values():
@@ -363,7 +328,7 @@ def closed(roots, kept=False):
     found = dict.fromkeys(roots)
     rest = list(found)  # which grows during the loop
     for item in rest:
-        for need in [*item.needs, *(item.keeps if kept else ())]:
+        for need in [*item.needs, *(item.file.said_in(item.kept) if kept and item.kept else ())]:
             if isinstance(need, Item) and need not in found:
                 found[need] = None
                 rest.append(need)

@@ -19,7 +19,6 @@ SHELLS = {  # how each runs its script, complete.SHELL
 
 
 def options(*words):
-    """The long options of the help."""
     return re.findall(r"(?m)^ +(?:-[A-Za-z](?: [A-Z]+)?, )?(--[a-z-]+)\b", shown(*words, "--help"))
 
 
@@ -38,7 +37,6 @@ def rows():
 
 
 def completed(shell, folder, lines):
-    """Returns the completions of each of these lines in the shell."""
     script = f"{TOP}/tests/package/complete.{shell}"
     parts = re.split(r"(?m)^of (.*)\n", ran(*SHELLS[shell], script, folder, *lines, cwd=folder).stdout)
     return {line: [*dict.fromkeys(it.split("\t")[0].rstrip("/") for it in told.split("\n") if it)]

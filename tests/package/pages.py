@@ -1,93 +1,78 @@
 #!/usr/bin/env python3
-"""Compares manual pages and documents with the programs: words and options with the output of man/tables.py, faults
-with the code's texts, and repeated texts with the help and other documents. Numbers in them are measured, and compared
-by the rows of facts.txt. Then mandoc reads the pages, and Wireshark, which has its own list of the standard's numbers,
-is asked for the names of those in site/bacsite/numbers.txt. Usage: tests/package/pages.py PROGRAM [PART ..]; a PART is
-a function that `main` names.
+"""Compares manual pages, documents and the help with the programs: what lists.txt and facts.txt name is measured, and
+the commands of the pages, of README.md and of the help are run. Wireshark, which has its own list of the standard's
+numbers, is asked for the names of those in site/bacsite/numbers.txt. Usage: tests/package/pages.py PROGRAM [PART ..]; a
+PART is a function that `main` names.
 """
-import datetime
+import contextlib
 import os
 import re
+import struct
 import subprocess
 import sys
 import tempfile
 
-sys.path.insert(0, os.path.dirname(__file__) + "/..")
-from tree import TOOLS, TOP, device, files, left_out, plain, put_tools, ran, same, says, shown, table_of
-from tree import text_of, verdict, write
-
-sys.path.append(TOP + "/man")
+sys.path[:0] = [os.path.dirname(__file__) + "/..", os.path.dirname(__file__) + "/../../man"]
 import tables
+from tree import TOOLS, TOP, device, files, free_port, left_out, plain, put_tools, ran, same, says, shown, table_of
+from tree import text_of, verdict, write
+from bacsite import points
+from bacsite.streams import Failure
 
 PROGRAM = os.path.realpath(sys.argv[1])
 ROOM = tempfile.TemporaryDirectory()
 SETTINGS = {
     **os.environ,  # with DEV, the address of the small device
     "PATH": f"{ROOM.name}:{os.environ['PATH']}",
+    "ROOM": ROOM.name,
     "SILENT": "--mac 127.0.0.1:9 --apdu-timeout 20 --apdu-retries 0",
 }
-SECTIONS = {title: rows[1:] for title, _, _, rows in tables.sections()}
 HELP = dict(table_of("tests/package/help.txt"))
-DOUBT = r"[^.]*\.[^.]*read the property back"  # after a write: two sentences
-
-
-def alike(what, one, other):
-    same(what, one or ["nothing"], other)  # and not empty
+SECTIONS = {title: rows[1:] for title, _, _, rows in tables.sections()}
+TITLES = [*dict(HELP["Wireshark"]), "Types of a value"]
+NUMBERS = {f"{title.split()[0]} {row[1]}": row[0] for title in TITLES for row in SECTIONS[title]}
+COUNTS = "no one two three four five six seven eight nine ten eleven twelve".split()
+PAGES = ["README.md", "SECURITY.md", "docs/GUIDE.md", "docs/PROTOCOL.md", "docs/LIMITS.md", *files(f"{TOP}/man/*.[17]")]
+NO_ADDRESSES = ["0.0.0.0", "192.0.2.1/5"]  # which every tool refuses, and which a line `who` alone may have
+OTHER_OPTIONS = ["--collector", "--dadr", "--dnet", "--now"]  # of systemctl, node_exporter and bacnet-stack
 
 
 def help_of(*words):
-    return shown(*words, "--help")
+    return shown(PROGRAM, *words, "--help")
 
 
-def section(name, title):
-    """The lines of a section of a page."""
-    return re.search(rf"(?ms)^\.Sh {title}\n(.*?)(?=^\.Sh |\Z)", text_of(f"man/{name}.1"))[1]
+def run(line):
+    done = ran("sh", "-c", line, env=SETTINGS, timeout=300, stderr=subprocess.DEVNULL)
+    return done.returncode, done.stdout
 
 
-def words_and_options():
-    """Pages agree with those made from the help, and numbers in the help are correct."""
+def below(place, heading):
+    """The text below a heading of a file, up to the next one; the whole text without a heading, or of a command."""
+    text = run(place)[1] if " " in place else text_of(place)
+    if " " in place or not heading:
+        return text
+    found = re.search(rf"(?ms)^(?:#+|\.S[hs]) {re.escape(heading)}\n(.*?)(?=^#+ |^\.S[hs] |\Z)", text)
+    return found[1] if found else ""
+
+
+def lists():
+    """The places of each section of lists.txt have the same list, which is not empty."""
+    for head, rows in table_of("tests/package/lists.txt"):
+        what, _, needed = head.partition(" if ")
+        first, *others = (listed(*row) for row in rows) if not left_out(*needed.split()) else [[]]
+        for (place, *_), names in zip(rows[1:], others):
+            same(f"{what}, {place}", names, first or ["something"])
+
+
+def listed(place, heading, pattern, without="$^"):
+    there = re.finditer(pattern, re.sub(without, "", below(place, heading)), re.M)
+    texts = (" ".join(" ".join(it.groups()).lower().split()) for it in there)
+    return sorted({name for text in texts for name in text.split(", ")})
+
+
+def made_pages():
     for path, text in tables.made(PROGRAM):
         same(f"{path} is as man/tables.py makes it", text_of(path) == text, True)
-    texts = {it.value: it.text for it in tables.words_of_tool(PROGRAM, "bacrp")}
-    for word, title in [("object-type", "Object types"), ("property", "Properties")]:
-        found = re.findall(r"[0-9]+ (?!to|is)[a-z][a-z-]+(?: [a-z-]+)*", texts[word])
-        found = sorted((it.replace("-", " ") for it in found), key=lambda it: int(it.split()[0]))
-        known = [f"{row[0]} {row[1].replace('-', ' ')}" for row in SECTIONS[title]]
-        alike(word, found, [row for row in known if row in found])
-    in_help = re.findall(r"(?m)^ *([0-9]+)  ([A-Z][A-Za-z ]*[a-z])  ", help_of(PROGRAM, "bacwp"))
-    alike("tags", in_help, re.findall(r"(?m)^\.It ([0-9]+)  ([A-Z].*)", section("bacwp", "DESCRIPTION")))
-    alike("tags of the numbers", in_help, [(row[0], row[1]) for row in SECTIONS["Types of a value"]])
-    words = lambda rows: {it: re.findall("[a-z]+", re.sub("object-|Op |Ar ", "", rest).lower()) for it, rest in rows}
-    on_page = words(re.findall(r"(?m)^\.It Li ([a-z]+) (Ar .*)", section("bactrace", "DESCRIPTION")))
-    on_page["tick"] = ["milliseconds"] * (on_page.get("tick") == ["n"])
-    in_help = lambda tool: words(re.findall(r"(?m)^  ([a-z]+)((?: \[?[A-Z]+\]?)+)", help_of(PROGRAM, tool)))
-    alike("lines of a script", sorted(in_help("bactrace").items()), sorted(on_page.items()))
-    for line in ("read", "write"):
-        alike(f"a line {line} of bacrun", in_help("bacrun").get(line), on_page.get(line))
-
-
-def statuses():
-    """Statuses are those of the help, also for each tool, whose page refers to bactool(1), and of docs/PROTOCOL.md."""
-    found = r"(?m)(?:^|: |; |Status )([0-9])[ :]"
-    in_help = lambda *tool: sorted({*re.findall(found, "".join(help_of(PROGRAM, *tool).partition("Status")[1:]))})
-    alike("statuses", in_help(), re.findall(r"(?m)^\.It ([0-9])$", section("bactool", "EXIT STATUS")))
-    for tool in TOOLS:
-        text = section(tool, "EXIT STATUS")
-        same(f"man {tool}: EXIT STATUS names bactool(1)", "\n.Xr bactool 1" in "\n" + text, True)
-        digits = re.findall(r"\b[0-9]\b", re.sub(r"(?m)^\.Xr.*", "", text))
-        if in_help(tool):
-            same(f"statuses of {tool}", in_help(tool), sorted({*digits}))
-    rules = text_of("docs/PROTOCOL.md").partition("\n## Statuses and faults")[2]
-    alike("statuses of the rules", in_help(), re.findall(r"(?m)^\| ([0-9]) \| .* \|$", rules))
-
-
-def what_is_said_twice():
-    for tool in [*TOOLS[:3], "bacrun"]:  # bactool(1) explains it
-        same(f"the help of {tool}: --port warns", "at a fixed port" in plain(help_of(PROGRAM, tool)), True)
-    doubt = lambda text: sorted({*re.findall(r"\b\d\b|bind failed", re.search(DOUBT, plain(text))[0])})
-    for document in ("man/bacwp.1", "SECURITY.md"):
-        alike(f"{document}: when nothing was sent", doubt(help_of(PROGRAM, "bacwp")), doubt(text_of(document)))
-    says("SECURITY.md", section("bactool", "BUGS"))
 
 
 def numbers_of_help():
@@ -98,36 +83,18 @@ def numbers_of_help():
     places = [only_here, *map(text_of, files(*(f"{TOP}/{it}" for it in ("man/*.[17]", "docs/*.md", "*.md"))))]
     known = {it for text in places for it in threes(words(re.sub(r"\b(Li|Ar|Ns|Ql|Pq) |\|", "", text)))}
     for tool in ("", *TOOLS):
-        told = words(re.sub(r"(?m)^  bactool .*|Status:? \d|; \d(?= )", "", help_of(PROGRAM, *tool.split())))
+        told = words(re.sub(r"(?m)^  bactool .*|Status:? \d|; \d(?= )", "", help_of(*tool.split())))
         for at in (at for at, word in enumerate(told) if word.isdigit()):
             near = told[max(0, at - 2) : at + 3]
             same(f"the help of {tool or 'bactool'}: {' '.join(near)}", bool(threes(near) & known), True)
 
 
-def faults():
-    """Each text of a fault in docs/PROTOCOL.md, which has those of the definitions, is in the page."""
-    lines = re.findall(r"(?m)^\.It Li (.*)", section("bactool", "DIAGNOSTICS").partition("\n.Ss ")[0])
-    on_page = (text for line in lines for text in re.split(" , (?:Li )?", re.sub(r"Ar n( Ns( Li \\&)?)?", "N", line)))
-    on_page = {text.replace("N Ns-th", "").replace("N :", "N:").strip() for text in on_page}
-    rules = re.search(r"(?s)\nA fault is one line.*?\. ", text_of("docs/PROTOCOL.md"))[0]
-    alike("faults", sorted({*re.findall("`([^`]+)`", rules)} - {"bactool: "}), sorted(on_page))
-
-
-def versions():
-    """The program has the version of CHANGELOG.md; the version's day is that of the page that changed last."""
-    changes, day = re.search(r"(?m)^## ([0-9][0-9.]*) \((.*)\)$", text_of("CHANGELOG.md")).groups()
-    days = re.findall(r"(?m)^\.Dd (.*)$", "".join(map(text_of, files(f"{TOP}/man/*.[17]"))))
-    last = max(datetime.datetime.strptime(it, "%B %d, %Y") for it in days)
-    same("day of the last page and of CHANGELOG.md", f"{last:%Y-%m-%d}", day)
-    version = re.match(r"bactool ([\d.]+\d)", help_of(PROGRAM))[1]
-    same("version of the program and of CHANGELOG.md", version, changes)
-    same("version of bacsite", shown("python3", "site/bacsite", "--version"), f"bacsite {version}\n")
-
-
-def mandoc():
-    if not left_out("mandoc"):
-        lint = ["mandoc", "-Tlint", "-Wwarning", *files(f"{TOP}/man/*.[17]")]
-        same("what mandoc says", ran(*lint).stdout, "")
+def numbers_of_tags():
+    """The page of bacwp has each number that the help has of a tag."""
+    numbers = lambda text: {*re.findall(r"\b[0-9a-f]*[0-9][0-9a-f]*(?:[.:]\d+)*\b", plain(re.sub('".*?"', "", text)))}
+    page = dict(re.findall(r"(?ms)^\.It (\d+)  [A-Z][\w ]*\n(.*?)(?=^\.(?:It|El))", text_of("man/bacwp.1")))
+    for tag, told in re.findall(r"(?m)^ *(\d+)  [A-Z][\w ]*?  +(.*)$", help_of("bacwp")):
+        same(f"the numbers of tag {tag} that the page lacks", numbers(told) - numbers(page.get(tag, "")), set())
 
 
 def wireshark():
@@ -145,74 +112,47 @@ def wireshark():
         for pattern, name in HELP["how Wireshark spells a name"]:
             spelled = {number: re.sub(pattern, name, it) for number, it in spelled.items()}
         rows = {row[0]: row[1] for row in SECTIONS[title] if row[0].isdigit()}
-        alike(f"what Wireshark calls {title}", [*rows.items()], [(number, spelled.get(number)) for number in rows])
-
-
-def run(line):
-    """The status of a line of the shell, and its output."""
-    done = ran("sh", "-c", line, env=SETTINGS, timeout=60, stderr=subprocess.DEVNULL)
-    return done.returncode, done.stdout
-
-
-def below(document, heading):
-    """The text below a heading of a document or a page, up to the next one; for a command its whole output."""
-    if " " in document:
-        return run(document)[1]
-    found = re.search(rf"(?ms)^(?:#+|\.S[hs]) {re.escape(heading)}\n(.*?)(?=^#+ |^\.S[hs] |\Z)", text_of(document))
-    return found[1] if found else ""
+        same(f"what Wireshark calls {title}", [*rows.items()], [(number, spelled.get(number)) for number in rows])
 
 
 def known(rows):
-    """The matches of a pattern in a file or in the output of a command, by name, and values that follow from them."""
+    """The number that a pattern finds in a file or in the output of a command, by name, and small ones in words. Rows
+    of one name find the same number. It is a variable of the commands after it."""
     found = {}
     for name, place, pattern in rows:
-        text = run(place)[1] if " " in place else text_of(place)
-        same(f"how often {place} has {pattern}", bool(re.search(pattern, text, re.M)), True)
-        found[name] = int((re.findall(pattern, text, re.M) or [0])[0])
-    sends = [found["timeout"] // 1000 * time for time in range(found["retries"] + 2)]
-    found.update({"seconds": sends[1], "early": ", ".join(map(str, sends[:-2])), "last": sends[-2], "whole": sends[-1]})
-    found.update({"hours": found["turns"] // 3600, "last port": found["first port"] + found["ports"] - 1})
-    titles = [*dict(HELP["Wireshark"]), "Types of a value"]
-    found.update((f"{title.split()[0]} {row[1]}", row[0]) for title in titles for row in SECTIONS[title])
-    found["others"] = 256 - found["most"]
-    found["page"] = "no one two three four five six seven eight nine ten".split()[found["page every"]]
-    times = ["once", "twice", "three times", "four times"][found["site retries"]]
-    return {**found, "site tries": times, "tries": times.split()[0], "ports of Linux": round(60999 - 32768, -3)}
+        there = re.findall(pattern, below(place, ""), re.M)
+        same(f"how often {place} has {pattern}", bool(there), True)
+        if name in found and there:
+            same(f"{name} by {place}", int(there[0]), found[name])
+        found[name] = int((there or [0])[0])
+        SETTINGS[name.replace(" ", "_")] = str(found[name])
+    words = {f"{name} in words": COUNTS[it] for name, it in found.items() if it < len(COUNTS)}
+    return {**NUMBERS, **found, **words}
 
 
-def seen(rows):
-    """The status of each case, for the tools and for bacsite."""
-    found = {}
-    for what, line in rows:
-        status = run(line)[0]
-        same(f"the status of {line}", status, found.setdefault(what, status))
-    with device("--count", "1", program=[PROGRAM]) as (process, port):
-        run(f"bacwi --mac 127.0.0.1:{port} --apdu-timeout 200")
-        found["counted"] = process.wait(10)
-    return found
+def facts():
+    """The measured numbers are in the documents, by the rows of facts.txt."""
+    table = table_of("tests/package/facts.txt")
+    rows = dict(table)
+    same("sections of facts.txt", len(rows), len(table))
+    statuses = [(what, f"({line}) >/dev/null; echo $?", r"^(\d+)$") for what, line in rows.pop("Statuses")]
+    measured = known([*rows.pop("Numbers"), *statuses])
+    for document, row in ((document, row) for document, said in rows.items() for row in said):
+        if len(row) == 3:
+            heading, pattern, value = row
+            found = {*re.findall(pattern, plain(below(document, heading)))} or {"nothing"}
+            same(f"{document}, {heading}: {pattern}", sorted(found), [value.format_map(measured)])
+        else:  # a sentence, which may have the sign between cells
+            says(document, " | ".join(row).format_map(measured))
 
 
-def table_of_the_guide(on):
-    """The status beside each line."""
-    lines = text_of("docs/GUIDE.md").partition("\n## What a line means")[2].partition("\n#")[0]
-    for line, status in re.findall(r"(?m)^\| (.+?) \| (\d(?:, \d)*) \|", lines):
-        told = f"{on['words']}, {on['bind']}, 4" if line.startswith("`bactool: `") else str(on["failed"])
-        same(f"the status beside {line}", status, str(on["value"]) if line == "a value, `ok`" else told)
-
-
-def points():
-    """The points on the page of bacdev are those that a survey finds. Returns their number as a word."""
-    table = re.search(r"(?ms)^The points;.*?^\.El", text_of("man/bacdev.1"))[0]
-    on_page = re.findall(r"(?m)^\.It (\d+:\d+) Ta (.*?) Ta (.*)$", re.sub(r" \([^)]*\)", "", table))
-    there = []
-    for line in run("bacsite survey --csv $DEV")[1].splitlines()[1:]:
-        cells = line.split(",")
-        read = lambda number: run(f"bacrp 1234 {cells[5]} {cells[6]} {number} --mac $DEV")
-        (_, value), (no_states, states), (no_places, _) = read(85), read(74), read(87)
-        shown = value.strip() + f" of {states.strip()}" * (not no_states) + " *" * (not no_places)
-        there.append((f"{cells[5]}:{cells[6]}", cells[8], shown))
-    same("the points on the page of bacdev", on_page, there)
-    return ["ten", "eleven", "twelve"][len(there) - 10]
+def properties():
+    """The values of the device's properties in the rules are those that it has."""
+    rules = text_of("docs/PROTOCOL.md").partition("\nThe device has these properties")[2].partition("\n## ")[0]
+    found = dict(re.findall(r"(?m)^(\d+) \S+ (\d+)(?: \(.*\))?$", run("bacsite properties $DEV 8 1234 --last 160")[1]))
+    for named, value in re.findall(r"(?m)^\| (\S.*\)) \| (.*) \|$", rules):
+        numbers = [found[it] for it in re.findall(r"\((\d+)\)", named) if it in found]
+        same(f"the value of {named}", re.findall(r"\d+", value), numbers)
 
 
 def tools_of_readme():
@@ -225,27 +165,11 @@ def tools_of_readme():
         same(f"README.md: {command}: {said.strip()}", (status, there), (0, [True] * len(lines)))
 
 
-def properties():
-    """The rules name exactly the properties of the device and its points, with their numbers."""
-    rules = text_of("docs/PROTOCOL.md").partition("\nEvery point has")[2].partition("\n## ")[0]
-    printed = [run(f"bacsite properties $DEV {it} --last 160")[1] for it in ("8 1234", "0 5", "3 3", "14 1")]
-    there = {(name, number) for number, name in re.findall(r"(?m)^(\d+) ([a-z-]+) ", "".join(printed))}
-    same("properties of the device and its points", {*re.findall(r"([a-z-]+) \((\d+)", rules)}, there)
-    found = dict(re.findall(r"(?m)^(\d+) \S+ (\d+)(?: \(.*\))?$", printed[0]))
-    for named, value in re.findall(r"(?m)^\| (\S.*\)) \| (.*) \|$", rules):
-        numbers = [found[it] for it in re.findall(r"\((\d+)\)", named) if it in found]
-        same(f"the value of {named}", re.findall(r"\d+", value), numbers)
-
-
 def examples():
-    """The commands in the pages are run, and print what the pages show; and the pages that they refer to exist."""
-    pages = files(f"{TOP}/man/*.[17]")
-    same("tools without a page", {*TOOLS, "bacsite"} - {os.path.basename(it)[:-2] for it in pages}, set())
-    for path in pages:
+    """The commands in the pages are run, and print what the pages show."""
+    for path in files(f"{TOP}/man/*.[17]"):
         text = text_of(path).replace("\\", "").replace("/var/lib/prometheus/node-exporter", ROOM.name)
         text = text.replace("/usr/local/share/doc/bactool/examples", f"{TOP}/examples")
-        for name in {*re.findall(r"\bXr (\S+ [0-9])", text)}:
-            same(f"{path}: {name} is a page", os.path.isfile(f"{TOP}/man/{name.replace(' ', '.')}"), True)
         text = re.sub(r"(192\.0\.2|127\.0\.0)\.[0-9](:[0-9]+)?", SETTINGS["DEV"], text)
         text = "".join(re.findall(r"(?ms)^\.Sh (?:COMMANDS|EXAMPLES)\n(.*?)(?=^\.Sh |\Z)", text))
         for command, printed in re.findall(r"(?m)^\$ (.*[^&\n])\n((?:[^.$\n].*\n)*)", text):
@@ -255,36 +179,64 @@ def examples():
             same(f"{path}: {command}", (status, said if printed else ""), (0, printed))
 
 
-def facts():
-    """The measured numbers are in the documents, by the rows of facts.txt."""
-    put_tools(PROGRAM, ROOM.name)
-    table = table_of("tests/package/facts.txt")
-    rows = dict(table)
-    same("sections of facts.txt", len(rows), len(table))
-    with device(program=[PROGRAM]) as (_, port):
-        SETTINGS["DEV"] = f"127.0.0.1:{port}"
-        measured = {"points": points(), **known(rows.pop("Numbers"))}
-        properties()
-        examples()
-        tools_of_readme()
-        measured.update(seen(rows.pop("Statuses")))
-    for document, said in rows.items():
-        for row in said:
-            if len(row) == 3:
-                heading, pattern, value = row
-                found = {*re.findall(pattern, plain(below(document, heading)))} or {"nothing"}
-                same(f"{document}, {heading}: {pattern}", sorted(found), [value.format_map(measured)])
-            else:  # a sentence, which may have the sign between cells
-                says(document, " | ".join(row).format_map(measured))
-    table_of_the_guide(measured)
+def examples_of_help():
+    """The examples of the help have the descriptions of help.txt. Each prints what is there, and nothing else would
+    do."""
+    run("cd $ROOM; echo read 192.0.2.7 0 5 85 | tee session.trace | sed s/192.0.2.7/$DEV/ >requests")
+    shown_by = lambda tool: re.findall(r"(?m)^  bactool (.*)\n((?:      .*\n)*)", help_of(*tool.split()))
+    shows = [(tool or "bactool", *it) for tool in ("", *TOOLS) for it in shown_by(tool)]
+    rows = HELP["the examples of the help"]
+    same("how many examples the help has", len(shows), len(rows))
+    for (of, command, described, wanted), (tool, it, said) in zip(rows, shows):
+        octets = re.findall(r"\b(?=\d*[a-f])[0-9a-f]{8}\b", f"{command} {described}")
+        reals = {it: round(struct.unpack(">f", bytes.fromhex(it))[0], 4) for it in octets}
+        told = described.format(*command.split(), reals=reals, **NUMBERS)
+        same(f"the help of {tool}: an example", (tool, it, plain(said)), (of, command, told))
+        line = f"bactool {command} ".replace("192.0.2.7", SETTINGS["DEV"])
+        line = f"timeout 1 {line} --port {free_port()}; test $? = 124" if "bacdev" in line else line
+        status, told = run(f"exec 2>&1; cd {ROOM.name}; {line}" + "; cat journal" * ("> journal" in line))
+        same(f"{command}: its status", status, 0)
+        same(f"{command} prints {told!r}", bool(re.fullmatch(wanted, told)), True)
+        same(f"{command}: what it could print too", [it for it in other_texts(told) if re.fullmatch(wanted, it)], [])
+
+
+def other_texts(text):
+    """Other texts: each has other digits, or other letters, in one word of the last line that is not an address."""
+    for found in re.finditer(r"(?<!\S)\w[^\s.:]*(?!\S)(?=.*\n\Z)", text):
+        word = re.sub(r"\d", lambda digit: str(9 - int(digit[0])), found[0])
+        yield text[: found.start()] + (word if word != found[0] else word.swapcase()) + text[found.end() :]
+
+
+def is_address(word):
+    with contextlib.suppress(Failure):
+        return bool(points.targets([word]))
+    return False
+
+
+def addresses_and_options():
+    """Addresses of the pages are such, options are those of a tool, and a word after one is one of its choices."""
+    words = [word for _, tools in tables.programs(PROGRAM) for *_, words in tools for word in words]
+    choices = {name: word.choices for word in words for name in word.names}
+    for page in PAGES:
+        text = re.sub(r"(?ms)^```.*?^```$", "", text_of(page)).replace("\\", "")
+        for word in sorted({*re.findall(r"(?<![\w.])(?:\d+\.){3}\d+(?:/\d+/(?:\*|[0-9a-f]+)|/\*|[-/:]\d+)?", text)}):
+            same(f"{page}: {word} is an address, or several", is_address(word), word not in NO_ADDRESSES)
+        for option in sorted({*re.findall(r"(?:(?<![\w-])--|\bFl Fl )([a-z][a-z-]+)", text)}):
+            same(f"{page}: --{option} is an option", f"--{option}" in [*choices, *OTHER_OPTIONS], True)
+        for option, value in re.findall(r"`(--[a-z-]+) ([a-z]+)`", text):
+            same(f"{page}: {option} {value}", value in (choices.get(option) or [value]), True)
 
 
 def main(names):
-    every = words_and_options, statuses, what_is_said_twice, numbers_of_help, faults, versions, facts, mandoc, wireshark
+    every = made_pages, lists, facts, properties, examples, tools_of_readme, examples_of_help, numbers_of_help
+    every += numbers_of_tags, addresses_and_options, wireshark
     parts = {it.__name__: it for it in every}
-    for name in names or parts:
-        parts[name]()
-    return verdict("texts of pages and documents say what is so")
+    put_tools(PROGRAM, ROOM.name)
+    with device(program=[PROGRAM]) as (_, port):
+        SETTINGS["DEV"] = f"127.0.0.1:{port}"
+        for name in names or parts:
+            parts[name]()
+    return verdict("texts of pages, documents and the help say what is so")
 
 
 sys.exit(main(sys.argv[2:]))

@@ -24,25 +24,21 @@
 #include <time.h>
 #include <unistd.h>
 
-static int sees_clock;
-static int at_once;
+static int sees_clock, at_once;
 static long wait_set, waited; /* in microseconds */
 
-static long setting(const char *name)
-{
+static long setting(const char *name) {
     const char *number = getenv(name);
     return number ? atol(number) : 0;
 }
 
 /* Not by dprintf, which makes a request for memory of its own. */
-static void say(const char *word)
-{
+static void say(const char *word) {
     (void)!syscall(SYS_write, 3, word, strlen(word));
     (void)!syscall(SYS_write, 3, " ", 1);
 }
 
-static int fails(const char *name)
-{
+static int fails(const char *name) {
     static long calls;
     say(name);
     if (++calls != setting("FAILED"))
@@ -51,30 +47,19 @@ static int fails(const char *name)
     return 1;
 }
 
-static int fails_to_set(int level, int name, const struct timeval *wait)
-{
-    if (fails("setsockopt"))
-        return 1;
-    if (level == SOL_SOCKET && name == SO_RCVTIMEO) {
-        char text[40];
-        wait_set = wait->tv_sec * 1000000 + wait->tv_usec;
-        snprintf(text, sizeof text, "%ld", wait_set);
-        say(text);
-    }
+/* Says a number in this form, which is no failure. */
+static int told(const char *form, long number) {
+    char text[40];
+    snprintf(text, sizeof text, form, number);
+    say(text);
     return 0;
 }
 
-static int fails_to_switch(unsigned long request, const int *on)
-{
-    if (fails("ioctl"))
-        return 1;
-    if (request == FIONBIO)
-        say((at_once = *on) ? "1" : "0");
-    return 0;
+static long micros_of(const struct timeval *wait) {
+    return wait->tv_sec * 1000000 + wait->tv_usec;
 }
 
-static int is_refused(void)
-{
+static int is_refused(void) {
     static long requests;
     if (++requests != setting("REFUSED"))
         return 0;
@@ -86,8 +71,7 @@ static int is_refused(void)
 /* A call with these parameters: where it fails it answers this, and else it hands these words to the C library. The
    program takes no other call of this kind from there (tests/package/imports.txt). */
 #define CALL(type, name, parameters, fails, failed, words) \
-    type name parameters \
-    { \
+    type name parameters { \
         static type (*next) parameters; \
         if (!next) \
             next = (type (*) parameters)dlsym(RTLD_NEXT, #name); \
@@ -97,9 +81,11 @@ static int is_refused(void)
 CALL(int, socket, (int domain, int type, int protocol), (sees_clock = 1, fails("socket")), -1, (domain, type, protocol))
 CALL(int, bind, (int fd, const struct sockaddr *at, socklen_t length), fails("bind"), -1, (fd, at, length))
 CALL(int, fcntl, (int fd, int command, long with), fails("fcntl"), -1, (fd, command, with))
-CALL(int, ioctl, (int fd, unsigned long request, void *with), fails_to_switch(request, with), -1, (fd, request, with))
+CALL(int, ioctl, (int fd, unsigned long request, const int *with),
+     fails("ioctl") || (request == FIONBIO && told("%ld", at_once = *with)), -1, (fd, request, with))
 CALL(int, setsockopt, (int fd, int level, int name, const void *value, socklen_t length),
-     fails_to_set(level, name, value), -1, (fd, level, name, value, length))
+     fails("setsockopt") || (level == SOL_SOCKET && name == SO_RCVTIMEO && told("%ld", wait_set = micros_of(value))),
+     -1, (fd, level, name, value, length))
 CALL(ssize_t, sendto,
      (int fd, const void *octets, size_t count, int flags, const struct sockaddr *to, socklen_t length),
      fails("sendto"), getenv("SHORT") ? next(fd, octets, count, flags, to, length) - 1 : -1,
@@ -114,36 +100,27 @@ CALL(void *, malloc, (size_t size), is_refused(), NULL, (size))
 CALL(void *, realloc, (void *old, size_t size), is_refused(), NULL, (old, size))
 
 /* What a program may ask of the system once it has begun: the calls that are said above, to let a descriptor go,
-   memory, how a signal is taken, and the end. */
-static const int ALLOWED[] = {
-    SYS_read, SYS_write, SYS_socket, SYS_bind, SYS_fcntl, SYS_setsockopt, SYS_ioctl, SYS_sendto, SYS_recvfrom,
-    SYS_clock_gettime, SYS_close, SYS_brk, SYS_mmap, SYS_munmap, SYS_mremap, SYS_mprotect, SYS_madvise, SYS_getrandom,
-    SYS_rt_sigaction, SYS_rt_sigprocmask, SYS_rt_sigreturn, SYS_exit_group,
+   memory, how a signal is taken, and the end. The kernel stops each other call by a signal. */
+#define MAY(call) BPF_JUMP(BPF_JMP | BPF_JEQ | BPF_K, SYS_##call, 0, 1), BPF_STMT(BPF_RET | BPF_K, SECCOMP_RET_ALLOW)
+
+static struct sock_filter ALLOWED[] = {
+    BPF_STMT(BPF_LD | BPF_W | BPF_ABS, offsetof(struct seccomp_data, nr)),
+    MAY(read), MAY(write), MAY(socket), MAY(bind), MAY(fcntl), MAY(setsockopt), MAY(ioctl), MAY(sendto), MAY(recvfrom),
+    MAY(clock_gettime), MAY(close), MAY(brk), MAY(mmap), MAY(munmap), MAY(mremap), MAY(mprotect), MAY(madvise),
+    MAY(getrandom), MAY(rt_sigaction), MAY(rt_sigprocmask), MAY(rt_sigreturn), MAY(exit_group),
+    BPF_STMT(BPF_RET | BPF_K, SECCOMP_RET_TRAP),
 };
 
-enum { COUNT = sizeof ALLOWED / sizeof *ALLOWED };
-
-static void not_allowed(int number, siginfo_t *call, void *where)
-{
-    char text[40];
+static void not_allowed(int number, siginfo_t *call, void *where) {
     (void)number, (void)where;
-    snprintf(text, sizeof text, "call-%d", call->si_syscall);
-    say(text);
+    told("call-%ld", call->si_syscall);
     _exit(99);
 }
 
-/* The kernel stops each call that is not on the list by a signal. */
-static void watch_calls(void)
-{
+__attribute__((constructor)) static void begin(void) {
     struct sigaction action = {.sa_sigaction = not_allowed, .sa_flags = SA_SIGINFO};
-    struct sock_filter code[COUNT + 3] = {
-        BPF_STMT(BPF_LD | BPF_W | BPF_ABS, offsetof(struct seccomp_data, nr)),
-    };
-    struct sock_fprog program = {.len = COUNT + 3, .filter = code};
-    for (int i = 0; i < COUNT; i++)
-        code[i + 1] = (struct sock_filter)BPF_JUMP(BPF_JMP | BPF_JEQ | BPF_K, ALLOWED[i], COUNT - i, 0);
-    code[COUNT + 1] = (struct sock_filter)BPF_STMT(BPF_RET | BPF_K, SECCOMP_RET_TRAP);
-    code[COUNT + 2] = (struct sock_filter)BPF_STMT(BPF_RET | BPF_K, SECCOMP_RET_ALLOW);
+    struct sock_fprog program = {.len = sizeof ALLOWED / sizeof *ALLOWED, .filter = ALLOWED};
+    sees_clock = !getenv("TRIED");
     if (sigaction(SIGSYS, &action, NULL) || prctl(PR_SET_NO_NEW_PRIVS, 1, 0, 0, 0) ||
         prctl(PR_SET_SECCOMP, SECCOMP_MODE_FILTER, &program))
         say("unwatched");
@@ -151,14 +128,7 @@ static void watch_calls(void)
 
 /* Not by dlsym: what watches the memory of a program reads the clock before this library can be asked. It does so for
    requests for memory, too, so of a program with TRIED the clock is seen once it has opened a socket. */
-__attribute__((constructor)) static void begin(void)
-{
-    sees_clock = !getenv("TRIED");
-    watch_calls();
-}
-
-int clock_gettime(clockid_t clock, struct timespec *now)
-{
+int clock_gettime(clockid_t clock, struct timespec *now) {
     if (!sees_clock)
         return (int)syscall(SYS_clock_gettime, clock, now);
     *now = (struct timespec){waited / 1000000, waited % 1000000 * 1000};

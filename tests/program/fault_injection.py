@@ -1,17 +1,13 @@
 #!/usr/bin/env python3
-"""Makes each allocation of the program fail, one in each run: the run must end with `out of memory` and status 4. Then
-makes each system call of the program fail, with each of some errors: the run must end with status 3 and the line
-of its fault, after the beginning of its usual output. But if a receive fails with an error that counts as silence, the
-run goes on as if nothing had come, and if the clock fails later, as if no time had passed; a device also goes on if it
-cannot send a reply. Each run makes the calls of fault_injection.txt, and no others: with fault_injection.c the kernel
-ends it at any call that is not noted, except those for memory, signals and the end.
+"""Makes each allocation of the program fail, one in each run, and then each system call, with each of some errors. The
+head of fault_injection.txt says how the run must end, or go on. With fault_injection.c the kernel ends a run at any
+call that is not noted, except those for memory, signals and the end.
 
 Usage: tests/program/fault_injection.py PROGRAM [tried|calls]; it needs cc. With `calls` only system calls fail, and
 also with `tried`, for a program that `rt try` has made, which allocates memory in another way. That program shows
 whether the searched part of a line is searched again at each read: code from LLVM searches so fast that reads hide it.
 """
 import errno
-import itertools
 import os
 import re
 import subprocess
@@ -22,41 +18,41 @@ from collections import namedtuple
 sys.path.insert(0, os.path.dirname(__file__) + "/..")
 from tree import SCRIPT, TOP, failing_library, files, free_port, table_of, text_of
 
+PROGRAM, ROOM = os.path.realpath(sys.argv[1]), tempfile.TemporaryDirectory()
+SAID = os.dup2(os.open(f"{ROOM.name}/said", os.O_CREAT | os.O_RDWR), 3)  # where fault_injection.c writes
 TABLE = dict(table_of("tests/program/fault_injection.txt"))
 FAULTS, REFUSALS, SILENCE = (names.split() for _, names in TABLE["errors"])
 ERRORS = FAULTS + REFUSALS + SILENCE
 LINES = {call: line for line, calls in TABLE["lines"] for call in calls.split()}
-OF = {"PORT": str(free_port())}  # the names of the table
+OF = {"PORT": str(free_port())}  # the names of the table; the lock of the port has another descriptor than 3
 for each, text in TABLE["names"]:
     OF[each] = text.format_map(OF).replace("\\n", "\n")
-READ, SERVED = OF["READ"].split(), OF["SERVED"]
-PROGRAM, ROOM = os.path.realpath(sys.argv[1]), tempfile.TemporaryDirectory()
 Ended = namedtuple("Ended", "status output error said words")
 
 
 def filled(section):
-    """The rows of a section of the table, with the texts of its names."""
     return [[cell.format_map(OF).replace("\\n", "\n") for cell in row] for row in TABLE[section]]
 
 
 def run(words, given="", error="EIO", **settings):
-    """Returns the end of a run with these settings, and the output of fault_injection.c; a call that fails has this
-    error."""
-    settings["ERRNO"] = getattr(errno, error)
-    settings.update({"TRIED": 1} if sys.argv[2:] else {})
-    environment = {**os.environ, **{name: str(number) for name, number in settings.items()}}
-    preloaded = f'exec env LD_PRELOAD={ROOM.name}/fault_injection.so "$0" "$@" 3>{ROOM.name}/said'
-    command = ["sh", "-c", preloaded, PROGRAM, *words]
-    how = {"input": given, "capture_output": True, "text": True, "timeout": 200}
-    it = subprocess.run(command, check=False, env=environment, **how)
-    output = re.sub(r"tick \d+\n", "", it.stdout)  # the times in a run of many requests
-    return Ended(it.returncode, output, it.stderr, text_of(f"{ROOM.name}/said").split(), words)
+    """Returns the end of a run with these settings, and what fault_injection.c says; a call fails with this error. The
+    output of a device is that of a client, which asks until it is answered, or the device has failed."""
+    settings.update(ERRNO=getattr(errno, error), LD_PRELOAD=f"{ROOM.name}/fault_injection.so")
+    os.truncate(SAID, os.lseek(SAID, 0, os.SEEK_SET))
+    command = ["env", *(f"{name}={value}" for name, value in settings.items()), PROGRAM, *words]
+    how = {"input": given, "capture_output": True, "text": True, "timeout": 200, "pass_fds": [SAID]}
+    client = [PROGRAM, *OF["CLIENT"].split()] if words[:1] == ["bacdev"] else ["true"]
+    with subprocess.Popen(client, stdout=subprocess.PIPE, text=True) as asking:
+        it = subprocess.run(command, check=False, **how)
+        if it.returncode:
+            asking.kill()
+        output = re.sub(r"tick \d+\n", "", it.stdout + asking.stdout.read())  # the times in a run of many requests
+    return Ended(it.returncode, output, it.stderr, os.pread(SAID, 1 << 20, 0).decode().split(), words)
 
 
 def expect(is_so, what, ended):
     if not is_so:
-        print(f"not as it is to be: {what}: {ended}")
-        sys.exit(1)
+        sys.exit(f"not as it is to be: {what}: {ended}")
 
 
 def is_fault(ended, call, whole="", status=3):
@@ -70,7 +66,7 @@ def is_fault(ended, call, whole="", status=3):
 
 def memory_refused(status, words, given=""):
     """Each allocation fails in turn; if none fails, the status is this one."""
-    for number in itertools.count(1):
+    for number in range(1, sys.maxsize):
         ended = run(words, given, REFUSED=number)
         if "memory" not in ended.said:
             expect(number > 1 and ended.status == status, words, ended)
@@ -78,72 +74,46 @@ def memory_refused(status, words, given=""):
         expect(is_fault(ended, "memory", status=4), f"request {number} of {words} refused", ended)
 
 
-def memory():
-    requests = sum(memory_refused(0, ["bactrace"], text_of(script)) for script in files(f"{TOP}/examples/*.trace"))
-    requests += sum(memory_refused(int(status), words.split()) for status, words in filled("refused memory"))
-    print(f"{SCRIPT}: {requests} requests for memory refused, each told as it is to be", flush=True)
+def with_refusal(output, number):
+    """The journal of a run with one request, to which the system refuses the send with this number."""
+    send = list(re.finditer(r"(?m)^# send 0 (.*\n)", output))[number - 1]
+    return f"{output[: send.end()]}# unsent {send[1]}{output[send.end() :]}"
 
 
-def errors_of(call):
-    """The errors with which a call is tried: only one, if the system's library handles all of them in the same way."""
-    return ERRORS[:1] if call in ("fcntl", "clock_gettime") else ERRORS
+def failures(calls):
+    """The calls up to each that can fail, how many of them can, and each error with which it is tried: only one, if the
+    system's library handles all of them in the same way."""
+    calls, errors_of = calls.split(), lambda call: ERRORS[:1] if call in ("fcntl", "clock_gettime") else ERRORS
+    ends = [at for at, call in enumerate(calls, 1) if call != "tell" and not call.isdigit()]
+    return [(calls[:at], number, it) for number, at in enumerate(ends, 1) for it in errors_of(calls[at - 1])]
 
 
 def in_turn(status, calls, words, given):
     """The words make these calls and no others, with this status; then each of them fails, with each error."""
     words = words.split()
-    whole, tried = run(words, given), 0
+    whole, tried = run(words, given), failures(calls)
+    is_run, is_device = words[0] in ("bacrun", "bacdev"), words[0] == "bacdev"
     expect((str(whole.status), " ".join(whole.said)) == (status, calls), words, whole)
-    names = [it for it in calls.split() if it != "tell" and not it.isdigit()]
-    for number, call in enumerate(names, 1):
-        for error in errors_of(call):
-            ended = run(words, given, error, FAILED=number)
-            if (call == "recvfrom" and error in SILENCE) or (call == "clock_gettime" and number > 4):
-                is_right = ended[:3] == whole[:3]
-            else:
-                is_right = is_fault(ended, call, whole.output if "write" in names[:number] else "")
-            expect(is_right, f"{error} at call {number} of {words}", ended)
-            tried += 1
-    return tried
-
-
-def devices():
-    """Each call of a device fails once; if the device goes on, it answers a later request, with the right calls."""
-    client = [PROGRAM, *READ, "--mac", "127.0.0.1:" + OF["PORT"], "--apdu-timeout", "300", "--apdu-retries", "9"]
-    names, tried = [it for it in f"{SERVED} sendto".split() if not it.isdigit()], 0
-    for number, call in enumerate(["", *names]):
-        for error in errors_of(call):
-            goes_on = not call or call == "sendto" or call == "recvfrom" and error not in FAULTS
-            with subprocess.Popen(client, stdout=subprocess.PIPE, text=True) as asking:
-                ended = run([*OF["DEVICE"].split(), str(2 if call == "sendto" else 1)], error=error, FAILED=number)
-                if not goes_on:
-                    asking.kill()
-                heard = asking.stdout.read()
-            if goes_on:
-                again = {"sendto": "sendto recvfrom sendto", "recvfrom": "recvfrom sendto"}.get(call, "sendto")
-                is_right = (heard, ended.status, " ".join(ended.said)) == ("4290999a\n", 0, f"{SERVED} {again}")
-            else:
-                is_right = is_fault(ended, call) and SERVED.startswith(" ".join(ended.said[:-1]))
-            expect(is_right, f"a device by {error} at call {number}, heard {heard!r}", ended)
-            tried += 1
-    return tried
-
-
-def calls_of_the_system():
-    calls = sum(in_turn(*it) for it in filled("runs")) + devices()
-    # The text after the last line feed is not a line if the read after it fails.
-    front = run(["bactrace"], OF["NO_LINE_FEED"]).output.splitlines(keepends=True)[0]
-    ended = run(["bactrace"], OF["NO_LINE_FEED"], FAILED=3)
-    expect(is_fault(ended, "read", front) and ended.output, "a last line without its line feed", ended)
-    # A send of fewer octets than given has failed. It is the sixth call.
-    ended = run([*READ, *OF["SILENT"].split()], FAILED=6, SHORT=1)
-    expect(is_fault(ended, "sendto"), "a short send", ended)
-    print(f"{SCRIPT}: {calls} calls failed in turn, each told as it is to be, or taken for silence")
+    expect(not is_device or whole.output == "4290999a\n", words, whole)
+    silence = SILENCE + REFUSALS * is_run
+    for made, number, error in tried:
+        call, sends = made[-1], made.count("sendto")
+        ended = run(words[:-1] + [str(1 + sends)] if is_device else words, given, error, FAILED=number)
+        is_silence = (call == "recvfrom" and error in silence) or (call == "clock_gettime" and number > 4)
+        if not is_silence and not (call == "sendto" and is_run):
+            is_right = is_fault(ended, call, whole.output if "write" in made else "")
+        elif is_device:
+            is_right = ended[:4] == (*whole[:3], [*made, "recvfrom", "sendto"])
+        elif call == "sendto":
+            is_right = ended[:4] == whole._replace(output=with_refusal(whole.output, sends))[:4]
+        else:
+            is_right = ended[:3] == whole[:3]
+        expect(is_right and ended.said[: len(made)] == made, f"{error} at call {number} of {words}", ended)
+    return len(tried)
 
 
 def searching():
-    """With one octet for each read, the longest lines may take three times as long as short lines with as many
-    octets."""
+    """With one octet for each read, the longest lines may take three times as long as short ones, octet by octet."""
     took = []
     for length in (32, 4096):
         begun = os.times().children_user
@@ -153,7 +123,17 @@ def searching():
     expect(took[1] <= 3 * took[0], "the seconds of short lines and of long ones", took)
 
 
+os.environ.update({"TRIED": "1"} if sys.argv[2:] else {})
 if failing_library(ROOM.name):
-    if sys.argv[2:] != ["calls"]:
-        searching() if sys.argv[2:] == ["tried"] else memory()
-    calls_of_the_system()
+    if sys.argv[2:] == ["tried"]:
+        searching()
+    elif not sys.argv[2:]:
+        scripts = map(text_of, files(f"{TOP}/examples/*.trace"))
+        requests = sum(memory_refused(0, ["bactrace"], script) for script in scripts)
+        requests += sum(memory_refused(int(status), words.split()) for status, words in filled("refused memory"))
+        print(f"{SCRIPT}: {requests} requests for memory refused, each told as it is to be", flush=True)
+    calls = sum(in_turn(*it) for it in filled("runs"))
+    for number, call, output, words, given in filled("once"):
+        ended = run(words.split(), given, FAILED=number, SHORT=1)
+        expect(is_fault(ended, call, output) and ended.output == output, f"call {number} of {words}", ended)
+    print(f"{SCRIPT}: {calls} calls failed in turn, each told as it is to be, or taken for silence")

@@ -7,6 +7,7 @@ HERE that of the latest stand-in, DEAD one where nobody is; IN is a folder, and 
 """
 
 import atexit
+import math
 import os
 import pty
 import re
@@ -35,7 +36,11 @@ def at_load(seconds):
     return seconds * max(1.0, os.getloadavg()[0] / (os.cpu_count() or 1))
 
 
-PATIENCE = ["--apdu-timeout", str(min(900, round(at_load(300))))]
+PATIENT = ["--apdu-timeout", "5000"]  # whoever answers does it by then, however busy the machine is
+HURRIED = ["--apdu-timeout", str(min(900, round(at_load(300))))]  # for tests of those who do not answer
+LISTENED = str(min(4, math.ceil(at_load(1))))  # seconds
+LISTEN = ["--listen", LISTENED, "--listen-port", "0"]  # another test may have the usual port
+SILENCES = ("timeout", "not asked", "silent")  # a row with these waits for somebody who does not answer
 
 
 class World:
@@ -85,11 +90,11 @@ class World:
         else:
             raise OSError("bacdev does not answer")
 
-    def run(self, *words, stdin=None, stdout=subprocess.PIPE, env=None, before=None):
+    def run(self, *words, stdin=None, stdout=subprocess.PIPE, env=None, before=None, patience=HURRIED):
         """The status, standard output and standard error of a call."""
         asks = words[0] not in ("real", "octets", "capture") and not words[0].startswith("-")
         done = subprocess.run(
-            [*self.command, words[0], *(PATIENCE if asks else []), *words[1:]],
+            [*self.command, words[0], *(patience if asks else []), *words[1:]],
             input=stdin,
             stdout=stdout,
             env=env,
@@ -118,13 +123,14 @@ class SiteTest(unittest.TestCase):
     """A test that runs the program."""
 
     maxDiff = None
+    patience = HURRIED
 
     def setUp(self):
         self.world = world()
         self.names = dict(self.world.names)
 
     def run_site(self, *words, **more):
-        return self.world.run(*map(self.spelled, words), **more)
+        return self.world.run(*map(self.spelled, words), **{"patience": self.patience, **more})
 
     def on_a_terminal(self, height, *words):
         """The status of the program on a terminal of this height, and what it shows there."""
@@ -177,7 +183,9 @@ class SiteTest(unittest.TestCase):
         words, _, wanted = self.spelled(row + " ").partition(" => ")
         wanted = wanted[:-1] if wanted[1:] != " " else wanted
         given = ["" if word == "''" else word for word in words.strip().split(" ")]
-        status, out, err = self.world.run(*given, **more)
+        waits = given[0] == "survey" or any(it in wanted for it in SILENCES)
+        patience = HURRIED if waits else PATIENT
+        status, out, err = self.world.run(*given, patience=patience, **more)
         if wanted[2:3] == "!" and err[:9] + err[-1:] == "bacsite: \n":
             told = err[9:-1]
             if wanted.endswith(".."):

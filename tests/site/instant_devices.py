@@ -6,7 +6,7 @@ import harness  # noqa: F401  this sets the path to bacsite
 from bacsite.messages import apdu_of, outcome_of
 from bacsite.tools import Outcome, Tools
 from datagram_builders import wrapped
-from stand_ins import an_object, answer
+from stand_ins import an_object, answer, real
 
 
 class QuickCalls(Tools):
@@ -36,6 +36,31 @@ class QuickCalls(Tools):
         if self.taken >= 0:
             return QuickWhoIs("bactool: bind failed")
         return QuickRun(self, int(words[words.index("--window") + 1]))
+
+
+class Course:
+    """The time of a watch, and the device that it asks: only waits and present values take time. `waits` has by how
+    much each wait is too long, and `takes` how long each value takes, in seconds."""
+
+    def __init__(self, waits=(), takes=()):
+        self.now, self.waits, self.takes = 0.0, list(waits), list(takes)
+        self.is_set = lambda: False  # whether the watch is over
+
+    def monotonic(self):
+        return self.now
+
+    def time_ns(self):
+        return round(self.now * 1e9)
+
+    def wait(self, seconds):
+        self.now += max(0.0, seconds) + (self.waits.pop(0) if self.waits else 0.0)
+        return False
+
+    def get(self, what, lacks):
+        if what[2] != 85:
+            return lacks
+        self.now += self.takes.pop(0) if self.takes else 0.0
+        return real("42290000")
 
 
 class QuickWhoIs:

@@ -1,5 +1,6 @@
 """How controllers are asked: how many requests at once, in which order, and when again."""
 
+import json
 import threading
 import time
 import unittest
@@ -46,11 +47,11 @@ class Reasons(unittest.TestCase):
             ("abort 4", Why.TOO_LONG),
             ("abort 2", Why.OTHER),
             ("no number: NaN", Why.NO_NUMBER),
-            ("bactool: sending failed", Why.UNREACHABLE),
+            ("timeout (the system refused to send it)", Why.SILENT),
             ("reject 9", Why.OTHER),
         ):
             self.assertIs(why_of(reason), why, reason)
-        gone = {Why.SILENT, Why.NOT_ASKED, Why.TOO_LATE, Why.UNREACHABLE}
+        gone = {Why.SILENT, Why.NOT_ASKED, Why.TOO_LATE}
         self.assertEqual({it for it in Why if it.is_gone}, gone)
         self.assertEqual({it for it in Why if it.is_for_now}, {Why.BUSY, Why.STRANGE})
 
@@ -287,8 +288,67 @@ class Changes(unittest.TestCase):
         told = ["has the value of its program: 0:1 S"]
         self.assertEqual(self.changes(held, device, held=True), told)
         self.assertEqual(self.changes(held, device, devices=True), [])
+        device.objects[:], device.listed = [SiteObject(0, 1, "S", priorities=(3,)), SiteObject(0, 2, "T")], None
+        told = ["no longer has the value of its program: 0:2 T"]
+        self.assertEqual((self.changes(held, device, held=True), self.changes(held, device)), (told, []))
         device.is_named = True
         self.assertEqual(self.changes(whole._replace(texts={**texts, "name": "E"}), device), [])
+
+
+class Earliers(unittest.TestCase):
+    """What is taken from the line of an earlier survey."""
+
+    def known(self, **more):
+        told = {"address": A, "device": 9, "name": "D", "vendor": "V", "model": "M", "revision": "3", "reasons": []}
+        sensor = {"type": 0, "instance": 1, "name": "S", "unit": "percent", "value": "5"}
+        told.update(objects=[sensor], **more)
+        (found,) = Earlier(dict([survey._known_of(json.dumps(told).encode())]))._devices.values()
+        return found
+
+    def test_its_parts(self):
+        texts, facts = {"name": "D", "vendor": "V", "model": "M"}, {ObjectId(0, 1): {"name": "S", "unit": "percent"}}
+        self.assertEqual(self.known(), Known(9, texts, "3", facts))
+        both = {"held": True, "name_only": True, "devices": False}
+        self.assertEqual(self.known(asked_for=both), Known(9, texts, "3", facts, True, True, True))
+        for is_whole, more in ((False, {"asked_for": {"devices": True}}), (True, {"asked_for": {"devices": False}}),
+                               (False, {"reasons": ["deadline", "object-list: element 2 of 3: timeout"]}),
+                               (False, {"reasons": ["4 of 9 objects not asked"]}), (True, {"reasons": ["timeout"]})):
+            self.assertEqual(self.known(**more).is_whole, is_whole, more)
+        old = {"address": A, "device": "9", "name": "D", "objects": []}
+        wanted = (A, Known(9, {"name": "D"}, "", {}, is_whole=False))
+        self.assertEqual(survey._known_of(json.dumps(old).encode()), wanted, "of an early version")
+        self.assertIsNone(survey._known_of(json.dumps({**old, "device": None}).encode()))
+        told = {"name": "S", "unit": "", "held": "8", "description": "x", "settings": {"high-limit": "5"}}
+        wanted = {"name": "S", "unit": "", "priority": "8", "description": "x", "high-limit": "5"}
+        self.assertEqual(survey._facts(told), wanted)
+
+    def test_names_and_stations(self):
+        names = {ObjectId(0, 1): {"name": "S", "unit": ""}, ObjectId(0, 2): {"name": "", "unit": ""}}
+        known = {(9, "3"): {ObjectId(0, 1): "S"}}
+        for reuses, revision, wanted in ((True, "3", known), (False, "3", {}), (True, "", {})):
+            earlier = Earlier({A: Known(9, {}, revision, names)}, reuses)
+            self.assertEqual((earlier.names_at(A), earlier.names_at(B), earlier.is_given), (wanted, {}, True))
+        routes = ["", "/5/01", "/5/02", "/55/01", "/6/01"]
+        earlier = Earlier({A + it: Known(9, {}, "", {}) for it in routes})
+        for reaches, wanted in (([A + "/*"], routes[1:]), ([A + "/5/*"], routes[1:3]), ([B + "/*"], []), ([], []),
+                                ([A + "/5/*", A + "/6/*"], [*routes[1:3], routes[4]])):
+            self.assertEqual(earlier.stations_at(reaches), [A + it for it in wanted], reaches)
+        self.assertFalse(Earlier().is_given)
+
+    def test_where_a_device_was(self):
+        """Another device is there; the device was elsewhere; it is new; or nothing is known."""
+        texts = {"name": "D", "vendor": "V", "model": "M"}
+        earlier = Earlier({A: Known(9, texts, "", {}), B: Known(8, {**texts, "name": ""}, "", {})})
+        for address, instance, gone, changes in ((A, 9, None, []), (A, 7, 9, ["was device 9 D"]),
+                                                 (A, None, 9, ["was device 9 D"]), (B, 9, 8, ["was device 8"]),
+                                                 ("C", 9, None, [f"was at {A}"]), ("C", 5, None, ["new"]),
+                                                 ("C", None, None, [])):
+            device = Device(address, instance, "D", "V", "M")
+            earlier.compare(device, Bounds())
+            self.assertEqual((device.gone, device.changes), (gone, changes), (address, instance))
+        device = Device("C", 5)
+        Earlier().compare(device, Bounds())
+        self.assertEqual(device.changes, [])
 
 
 class PortNumbers(unittest.TestCase):
@@ -296,6 +356,23 @@ class PortNumbers(unittest.TestCase):
         ports = tools.ports()
         found = [next(ports) for _ in range(16384)]
         self.assertEqual((len(set(found)), min(found), max(found)), (16384, 49152, 65535))
+
+    def test_each_tool_has_the_next_one(self):
+        calls, begun = tools.Tools("/x/bactool", 1000, 2, 4), []
+        calls._ports = iter([65535, 49152, 49153])
+        calls.processes.start = lambda *words: begun.append(words)
+        calls.start(["bacwi", "--mac", A], 7.0)
+        calls.session(["--apdu-retries", "0"], 4)
+        calls.listener(47808, 9.0)
+        calls.session(calls.times(500), 1, 5.0)
+        bacrun = ["/x/bactool", "bacrun", "--port"]
+        self.assertEqual(begun, [
+            (["/x/bactool", "bacwi", "--port", "65535", "--mac", A], 7.0),
+            ([*bacrun, "49152", "--apdu-retries", "0", "--window", "4"], float("inf")),
+            ([*bacrun, "47808"], 9.0),
+            ([*bacrun, "49153", "--apdu-timeout", "500", "--apdu-retries", "2", "--window", "1"], 5.0),
+        ])
+        self.assertEqual(calls.times(500, 0), ["--apdu-timeout", "500", "--apdu-retries", "0"])
 
     def test_programs_side_by_side_begin_far_apart(self):
         begins = []

@@ -6,15 +6,15 @@ import unittest
 from types import SimpleNamespace
 from unittest import mock
 
-from datagram_builders import CLIENT, DEVICE, ack, block, datagrams, enhanced, exchange, interface, pcap, section, udp
-from datagram_builders import wrapped
+from datagram_builders import CLIENT, DEVICE, ack, block, datagrams, enhanced, exchange, interface, pcap, read_apdu
+from datagram_builders import section, udp, wrapped
 from bacsite import points, poll, standard
 from bacsite.bodies import elements_of, region_text, write_body
 from bacsite.capture.command import is_slow, marks_of
 from bacsite.capture.lines import _who_is, line_of, millis
 from bacsite.capture.pcap import Damage, Packet, Passed, Passing, datagram_of, packets_of
 from bacsite.capture.talks import MILLI, Pairing, Talk
-from bacsite.capture.trace import Choice, clients_of, traced
+from bacsite.capture.trace import Choice, clients_of, settings_of, traced
 from bacsite.controller import Controller, Pace
 from bacsite.device import Bounds, Device, SiteObject, _Reader
 from bacsite.messages import Datagram, Ended, message_of
@@ -26,13 +26,13 @@ from bacsite.standard import Form, ObjectId, PropertyRef, form_of
 from bacsite.streams import Failure
 from bacsite.survey import Earlier, Known
 from bacsite.sweep import Reach, Station, Sweep, _within, parts_of
-from bacsite.tools import BIND_FAILED
+from bacsite.tools import BIND_FAILED, Outcome
 from bacsite.values import Why, shown, value_of
 from bacsite.watch import Row, Watch, _cut, watch, with_gaps
 from instant_devices import QuickCalls, QuickWhoIs
 from stand_ins import an_object, real, string, unsigned
 
-A = "192.0.2.1:47808"
+A, B = "192.0.2.1:47808", "192.0.2.2:47808"
 
 
 def talks_of(steps):
@@ -122,16 +122,27 @@ class Times(unittest.TestCase):
             self.assertEqual(talk.late, late)
         (talk,), _ = talks_of(exchange(0, None) + exchange(1000, None) + exchange(3000, 3000))
         self.assertEqual(talk.late, None)
+        again = exchange(9000, None, 2) + exchange(13000, None, 2)  # and the clock is set back before the answer
+        _, talk = talks_of(exchange(0, None) + exchange(1000, 1001) + again + exchange(9000, 12000, 2)[1:])[0]
+        self.assertEqual((talk.late, talk.took), (3000 * MILLI, 3000 * MILLI))
 
     def test_answers_are_awaited_for_a_minute(self):
         for answer, count in ((60_000, 1), (60_000.001, 0)):
             (talk,), _ = talks_of(exchange(0, answer))
             self.assertEqual(len(talk.answers), count)
+        for second, count in ((110_000, 2), (110_000.001, 1)):
+            steps = exchange(0, 50_000) + [(second, DEVICE, CLIENT, wrapped(ack(1)))]
+            (talk,), _ = talks_of(steps)
+            self.assertEqual(len(talk.answers), count, "a second answer, a minute after the first")
 
     def test_a_request_that_is_open_at_the_end(self):
         for end, cut_off in ((2999.999, 2999.999), (3000, None)):
             talk, _ = talks_of(exchange(0, None) + exchange(end, None, 2))[0]
             self.assertEqual(talk.cut_off, cut_off and round(cut_off * MILLI))
+        other = wrapped(read_apdu(1, "0c000000061955"), "0104")
+        found, _ = talks_of(exchange(0, None) + [(1000, CLIENT, DEVICE, other)] + exchange(1500, None, 2))
+        told = [it.cut_off for it in found]
+        self.assertEqual(told, [None, 500 * MILLI, 0], "whose number is used again is not awaited")
 
     def test_numbers_that_go_round(self):
         for others, count in ((191, 1), (192, 2)):
@@ -141,6 +152,17 @@ class Times(unittest.TestCase):
 
 
 class Files(unittest.TestCase):
+    def test_a_file_that_is_cut(self):
+        for octets, told in (
+            (b"\xa1\xb2", "the file is cut at octet 2, within its first word"),
+            (b"\xa1\xb2\xc3\xd4" + bytes(19), "the file is cut at octet 23, within the header of the file"),
+            (pcap([(0, b"x")])[:-1], "the file is cut at octet 40, within packet 1 at octet 24"),
+            (pcap([(0, b"x"), (0, b"y")])[:50], "the file is cut at octet 50, within packet 2 at octet 41"),
+            (section("<")[:27], "the file is cut at octet 27, within block 1 at octet 0"),
+            (section("<") + interface("<")[:5], "the file is cut at octet 33, within block 2 at octet 28"),
+        ):
+            self.assertEqual(damage_of(octets)[1], told)
+
     def test_records_of_a_pcap(self):
         for length, fraction, count in ((1 << 18, 999_999, 1), ((1 << 18) + 1, 0, 0), (0, 10**6, 0)):
             record = struct.pack("<IIII", 0, fraction, length, length) + bytes(length)
@@ -184,11 +206,81 @@ class Requests(unittest.TestCase):
     def test_an_answer_may_still_come_to_what_was_sent_twice(self):
         for sends, how, is_owed in ((1, "done", False), (2, "done", True), (1, "timeout", True)):
             session = Session.__new__(Session)
-            session.is_owed, session._data, session._refusals = False, b"", {}
+            session.is_owed, session._latest, session._refusals = False, Datagram(0, "", "", b""), {}
             session._open = {7: _Open("192.0.2.7:47808")}
             session._open[7].sends = sends
             session._end(7, how, "ok")
             self.assertEqual(session.is_owed, is_owed, (sends, how))
+
+    def test_a_bacrun_is_heard_for_some_time(self):
+        lines = [f"data {A} 810a00090100600109", "# drop", "# wait 50", f"data {B} 810a00090100600109", "# wait 7"]
+        process, put = QuickWhoIs(lines=lines), []
+        process.put, session = put.append, Session(QuickCalls({}), process)
+        found = [(session.hear(*it), sorted(session.peers)) for it in ((50,), (7, "who x\n"), (1,))]
+        self.assertEqual(found, [(True, [A]), (True, [A, B]), (False, [A, B])])
+        self.assertEqual(put, ["wait 50\n", "who x\nwait 7\n", "wait 1\n"])
+
+    def test_a_journal_has_all_lines_of_a_bacrun_that_ended_well(self):
+        for status, more in ((0, ["# end of the run"]), (1, []), (None, [])):
+            calls, kept = QuickCalls({}), []
+            journal = SimpleNamespace(add=kept.append, close=lambda kept=kept: kept.append("closed"))
+            begun = lambda name, journal=journal, kept=kept: kept.append(name) or journal
+            calls.journals = SimpleNamespace(begun=begun)
+            process = QuickWhoIs(lines=["# send 0 x 00", "# timeout 0"])
+            process.outcome = lambda status=status: Outcome(status, ["# end of the run"])
+            session = Session(calls, process, "192.0.2.1:1")
+            session.put("read x 0 5 85")
+            self.assertEqual(session.ended().outcome, "timeout")
+            session.close()
+            self.assertEqual(kept, ["192.0.2.1:1", "# send 0 x 00", "# timeout 0", *more, "closed"])
+
+    def test_an_answer_is_timed_from_the_first_send(self):
+        """Each line of bacrun comes a second after the one before it."""
+        sent, now = f"{A} 810a00110104000501000c0c000000051955", [0.0]
+        for lines, seconds, sends in ((1, 2, 1), (2, 3, 2), (3, 4, 3)):
+            process = QuickWhoIs(lines=[f"# send 0 {sent}"] * lines + [f"data {A} 810a", "# done 0 ok"])
+            line = process.line
+            process.line = lambda line=line: now.append(now.pop() + 1) or line()
+            with mock.patch("bacsite.session.time", SimpleNamespace(monotonic=lambda: now[0])):
+                session = Session(QuickCalls({}), process)
+                session.put(f"read {A} 0 5 85")
+                ended = session.ended()
+            self.assertEqual((ended.seconds, ended.sends, session.is_owed), (seconds, sends, sends > 1))
+
+    def test_a_request_that_is_never_sent(self):
+        """A journal by hand of three requests that time out: one is refused each time, one at first, and one later."""
+        peers = ["127.0.0.1:0", "255.255.255.255:47808", "10.0.0.1:47808"]
+        sent = [f"{peer} 810a00110104000501{at:02x}0c0c000000051955" for at, peer in enumerate(peers)]
+        lines = [f"# send {at} {it}" for at, it in enumerate(sent)]
+        lines += [*lines, f"# unsent {sent[0]}", f"# unsent {sent[2]}", *(f"# timeout {at}" for at in range(3))]
+        lines[3:3] = [f"# unsent {sent[0]}", f"# unsent {sent[1]}"]
+        session = Session(QuickCalls({}), QuickWhoIs(lines=lines), window=3)
+        for peer in peers:
+            session.put(f"read {peer} 0 5 85")
+        told = [session.ended().read(None) for _ in peers]
+        self.assertEqual(told, ["timeout (the system refused to send it)", "timeout", "timeout"])
+        self.assertEqual(session.refused, set(peers))
+
+    def test_who_answers_from_another_address(self):
+        """An answer has the number of the request, which is 5. Other texts and other numbers do not count."""
+        sent, other = "810a00110104000505050c0c000000051955", "192.0.2.9:47808"
+        told = f"timeout (answered from {other})"
+        for apdu, peer, wanted in (
+            (ack(5), other, told),
+            ("50050c91029120", other, told),
+            ("600509", other, told),
+            ("710500", other, told),
+            (ack(6), other, "timeout"),
+            (ack(5), A, "timeout"),
+            ("700500", other, "timeout"),
+            ("0005050c0c000000051955", other, "timeout"),
+            ("400501", other, "timeout"),
+            ("1000c4020000072201e091032105", other, "timeout"),
+        ):
+            lines = [f"# send 0 {A} {sent}", f"data {peer} {wrapped(apdu)}", "# drop", "# timeout 0"]
+            session = Session(QuickCalls({}), QuickWhoIs(lines=lines))
+            session.put(f"read {A} 0 5 85")
+            self.assertEqual((session.ended().read(None), session.is_owed), (wanted, True), apdu)
 
     def test_stations_that_are_kept(self):
         reach = Reach("192.0.2.7:47808/*")
@@ -328,6 +420,18 @@ class Told(unittest.TestCase):
             lines = [*traced([message_of(it) for it in datagrams(steps)], Choice(), None, None)]
             self.assertEqual(f"data {peer} {answer}" in lines, is_whole)
             self.assertEqual(any(it.endswith(" a datagram of 1990 octets") for it in lines), not is_whole)
+
+    def test_settings_that_are_not_given(self):
+        """A script has at most 255 retries, as bactrace; and its head names at most four ports of the client."""
+        for sends, settings in ((1, (3000, 3)), (2, (100, 1)), (256, (100, 255)), (300, (100, 255))):
+            talk = SimpleNamespace(sends=[at * 100 * MILLI for at in range(sends)])
+            self.assertEqual(settings_of([talk], None, None), settings)
+        for count in 1, 4, 5:
+            clients = ["127.0.0.1:5000%d" % at for at in range(count)]
+            steps = [step for at, it in enumerate(clients) for step in exchange(at, None, at, of=it)]
+            lines = [*traced([message_of(it) for it in datagrams(steps)], Choice(), None, None)]
+            told = f"# {count} request{'s' * (count > 1)} of {', '.join(clients[:4])}"
+            self.assertEqual(lines[:2], [told, "client 3000 3 0"])
 
     def test_the_usual_client_is_proposed(self):
         one, other = "192.0.2.20:50000", "192.0.2.21:50000"

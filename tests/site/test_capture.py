@@ -68,7 +68,8 @@ class Command(SiteTest):
     def test_status(self):
         good, bad = file_of(exchange(0, 1)), file_of(exchange(0, 1, 1, "600109"))
         files = (good, bad, good[:-1], b"")
-        self.assertEqual([self.told(it, "--summary")[0] for it in files], [0, 1, 3, 3])
+        for word, wanted in ("--summary", [0, 1, 3, 3]), ("--json", [0, 1, 3, 3]), ("--trace", [0, 0, 3, 2]):
+            self.assertEqual([self.told(it, word)[0] for it in files], wanted, word)
         _, text, said = self.told(good[:-1])
         self.assertIn("read analog-input 5 present-value (0 5 85): no answer", text)
         cut = "bacsite: the file is cut at octet %d, within packet 2 at octet 100\n" % (

@@ -55,6 +55,16 @@ class Edges(unittest.TestCase):
                 found = list(survey.Survey(None, Bounds(), Earlier({})).devices([]))
             self.assertEqual([(it.address, it.changes) for it in found], [(NEW, []), (OLD, changes)])
 
+    def test_devices_are_shown_as_they_come(self):
+        """In order with an earlier survey they wait: a device that moved may still come at its new address."""
+        known = {OLD: Known(77, {}, "", {})}
+        for in_order, earlier, wanted in ((False, {}, 1), (True, {}, 1), (False, known, 1), (True, known, 2)):
+            asked = []
+            groups = ([asked.append(it) or Device(it, at)] for at, it in enumerate((OLD, NEW)))
+            with mock.patch.object(survey, "side_by_side", lambda *_, groups=groups: groups):
+                first = next(survey.Survey(None, Bounds(), Earlier(earlier)).devices([], in_order))
+            self.assertEqual((first.address, len(asked)), (OLD, wanted), (in_order, earlier))
+
     def test_what_was_not_read_has_not_changed(self):
         object_id = ObjectId(0, 1)
         known = Known(77, {"name": "D"}, "", {object_id: {"name": "T", "unit": "percent"}})
@@ -90,7 +100,7 @@ class Edges(unittest.TestCase):
         calls, found = Tools("none", 1000, 0, 8), []
         calls.start = lambda *_: QuickWhoIs(lines=lines)
         Scan(calls, [OLD]).run(lambda *it: found.append(it))
-        self.assertEqual(found, [(OLD, True)])
+        self.assertEqual(found, [(OLD, "")])
 
     def test_a_list_may_grow_or_shrink(self):
         own = ObjectId(8, 77)

@@ -3,6 +3,7 @@
 import argparse
 import errno
 import os
+import signal
 import tempfile
 import unittest
 import unittest.mock
@@ -27,11 +28,12 @@ from bacsite.points import Point
 from bacsite.standard import PropertyRef
 from bacsite.streams import moment, width, Failure
 from bacsite.survey import Earlier
+from bacsite.sweep import Station, Sweep
 from bacsite.tools import Outcome, Processes, Tools
 from bacsite.watch import Watch
 from datagram_builders import CLIENT, DEVICE, udp
 from instant_devices import QuickCalls, QuickWhoIs
-from stand_ins import real, unsigned
+from stand_ins import an_object, real, unsigned
 
 A = "192.0.2.1:47808"
 
@@ -108,6 +110,132 @@ class Asked(unittest.TestCase):
                 self.assertEqual([len(it) for it in controller.parts(range(count))], parts)
 
 
+class Waits(unittest.TestCase):
+    """How long something is waited for, by a clock that stands still, or goes on only by what is waited for."""
+
+    def waits(self, values, ended=False, **more):
+        """A controller at noon, and a list of how long it waits."""
+        calls, waits = QuickCalls({A: values}, **more), []
+        calls.processes.ended = SimpleNamespace(wait=lambda seconds: waits.append(round(seconds, 3)) or ended)
+        return Controller(calls, A), waits
+
+    def test_a_device_that_may_have_restarted(self):
+        """Eight times --apdu-timeout, but no more than eight seconds, and than there is time."""
+        clock = SimpleNamespace(monotonic=lambda: 43200.0)
+        for timeout, left, wanted in ((100, 99, [0.8]), (999, 99, [7.992]), (1001, 99, [8.0]), (60000, 9, [8.0]),
+                                      (1000, 7.5, [7.5]), (1000, 0, []), (1000, -1, [])):
+            for ended, device in ((False, 77), (False, 78), (True, 77)):
+                controller, waits = self.waits({(8, 4194303, 75): an_object(8, device)}, ended, timeout=timeout)
+                controller.instance, controller.silent, controller.deadline = 77, True, 43200 + left
+                with unittest.mock.patch("bacsite.controller.time", clock):
+                    is_back = controller.comes_back()
+                self.assertEqual((is_back, waits), (bool(wanted) and (ended, device) == (False, 77), wanted))
+                self.assertEqual((controller.instance, controller.silent), (77, ended or not wanted))
+                controller.rest()
+
+    def test_a_device_that_is_busy(self):
+        """It is asked again --apdu-retries times, each after its time limit."""
+        busy, good = ("abort", 9), real("42290000")
+        for timeout, retries, values, reason, wanted in (
+            (250, 2, [busy, good], "", [0.25]),
+            (250, 2, [busy, busy, good], "", [0.25] * 2),
+            (250, 2, [busy, busy, busy, good], "abort 9", [0.25] * 2),
+            (3000, 0, [busy, good], "abort 9", []),
+            (3000, 9, [good], "", []),
+        ):
+            controller, waits = self.waits({(0, 1, 85): values}, timeout=timeout, retries=retries)
+            self.assertEqual((controller.ask(PropertyRef(0, 1, 85)).reason, waits), (reason, wanted))
+            controller.rest()
+        controller, waits = self.waits({(0, 1, 85): [busy, good]}, ended=True, timeout=250, retries=2)
+        self.assertEqual((controller.ask(PropertyRef(0, 1, 85)).reason, waits), ("abort 9", [0.25]), "all are ended")
+        controller.rest()
+
+    def test_a_deadline(self):
+        """Nothing is asked from then on; what was asked before has its answer."""
+        now = [43200.0]
+        for left, wanted in ((3.0, ["", "", ""]), (1.5, ["", "", "not asked"]), (1.0, ["", "not asked", "not asked"]),
+                             (0.0, ["not asked"] * 3), (-0.5, ["not asked"] * 3)):
+            good, now[0] = real("42290000"), 43200.0
+            device = SimpleNamespace(get=lambda *_, good=good: now.append(now.pop() + 1) or good)
+            with unittest.mock.patch("bacsite.controller.time", SimpleNamespace(monotonic=lambda: now[0])):
+                with Controller(QuickCalls({A: device}), A, 43200.0 + left) as controller:
+                    found = controller.ask_all([PropertyRef(0, at, 85) for at in range(3)])
+                    is_over = controller.is_over
+            self.assertEqual(([it.reason for it in found], is_over), (wanted, "not asked" in wanted), left)
+
+    def test_the_answer_to_a_who_is(self):
+        """Twice as long as the read of the identity took, at least a tenth of a second."""
+        for took, wanted in ((0.0, 0.1), (0.05, 0.1), (0.06, 0.12), (2.0, 4.0)):
+            controller, _ = self.waits({}, timeout=700)
+            controller._took = took
+            with unittest.mock.patch("bacsite.tools.Search.wait_for") as wait:
+                controller.search()
+            self.assertEqual(wait.call_args[0], (A, wanted))
+            self.assertEqual(controller.tools.begun, [["bacwi", "--mac", A, "--apdu-timeout", "700"]])
+
+    def sweep(self, words, then=lambda: None, **more):
+        """The first question of a sweep: the milliseconds and the lines that bacrun is given."""
+        made, now, given = Sweep(QuickCalls({}), words, Bounds(**more), []), [43200.0], []
+
+        def hear(milliseconds, text=""):
+            now[0] += milliseconds / 1000
+            given.append((milliseconds, text.count("\n")))
+            then(made, now[0] - 43200)
+            return True
+
+        with unittest.mock.patch("bacsite.sweep.time", SimpleNamespace(monotonic=lambda: now[0])):
+            self.assertTrue(made._ask(SimpleNamespace(hear=hear)))
+        return given
+
+    def test_stations_are_heard_as_long_as_the_words_say(self):
+        for listen, count in ((1, 2), (4, 8), (10, 20)):
+            found = self.sweep([A + "/*"], lambda *_: None, listen=listen)
+            self.assertEqual(found, [(1, 1), *[(500, 0)] * count], listen)
+
+    def test_nobody_waits_for_more_than_three_seconds_once_all_have_answered(self):
+        station = Station(7, A + "/5/07")
+
+        def answers(sweep, seconds):
+            """The station, which was known before, answers a second after the question."""
+            (reach,) = sweep.reaches
+            reach._before.add(station)
+            if 1 <= seconds < 1.5:
+                reach.heard(station)
+                sweep._last = 43200 + seconds
+
+        for listen, count in ((3, 6), (4, 8), (5, 8), (60, 8)):
+            found = self.sweep([A + "/5/*"], answers, listen=listen)
+            self.assertEqual(found, [(1, 1), *[(500, 0)] * count], listen)
+
+    def test_256_questions_are_handed_over_at_once(self):
+        for count, parts in ((1, [1]), (256, [256]), (257, [256, 1]), (600, [256, 256, 88])):
+            words = [f"192.0.2.{at // 99}:{47808 + at % 99}/*" for at in range(count)]
+            found = self.sweep(words, lambda *_: None, listen=1)
+            self.assertEqual([lines for _, lines in found if lines], parts)
+
+    def test_a_sweep_ends_after_64_questions(self):
+        told = "new stations still answered after 64 questions"
+        for count, faults in ((63, []), (64, [told]), (99, [told])):
+            calls, left = QuickCalls({}), list(range(count))
+            calls.listener = lambda *_: QuickWhoIs()
+            sweep = Sweep(calls, [A + "/*"], Bounds(), [])
+
+            def ask(_, sweep=sweep, left=left):
+                sweep.rounds += bool(left)
+                return bool(left) and left.pop() >= 0
+
+            with unittest.mock.patch.object(sweep, "_ask", ask):
+                sweep.run()
+            self.assertEqual((sweep.faults, sweep.rounds), (faults, min(count, 64)))
+
+    def test_64_scans_at_once_have_64_addresses_or_more(self):
+        for count, wanted in ((1, [1]), (64, [64]), (65, [64, 1]), (4096, [64] * 64), (4097, [65] * 63 + [2])):
+            targets = points.targets(["10.0.0.1-10.0.%d.%d" % divmod(count, 256)])
+            jobs = survey.Survey(QuickCalls({}), Bounds(), Earlier()).jobs(targets)
+            scans = [it.args[0] for it in jobs if it.func.__name__ == "scanned"]
+            self.assertEqual([len(it) for it in scans], wanted)
+
+
 class Written(unittest.TestCase):
     """Values that are refused before they are sent, by the object's own limits."""
 
@@ -176,6 +304,24 @@ class Octets(unittest.TestCase):
             self.assertEqual((found.part, found.service, found.body.hex()), (part, service, body))
         self.assertIsNone(apdu_of(bytes.fromhex("080501000f")), "its service is cut off")
         self.assertIsNone(apdu_of(bytes.fromhex("000501")))
+
+    def test_apdus_that_are_cut(self):
+        """The shortest APDU of each kind, with its invoke id and its service; a shorter text is not an APDU."""
+        for octets, kind, invoke, service in (
+            ("0005010c", 0, 1, 12),
+            ("1008", 1, 0, 8),
+            ("20010f", 2, 1, 15),
+            ("30010c", 3, 1, 12),
+            ("38010104" + "0c", 3, 1, 12),
+            ("50010c", 5, 1, 12),
+            ("600109", 6, 1, 9),
+            ("710104", 7, 1, 4),
+        ):
+            found = apdu_of(bytes.fromhex(octets))
+            self.assertEqual((found.kind, found.invoke, found.service, found.body), (kind, invoke, service, b""))
+            self.assertIsNone(apdu_of(bytes.fromhex(octets[:-2])), octets)
+        self.assertEqual([apdu_of(bytes.fromhex(it)).invoke for it in ("40", "4005", "400501")], [0, 5, 5])
+        self.assertEqual([apdu_of(bytes.fromhex(it)) for it in ("", "80", "f00101")], [None] * 3)
 
     def test_what_one_object_lacks_all_lack(self):
         one, odd = "0c000000011e29554e21054f1f", "0c000000021e29551f"
@@ -300,6 +446,44 @@ class Kept(unittest.TestCase):
                 streams.replace_file(folder + "/x", ["one", "two"])
                 streams.replace_file(folder + "/x", [])
         self.assertEqual(sizes, [6, 0])
+
+    def test_a_file_that_can_not_be_written_is_left_as_it_was(self):
+        """A signal waits until that is over, whatever fails."""
+        before, masks = signal.pthread_sigmask(signal.SIG_BLOCK, ()), []
+        with tempfile.TemporaryDirectory() as folder:
+            path = folder + "/x"
+            streams.replace_file(path, ["old"])
+            told = f"writing failed: {path}: No space left on device"
+            full = OSError(errno.ENOSPC, "No space left on device")
+            for fault, wanted in ((full, told), (ZeroDivisionError("x"), "x")):
+                for call in "os.fsync", "os.fchmod", "os.rename":
+                    with unittest.mock.patch(call, side_effect=lambda *_, fault=fault: self.fail_with(fault, masks)):
+                        with self.assertRaises((Failure, ZeroDivisionError)) as caught:
+                            streams.replace_file(path, ["new"])
+                    self.assertEqual((str(caught.exception), os.listdir(folder)), (wanted, ["x"]), call)
+                    with open(path, encoding="ascii") as file:
+                        self.assertEqual(file.read(), "old")
+        self.assertEqual(masks, [before | set(streams.SIGNALS)] * 6)
+        self.assertEqual(signal.pthread_sigmask(signal.SIG_BLOCK, ()), before)
+
+    def fail_with(self, fault, masks):
+        masks.append(signal.pthread_sigmask(signal.SIG_BLOCK, ()))
+        raise fault
+
+    def test_who_may_read_a_file(self):
+        """A new file has the permissions of the umask, or is for all; another one keeps its own."""
+        for for_all, umask, old, wanted in ((False, 0o022, None, 0o644), (False, 0o077, None, 0o600),
+                                            (False, 0o002, None, 0o664), (True, 0o077, None, 0o644),
+                                            (True, 0o000, None, 0o644), (True, 0o022, 0o640, 0o640),
+                                            (False, 0o077, 0o606, 0o606)):
+            with tempfile.TemporaryDirectory() as folder:
+                path = folder + "/x"
+                if old:
+                    with open(path, "wb"):
+                        os.chmod(path, old)
+                mask = os.umask(umask)
+                streams.replace_file(path, ["new"], for_all=for_all)
+                self.assertEqual((os.umask(mask), os.stat(path).st_mode & 0o7777), (umask, wanted))
 
     def test_100000_lines_wait_for_the_disk(self):
         full = OSError(errno.ENOSPC, "No space left on device")

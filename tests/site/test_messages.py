@@ -1,5 +1,6 @@
 """Whole texts that a person reads: why a word is refused, what a watch shows, and the heads of tables and pages."""
 
+import json
 import os
 import unittest
 
@@ -8,9 +9,12 @@ from datagram_builders import CLIENT, DEVICE, ack, datagrams, ether, exchange, p
 from bacsite.capture.trace import request_line
 from bacsite.messages import message_of
 from bacsite.page import page_of
-from bacsite.device import Device, SiteObject
+from bacsite.device import FACTS, Bounds, Device, SiteObject
+from bacsite.report import Columns, Counts, PollList, as_csv, as_json, as_lines
+from bacsite.values import NOTHING, Kind, Value
 from stand_ins import enumerated, real, string, tagged
 
+A = "192.0.2.1:47808"
 UNKNOWN = {(300, 1, 77): string("Own"), (300, 1, 79): enumerated(300), (300, 1, 85): tagged(10, b"\x7c\x0a\x1f\x04")}
 TWO = {(0, 1, 77): string("A"), (0, 1, 79): enumerated(0), (0, 1, 85): real("42290000")}
 
@@ -123,12 +127,110 @@ class Captured(harness.SiteTest):
         for apdu, peer, told in (
             ("0005010c0c00", DEVICE, "its body can't be read"),
             ("0005010c0c000000051c00400000", DEVICE, "bactrace takes no such property"),
+            ("0005010c0c000000051955", DEVICE + "/65535/01", "bactrace takes no such route"),
             ("0005010f0c0040000119553e603f", DEVICE, "a script can't have this value: null stands for it"),
             ("0005010f0c0040000119553e443f800000" + "3f", DEVICE, ""),
         ):
             message = message_of(datagrams([(0, CLIENT, peer, wrapped(apdu))])[0])
             with self.subTest(apdu=apdu):
                 self.assertEqual(request_line(message.apdu, message.receiver)[1], told)
+
+
+class Forms(unittest.TestCase):
+    """A device with all that a survey may ask for, in each form."""
+
+    def setUp(self):
+        fan = SiteObject(4, 1, "Fan", Value(Kind.NUMBER, "1", "active"), "Runs", flags=("fault", "in-alarm"))
+        fan.name_read, fan.priorities, fan.description, fan.event_state = False, (3, 8), "Roof", "fault"
+        fan.settings, fan.reasons = {"inactive-text": "Stops", "active-text": "Runs"}, ["units: busy", "timeout"]
+        self.device = Device(A, 77, "D", "V", "M", "7", [fan, SiteObject(300, 2, "X")])
+        self.device.reasons, self.device.changes = ["object-list: busy", "deadline"], ["new: 0:1", "gone: 0:2"]
+        self.device.facts, self.device.asked = {"firmware": "1", "status": "operational"}, "noon"
+        self.bounds = Bounds(9, 60, False, True, True)
+        more = ("held", "description", "event_state", "settings", "name_read")
+        self.all = Columns(more, True, (*FACTS, "clock"), self.bounds)
+
+    def test_lines(self):
+        self.assertEqual(as_lines(self.device, self.all), f"""\
+{A}  device 77  D  V  M  object-list: busy; deadline
+  firmware 1, status operational
+  4:1    binary-output  Fan (not read)  1 (Runs)  fault, in-alarm  3  Roof  fault  \
+inactive-text Stops, active-text Runs  units: busy; timeout
+  300:2  -              X               -         -                -  -     -      -
+  since: new: 0:1
+  since: gone: 0:2
+""")
+        self.assertEqual(as_lines(Device(A, reasons=["timeout"]), Columns()), f"{A}  device -  timeout\n")
+        room = SiteObject(0, 5, "Room", Value(Kind.NUMBER, "21"), unit="percent", flags=())
+        told = f"{A}  device 7\n  0:5  analog-input  Room  21 percent  normal\n"
+        self.assertEqual(as_lines(Device(A, 7, objects=[room]), Columns()), told)
+
+    def test_csv(self):
+        heads = "address,device,device_name,vendor,model,firmware,software,status,protocol_revision,clock,type,"
+        heads += "instance,type_name,name,value,meaning,unit,flags,held,description,event_state,settings,name_read,"
+        heads += "change,reason"
+        self.assertEqual(",".join(self.all.names), heads)
+        self.assertEqual(as_csv(self.device, self.all), f"""\
+{A},77,D,V,M,1,,operational,,,4,1,binary-output,Fan,1,Runs,,"fault, in-alarm",3,Roof,fault,\
+"inactive-text Stops, active-text Runs",False,,units: busy; timeout
+{A},77,D,V,M,1,,operational,,,300,2,,X,,,,,,,,,True,,
+{A},77,D,V,M,1,,operational,,,,,,,,,,,,,,,,new: 0:1; gone: 0:2,object-list: busy; deadline
+""")
+        found = [as_csv(Device(A, at, reasons=why), Columns()) for at, why in ((None, ["timeout"]), (7, []))]
+        self.assertEqual(found, [f"{A},,,,,,,,,,,,,timeout\n", f"{A},7,,,,,,,,,,,,\n"])
+
+    def test_json(self):
+        fan = {"type": 4, "instance": 1, "type_name": "binary-output", "name": "Fan", "value": "1", "meaning": "Runs"}
+        fan.update(unit="", flags="fault, in-alarm", kind="number", reasons=["units: busy", "timeout"])
+        more = {"held": "3", "description": "Roof", "event_state": "fault", "name_read": False}
+        more["settings"] = {"inactive-text": "Stops", "active-text": "Runs"}
+        own = {"type": 300, "instance": 2, "type_name": "", "name": "X", "value": "", "meaning": "", "unit": ""}
+        own.update(flags="", kind="other", reasons=[])
+        lacks = {"held": "", "description": "", "event_state": "", "name_read": True, "settings": {}}
+        wanted = {"address": A, "device": 77, "name": "D", "vendor": "V", "model": "M", "revision": "7"}
+        wanted.update(asked="noon", reasons=["object-list: busy", "deadline"], firmware="1", status="operational")
+        asked_for = {"devices": False, "held": True, "details": True, "objects": 9, "deadline": 60, "name_only": False}
+        changes = {"changes": ["new: 0:1", "gone: 0:2"]}
+        for columns, objects, added in ((self.all, [{**fan, **more}, {**own, **lacks}], changes),
+                                        (Columns(bounds=self.bounds), [fan, own], {})):
+            found = json.loads(as_json(self.device, columns))
+            self.assertEqual(found, {**wanted, "asked_for": asked_for, "objects": objects, **added})
+
+    def test_a_list_for_poll(self):
+        fan, own = self.device.objects
+        own.value, fan.value = Value(Kind.TEXT, "a"), NOTHING
+        for object_type, name, why in ((0, "Two  words", ["present-value: timeout"]), (0, "Gone", ["units: timeout"]),
+                                       (2, "", ["present-value: busy"])):
+            self.device.objects.append(SiteObject(object_type, 5, name, reasons=why))
+        self.assertEqual(PollList().of(self.device, self.all), f"""\
+# {A}  device 77  D  object-list: busy  deadline
+# 1 name not read, but taken from an earlier survey
+77.X 77@{A} 300 2 present-value
+77.Two_words 77@{A} analog-input 5 present-value
+77.analog-value 77@{A} analog-value 5 present-value
+""")
+        self.assertEqual(PollList().of(Device(A, reasons=["timeout"]), self.all), f"# {A}  timeout\n")
+
+    def test_counts(self):
+        for devices, told, missing in (
+            ([], "3 asked, 0 devices, 0 silent", False),
+            ([Device(A, 7)], "3 asked, 1 device, 0 silent", False),
+            ([Device(A, reasons=["timeout"])], "3 asked, 0 devices, 1 silent", True),
+            ([Device(A, reasons=["timeout"], hidden=True)], "3 asked, 0 devices, 1 silent", False),
+            ([Device(A, reasons=["timeout"], hidden=True, changes=["was 7"])], "3 asked, 0 devices, 1 silent", True),
+            ([Device(A, reasons=["busy"])],
+             "3 asked, 0 devices, 0 silent, 1 for another reason without a device", True),
+            ([Device(A + "/5/*", reasons=["x"])], "3 asked, 0 devices, 0 silent", True),
+            ([Device(A + "/5/01", 7), Device(A + "/5/01", 8), Device(A + "/6/01", 9)],
+             "3 asked, 3 devices, 0 silent, 2 stations answered on 2 networks", False),
+            ([Device(A + "/5/01", 7), Device(A + "/5/02", reasons=["timeout"])],
+             "3 asked, 1 device, 1 silent, 1 station answered on 1 network", True),
+            ([Device(A, 7, objects=[SiteObject(0, 1, reasons=["units: busy"])])], "3 asked, 1 device, 0 silent", True),
+        ):
+            counts = Counts(3)
+            for it in devices:
+                counts.add(it)
+            self.assertEqual((counts.line(), counts.missing), (told + "\n", missing))
 
 
 class Heads(harness.SiteTest):

@@ -13,7 +13,7 @@ import harness
 import bacsite
 from bacsite.check import OK, CRITICAL, UNKNOWN, WARNING, range_of, verdict_on, verdict_on_flags
 from bacsite.points import Point
-from bacsite.poll import Reading
+from bacsite.poll import Reading, metrics_of, row_of
 from bacsite.streams import Failure
 from bacsite.values import NOTHING, Kind, Value, fault
 from stand_ins import an_object, bits, enumerated, real, string, unsigned
@@ -292,6 +292,43 @@ class Ranges(unittest.TestCase):
         for warning, status in (("0", WARNING), ("1", UNKNOWN)):
             found = verdict_on(unread, range_of(warning), range_of(""))
             self.assertEqual(found.status, status)
+
+
+class Told(unittest.TestCase):
+    def test_readings(self):
+        """Rows of a poll, and metrics: a point that is good, one with a fault, and others without a good value."""
+        alarm = Value(Kind.OTHER, "in-alarm, fault", bits=("in-alarm", "fault"))
+        out, over = (Value(Kind.OTHER, it, bits=(it,)) for it in ("out-of-service", "overridden"))
+        at, one, two = "192.0.2.7:47808", Value(Kind.NUMBER, "1"), Value(Kind.NUMBER, "2", "active")
+        readings = [Reading(Point("room", at), Value(Kind.NUMBER, "21.5"), "T", Value(Kind.OTHER, "normal"))]
+        readings += [Reading(Point('q"\\', at, 77), two, "T", alarm, "Night"), Reading(Point("c", at, 0), two, "T")]
+        readings += [Reading(Point("d", at), fault("timeout"), "T")]
+        readings += [Reading(Point("e", at), Value(Kind.TEXT, "a"), "T", fault("abort 0"))]
+        readings += [Reading(Point("f", at), one, "T", out), Reading(Point("g", at), one, "T", over, "On")]
+        self.assertEqual("".join(map(row_of, readings)).split("\n"), [
+            "T\troom\t21.5\t-\t-\t-",
+            'T\tq"\\\t-\tfault: 2 (Night)\tin-alarm, fault\tNight',
+            "T\tc\t2\t-\t-\t-",
+            "T\td\t-\ttimeout\t-\t-",
+            "T\te\ta\t-\tstatus-flags: abort 0\t-",
+            "T\tf\t1\t-\tout-of-service\t-",
+            "T\tg\t1\t-\toverridden\tOn",
+            "",
+        ])
+        names = ["room", 'q\\"\\\\', *"cdefg"]
+        mark = [f'{{point="{it}",address="{at}"}}' for it in names]
+        mark[1:3] = [it[:-1] + f',device="{device}"}}' for it, device in zip(mark[1:3], (77, 0))]
+        up = [f"bacnet_up{it} {int(is_up)}" for it, is_up in zip(mark, (True, False, True, False, False, False, True))]
+        values = [f"bacnet_value{mark[place]} {value}" for place, value in ((0, 21.5), (2, 2), (5, 1), (6, 1))]
+        flags = ((1, "in-alarm"), (1, "fault"), (5, "out-of-service"), (6, "overridden"))
+        flags = [f'bacnet_flag{mark[place][:-1]},flag="{it}"}} 1' for place, it in flags]
+        up_head = ["# HELP bacnet_up Whether the point has a value, and neither a fault nor is out of service."]
+        up_head += ["# TYPE bacnet_up gauge"]
+        value_head = ["# HELP bacnet_value The value of the point.", "# TYPE bacnet_value gauge"]
+        flag_head = ["# HELP bacnet_flag 1 for each status flag of the point that is set.", "# TYPE bacnet_flag gauge"]
+        wanted = [*up_head, *up, *value_head, *values, *flag_head, *flags, ""]
+        self.assertEqual(metrics_of(readings).split("\n"), wanted)
+        self.assertEqual(metrics_of(readings[:1]).split("\n"), [*up_head, up[0], *value_head, values[0], ""])
 
 
 class Check(harness.SiteTest):

@@ -3,6 +3,7 @@
 import unittest
 
 import harness
+from datagram_builders import wrapped
 from routers import StrictRouter
 from stand_ins import StandIn, local_socket, string
 
@@ -10,14 +11,15 @@ from bacsite.capture.command import is_wanted
 from bacsite.capture.lines import line_of
 from bacsite.capture.talks import Pairing
 from bacsite.messages import Datagram, Refusals, message_of, network_message_of
-from bacsite.sweep import EVERYONE, MOST_STATIONS, Reach, Station, nearest, parts_of
+from bacsite.sweep import EVERYONE, MOST_STATIONS, Reach, Station, nearest, parts_of, station_of
 from bacsite.values import Why, why_of
 
 NAMED = {(8, 77, number): string("Router") for number in (70, 77, 121)}
-LISTEN = ["--listen", "1", "--listen-port", "0"]
 
 
 class Networks(harness.SiteTest):
+    patience = harness.PATIENT
+
     def setUp(self):
         super().setUp()
         self.router = self.stand_in(NAMED, kind=StrictRouter)
@@ -30,7 +32,7 @@ class Networks(harness.SiteTest):
         }
 
     def found(self, *words, status=0, counts=None):
-        got, out, err = self.run_site("survey", *words, *LISTEN)
+        got, out, err = self.run_site("survey", *words, *harness.LISTEN)
         self.assertEqual(got, status, out + err)
         if counts:
             self.assertEqual(err, counts + "\n")
@@ -103,6 +105,10 @@ class Networks(harness.SiteTest):
         asked = [it for it in self.router.asked if len(it) == 2]
         self.assertEqual(asked, [(7, "")] * 2, "asked twice")
 
+    def test_nothing_can_be_sent_to_a_router(self):
+        (line,) = self.found("127.0.0.1:0/7/*", status=1)
+        self.assertEqual(line[-1], "no station answers (the system refused to send it)")
+
     def test_two_routers(self):
         other = StrictRouter(78, {})
         other.stations = self.router.stations
@@ -135,7 +141,7 @@ class Networks(harness.SiteTest):
         counts = "0 asked, 0 devices, 0 silent, 1 for another reason without a device, "
         counts += "1 station answered on 1 network"
         told = "timeout; device 9 answers a Who-Is, and no read"
-        found = self.found("HERE/6/*", status=1, counts=counts)
+        found = self.found("HERE/6/*", *harness.HURRIED, status=1, counts=counts)
         self.assertEqual(found, [("6/0a0b", "device -", *told.split("  "))])
 
     def test_a_port_that_is_taken(self):
@@ -208,10 +214,20 @@ class Messages(unittest.TestCase):
         ):
             pairing.take(message_of(Datagram(nanos, sender, receiver, bytes.fromhex(octets))))
         entries = list(pairing.rest(10**10))
-        self.assertTrue(all(is_wanted(it, "failed", 0) for it in entries))
+        for only, shown in ((None, [True] * 4), ("failed", [True] * 4), ("slow", [False] * 4)):
+            self.assertEqual([is_wanted(it, only, 0) for it in entries], shown)
         talk, *others = map(line_of, entries)
         told = "no answer  reject-message-to-network 5: no route to that network (1)"
         self.assertTrue(talk.startswith("!") and talk.endswith(told), talk)
+        pairing = Pairing()
+        for at, sender, receiver, octets in (
+            (0, "10.0.0.9:1", "10.0.0.1:2", request),
+            (1, "10.0.0.1:2", "10.0.0.9:1", "810a000a018003010005"),
+            (9, "10.0.0.1:2", "10.0.0.9:1", "810a001801080005010130010c0c02000007194d3e75020041" + "3f"),
+        ):
+            pairing.take(message_of(Datagram(at * 10**6, sender, receiver, bytes.fromhex(octets))))
+        talk, _ = pairing.rest(10**10)
+        self.assertEqual(line_of(talk).split("): ")[1], "A  9.00 ms", "a refusal explains nothing if an answer came")
         words = "reject-message-to-network 6: no route to that network (1)"
         self.assertTrue(others[-1].startswith("!") and others[-1].endswith(words), others[-1])
 
@@ -226,6 +242,23 @@ class Messages(unittest.TestCase):
         ):
             self.assertEqual([it.word for it in nearest(reaches, Station(1, address))], wanted)
         self.assertEqual(nearest(reaches[2:], Station(1, "10.0.0.2:9/6/01")), [])
+
+    def test_what_a_station_says_of_itself(self):
+        """An I-Am has a device, the longest APDU, the segmentation and the maker, and comes from behind a router."""
+        device, more, route = "c402000007", "2201e091032105", "01080005010a"
+        for apdu, head, is_one in (
+            ("1000" + device + more, route, True),
+            ("1000" + device + more[:-4], route, False),
+            ("1000" + device + more + "2105", route, False),
+            ("1000" + device, route, False),
+            ("1000c400000007" + more, route, False),
+            ("10002207d0" + more, route, False),
+            ("1001" + device + more, route, False),
+            ("3000" + device + more, route, False),
+            ("1000" + device + more, "0100", False),
+        ):
+            message = message_of(Datagram(0, "10.0.0.1:2", "", bytes.fromhex(wrapped(apdu, head))))
+            self.assertEqual(station_of(message), Station(7, "10.0.0.1:2/5/0a") if is_one else None, apdu + head)
 
     def test_no_more_stations_than_that(self):
         reach = Reach("10.0.0.1:2/5/*")

@@ -28,6 +28,61 @@ HOSTILE = [
 ]
 
 
+HOST = 192 << 24 | 2 << 8  # of 192.0.2.0
+SOFT = '<span class="soft">'
+WHOLE = f"""\
+<table class="devices"><thead><tr><th scope="col" class="id">Address</th><th scope="col" class="id">Instance</th>\
+<th scope="col" class="name">Name</th><th scope="col" class="words">Vendor</th><th scope="col" class="words">Model</th>\
+<th scope="col" class="count">Objects</th><th scope="col" class="flags">Flags</th>\
+<th scope="col" class="reason">Missing</th></tr></thead><tbody>
+<tr class="heard"><td class="id" data-n="{HOST + 7 << 16 | 47808}"><a href="#d0">192.0.2.7:47808</a></td>\
+<td class="id" data-n="1234">1234</td><td class="name"><bdi>Small</bdi></td><td class="words"><bdi>V</bdi></td>\
+<td class="words"><bdi>M</bdi></td><td class="count" data-n="3">3</td>\
+<td class="flags"><span class="badge in-alarm">1 in-alarm</span></td>\
+<td class="reason">object-list: busy; deadline; something of 1 of its objects</td></tr>
+<tr class="silent"><td class="id" data-n="{HOST + 8 << 16 | 1}"><a href="#d1">192.0.2.8:1</a></td><td class="id"></td>\
+<td class="name"></td><td class="words"></td><td class="words"></td><td class="count" data-n="0"></td>\
+<td class="flags"></td><td class="reason">timeout</td></tr>
+<tr class="heard"><td class="id" data-n="{HOST + 9 << 16 | 1}"><a href="#d2">192.0.2.9:1</a></td>\
+<td class="id" data-n="0">0</td><td class="name"></td><td class="words"></td><td class="words"></td>\
+<td class="count" data-n="0">0</td><td class="flags"></td><td class="reason"></td></tr>
+</tbody></table>
+<section class="device" id="d0" data-head="192.0.2.7:47808 1234 Small V M object-list: busy; deadline" data-odd="1">
+<h2><bdi>Small</bdi></h2>
+<dl><div><dt>address</dt><dd>192.0.2.7:47808</dd></div><div><dt>instance</dt><dd>1234</dd></div>\
+<div><dt>vendor</dt><dd><bdi>V</bdi></dd></div><div><dt>model</dt><dd><bdi>M</bdi></dd></div>\
+<div><dt>firmware</dt><dd><bdi>2</bdi></dd></div><div><dt>asked</dt><dd>noon</dd></div>\
+<div><dt>objects</dt><dd>3, 2 of them with all that was asked for</dd></div></dl>
+<p class="reason">object-list: busy; deadline</p>
+<p class="soft">since: new; gone: 0:1</p>
+<table class="objects"><thead><tr><th scope="col" class="id">Object</th><th scope="col" class="type">Type</th>\
+<th scope="col" class="name">Name</th><th scope="col" class="value">Value</th><th scope="col" class="flags">Flags</th>\
+<th scope="col" class="reason">Missing</th></tr></thead><tbody>
+<tr data-odd="1"><td class="id" data-n="5">0:5</td><td class="type">analog-input</td>\
+<td class="name"><bdi>T</bdi> {SOFT}<bdi>Roof</bdi></span> {SOFT}<bdi>high-limit 30</bdi></span></td>\
+<td class="value" data-n="-72.3"><bdi>-72.3</bdi> <span class="unit">degrees-celsius</span> \
+{SOFT}priority 8 (manual-operator)</span></td>\
+<td class="flags"><span class="badge in-alarm">in-alarm</span></td><td class="reason"></td></tr>
+<tr data-odd="1"><td class="id" data-n="16777221">4:5</td><td class="type">binary-output</td><td class="name"></td>\
+<td class="value" data-n="1.0"><bdi>1</bdi> <span class="meaning">(<bdi>On</bdi>)</span></td>\
+<td class="flags">{SOFT}normal</span></td><td class="reason">object-name: timeout; units: busy</td></tr>
+<tr><td class="id" data-n="1258291201">300:1</td><td class="type"></td><td class="name"><bdi>X</bdi></td>\
+<td class="value"><bdi>a&lt;b</bdi></td><td class="flags">{SOFT}</span></td><td class="reason"></td></tr>
+</tbody></table>
+</section>
+<section class="device silent" id="d1" data-head="192.0.2.8:1     timeout" data-odd="1">
+<h2><bdi>192.0.2.8:1</bdi></h2>
+<dl><div><dt>address</dt><dd>192.0.2.8:1</dd></div><div><dt>asked</dt><dd>one o&#x27;clock</dd></div></dl>
+<p class="reason">timeout</p>
+</section>
+<section class="device" id="d2" data-head="192.0.2.9:1 0    ">
+<h2><bdi>device 0</bdi></h2>
+<dl><div><dt>address</dt><dd>192.0.2.9:1</dd></div><div><dt>instance</dt><dd>0</dd></div>\
+<div><dt>objects</dt><dd>0, 0 of them with all that was asked for</dd></div></dl>
+</section>
+"""
+
+
 class Reader(HTMLParser):
     """Notes the tags, attributes and texts of a page."""
 
@@ -117,6 +172,23 @@ class Pages(unittest.TestCase):
         self.assertIn('<td class="count" data-n="2">2</td>', page)
         self.assertIn('<td class="count" data-n="0"></td>', page)
         self.assertEqual(safe("a<b\u202e"), "a&lt;b\\u202e")
+
+    def test_the_whole_page(self):
+        """Each line of the body, from the count of the devices to the end of the last section."""
+        objects = [an_object(0, "-72.3", name="T", unit="degrees-celsius", flags=("in-alarm",), description="Roof")]
+        objects += [an_object(4, "1", meaning="On", flags=(), reasons=["object-name: timeout", "units: busy"])]
+        objects += [SiteObject(300, 1, "X", Value(Kind.TEXT, "a<b"))]
+        objects[0].priorities, objects[0].settings = (8, 9), {"high-limit": "30"}
+        devices = [Device(HERE, 1234, "Small", "V", "M", objects=objects, asked="noon", changes=["new", "gone: 0:1"])]
+        devices[0].facts, devices[0].reasons = {"firmware": "2"}, ["object-list: busy", "deadline"]
+        devices += [Device("192.0.2.8:1", reasons=["timeout"], asked="one o'clock"), Device("192.0.2.9:1", 0)]
+        page, _ = read(devices)
+        rows = page[page.index("<h1>") : page.index("<script>")].split("\n")
+        counts = "3 devices, 1 of them silent; 3 objects, 2 of them with a flag set or something missing"
+        head = ["<h1>Survey of BACnet/IP devices</h1>", f'<p class="soft">Made at now. {counts}.</p>']
+        self.assertEqual(rows[:2], head)
+        self.assertEqual(rows[6:8], ['<span id="told" class="soft" role="status" data-all="3"></span>', "</div>"])
+        self.assertEqual(rows[8:], WHOLE.split("\n"))
 
     def test_what_was_asked_for_beside_that(self):
         """Text of a device is not markup here either."""

@@ -224,6 +224,8 @@ class Frames(unittest.TestCase):
             (101, udp(CLIENT, DEVICE, b"hello"), "UDP of something else"),
             (101, udp(CLIENT, DEVICE, OCTETS + b"\0"), "UDP of something else"),
             (101, udp(CLIENT, DEVICE, b"\x81\x20\0\4"), "UDP of something else"),
+            (101, udp(CLIENT, DEVICE, b"\x82\x0a\0\4"), "UDP of something else"),
+            (101, udp(CLIENT, DEVICE, b"\x81\x0a\0"), "UDP of something else"),
             (101, udp(CLIENT, DEVICE, b"\x81\x0d\0\4"), "UDP of something else"),
             (101, udp(CLIENT, DEVICE, b""), "UDP of something else"),
         ]
@@ -237,6 +239,10 @@ class Frames(unittest.TestCase):
             found, passed = self.found(Packet(TIME, 101, 0, octets), Packet(TIME, 101, 0, INNER))
             self.assertEqual([it.is_cut for it in found], [True, False])
             self.assertEqual((found[0].octets, passed), (OCTETS[:-lost], {}))
+        short = bytearray(INNER + b"padding")
+        short[2:4] = struct.pack(">H", len(INNER) - 3)
+        (found,), passed = self.found(Packet(TIME, 101, 0, bytes(short)))
+        self.assertEqual((found.octets, found.is_cut, passed), (OCTETS[:-3], True, {}), "what IP says is not exceeded")
 
     def test_copies(self):
         """A datagram on two interfaces is one and a copy; a second one on the same interface is not a copy."""

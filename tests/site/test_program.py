@@ -5,6 +5,7 @@ import glob
 import os
 import pty
 import re
+import select
 import shutil
 import signal
 import subprocess
@@ -19,7 +20,7 @@ from contextlib import suppress
 import harness
 import bacsite
 from bacsite.tools import NotBegun, Processes
-from stand_ins import enumerated, local_socket, real, string
+from stand_ins import StandIn, enumerated, local_socket, real, string
 
 # The names of modules at the front of each line of the package's text.
 LINES = re.findall(r"(?m)^    ([a-z_/]+(?:, [a-z_/]+)*)", bacsite.__doc__)
@@ -142,6 +143,16 @@ class Running(unittest.TestCase):
             processes.start(["true"])
 
 
+class HeldStandIn(StandIn):
+    """A device that answers once it may."""
+
+    may_answer = threading.Event()
+
+    def reply(self, apdu):
+        self.may_answer.wait(60)
+        return super().reply(apdu)
+
+
 class Streams(harness.SiteTest):
     def test_full_and_closed_streams(self):
         words = ("read", "DEV", "0", "5", "85")
@@ -176,19 +187,23 @@ class Streams(harness.SiteTest):
 
     def test_a_terminal_is_told_how_far_it_is(self):
         terminal, side = pty.openpty()
-        slow = self.stand_in({(0, 1, 85): real("42290000")}, delay=harness.at_load(0.7))
+        slow = self.stand_in({(0, 1, 85): real("42290000")}, kind=HeldStandIn)
         words = ["read", "--no-flags", slow.address, "0", "1", "85", "--apdu-timeout", "20000"]
-        done = subprocess.run([*self.world.command, *words], stdout=subprocess.PIPE, stderr=side)
+        wanted, shown = b"\r0 of 1 done, 1 calls ", b""
+        with subprocess.Popen([*self.world.command, *words], stdout=subprocess.PIPE, stderr=side) as process:
+            while wanted not in shown and select.select([terminal], [], [], harness.at_load(20))[0]:
+                shown += os.read(terminal, 9999)
+            slow.may_answer.set()
+            self.assertEqual(process.communicate()[0], b"42.25\n")
+        self.assertIn(wanted, shown)
         os.close(side)
-        self.assertEqual(done.stdout, b"42.25\n")
-        self.assertIn(b"\r0 of 1 done, 1 calls ", os.read(terminal, 9999))
         os.close(terminal)
 
 
 class Signals(harness.SiteTest):
     def ended(self, number, words):
         with local_socket() as dead:
-            dead.settimeout(30)
+            dead.settimeout(harness.at_load(30))
             here = "127.0.0.1:%d" % dead.getsockname()[1]
             path = self.path("some-%s" % here, "p %s 0 1 85" % here)
             command, *rest = words.replace("LIST", path).replace("HERE", here).split()
@@ -196,7 +211,7 @@ class Signals(harness.SiteTest):
             dead.recv(99)
             process.send_signal(number)
             begun = time.monotonic()
-            out, err = process.communicate(timeout=30)
+            out, err = process.communicate(timeout=harness.at_load(30))
             return process.returncode, out, err, time.monotonic() - begun < harness.at_load(6)
 
     def test_they_end_it_at_once(self):
@@ -251,7 +266,7 @@ class Signals(harness.SiteTest):
         while not slow.asked:
             time.sleep(0.01)
         process.send_signal(signal.SIGHUP)
-        self.assertEqual((process.communicate(timeout=30)[0], process.returncode), (b"42.25\n", 0))
+        self.assertEqual((process.communicate(timeout=harness.at_load(30))[0], process.returncode), (b"42.25\n", 0))
 
 
 class OneFile(harness.SiteTest):

@@ -40,6 +40,18 @@ class Ranges(harness.SiteTest):
         del stranger.values[8, 77, 75]
         self.rows("survey HERE => 1 HERE  device -  error 2 32")
 
+    def test_the_device_0_is_no_other_one(self):
+        """0 names a device, as each other number does."""
+        told = "another device: 8:1000"
+        self.rows(f"""
+            survey 0@DEV => 1 DEV  device -  {told}
+            read 0@DEV 0 5 85 => 1 {told}
+            properties 0@DEV 0 5 => 1 77 object-name {told}
+            check 0@DEV 0 5 85 => 3 BACNET UNKNOWN - {told}
+            write 0@DEV 1 1 20 --priority 8 => 1 !{told}; no write was sent
+            prometheus {self.path("zero", "z 0@DEV 0 5 85")} IN/zero.prom => 1
+        """)
+
     def test_two_who_answer_a_who_is_are_none(self):
         self.stand_in(NAMED, kind=TwoStandIn, knows_itself=False)
         self.rows("survey HERE => 1 HERE  device -  error 1 31")
@@ -56,6 +68,14 @@ class Ranges(harness.SiteTest):
         found = self.run_site("survey", "127.0.0.1-2:" + port)
         self.assertEqual(found, (1, "", "2 asked, 0 devices, 2 silent\n"))
 
+    def test_a_range_shows_where_nothing_can_be_sent(self):
+        """Nobody is at the first address, and the second one is for broadcasts."""
+        port = self.names["DEAD"].split(":")[1]
+        found = self.run_site("survey", "127.255.255.254-255:" + port)
+        line = "127.255.255.255:%s  device -  timeout (the system refused to send it)\n" % port
+        counts = "2 asked, 0 devices, 1 silent, 1 for another reason without a device\n"
+        self.assertEqual(found, (1, line, counts))
+
     def test_a_range_hides_nobody_who_answers_a_who_is(self):
         port = self.names["DEV"].split(":")[1]
         status, out, err = self.run_site("survey", "--devices", "--sorted", "127.0.0.1-2:" + port)
@@ -71,24 +91,28 @@ class Ranges(harness.SiteTest):
 
     def test_one_who_answers_very_late_is_not_hidden(self):
         """The answer of a late device is awaited for longer than all the first requests."""
+        slow = max(1, round(harness.at_load(0.4)))  # on a busy machine all takes so many times as long
+        hurried = ["--apdu-timeout", str(300 * slow)]
         for values, told in (
             ({}, "device 77 answers a read very late"),
             ({(8, 4194303, 75): ("error", 1, 31)}, "a read is answered very late: error 1 31"),
             ({(8, 4194303, 75): an_object(0, 1)}, "a read is answered very late: by no device"),
         ):
-            self.stand_in({**NAMED, **values}, kind=LateStandIn, delay=1.8)
+            self.stand_in({**NAMED, **values}, kind=LateStandIn, delay=1.8 * slow)
             word = "127.0.0.1-2:" + self.names["HERE"].split(":")[1]
             line = self.spelled("HERE  device -  timeout; %s\n" % told)
             counts = "2 asked, 0 devices, 1 silent, 1 for another reason without a device\n"
-            self.assertEqual(self.run_site("survey", word, *HURRIED), (1, line, counts))
-        found = self.run_site("survey", word, "--apdu-timeout", "250", "--deadline", "2")
-        late = line.partition(";")[0] + "; a read is answered very late\n"
-        self.assertEqual(found, (1, late, counts), "what came to the first socket counts")
-        words = ["survey", "--devices", "--sorted", "--silent", word, "1000@DEV", *HURRIED]
+            self.assertEqual(self.run_site("survey", word, *hurried), (1, line, counts))
+        words = ["survey", "--devices", "--sorted", "--silent", word, "1000@DEV", *hurried]
         lines = self.run_site(*words)[1].splitlines()
         other = line.replace("127.0.0.1", "127.0.0.2").partition(";")[0]
         self.assertEqual(lines[:2], [line[:-1], other])
         self.assertIn("  device 1000  ", lines[2])
+        self.stand_in(NAMED, kind=LateStandIn, delay=1.3 * slow)
+        word = "127.0.0.1-2:" + self.names["HERE"].split(":")[1]
+        found = self.run_site("survey", word, "--apdu-timeout", str(250 * slow), "--deadline", str(2 * slow))
+        late = self.spelled("HERE  device -  timeout; a read is answered very late\n")
+        self.assertEqual(found, (1, late, counts), "what came to the first socket counts")
 
     def test_one_request_at_a_time(self):
         """A device that serves one request after another answers each only after the survey gave it up; the last read

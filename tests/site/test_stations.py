@@ -11,7 +11,6 @@ import unittest
 import harness
 from stand_ins import NULL, RouterStandIn, StandIn, an_object, enumerated, real, string, unsigned
 
-LISTEN = ["--listen", "1", "--listen-port", "0"]  # another test may have the usual port
 NAMED = {(8, 77, 77): string("Router"), (8, 77, 121): string("V"), (8, 77, 70): string("M")}
 OWN = {**NAMED, (8, 77, 76): an_object(8, 77)}
 
@@ -28,6 +27,8 @@ def station(instance, octets, **more):
 
 
 class Stations(harness.SiteTest):
+    patience = harness.PATIENT
+
     def setUp(self):
         super().setUp()
         self.first, self.second = station(11, "42290000"), station(12, "42480000")
@@ -92,7 +93,7 @@ class Stations(harness.SiteTest):
         )
 
     def test_a_survey_of_stations(self):
-        status, out, _ = self.run_site("survey", "HERE", "--stations", *LISTEN)
+        status, out, _ = self.run_site("survey", "HERE", "--stations", *harness.LISTEN)
         lines = ["HERE  device 77  Router  V  M"]
         for route, instance, value in (("5/01", 11, "42.25"), ("65534/0a0b0c", 12, "50")):
             lines.append("HERE/%s  device %d  S  S  S" % (route, instance))
@@ -100,7 +101,7 @@ class Stations(harness.SiteTest):
         self.assertEqual((status, out), (0, self.spelled("\n".join(lines) + "\n")))
         self.assertEqual(self.router.early, 0)
         page = self.path("stations.html", "")
-        self.assertEqual(self.run_site("survey", "HERE", "--stations", *LISTEN, "--html", page)[0], 0)
+        self.assertEqual(self.run_site("survey", "HERE", "--stations", *harness.LISTEN, "--html", page)[0], 0)
         with open(page, encoding="utf-8") as file:
             self.assertIn(self.spelled("HERE/5/01</a>"), file.read())
 
@@ -114,12 +115,12 @@ class Stations(harness.SiteTest):
 
     def test_a_station_that_is_gone(self):
         """A station that is gone is reported for each way to ask for the stations behind the router."""
-        for words in ["HERE"], ["HERE", "--stations", *LISTEN], ["HERE/5/*", *LISTEN]:
+        for words in ["HERE"], ["HERE", "--stations", *harness.LISTEN], ["HERE/5/*", *harness.LISTEN]:
             self.router.stations = {"5/01": self.first, "5/02": self.second}
             before = self.path("stations.json", self.naming_both(*words))
             self.assertNotIn("since", self.run_site("survey", *words, "--since", before)[1])
             self.router.stations = {"5/01": self.first}
-            status, out, _ = self.run_site("survey", *words, "--since", before)
+            status, out, _ = self.run_site("survey", *words, "--since", before, patience=harness.HURRIED)
             name = "" if words == ["HERE"] else " S"
             wanted = "HERE/5/02  device -  timeout\n  since: was device 12%s\n" % name
             self.assertEqual(status, 1)
@@ -159,8 +160,8 @@ class Stations(harness.SiteTest):
         self.rows("read 13@HERE/5/03 0 1 85 => 0 42.25")
         self.rows("survey --devices HERE/5/03 => 0 HERE/5/03  device 13  S  S  S")
 
-    def written(self, *words, status=0):
-        found, out, err = self.run_site("write", "HERE/5/01", *words)
+    def written(self, *words, status=0, **more):
+        found, out, err = self.run_site("write", "HERE/5/01", *words, **more)
         self.assertEqual((found, err), (status, ""))
         return out.splitlines()[3:]
 
@@ -196,7 +197,8 @@ class Stations(harness.SiteTest):
             ("silent", "outcome not known: the write may have been made (timeout)", 3),
         ):
             self.first.writes, self.first.written = mode, []
-            line = self.written("1", "1", "20", "--priority", "8", status=1)[0]
+            patience = harness.HURRIED if mode == "silent" else self.patience
+            line = self.written("1", "1", "20", "--priority", "8", status=1, patience=patience)[0]
             self.assertEqual(line, "write 20 at priority 8: " + told)
             self.assertEqual(len(self.first.written), count, "sent again after a time-out alone")
 

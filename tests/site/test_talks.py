@@ -2,8 +2,9 @@
 import unittest
 
 from datagram_builders import CLIENT, DEVICE, ack, datagrams, exchange, read_apdu, wrapped
-from bacsite.capture.command import Group, marks_of
+from bacsite.capture.command import ALL, Group, Tally, marks_of
 from bacsite.capture.lines import json_of, line_of, millis
+from bacsite.capture.pcap import Passing
 from bacsite.capture.talks import MILLI, Pairing, Talk
 from bacsite.messages import message_of
 
@@ -279,6 +280,7 @@ class Pairs(unittest.TestCase):
                 ]
                 (talk,) = entries(steps)
                 self.assertEqual((talk.has_failed, "OTHER" in line_of(talk)), (is_other, is_other))
+        self.assertTrue(line_of(talk).endswith(": 72.3  1.00 ms  OTHER: the answer is of 0 5 85 1"), line_of(talk))
 
     def test_types(self):
         """The octets show the type of a value, also for a vendor's property and if the property has another type."""
@@ -321,11 +323,23 @@ class Pairs(unittest.TestCase):
         self.assertLess(len(pairing.latest), 100)
 
     def test_json(self):
-        found = json_of(entries(exchange(0, 1.25, 1, "710104"))[0])
-        self.assertEqual(
-            [found[it] for it in ("outcome", "failed", "ms", "object", "invoke_id", "remarks")],
-            ["abort 4", True, 1.25, [0, 5, 85], 1, []],
-        )
+        what = "read analog-input 5 present-value (0 5 85)"
+        talk = {"kind": "talk", "time": "2026-01-01T00:00:00.000Z", "client": CLIENT, "device": DEVICE, "invoke_id": 1}
+        talk.update(service=12, what=what, object=[0, 5, 85], written=None, priority=None, ms=1.25, remarks=[])
+        talk.update(outcome="abort 4", shown="abort 4 (segmentation-not-supported)", failed=True)
+        self.assertEqual(json_of(entries(exchange(0, 1.25, 1, "710104"))[0]), talk)
+        again = "sent 2 times, 1000 ms apart"
+        talk.update(outcome="value 4290999a", shown="72.3", failed=False, ms=1002.5, remarks=[again])
+        self.assertEqual(json_of(entries(exchange(0, None) + exchange(1000, 1002.5))[0]), talk)
+        written = "0005020f0c00400001195529023e4441a000003f4908"
+        found = json_of(entries([(1500, CLIENT, DEVICE, wrapped(written)), (2000, CLIENT, DEVICE, wrapped("1008"))])[0])
+        talk.update(time="2026-01-01T00:00:01.500Z", invoke_id=2, service=15, object=[1, 1, 85, 2], written="20")
+        talk.update(priority=8, what="write analog-output 1 present-value[2] (1 1 85 2) = 20 at 8", ms=None)
+        talk.update(outcome="no answer", shown="no answer", failed=True, remarks=["the capture ends 500 ms later"])
+        self.assertEqual(found, talk)
+        other = {"kind": "other", "time": "2026-01-01T00:00:02.000Z", "client": CLIENT, "device": DEVICE}
+        found = json_of(entries([(2000, CLIENT, DEVICE, wrapped("1008"))])[0])
+        self.assertEqual(found, {**other, "what": "Who-Is"})
 
     def test_steering(self):
         """Text from a device does not control a terminal."""
@@ -385,8 +399,38 @@ class Counts(unittest.TestCase):
         for entry in entries(sorted(steps)):
             group.add(["requests", *marks_of(entry, 1000 * 10**6)], entry.took)
         figures = group.figures()
-        names = "requests answered refused unanswered slow median_ms longest_ms".split()
-        self.assertEqual([figures[it] for it in names], [4, 2, 1, 1, 1, 1.0, 1990.0])
+        wanted = {"requests": 4, "answered": 2, "refused": 1, "unanswered": 1, "sent_again": 0, "slow": 1, "late": 0}
+        wanted.update(answered_twice=0, asked_again=0, open_at_the_end=1, failed=2)
+        self.assertEqual(figures, {**wanted, "median_ms": 1.0, "ms_of_95": 1990.0, "longest_ms": 1990.0})
+
+    def test_a_summary_has_each_mark(self):
+        """A resend and a late answer; a second answer; an answered request again; a slow one; one that is open."""
+        late = exchange(0, None) + resend(1000) + [(2100, DEVICE, CLIENT, wrapped(ack(1)))]
+        steps = late + exchange(3000, 3001, 2) + [(3002, DEVICE, CLIENT, wrapped(ack(2)))]
+        steps += exchange(4000, 4001, 3) + exchange(4500, 4502, 3) + exchange(5000, 6000, 4, to=OTHER)
+        steps += exchange(7000, None, 5) + [(7400, CLIENT, DEVICE, wrapped("1008"))]
+        tally, passing = Tally(1000 * MILLI), Passing(packets=13)
+        for entry in entries(steps):
+            tally.add(entry)
+        self.assertEqual(list(tally.lines(passing)), """\
+6 requests of 1 client to 2 devices: 5 answered, 0 refused, 1 unanswered
+of these 1 sent again, 2 slow, 1 late, 1 answered twice, 1 asked again, 1 open at the end, 2 failed
+device           requests  answered  refused  unanswered  sent again  slow  median ms  longest ms
+127.0.0.1:47808  5         4         0        1           1           1     1.00       2100
+127.0.0.2:47808  1         1         0        0           0           1     1000       1000
+also seen: Who-Is 1""".split("\n"))
+        none = dict.fromkeys(ALL, 0)
+        other = {**none, "requests": 1, "answered": 1, "slow": 1}
+        other.update({"median ms": 1000, "ms of 95": 1000, "longest ms": 1000})
+        first = {**none, "requests": 5, "answered": 4, "unanswered": 1, "sent again": 1, "slow": 1, "late": 1}
+        first.update({"failed": 2, "answered twice": 1, "asked again": 1, "open at the end": 1})
+        first.update({"median ms": 1, "ms of 95": 2100, "longest ms": 2100})
+        both = {name: first[name] + other[name] for name in ALL}
+        both.update({"median ms": 2, "ms of 95": 2100, "longest ms": 2100})
+        told = [{name.replace(" ", "_"): it for name, it in part.items()} for part in (both, first, other)]
+        wanted = {"kind": "summary", "all": told[0], "clients": 1, "devices": {DEVICE: told[1], OTHER: told[2]}}
+        wanted.update(others={"Who-Is": 1}, packets=13, cut=0, passed_over={}, damage=None)
+        self.assertEqual(tally.figures(passing), wanted)
 
 
 if __name__ == "__main__":

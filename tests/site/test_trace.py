@@ -224,6 +224,7 @@ class Against(unittest.TestCase):
         for seed in range(SEEDS):
             with self.subTest(seed=seed):
                 world = World(seed, 400, 1 + seed * 3 % 64, 300, seed % 4).run()
+                self.assertEqual(len(world.ends), 400)
                 count, odd = self.compare(world, (300, seed % 4))
                 for (
                     truth,

@@ -230,7 +230,8 @@ class Devices(harness.SiteTest):
             read DEV 0 99 85 => 1 error 1 31
             read DEAD 0 5 85 => 1 timeout
             read 7@DEAD 0 5 85 => 1 timeout
-            read 255.255.255.255 0 5 85 => 1 bactool: sending failed
+            read 255.255.255.255 0 5 85 => 1 timeout (the system refused to send it)
+            read 127.0.0.1:0/5/07 0 5 85 => 1 timeout (the system refused to send it)
             read ODD 1 3 87 2 => 0 20
             read ODD real 300 1 85 => 0 2
             read ODD integer 300 1 85 => 1 no integer: real 2

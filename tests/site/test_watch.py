@@ -12,25 +12,30 @@ import time
 import unittest
 import unittest.mock
 from contextlib import suppress
+from types import SimpleNamespace
 
 import harness
 from bacsite.controller import CALM, Controller, Pace
 from bacsite.messages import Ended
 from bacsite.page import MOST, Line, Sample, charts_page_of
 from bacsite.parsing import duration_of, parser_of
-from bacsite.points import Point
+from bacsite.points import Point, point_of
+from bacsite.poll import Meaning, Meanings, Reading
 from bacsite.standard import PropertyRef
 from bacsite.streams import Journals, Rows, Failure
-from bacsite.values import Why
-from bacsite.watch import COLUMNS, Row, curve_of, with_gaps
-from instant_devices import QuickCalls
+from bacsite.values import Kind, Value, Why, fault
+from bacsite.values import NOTHING as NOTHING_READ
+from bacsite.watch import COLUMNS, Live, Rounds, Row, Watch, _row, curve_of, with_gaps
+from instant_devices import Course, QuickCalls
 from stand_ins import StandIn, an_object, bits, enumerated, real, string, unsigned
 
+A = "192.0.2.1:47808"
 FIRST = b"\x0c\0\0\0\0\x19\x55"  # of an answer about the present value of 0:0
 HEAD = "time,point,value,unit,state,flags,missing\n"
 LAST = b"\x0c\0\0\0\xff"  # of an answer about 0:255
 ROW = r"\d{4}-\d\d-\d\dT\d\d:\d\d:\d\d\.\d{3}Z"
 NOTHING = "- - -"  # no unit, no state, no flags
+ONCE = ["--apdu-timeout", "1000", "--apdu-retries", "0"]  # one who does not answer is asked once
 DEGREES = {(0, 1, 117): enumerated(62), (0, 1, 111): bits("0000"), (0, 1, 77): string("Room")}
 
 
@@ -39,10 +44,13 @@ def data_of(page):
     return json.loads(re.search(r'id="data">(.*)</script>', page)[1])
 
 
-class Watch(harness.SiteTest):
+class Watches(harness.SiteTest):
+    patience = harness.PATIENT
+
     def watched(self, *words, **more):
         """The status, standard output without its times, and standard error."""
-        status, out, err = self.run_site("watch", "--every", "0.2", *words, **more)
+        every = "%.1f" % min(2, harness.at_load(0.5))
+        status, out, err = self.run_site("watch", "--every", every, *words, **more)
         lines = [re.fullmatch(ROW + r"\t(.*)", line)[1] for line in out.splitlines()]
         return status, [line.replace("\t", " ") for line in lines], err
 
@@ -96,7 +104,7 @@ class Watch(harness.SiteTest):
         self.stand_in(values)
         path = self.world.folder + "/odd.csv"
         points = self.path("odd", "text HERE 40 1 85\nnumber HERE 0 1 85\n")
-        self.watched(points, "--rounds", "1", "--csv", path, "--apdu-timeout", "100", "--apdu-retries", "0")
+        self.watched(points, "--rounds", "1", "--csv", path, *ONCE)
         with open(path, encoding="utf-8", newline="") as file:
             rows = list(csv.DictReader(file))
         self.assertEqual([list(it) for it in rows], [HEAD.strip().split(",")] * 2)
@@ -142,28 +150,10 @@ class Watch(harness.SiteTest):
         names = [it["name"].replace(self.names["HERE"], "HERE") for it in chart]
         self.assertEqual(names, ["HERE_0_1_85", "HERE_real_0_2_85", "77@HERE_0_3_85"])
 
-    def test_for_so_long(self):
-        self.stand_in({(0, 1, 85): real("42290000")})
-        words = ["HERE", "0", "1", "85", "--all", "--every", "1.5"]
-        self.assertEqual(len(self.watched(*words, "--for", "3.9s")[1]), 3)
-        self.assertEqual(len(self.watched(*words, "--for", "3s")[1]), 2)
-        self.assertEqual(len(self.watched(*words, "--for", "1h1m", "--rounds", "2")[1]), 2)
-        told = {"90": 90, "2.5s": 2.5, "10m": 600, "8h": 28800, "1d": 86400, "1h30m": 5400, "1d1s": 86401}
-        self.assertEqual({it: duration_of(it) for it in told}, told)
-
-    def test_no_drift(self):
-        """The fourth round begins after six seconds; with a drift it would begin 1.5 s later."""
-        device = self.stand_in({(0, 1, 85): real("42290000")}, delay=0.3)
-        words = ["--every", "2", "--rounds", "4", "--no-flags", "--apdu-timeout", "5000"]
-        self.run_site("watch", "HERE", "0", "1", "85", *words)
-        times = [at for at, asked in zip(device.times, device.asked) if asked == (0, 1, 85)]
-        self.assertEqual(len(times), 4)
-        self.assertLess(abs(times[3] - times[0] - 6), 0.75)
-
     def test_a_gap_has_a_reason_and_another_port_follows(self):
         device = self.stand_in({(0, 1, 85): [real("42290000"), "silent", real("40000000")]})
         path = self.path("one", "p HERE 0 1 85\n")
-        words = [path, "--rounds", "5", "--apdu-retries", "0", "--apdu-timeout", "100"]
+        words = [path, "--rounds", "5", *ONCE]
         wanted = ["p 42.25 - - - -", "p - - - - timeout", "p 2 - - - -"]
         self.assertEqual(self.watched(*words)[1], wanted)
         self.assertEqual(len(set(device.ports)), 2)
@@ -183,7 +173,7 @@ class Watch(harness.SiteTest):
 
         device = self.stand_in({(0, at, 85): real("42290000") for at in range(256)}, kind=Late)
         path = self.path("many", "".join("p%d HERE 0 %d 85\n" % (at, at) for at in range(256)))
-        more = ["--every", "4", "--rounds", "3", "--apdu-retries", "0", "--apdu-timeout", "300"]
+        more = ["--every", "4", "--rounds", "3", *ONCE]
         found = self.watched(path, "--no-flags", *more)[1]
         wanted = ["p0 42.25 - - - -", "p0 - - - - timeout", "p0 42.25 - - - -"]
         self.assertEqual([it for it in found if it.startswith("p0 ")], wanted)
@@ -228,7 +218,7 @@ class Watch(harness.SiteTest):
         values = {(0, at, 85): real("42290000") for at in range(300)}
         device = self.stand_in({**values, (0, 9, 85): ("error", 2, 27)}, kind=Held)
         path = self.path("held", "".join("p%d HERE 0 %d 85\n" % (at, at) for at in range(300)))
-        more = ["--no-flags", "--rounds", "1", "--apdu-retries", "0", "--apdu-timeout", "200"]
+        more = ["--no-flags", "--rounds", "1", *ONCE]
         found = self.watched(path, *more)[1]
         odd = [it for it in found if not it.endswith(" 42.25 - - - -")]
         self.assertEqual(odd, [f"p9 {NOTHING} - timeout"])
@@ -279,7 +269,7 @@ class Watch(harness.SiteTest):
         values[(0, 1, 117)] = [enumerated(62), enumerated(64)]
         device = self.stand_in(values)
         page = self.world.folder + "/names.html"
-        words = "HERE 0 1 85 --no-flags --apdu-retries 0 --apdu-timeout 600 --rounds 4 --page".split() + [page]
+        words = ["HERE", "0", "1", "85", "--no-flags", "--rounds", "4", "--page", page, *ONCE]
         found = [it.split(" ", 1)[1] for it in self.watched(*words)[1]]
         wanted = ["42.25 degrees-celsius - - -", f"{NOTHING} - timeout", "42.25 degrees-fahrenheit - - -"]
         self.assertEqual(found, wanted)
@@ -324,15 +314,6 @@ class Watch(harness.SiteTest):
             missing = [row["missing"] for row in csv.DictReader(file)]
         self.assertIn("not asked", missing)
         self.assertLess(missing.count("not asked"), len(missing) / 2)
-
-    def test_a_slow_round_is_no_gap(self):
-        """Each takes longer than three pauses, and the next one begins at once."""
-        self.stand_in({(0, at, 85): real("42290000") for at in range(4)}, delay=0.25)
-        points = self.path("slow_round", "".join("p%d HERE 0 %d 85\n" % (at, at) for at in range(4)))
-        words = ["--every", "0.3", "--rounds", "3", "--all", "--no-flags", "--apdu-timeout", "5000"]
-        found = self.watched(points, *words)[1]
-        self.assertEqual([it for it in found if it.endswith("not asked")], [])
-        self.assertEqual(len(found), 12)
 
     def test_a_thread_that_fails_ends_it(self):
         given = ["watch", "127.0.0.1", "0", "1", "85", "--tools", os.path.dirname(harness.TOOL)]
@@ -483,6 +464,25 @@ class Charts(unittest.TestCase):
         made = [Sample(at, str(at % 3) if at % 2 else "", "timeout" * (1 - at % 2)) for at in range(50000)]
         self.assertLessEqual(len(self.line(made).samples), MOST)
 
+    def test_all_data_of_a_page(self):
+        """Empty texts at the end of a sample are left out; `normal` is no flag that is set."""
+        number, state = self.line([]), Line(Point("f", ref=PropertyRef(4, 1, 85)))
+        number.label, number.unit = "Room", "percent"
+        for it in (Sample(1, "2", "", "normal"), Sample(2, "", "timeout"), Sample(3, "2", "", "fault")):
+            number.add(it)
+        state.add(Sample(1, "1", "Running", "normal"))
+        with unittest.mock.patch("time.time_ns", return_value=9_999_999):
+            page = "".join(charts_page_of([[number, state], [number]], 1.5, False))
+        first = {"name": "p", "label": "Room", "unit": "percent", "step": False}
+        first["samples"] = [[1, "2"], [2, "", "timeout"], [3, "2", "", "fault"]]
+        second = {"name": "f", "label": "", "unit": "", "step": True, "samples": [[1, "1", "Running"]]}
+        charts = [[first, second], [first]]
+        self.assertEqual(data_of(page), {"every": 1500, "made": 9, "over": False, "charts": charts})
+        self.assertEqual(re.findall("<(?:title|h1)>(.*?)<", page), ["Course of BACnet points"] * 2)
+        kinds = {(0, 85): False, (2, 85): False, (3, 85): True, (14, 85): True, (48, 85): True, (0, 512): True}
+        found = {it: Line(Point("p", ref=PropertyRef(it[0], 1, it[1]))).is_step for it in kinds}
+        self.assertEqual(found, kinds, "only points that are no integers have slopes")
+
     def test_texts_are_no_markup(self):
         line = Line(Point("</script><b>", ref=PropertyRef(40, 1, 85)))
         line.add(Sample(1, "</script><script>alert(1)</script>"))
@@ -495,6 +495,56 @@ class Charts(unittest.TestCase):
         for at in 12345, 20001, 39999:
             made[at] = Sample(at, "500", flags="fault")
         self.assertEqual([it.at for it in self.line(made).samples if it.flags == "fault"], [12345, 20001, 39999])
+
+
+class Times(unittest.TestCase):
+    """When rounds begin, by a clock that goes on only while somebody waits or answers."""
+
+    def rounds(self, words, **more):
+        """The milliseconds of the rows, and `gap` in front of those that were not asked."""
+        course, rows = Course(**more), []
+        calls = QuickCalls({"127.0.0.1:47808": course})
+        calls.processes.ended = course
+        given = parser_of(["watch"]).parsed(["watch", "127.0.0.1", "0", "1", "85", "--no-flags", *words.split()])
+        with unittest.mock.patch("bacsite.watch.time", course):
+            rounds = Rounds(calls, given, [point_of("p", given.words)])
+            while rounds.running:
+                rows += rounds.taken()
+        return " ".join("gap " * (it.fault == "not asked") + str(it.at) for it in rows)
+
+    def test_as_often_and_as_long_as_the_words_say(self):
+        for words, wanted in {
+            "--rounds 3": "0 1000 2000",
+            "--every 0.1 --rounds 4": "0 100 200 300",
+            "--every 1.5 --for 3.9s": "0 1500 3000",
+            "--every 1.5 --for 3s": "0 1500",
+            "--every 1.5 --for 3.001": "0 1500 3000",
+            "--for 1h1m --rounds 2": "0 1000",
+            "--every 1800 --for 1h1m": "0 1800000 3600000",
+        }.items():
+            self.assertEqual(self.rounds(words), wanted, words)
+        told = {"90": 90, "2.5s": 2.5, "10m": 600, "8h": 28800, "1d": 86400, "1h30m": 5400, "1d1s": 86401}
+        self.assertEqual({it: duration_of(it) for it in told}, told)
+
+    def test_rounds_do_not_drift_and_some_are_left_out(self):
+        for words, takes, wanted in (
+            ("--every 2 --rounds 4", [0.3] * 4, "0 2000 4000 6000"),
+            ("--rounds 4", [0.9, 0, 0.999], "0 1000 2000 3000"),
+            ("--rounds 4", [2.5], "0 3000 4000 5000"),
+            ("--rounds 4", [0, 1.25, 0.5], "0 1000 3000 4000"),
+            ("--for 5s", [3.5], "0 4000"),
+            ("--every 0.5 --rounds 3", [3.75] * 3, "0 4000 8000"),
+        ):
+            self.assertEqual(self.rounds(words, takes=takes), wanted, (words, takes))
+
+    def test_what_was_not_asked_for_more_than_three_rounds_is_a_gap(self):
+        for words, waits, wanted in (
+            ("--rounds 3", [0, 2.0], "0 3000 4000"),
+            ("--rounds 3", [0, 2.001], "0 gap 1000 3001 4000"),
+            ("--rounds 3", [9.0], "9000 10000 11000"),
+            ("--every 2 --rounds 3", [0, 0, 4.5], "0 2000 gap 4000 8500"),
+        ):
+            self.assertEqual(self.rounds(words, waits=waits), wanted, (words, waits))
 
 
 class Gaps(unittest.TestCase):
@@ -546,11 +596,156 @@ class Curves(unittest.TestCase):
         self.assertEqual(self.curve([(0, "Day"), (30000, "Night"), (59000, "Night")]), "▁" * 15 + "█" * 15)
 
 
+class Kept(unittest.TestCase):
+    """What a watch keeps of a reading."""
+
+    def test_rows(self):
+        point, room = Point("p", ref=PropertyRef(0, 1, 85)), Meaning("Room", "percent", "Night")
+        two, normal = Value(Kind.NUMBER, "2", "active"), Value(Kind.OTHER, "normal")
+        alarm, bad = (Value(Kind.OTHER, it, bits=(it,)) for it in ("in-alarm", "fault"))
+        for value, flags, wanted in (
+            (two, normal, Row(5, point, "2", room, "normal")),
+            (two, alarm, Row(5, point, "2", room, "in-alarm")),
+            (two, NOTHING_READ, Row(5, point, "2", room, "")),
+            (two, fault("abort 0"), Row(5, point, "2", room, "")),
+            (two, bad, Row(5, point, "", Meaning("Room", "percent"), "fault", "fault: 2 (Night)")),
+            (Value(Kind.TEXT, ""), normal, Row(5, point, '""', room, "normal")),
+            (fault("timeout"), normal, Row(5, point, fault="timeout")),
+        ):
+            self.assertEqual(_row(5, Reading(point, value, "", flags), room), wanted)
+        self.assertEqual(wanted.cells(), ["1970-01-01T00:00:00.005Z", "p", "", "", "", "", "timeout"])
+        cells = ["1970-01-01T00:00:00.005Z", "p", "2", "percent", "Night", "x", "y"]
+        self.assertEqual(Row(5, point, "2", room, "x", "y").cells(), cells)
+
+    def test_what_values_mean(self):
+        """Name, unit, and the object's or the standard's text of a state. What did not come is asked for again."""
+        busy, refs = ("abort", 9), {name: PropertyRef(*it) for name, it in (
+            ("room", (0, 1, 85)), ("about", (0, 1, 28)), ("usual", (0, 1, 104)), ("fan", (4, 1, 85)),
+            ("door", (5, 1, 85)), ("mode", (13, 1, 85)), ("entry", (0, 1, 87, 8)), ("late", (1, 1, 85)))}
+        values = {(0, 1, 77): string("Room"), (0, 1, 117): enumerated(62), (4, 1, 4): string("On")}
+        values.update({(13, 1, 110, 2): string("Night"), (1, 1, 77): [busy, string("Late")], (1, 1, 117): "silent"})
+        number = lambda text, meaning="": Value(Kind.NUMBER, text, meaning)
+        rows = (
+            ("room", number("21"), ("Room", "degrees-celsius", "")),
+            ("room", fault("timeout"), ("Room", "degrees-celsius", "")),
+            ("about", Value(Kind.TEXT, "x"), ("Room", "", "")),
+            ("usual", number("5"), ("Room", "degrees-celsius", "")),
+            ("entry", number("5"), ("Room", "", "")),
+            ("fan", number("1", "active"), ("", "", "On")),
+            ("fan", number("0", "inactive"), ("", "", "inactive")),
+            ("door", number("1", "active"), ("", "", "active")),
+            ("mode", number("2"), ("", "", "Night")),
+            ("mode", number("3"), ("", "", "")),
+        )
+        calls = QuickCalls({A: values}, timeout=1)
+        with Controller(calls, A) as controller:
+            meanings, given = Meanings(controller), [(refs[name], value) for name, value, _ in rows]
+            self.assertEqual(meanings.of(given), [it for _, _, it in rows])
+            asked = [(0, 1, 77), (0, 1, 117), (4, 1, 77), (4, 1, 4), (4, 1, 46), (5, 1, 77), (5, 1, 4), (13, 1, 77)]
+            asked += [(13, 1, 110, 2), (13, 1, 110, 3)]
+            self.assertEqual([it[1:] for it in calls.asked], asked)
+            self.assertEqual(meanings.of(given), [it for _, _, it in rows])
+            self.assertEqual([it[1:] for it in calls.asked], asked, "each is asked for once")
+            found = [meanings.of([(refs["late"], number("1"))]) for _ in range(2)]
+        self.assertEqual(found, [[("", "", "")], [("Late", "", "")]])
+
+    def test_a_name_and_a_unit_are_kept_while_they_are_missing(self):
+        kept, point = Watch.__new__(Watch), Point("p", ref=PropertyRef(0, 1, 85))
+        kept.lines, kept.latest = {"p": Line(point)}, {}
+        told = []
+        for name, unit in (("", ""), ("Room", "percent"), ("", ""), ("Hall", ""), ("", "no-units")):
+            row = Row(7, point, "2", Meaning(name, unit, "Night"), "normal")
+            self.assertIs(kept._noted(row), kept.latest["p"])
+            told.append((kept.lines["p"].label, kept.lines["p"].unit))
+        first, both = ("", ""), ("Room", "percent")
+        self.assertEqual(told, [first, both, both, ("Hall", "percent"), ("Hall", "no-units")])
+        kept._noted(Row(8, point, fault="timeout", flags="fault"))
+        samples = kept.lines["p"].samples
+        self.assertEqual((samples[0], samples[-1]), ((7, "2", "Night", "normal"), (8, "", "timeout", "fault")))
+
+
+class Faults(unittest.TestCase):
+    def test_a_fault_of_a_file_is_told_once_and_its_end_too(self):
+        kept, told = Watch.__new__(Watch), []
+        kept.faults, kept.live = {}, None
+        with unittest.mock.patch("bacsite.watch.show", told.append):
+            for file, fault in zip(("csv", "page") * 6, ("", "", "a", "", "a", "c", "b", "c", "", "", "", "a")):
+                kept._tell(file, fault)
+        again = "bacsite: the file of --%s is written again\n"
+        self.assertEqual(told, ["bacsite: a\n", "bacsite: c\n", "bacsite: b\n", again % "csv", again % "page",
+                                "bacsite: a\n"])
+
+    def test_how_a_watch_ends(self):
+        for fault, lost, told in (("", 3, "3 lines are lost"), ("cannot write x", 0, "cannot write x"),
+                                  ("cannot write x", 3, "cannot write x")):
+            kept, added = Watch.__new__(Watch), []
+            kept.words = SimpleNamespace(page=None)
+            kept.file = SimpleNamespace(fault=fault, lost=lost, add=added.append)
+            with self.assertRaises(Failure) as caught:
+                kept.end()
+            self.assertEqual((str(caught.exception), caught.exception.status), (told, 3))
+            self.assertEqual(added, [[]] * bool(fault), "it is tried once more")
+        good, bad = Row(1, Point("a"), "1"), Row(1, Point("b"), fault="timeout")
+        for latest, status in (({}, 1), ({"a": good}, 0), ({"a": bad}, 1)):
+            kept.file, kept.lines, kept.latest = None, {"a": None}, latest
+            self.assertEqual(kept.end(), status)
+
+
+class Lines(unittest.TestCase):
+    """What a terminal gets, by a clock that stands still, a minute after 43200 s."""
+
+    def line(self, name, *samples, label="", unit=""):
+        line = Line(Point(name, ref=PropertyRef(0, 1, 85)))
+        line.label, line.unit = label, unit
+        for at, *more in samples:
+            line.add(Sample((43200 + at) * 1000, *more))
+        return line
+
+    def shown(self, live, lines, size=(100, 24)):
+        """What is written."""
+        now, patch = (43200 + 60) * 10**9, unittest.mock.patch
+        with patch("bacsite.watch.put") as put, patch("time.time_ns", return_value=now):
+            with patch("shutil.get_terminal_size", return_value=os.terminal_size(size)):
+                live.draw(lines)
+        return "".join(it[0][0] for it in put.call_args_list)
+
+    def test_cells(self):
+        clock = time.strftime("%H:%M:%S", time.localtime(43259))
+        for line, wanted in (
+            (self.line("p"), ["", "p", " " * 30, "no value: nothing yet"]),
+            (self.line("p", (59, "2"), label="Room", unit="percent"), [clock, "p Room", " " * 29 + "▁", "2 percent"]),
+            (self.line("p", (0, "1"), (59, "2", "Night", "fault, overridden")),
+             [clock, "p", "▁" * 29 + "█", "2 (Night) fault, overridden"]),
+            (self.line("p", (58, "2"), (59, "", "timeout", "fault"), unit="percent"),
+             [clock, "p", " " * 29 + "·", "no value: timeout"]),
+            (self.line("p", (58, "2", "", "normal"), (59, "2", "", "normal")), [clock, "p", " " * 29 + "▁", "2"]),
+        ):
+            with unittest.mock.patch("time.time_ns", return_value=(43200 + 60) * 10**9):
+                self.assertEqual(Live(1.0)._cells(line), wanted)
+
+    def test_lines_are_written_again_in_place(self):
+        clock, live = time.strftime("%H:%M:%S", time.localtime(43259)), Live(1.0)
+        lines = [self.line("p%d" % at, (59, str(at))) for at in range(6)]
+        rows = ["%s  p%d  %s  %d\x1b[K\n" % (clock, at, " " * 29 + "▁", at) for at in range(6)]
+        self.assertEqual(self.shown(live, lines[:2]), "".join(rows[:2]) + "\x1b[J")
+        self.assertEqual(self.shown(live, lines), "\x1b[2A\r" + "".join(rows) + "\x1b[J")
+        more = "and 3 more points\x1b[K\n"
+        self.assertEqual(self.shown(live, lines, (100, 5)), "\x1b[6A\r" + "".join(rows[:3]) + more + "\x1b[J")
+        cut = "".join(row[:9] + "\x1b[K\n" for row in (*rows[:1], "and 5 more points"))
+        self.assertEqual(self.shown(live, lines, (10, 2)), "\x1b[4A\r" + cut + "\x1b[J")
+        told = []
+        with unittest.mock.patch("bacsite.watch.put", told.append):
+            live.clear()
+            live.clear()
+        self.assertEqual(told, ["\x1b[2A\r\x1b[J"])
+        self.assertEqual(self.shown(live, lines[:1]), rows[0] + "\x1b[J")
+
+
 class Terminal(harness.SiteTest):
     def test_one_line_for_each_point_is_written_in_place(self):
         self.stand_in({(0, 1, 85): [real("42290000"), real("40000000")], (0, 2, 85): "silent", **DEGREES})
         points = self.path("shown", "room HERE 0 1 85\nlost HERE 0 2 85\n")
-        words = ["watch", points, "--every", "0.3", "--rounds", "3", "--apdu-timeout", "50", "--apdu-retries", "0"]
+        words = ["watch", points, "--every", "0.5", "--rounds", "3", *ONCE]
         status, text = self.on_a_terminal("24", *words)
         self.assertEqual(status, 1)
         shown = text.split("\x1b[J")
@@ -558,7 +753,7 @@ class Terminal(harness.SiteTest):
         self.assertTrue(all(it.startswith("\x1b[2A\r") for it in shown[1:-1]), shown)
         last = [re.sub(r"\x1b\[\w+", "", it).strip() for it in shown[-2].split("\n")]
         self.assertRegex(last[0], r"^\d\d:\d\d:\d\d  room Room +.*[▁█]+ +2 degrees-celsius$")
-        self.assertRegex(last[1], r"^\d\d:\d\d:\d\d  lost +· *no value: timeout$")
+        self.assertRegex(last[1], r"^\d\d:\d\d:\d\d  lost +·+ *no value: timeout$")
 
 
 class Journal(unittest.TestCase):

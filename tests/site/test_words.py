@@ -195,6 +195,83 @@ class Words(unittest.TestCase):
             ["capture", "octets", "real"],
         )
 
+    def given(self, line):
+        """What the words of a command mean, by their names; without those that all commands have."""
+        words = line.split(" ")
+        found = vars(parsing.parser_of(words).parsed(words))
+        return {name: it for name, it in found.items() if name not in ("command", "work", "journal")}
+
+    def test_what_is_meant_without_options(self):
+        """The values that the manual page names."""
+        asking = {"tools": None, "apdu_timeout": 1000, "apdu_retries": 2, "window": 1, "at_once": 32}
+        flags = "csv json list release sorted devices details held not_normal stations silent".split()
+        flags = dict.fromkeys(flags, False)
+        flags.update(reuse_names=False, html=None, ede=None, since=None, address=["a"], at_once=128)
+        point, both = {"words": ["a", "0", "5", "85"], "no_flags": False}, {"list": "l", "no_flags": False}
+        for line, wanted in (
+            ("survey a", {**asking, **flags, "objects": 5000, "deadline": 600, "listen": 10, "listen_port": 47808}),
+            ("read a 0 5 85", {**asking, **point}),
+            ("properties a 0 5", {**asking, "words": ["a", "0", "5"], "last": 512}),
+            ("poll l", {**asking, **both, "sorted": False}),
+            ("watch a 0 5 85", {**asking, **point, "at_once": 256, "every": 1.0, "rounds": None, "for": None,
+                                "all": False, "csv": None, "page": None}),
+            ("check a 0 5 85", {**asking, **point, "hostname": None, "warning": "", "critical": "", "timeout": None}),
+            ("prometheus l f", {**asking, **both, "file": "f"}),
+            ("write a 0 5 7", {**asking, "address": "a", "object_type": "0", "instance": "5", "value": "7",
+                               "priority": None, "property": "present-value", "index": None, "type": None,
+                               "dry_run": False}),
+            ("write-list l", {**asking, "list": "l", "dry_run": False}),
+            ("capture f", {"file": "f", "summary": False, "trace": False, "json": False, "only": None, "slow": 1000,
+                           "client": None, "device": None, "timeout": None, "retries": None}),
+            ("real 41a40000", {"octets": "41a40000"}),
+            ("octets 20", {"number": "20", "double": False}),
+        ):
+            self.assertEqual(self.given(line), wanted, line)
+
+    def test_numbers_of_options_have_limits(self):
+        for line, option, least, most in (
+            ("read a 0 5 85", "--apdu-timeout", 1, 60000),
+            ("read a 0 5 85", "--apdu-retries", 0, 9),
+            ("read a 0 5 85", "--at-once", 1, 256),
+            ("read a 0 5 85", "--window", 1, 64),
+            ("survey a", "--listen", 1, 600),
+            ("survey a", "--listen-port", 0, 65535),
+            ("survey a", "--objects", 1, 999999),
+            ("survey a", "--deadline", 1, 999999),
+            ("properties a 0 5", "--last", 0, 4194303),
+            ("watch l", "--rounds", 1, 999999999),
+            ("check a 0 5 85", "--timeout", 1, 999999),
+            ("write a 0 5 7", "--priority", 1, 16),
+            ("capture f", "--slow", 0, 999999),
+            ("capture f", "--timeout", 1, 60000),
+            ("capture f", "--retries", 0, 255),
+        ):
+            name = option[2:].replace("-", "_")
+            self.assertEqual([self.given(f"{line} {option} {it}")[name] for it in (least, most)], [least, most])
+            for word in (str(least - 1), str(most + 1), "1.5", "x"):
+                with self.assertRaises(Failure) as caught:
+                    self.given(f"{line} {option}={word}")
+                told, command = str(caught.exception), line.split(" ")[0]
+                option_ = "-t/--timeout" if command == "check" else option
+                wanted = f"argument {option_}: not {least} to {most}: {word}; see bacsite {command} --help"
+                self.assertEqual((told, caught.exception.status), (wanted, 2))
+
+    def test_the_help_has_limits_and_usual_values(self):
+        for command, told in (
+            ("read", "--apdu-retries COUNT how often to send a request again, 0 to 9; 2 by default"),
+            ("read", "--at-once COUNT how many controllers to ask at the same time, 1 to 256; 32 by default, 128 for "),
+            ("read", "WORD [INSTANCE@]ADDRESS [real|double|integer] TYPE INSTANCE PROPERTY [INDEX] options:"),
+            ("survey", "--listen-port PORT hear stations at this port (0: any), 0 to 65535; 47808 by default"),
+            ("capture", "--slow MILLISECONDS how long a request takes to be slow, 0 to 999999; 1000 by default"),
+            ("capture", "It prints the requests of a capture file and their answers. "),
+            ("write", "as for a vendor's own property: boolean, unsigned, signed, real, double, octets, text, bits, "),
+            ("watch", "--for DURATION stop after this time, such as 90s, 10m, 8h or 1d --all "),
+        ):
+            with mock.patch("bacsite.parsing.put") as shown, self.assertRaises(SystemExit) as caught:
+                parsing.parser_of([command]).parsed([command, "--help"])
+            self.assertEqual(caught.exception.code, 0)
+            self.assertIn(told, " ".join(shown.call_args[0][0].split()))
+
     def test_words_that_begin_as_negative_numbers_are_whole(self):
         words = parsing.parser_of([]).parsed(["prometheus", "-5.list", "-1.prom"])
         self.assertEqual((words.list, words.file), ("-5.list", "-1.prom"))

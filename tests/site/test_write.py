@@ -617,35 +617,44 @@ class Encode(unittest.TestCase):
                 self.assertEqual(found, (tag, wanted, text))
 
     def test_words_that_are_none(self):
-        for word, tag in (
-            ("-1", standard.UNSIGNED),
-            ("18446744073709551616", standard.UNSIGNED),
-            ("4294967296", standard.ENUMERATED),
-            ("9223372036854775808", standard.SIGNED),
-            ("1.5", standard.SIGNED),
-            ("٣", standard.UNSIGNED),
-            ("True", standard.BOOLEAN),
-            ("1", standard.BOOLEAN),
-            ("", standard.BITS),
-            ("2", standard.BITS),
-            ("1f f", standard.OCTETS),
-            ("f", standard.OCTETS),
-            ("2024-02-30", standard.DATE),
-            ("1899-01-01", standard.DATE),
-            ("2155-12-31", standard.DATE),
-            ("2200-01-01", standard.DATE),
-            ("24:00", standard.TIME),
-            ("12:60", standard.TIME),
-            ("12:30:60", standard.TIME),
-            ("12", standard.TIME),
-            ("5", standard.OBJECT),
-            ("0:4194304", standard.OBJECT),
-            ("x", standard.NULL),
-            ("", standard.REAL),
-            ("maybe", standard.ENUMERATED),
+        past, bits, octets = "past the range: ", "no bits, as 0101: ", "no octets in hexadecimal digits, as 01ff: "
+        date, years = "no date, as 2024-10-31: ", "no date of 1900 to 2154: "
+        moment = "no time, as 12:30 or 12:30:05.00: "
+        for word, tag, why in (
+            ("-1", standard.UNSIGNED, past),
+            ("18446744073709551616", standard.UNSIGNED, past),
+            ("4294967296", standard.ENUMERATED, past),
+            ("9223372036854775808", standard.SIGNED, past),
+            ("-9223372036854775809", standard.SIGNED, past),
+            ("1.5", standard.SIGNED, "no number: "),
+            ("٣", standard.UNSIGNED, "no number: "),
+            ("True", standard.BOOLEAN, "neither true nor false: "),
+            ("1", standard.BOOLEAN, "neither true nor false: "),
+            ("", standard.BITS, bits),
+            ("2", standard.BITS, bits),
+            ("1f f", standard.OCTETS, octets),
+            ("f", standard.OCTETS, octets),
+            ("2024-02-30", standard.DATE, date),
+            ("1899-01-01", standard.DATE, years),
+            ("2155-12-31", standard.DATE, years),
+            ("2200-01-01", standard.DATE, years),
+            ("24:00", standard.TIME, moment),
+            ("12:60", standard.TIME, moment),
+            ("12:30:60", standard.TIME, moment),
+            ("12", standard.TIME, moment),
+            ("5", standard.OBJECT, "no object, as 0:5 or analog-input:5: "),
+            ("x", standard.NULL, "not null: "),
+            ("maybe", standard.ENUMERATED, "no number: "),
         ):
-            with self.subTest(word=word, tag=tag), self.assertRaises(Failure):
-                encode(word, tag)
+            self.assertEqual(self.refused(word, tag), (why + word, 2))
+        self.assertEqual(self.refused("0:4194304", standard.OBJECT), ("no instance: 4194304", 2))
+        self.assertEqual(self.refused("", standard.REAL), ("no number: ''", 2))
+
+    def refused(self, word, tag):
+        """Why a word is refused, and the status."""
+        with self.assertRaises(Failure) as caught:
+            encode(word, tag)
+        return str(caught.exception), caught.exception.status
 
 
 if __name__ == "__main__":

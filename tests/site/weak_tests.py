@@ -58,6 +58,28 @@ def is_patient(call):
     return any(isinstance(it, (int, float)) and it > LONGEST for it in limits)
 
 
+def cases(text):
+    """How many elements the rows, lists, sets and tables of a test in Python have, and how many lines its texts, so
+    that one case fewer is seen; and the limits that it sets, each once."""
+    nodes = [*ast.walk(ast.parse(text))]
+    shown = (getattr(it, "elts", getattr(it, "keys", [])) for it in nodes)
+    limits = [it.args[1] for it in nodes if name_of(it).startswith(("assertLess", "assertGreater"))]
+    lines = sum(it.value.count("\n") for it in nodes if isinstance(it, ast.Constant) and isinstance(it.value, str))
+    elements = sum(len(it) for it in shown if isinstance(it, list))
+    return {f"{elements} elements, {lines} lines", *map(ast.unparse, limits)}
+
+
+def matches_anything(call):
+    """Whether an assertion looks for a constant pattern that nonsense has."""
+    for it in ast.walk(call) if name_of(call)[:6] == "assert" else ():
+        if name_of(it) in ("search", "match", "fullmatch") and isinstance(it.args[0], ast.Constant):
+            pattern, nonsense = it.args[0].value, "\u2603\n<~>"
+            nonsense = nonsense.encode() if isinstance(pattern, bytes) else nonsense
+            if getattr(re, name_of(it))(pattern, nonsense):
+                return True
+    return False
+
+
 def is_wide(call):
     """Whether an assertion has a constant pattern or text with almost no letters and digits."""
     least = FEWEST.get(name_of(call), 0)
@@ -90,7 +112,7 @@ def weak(text):
             yield call.lineno, f"more than {LONGEST} seconds"
         if is_of_parts(call):
             yield call.lineno, "only a part of both sides is compared"
-        if is_wide(call):
+        if is_wide(call) or matches_anything(call):
             yield call.lineno, "almost any text has this"
     for function in (it for it in ast.walk(tree) if isinstance(it, ast.FunctionDef)):
         given = given_once(function)

@@ -13,7 +13,7 @@ ghost use Rattle.bac_device.specs.Inner.{read_for_50, real_72_3, refuses, releas
 ghost use Rattle.bac_device.specs.Inner.{twenty_at_8, unsigned, valve, valve_id, write, write_at, zero_real};
 
 // A read of a whole property, or of an element.
-#[tactic(none)]
+#[tactic(auto, unfolding(crate::proofs::Computed::computed))]
 fn examples_of_reads()
     // A present value of each kind: 72.3 degrees, off, and the first of four seasons.
     ensures present { Exchanges
@@ -59,7 +59,7 @@ fn examples_of_reads()
 {}
 
 // A write of a present value, and the value after it.
-#[tactic(none)]
+#[tactic(auto, unfolding(crate::proofs::Computed::computed))]
 fn examples_of_writes()
     // At two priorities: the more urgent value is present until NULL relinquishes it, then the other one, and at last
     // the default.
@@ -86,7 +86,7 @@ fn examples_of_writes()
 {}
 
 // Which replies fit a request, and which replies and writes the definitions allow.
-#[tactic(none)]
+#[tactic(auto, unfolding(crate::proofs::Computed::computed))]
 fn examples_of_fitting()
     // A reply to a requester that accepts 50 octets has at most 50, or it is the Abort. It goes back to the desk.
     ensures fits { ReplyFits desk asked.datagram (desk, datagram 0x00 fifty) }
@@ -113,7 +113,7 @@ fn examples_of_fitting()
 {}
 
 // The state of a device, and the points that can be added to it.
-#[tactic(none)]
+#[tactic(auto, unfolding(crate::proofs::Computed::computed, crate::specs::add_point, crate::specs::description_of, crate::specs::kind_of, crate::specs::place_at))]
 fn examples_of_devices()
     ensures points { points_of (after (twenty_at_8 valve_id ∷ [])) ≡ demo_points }
     ensures with_none { with_write (after []) None ≡ after [] }

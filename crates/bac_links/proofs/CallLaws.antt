@@ -2,15 +2,15 @@
 use Rattle.std.proofs.Common.{[], ap, append-nil, arith, Err, inl, inr, length, List, max, None, Ok, Option, refl}
 use Rattle.std.proofs.Common.{Result, Some, subst, suc, sym, take_all, ℕ, ◌*◌, ◌++◌, ◌+◌, ◌<◌, ◌∙◌, ◌∷◌, ◌≡◌, ◌≢◌, ◌≤◌}
 use Rattle.std.{proofs.lemmas.{Bool.cases_lt, Grind.common_steps, List.take-append-le}, specs.List.last_or}
-use Rattle.{bac_pdu.specs.Station, bac_tsm.proofs.Laws.{clock_rises, never_due, open_soon}}
+use Rattle.bac_tsm.proofs.Laws.{clock_rises, never_due, open_soon}
 use Rattle.{bac_tsm.specs.{clock, Event, Tick, Positions.greatest_tick}, bac_text.specs.declared.jobs.Call.Call}
 use Rattle.bac_print.{proofs.Printed.Took-none, specs.Took}
 use Rattle.bac_links.proofs.CallTurns.{handed_push, last_push, plays_all, to_the_end}
 use Rattle.bac_links.specs.{Account, ArePrompt, AreTold, Arrived, AskAlike, asked, Asks, Checked, Comes, end_in}
 use Rattle.bac_links.specs.{ending_line, Entry, events_of, Exit, exit_of, Failure, Follows, ForDatagram, ForTime}
-use Rattle.bac_links.specs.{handed_of, Heard, move, next_move, OneText, Over, Plays, Posted, Printed, Purpose, Question}
-use Rattle.bac_links.specs.{question_of, ReceiveFailed, rules_for, SendFailed, Silence, Tells, Timed, ToolFault}
-use Rattle.bac_links.specs.{TurnsSpent, Waited, waits_in, WriteFailed}
+use Rattle.bac_links.specs.{handed_of, Heard, move, next_move, Offered, OneText, Over, Plays, Posted, Printed, Purpose}
+use Rattle.bac_links.specs.{Question, question_of, ReceiveFailed, rules_for, SendFailed, Silence, Tells, Timed}
+use Rattle.bac_links.specs.{ToolFault, TurnsSpent, Waited, waits_in, WriteFailed}
 
 module _ (purpose : Purpose) (call : Call) where
   abbrev pub result_of : Comes → Result Exit ToolFault
@@ -103,11 +103,16 @@ greatest_tick-append (_ ∷ first) next = greatest_tick-append first next
 
 -- ---- sends and waits are made only while the request is open
 
+-- A datagram was sent or offered.
+abbrev IsSend : Entry → Type 0
+IsSend (Posted to octets) = Unit {0}
+IsSend (Offered to octets taken) = Unit {0}
+IsSend _ = ⊥
+
 -- After these entries the time was read since the last wait.
 abbrev IsTimely : Entry → Type 0
 IsTimely (Timed time) = Unit {0}
-IsTimely (Posted to octets) = Unit {0}
-IsTimely _ = ⊥
+IsTimely entry = IsSend entry
 
 module _ (purpose : Purpose) (call : Call) where
   abbrev IsOpen : List Entry → Type 0
@@ -119,7 +124,7 @@ module _ (purpose : Purpose) (call : Call) where
     unended : IsOpen gained
 
   ready : (gained : List Entry) (last : Entry) (question : Question) → (question ≡ ForTime → ⊥)
-      → ((to : Station) (octets : List ℕ) → last ≡ Posted to octets → IsOpen gained)
+      → (IsSend last → IsOpen gained)
       → move purpose call gained (Some last) ≡ Asks question → IsReady gained last
   ready = grind arith
 
@@ -170,7 +175,7 @@ module _ (purpose : Purpose) (call : Call) where
       near : time_behind n ≤ now + longest
       within : time_behind n ≤ bound
       told : IsTimely last → time_behind n ≤ now
-      sent : (to : Station) (octets : List ℕ) → last ≡ Posted to octets → IsOpen (Timed first ∷ before)
+      sent : IsSend last → IsOpen (Timed first ∷ before)
 
     abbrev Goes : List Entry → List Entry → Type 0
     Goes before rest = Follows (move purpose call) (Timed first ∷ before) rest
@@ -196,7 +201,7 @@ module _ (purpose : Purpose) (call : Call) where
           near = omega (arith, told, prompt);
           within = omega (arith, told, prompt, soon);
           told = λ timely. absurd timely;
-          sent = λ to octets e. cc;
+          sent = λ is_send. absurd is_send;
         }
       where
         small : (heard : Heard) → greatest_tick (handed_of (Waited wait heard)) ≤ now + longest
@@ -213,7 +218,7 @@ module _ (purpose : Purpose) (call : Call) where
       near = omega arith;
       within = is.within;
       told = λ timely. omega arith;
-      sent = λ to octets e. cc;
+      sent = λ is_send. absurd is_send;
     }
 
     in_bound : (before : List Entry) (last : Entry) (n now : ℕ) (rest : List Entry) → IsAt before last n now

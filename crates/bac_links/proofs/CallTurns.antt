@@ -13,7 +13,7 @@ use Rattle.bac_tsm.specs.{Accepted, Ask, Data, Dropped, end, Event, initial, kee
 use Rattle.bac_tsm.specs.{refusal_of, Rules, rules_of, sent, State, state_at, step, Stepped, Tick, Client.Client}
 use Rattle.bac_tsm.specs.{declared.client.SubmitFault.SubmitFault, Events.Request, Laws.{AnswersByInvokeId, waiting_at}}
 use Rattle.bac_tsm.specs.Lookahead.{accepted, accepted_at, End, end_notes, or_dropped, output, send_notes}
-use Rattle.bac_tsm.specs.Machine.{Answered, folded, Run, submit, tick, to_send}
+use Rattle.bac_tsm.specs.Machine.{Answered, folded, Run, submit, tick}
 use Rattle.{bac_text.specs.declared.jobs.Call.Call, bac_print.specs.Checked.TookOrFailed}
 use Rattle.bac_links.specs.{Account, answer_of, answers_of, Arrived, asked, Asks, Checked, Comes, end_in, ending_line}
 use Rattle.bac_links.specs.{Entry, events_of, Exit, exit_of, Failure, Follows, ForDatagram, ForTime, Gains, GainsAll}
@@ -44,16 +44,12 @@ last_push o (y ∷ xs) x = last_push _ xs x
 pub waits_push : (more : List Entry) (x : Entry) → waits_in (more ++ x ∷ []) ≡ waits_in more + waits_in (x ∷ [])
 waits_push [] x = omega arith
 waits_push (Waited wait heard ∷ more) x = let h = waits_push more x in omega (arith, h)
-waits_push (Timed time ∷ more) x = waits_push more x
-waits_push (Posted to octets ∷ more) x = waits_push more x
-waits_push (Unposted to octets ∷ more) x = waits_push more x
+waits_push (_ ∷ more) x = waits_push more x
 
 pub times_push : (more : List Entry) (x : Entry) → times_in (more ++ x ∷ []) ≡ times_in more ++ times_in (x ∷ [])
 times_push [] x = refl
-times_push (Waited wait heard ∷ more) x = times_push more x
 times_push (Timed time ∷ more) x = ap (λ (ts : List ℕ). time ∷ ts) (times_push more x)
-times_push (Posted to octets ∷ more) x = times_push more x
-times_push (Unposted to octets ∷ more) x = times_push more x
+times_push (_ ∷ more) x = times_push more x
 
 module _ {X : Type 0} (wait n : ℕ) where
   abbrev turn : Move (Result X ToolFault)
@@ -75,6 +71,10 @@ module _ {R : Type 0} (move : List Entry → Option Entry → Move R) where
   follows_push _ [] x _ due = (ap (next_move move) (sym (append-nil _)) ∙ due, tt)
   follows_push _ (y ∷ xs) x (asks, later) due =
       (asks, follows_push _ xs x later (ap (next_move move) (append_assoc _ _ xs) ∙ due))
+
+  -- The move after one more entry depends on it.
+  pub next_push : (xs : List Entry) (x : Entry) → next_move move (xs ++ x ∷ []) ≡ move (xs ++ x ∷ []) (Some x)
+  next_push = grind (arith, last_push)
 
   -- A property that holds at first, and is kept by each further entry, holds after all entries.
   pub followed : (P : List Entry → Type 0)
@@ -439,11 +439,6 @@ module _ (purpose : Purpose) (call : Call) (time : ℕ) (short : length call.bod
 
 -- ---- one open request
 
--- An open request is one send.
-pub one_post : (state : State) (ticket : ℕ) (to : Station) (octets : List ℕ)
-    → Some (to, octets) ≡ to_send state ticket → posts (sent state ticket) ≡ Posted to octets ∷ []
-one_post _ _ to octets e = rw (← e) refl
-
 -- If one request is open and a tick ends it, the tick sends nothing.
 unsent_at_end : (rules : Rules) (state : State) (now : ℕ) → IsAlone state →
     endings (step rules state (Tick now)).notes ≡ None ∷ [] → posts (step rules state (Tick now)).notes ≡ []
@@ -464,12 +459,9 @@ handed_push = grind (arith, flat_map-append, append-nil)
 
 pub quiet_handed : (more : List Entry) → All AsksNothing (handed more)
 quiet_handed [] = All-nil _
-quiet_handed (Waited wait Silence ∷ more) = quiet_handed more
-quiet_handed (Waited wait Failure ∷ more) = quiet_handed more
 quiet_handed (Waited wait (Arrived from octets) ∷ more) = All-cons AsksNothing _ _ tt (quiet_handed more)
 quiet_handed (Timed time ∷ more) = All-cons AsksNothing _ _ tt (quiet_handed more)
-quiet_handed (Posted to octets ∷ more) = quiet_handed more
-quiet_handed (Unposted to octets ∷ more) = quiet_handed more
+quiet_handed (_ ∷ more) = quiet_handed more
 
 -- ---- one more entry that has an event
 
@@ -528,21 +520,17 @@ module _ (purpose : Purpose) (call : Call) where
   abbrev Behind : List Entry → Entry → Move Comes → Type 0
   Behind gained x next = next_move (move purpose call) (gained ++ x ∷ []) ≡ next
 
-  behind : (gained : List Entry) (x : Entry)
-      → next_move (move purpose call) (gained ++ x ∷ []) ≡ move purpose call (gained ++ x ∷ []) (Some x)
-  behind = grind (arith, last_push)
-
   behind_wait : (gained : List Entry) (wait : ℕ) (heard : Heard) → heard ≢ Failure →
       next_move (move purpose call) (gained ++ Waited wait heard ∷ [])
       ≡ or_ended (end_in purpose call (events_of purpose call (gained ++ Waited wait heard ∷ []))) (Asks ForTime)
-  behind_wait = grind (arith, behind)
+  behind_wait = grind (arith, last_push)
 
   -- After a time the request is sent if it is due, unless it has ended.
   behind_now : (gained : List Entry) (now : ℕ) → next_move (move purpose call) (gained ++ Timed now ∷ [])
       ≡ or_ended (end_in purpose call (events_of purpose call (gained ++ Timed now ∷ [])))
       (or_sent (sent_last purpose call (events_of purpose call (gained ++ Timed now ∷ [])))
       (turn_after (wait_of call) (waits_in (gained ++ Timed now ∷ []))))
-  behind_now = grind (arith, behind)
+  behind_now = grind (arith, last_push)
 
   -- If the request stays open, a turn begins after the time.
   behind_time : (gained : List Entry) (now : ℕ)
@@ -575,7 +563,7 @@ module _ {purpose : Purpose} {call : Call} {time : ℕ} (more : List Entry) {cli
           gains = rw one at gains;
           carried = same_so more carried x refl;
           follows = follows_sent x to octets one refl;
-          next = behind purpose call (Timed time ∷ more) x ∙ ap (turn_after (wait_of call)) (turned x refl);
+          next = next_push (move purpose call) (Timed time ∷ more) x ∙ ap (turn_after (wait_of call)) (turned x refl);
           turns = turned x refl;
         }
       where
@@ -590,7 +578,7 @@ module _ {purpose : Purpose} {call : Call} {time : ℕ} (more : List Entry) {cli
       gained = Timed time ∷ (more ++ Unposted to octets ∷ []);
       gains = gains;
       follows = follows_sent (Unposted to octets) to octets one refl;
-      over = behind purpose call (Timed time ∷ more) (Unposted to octets);
+      over = next_push (move purpose call) (Timed time ∷ more) (Unposted to octets);
     }
 
 -- ---- a turn
@@ -630,7 +618,7 @@ module _ {Origin : Type 0} {purpose : Purpose} {call : Call} {seen mid next : Ac
       comes (Err ReceiveFailed)
       (ap (λ (h : Heard). next_move (move purpose call) (Timed far.time ∷ (far.more ++ Waited (wait_of call) h ∷ [])))
       failure
-      ∙ behind purpose call (Timed far.time ∷ far.more) (Waited (wait_of call) Failure))
+      ∙ next_push (move purpose call) (Timed far.time ∷ far.more) (Waited (wait_of call) Failure))
 
 -- The wait does not end the request.
 module _ {Origin : Type 0} {purpose : Purpose} {call : Call} {seen mid next : Account Origin} {client middle : Client}

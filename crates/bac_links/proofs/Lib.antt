@@ -2,7 +2,6 @@ mod LinkLaws
 mod CallTurns
 pub mod Listening
 pub mod CallLaws
-mod Worked
 pub use LinkLaws.*
 pub use CallTurns.*
 pub use Listening.*

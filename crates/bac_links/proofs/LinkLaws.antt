@@ -2,13 +2,14 @@
 use Rattle.std.proofs.Common.{[], ap, append-nil, append_assoc, arith, Bool, drop, Err, false, is_err, is_ok, length}
 use Rattle.std.proofs.Common.{List, min, None, Ok, OnErr, OnOk, Option, option_to_list, refl, Result, slice_get}
 use Rattle.std.proofs.Common.{Some, subst, suc, sym, unwrap_or, zero, ℕ, ◌++◌, ◌+◌, ◌-◌, ◌<◌, ◌^◌, ◌∙◌, ◌∷◌, ◌≡◌, ◌≤◌}
-use Rattle.std.proofs.{lemmas.Option.{none-some, slice_get_within}, Math.{Logic.∥∥₁_elim, Seq.drop-nil}}
-use Rattle.std.specs.Coded.{code_by, Coded, Coded-set, coded_list, coded_option, coded_ℕ, coded×, Unit-prop, ×_prop}
-use Rattle.bac_pdu.specs.{NetworkAddress, Station}
-use Rattle.bac_links.specs.{AreCallsFor, ArePlayed, Arrived, at_first, behind, behind_all, behind_wait, CallsFor}
-use Rattle.bac_links.specs.{endless, Ends, Entry, Failure, Heard, heard_next, IsPlayed, Logs, Looks, patience_after}
-use Rattle.bac_links.specs.{patience_for, Posted, posted, Scene, Sending, sending_in, sendings, Sends, Silence}
-use Rattle.bac_links.specs.{time_behind, Timed, Times, ToPlay, Unposted, Waited, Waits}
+use Rattle.std.proofs.{lemmas.Option.{none-some, slice_get_cases, slice_get_within}, Math.Logic.∥∥₁_elim}
+use Rattle.std.proofs.Math.ListN.{drop_of_length-le}
+use Rattle.std.specs.Coded.{Coded, Coded-set, codes, coded_ℕ, Unit-prop, ×_prop}
+use Rattle.bac_pdu.specs.{Station}
+use Rattle.bac_links.specs.{AreCallsFor, ArePlayed, at_first, behind, behind_all, behind_wait, CallsFor, endless, Ends}
+use Rattle.bac_links.specs.{Entry, Fails, Heard, heard_next, IsPlayed, Logs, Looks, Offered, patience_after}
+use Rattle.bac_links.specs.{patience_for, posted, Scene, Sending, sending_in, sendings, Sends, Silence, time_behind}
+use Rattle.bac_links.specs.{Timed, Times, ToPlay, Waited, Waits}
 use Rattle.bac_links.specs.{Keeps.{patience_after_all, time_behind_all}, Inner.{HasLooked, ReceivesOnce}}
 use Rattle.bac_links.specs.{declared.udp.{OnRefusal.OnRefusal, Patience.Patience}}
 use Rattle.bac_links.specs.{HasPlayed.HasPlayed, Keeps.Keeps, SystemCall.SystemCall}
@@ -66,6 +67,12 @@ module _ (refused : OnRefusal) where
       keeps_sent (Ok x) to octets log' failed' asked =
           keeps_more _ _ _ _ _ asked (λ s. keeps.limited sound) keeps.timed
       keeps_sent (Err e) to octets log' failed' asked =
+          keeps_more _ _ _ _ _ asked (λ s. keeps.limited sound) keeps.timed
+
+      pub keeps_offered : (to : Station) (octets : List ℕ) (taken : Bool) (log' : List SystemCall) (failed' : Bool)
+          → Logs (Sends Fails to octets taken) log log'
+          → Keeps refused before log' (xs ++ Offered to octets taken ∷ []) patience time failed'
+      keeps_offered to octets taken log' failed' asked =
           keeps_more _ _ _ _ _ asked (λ s. keeps.limited sound) keeps.timed
 
       pub keeps_waited : {A E : Type 0} (result : Result A E) (wait : ℕ) (heard : Heard) (log' : List SystemCall)
@@ -160,10 +167,7 @@ drop_one _ (s ∷ ss) zero e = ap (λ (o : Option Scene). unwrap_or o s ∷ ss) 
 drop_one _ (s ∷ ss) (suc n) e = drop_one _ ss n e
 
 drop_past : (ss : List Scene) (n m : ℕ) → slice_get ss n ≡ None → n ≤ m → drop m ss ≡ []
-drop_past [] n m e _ = drop-nil m
-drop_past (s ∷ ss) zero m e _ = absurd (none-some s (sym e))
-drop_past (s ∷ ss) (suc n) (suc m) e within = drop_past ss n m e (omega (arith, within))
-drop_past (s ∷ ss) (suc n) zero e within = absurd (omega (arith, within))
+drop_past = grind (arith, slice_get_cases, drop_of_length-le)
 
 module _ (scenes : List Scene) (xs : List Entry) (next time : ℕ) (sent : List Sending)
     (stands : HasPlayed scenes xs next time sent) where
@@ -185,6 +189,12 @@ module _ (scenes : List Scene) (xs : List Entry) (next time : ℕ) (sent : List 
   stands_sent (Err e) to octets sent' _ same =
       goes_on _ _ _ _ tt refl (same ∙ sym (append-nil sent))
 
+  pub stands_offered : {A E : Type 0} (result : Result A E) (to : Station) (octets : List ℕ) (sent' : List Sending)
+      → OnOk result (sent' ≡ sent ++ record { time = time; to = to; octets = octets } ∷ [])
+      → OnErr result (sent' ≡ sent) → HasPlayed scenes (xs ++ Offered to octets (is_ok result) ∷ []) next time sent'
+  stands_offered (Ok x) to octets sent' more _ = goes_on _ _ _ _ tt refl more
+  stands_offered (Err e) to octets sent' _ same = goes_on _ _ _ _ tt refl (same ∙ sym (append-nil sent))
+
   -- A wait, if this scene is next, or none is left.
   pub stands_waited : (scene : Option Scene) (wait : ℕ) (heard : Heard) (next' time' : ℕ)
       → slice_get scenes next ≡ scene → heard ≡ heard_next (option_to_list scene)
@@ -205,41 +215,10 @@ module _ (scenes : List Scene) (xs : List Entry) (next time : ℕ) (sent : List 
 
 -- ---- one proof at most
 
-coded_network : Coded NetworkAddress
-coded_network = code_by (ℕ × List ℕ) (coded× coded_ℕ (coded_list coded_ℕ)) (λ n. (n.network, n.address))
-    (λ (network, address). record { network = network; address = address }) (λ _. refl)
-
-coded_station : Coded Station
-coded_station = code_by (ℕ × (ℕ × Option NetworkAddress)) (coded× coded_ℕ (coded× coded_ℕ (coded_option coded_network)))
-    (λ s. (s.ip, (s.port, s.route))) (λ (ip, (port, route)). record { ip = ip; port = port; route = route }) (λ _. refl)
-
-coded_sending : Coded Sending
-coded_sending = code_by (ℕ × (Station × List ℕ)) (coded× coded_ℕ (coded× coded_station (coded_list coded_ℕ)))
-    (λ s. (s.time, (s.to, s.octets))) (λ (time, (to, octets)). record { time = time; to = to; octets = octets })
-    (λ _. refl)
-
-abbrev from_heard : Heard → Option (Option (Station × List ℕ))
-from_heard Silence = None
-from_heard Failure = Some None
-from_heard (Arrived from octets) = Some (Some (from, octets))
-
-abbrev to_heard : Option (Option (Station × List ℕ)) → Heard
-to_heard None = Silence
-to_heard (Some None) = Failure
-to_heard (Some (Some (from, octets))) = Arrived from octets
-
-back_to_heard : (heard : Heard) → to_heard (from_heard heard) ≡ heard
-back_to_heard = grind arith
-
-coded_heard : Coded Heard
-coded_heard = code_by (Option (Option (Station × List ℕ)))
-    (coded_option (coded_option (coded× coded_station (coded_list coded_ℕ)))) _ to_heard back_to_heard
-
 IsPlayed-prop : (stage : ToPlay) (x : Entry) → IsProp (IsPlayed stage x)
-IsPlayed-prop _ (Waited wait heard) = Coded-set coded_heard _ _
+IsPlayed-prop _ (Waited wait heard) = let code : Coded Heard = hlevel codes in Coded-set code _ _
 IsPlayed-prop _ (Timed time) = Coded-set coded_ℕ _ _
-IsPlayed-prop _ (Posted to octets) = Unit-prop
-IsPlayed-prop _ (Unposted to octets) = Unit-prop
+IsPlayed-prop _ _ = Unit-prop
 
 ArePlayed-prop : (stage : ToPlay) (xs : List Entry) → IsProp (ArePlayed stage xs)
 ArePlayed-prop _ [] = Unit-prop
@@ -248,7 +227,8 @@ ArePlayed-prop stage (x ∷ xs) = ×_prop (IsPlayed-prop stage x) (ArePlayed-pro
 -- The list of sends that was kept is that of the history.
 pub sent_so : {scenes : List Scene} {xs : List Entry} {next time : ℕ} {sent : List Sending}
     → ∥ HasPlayed scenes xs next time sent ∥₁ → sent ≡ sendings (at_first scenes) xs
-sent_so stands = ∥∥₁_elim stands (Coded-set (coded_list coded_sending) _ _) (λ it. it.sendings)
+sent_so stands =
+    let code : Coded (List Sending) = hlevel codes in ∥∥₁_elim stands (Coded-set code _ _) (λ it. it.sendings)
 
 pub played_so : {scenes : List Scene} {xs : List Entry} {next time : ℕ} {sent : List Sending}
     → ∥ HasPlayed scenes xs next time sent ∥₁ → ArePlayed (at_first scenes) xs

@@ -1,6 +1,6 @@
 -- Searches and servers, turn by turn: two that are answered alike; and the sends of a server, a search and a call.
 use Rattle.std.proofs.Common.{[], ap, append-nil, append_assoc, arith, Bool, Err, false, flat_map, IfOk, if◌then◌else◌}
-use Rattle.std.proofs.Common.{inl, length, length-append, List, map, max, None, Ok, Option, option_to_list, refl}
+use Rattle.std.proofs.Common.{length, length-append, List, map, max, None, Ok, Option, option_to_list, refl}
 use Rattle.std.proofs.Common.{Result, Some, subst, suc, sym, true, zero, ℕ, ◌++◌, ◌+◌, ◌-◌, ◌<◌, ◌||◌, ◌∙◌, ◌∷◌, ◌≡◌}
 use Rattle.std.proofs.{Common.{◌≢◌, ◌≤◌, ◌⊎◌}, lemmas.Bool.{cases_Bool, le-leb, lt-leb, Decides.nat_tests}}
 use Rattle.std.proofs.lemmas.{Grind.common_steps, List.{append_cancel_left, length_push, map-append}}
@@ -11,17 +11,18 @@ use Rattle.bac_device.{proofs.Answering.next_after, specs.{Arrival, device_after
 use Rattle.bac_device.specs.{Device.Holds, Info.Info, Point.Description, Reply.{reply_of, writes_after}}
 use Rattle.{bac_device.specs.Turns.{all_writes, AreDefined}, bac_text.specs.declared.jobs.{Call.Call, Search.Search}}
 use Rattle.bac_print.{proofs.Printed.{Took-more, Took-none}, specs.{Took, Checked.TakesFront}}
-use Rattle.bac_links.proofs.CallTurns.{followed, follows_push, gains_both, gains_none, handed_push, last_push, played}
-use Rattle.bac_links.proofs.CallTurns.{plays_all, PlaysAll, same_so_far, slice_get-last, so_far, times_push, to_the_end}
-use Rattle.bac_links.{proofs.CallTurns.{turn_begins, turns_over, waits_push}, specs.{Account, AllSent, arrivals_in}}
-use Rattle.bac_links.specs.{Arrived, AskAlike, asked, Asks, Bad, behind_time, came_by, Checked, Comes, device_behind}
-use Rattle.bac_links.specs.{device_next, end_in, Entry, events_of, Exit, Failure, Follows, ForTime, found_by, found_in}
-use Rattle.bac_links.specs.{found_line, Gains, GainsAll, Good, greatest_of, handed_of, Heard, is_sent_last, IsCutOff}
-use Rattle.bac_links.specs.{most_turns, Move, move, next_move, OneText, or_reply, Over, passed_in, Posted, Printed}
-use Rattle.bac_links.specs.{Purpose, question_of, ReceiveFailed, replies_of, rules_for, search_move, Searched}
-use Rattle.bac_links.specs.{SendFailed, sends_of_call, sent_at, sent_behind, sent_in, serve_move, serve_next}
-use Rattle.bac_links.specs.{serve_wait, Serves, Silence, Tells, Timed, times_in, ToolFault, ToSend, turn_after}
-use Rattle.bac_links.specs.{TurnsSpent, Unposted, Waited, waits_in, who_is_to, WriteFailed, Inner.brought_by}
+use Rattle.bac_links.proofs.CallTurns.{followed, follows_push, gains_both, gains_none, handed_push, last_push}
+use Rattle.bac_links.proofs.CallTurns.{next_push, played, plays_all, PlaysAll, same_so_far, slice_get-last, so_far}
+use Rattle.bac_links.proofs.CallTurns.{times_push, to_the_end, turn_begins, turns_over, waits_push}
+use Rattle.bac_links.specs.{Account, AllSent, arrivals_in, Arrived, AskAlike, asked, Asks, Bad, behind_time, came_by}
+use Rattle.bac_links.specs.{Checked, Comes, device_behind, device_next, end_in, Entry, events_of, Exit, Failure}
+use Rattle.bac_links.specs.{Follows, ForTime, found_by, found_in, found_line, Gains, GainsAll, Good, greatest_of}
+use Rattle.bac_links.specs.{handed_of, Heard, is_sent_last, IsCutOff, most_turns, Move, move, next_move, Offered}
+use Rattle.bac_links.specs.{OneText, or_reply, Over, passed_in, Posted, Printed, Purpose, question_of, ReceiveFailed}
+use Rattle.bac_links.specs.{replies_of, rules_for, search_move, Searched, SendFailed, sends_of_call, sent_at}
+use Rattle.bac_links.specs.{sent_behind, sent_in, serve_move, serve_next, serve_wait, Serves, Silence, Tells, Timed}
+use Rattle.bac_links.specs.{times_in, ToOffer, ToolFault, ToSend, turn_after, TurnsSpent, Unposted, Waited, waits_in}
+use Rattle.bac_links.specs.{who_is_to, WriteFailed, Inner.brought_by}
 use Rattle.bac_links.specs.Inner.{found_lines, has_found, LeavesDevice, Listens, search_wait, sends_of, ServesTurn}
 
 -- The first entries of a search, and then these.
@@ -43,25 +44,16 @@ pub record SearchGoes {Origin W : Type 0} (search : Search) (contents : W → Op
 -- ---- lists
 
 has_found-append : (xs ys : List Found) → has_found (xs ++ ys) ≡ (has_found xs || has_found ys)
-has_found-append [] ys = refl
-has_found-append (x ∷ xs) ys = grind (arith, nat_tests)
+has_found-append = grind (arith, common_steps, nat_tests)
 
 greatest-push : (greatest : ℕ) (times : List ℕ) (time : ℕ)
     → greatest_of greatest (times ++ time ∷ []) ≡ max (greatest_of greatest times) time
 greatest-push _ [] _ = refl
 greatest-push greatest (x ∷ times) time = greatest-push (max greatest x) times time
 
-found-push : (search : Search) (more : List Entry) (x : Entry)
-    → found_in search (more ++ x ∷ []) ≡ found_in search more ++ found_by search.who x
-found-push = grind (arith, flat_map-append, append-nil)
-
-behind : (search : Search) (gained : List Entry) (x : Entry)
-    → next_move (search_move search) (gained ++ x ∷ []) ≡ search_move search (gained ++ x ∷ []) (Some x)
-behind = grind (arith, last_push)
-
 pub behind_wait : (search : Search) (gained : List Entry) (wait : ℕ) (heard : Heard) → heard ≢ Failure
     → next_move (search_move search) (gained ++ Waited wait heard ∷ []) ≡ Asks ForTime
-behind_wait = grind (arith, behind)
+behind_wait = grind (arith, last_push)
 
 -- ---- a turn
 
@@ -94,7 +86,7 @@ module _ {Origin W : Type 0} {search : Search} {contents : W → Option (List �
 
     found_next : found_in search timed
         ≡ found_in search goes.more ++ found_by search.who (Waited (search_wait search) heard)
-    found_next = found-push search (waited heard listens.gains) _ ∙ append-nil _ ∙ found-push search goes.more _
+    found_next = grind (arith, flat_map-append, append-nil)
 
     printed_next : Took contents before after (found_lines (found_in search timed))
     printed_next =
@@ -124,7 +116,8 @@ module _ {Origin W : Type 0} {search : Search} {contents : W → Option (List �
 
     next_timed : next_move (search_move search) all ≡ behind_time search all (suc n)
     next_timed =
-        behind search (searched search first (waited heard listens.gains)) _ ∙ ap (behind_time search all) turned
+        next_push (search_move search) (searched search first (waited heard listens.gains)) _
+        ∙ ap (behind_time search all) turned
 
     passed : max greatest now - first ≡ passed_in (times_in all)
     passed = ap (λ (k : ℕ). k - first) time_next
@@ -166,9 +159,9 @@ module _ {Origin W : Type 0} {search : Search} {contents : W → Option (List �
           gained = searched search first (waited Failure gains);
           gains = gains_waited Failure gains;
           follows = follows_waited Failure gains;
-          over = behind search (searched search first goes.more) (Waited (search_wait search) Failure);
+          over = next_push (search_move search) (searched search first goes.more) (Waited (search_wait search) Failure);
         };
-        printed = subst (Took contents before after) (append-nil _ ∙ ap found_lines (sym (found-push search goes.more _
+        printed = subst (Took contents before after) (append-nil _ ∙ ap found_lines (sym (flat_map-append _ goes.more _
             ∙ append-nil _))) (Took-more goes.printed listens.unprinted);
       }
   fails _ _ WriteFailed same listens =
@@ -265,10 +258,7 @@ module _ (search : Search) where
       pub stops : (result : Result Exit ToolFault) (gained : List Entry)
           → Searched search contents before after seen left result → left.history ≡ seen.history ++ gained
           → Stops result gained
-      stops (Err WriteFailed) _ it gains = grind (arith, append_cancel_left, cut)
-      stops result gained it gains =
-          rw (← played it.plays gains)
-          (record { follows = it.plays.follows; over = inl it.plays.over; printed = it.printed })
+      stops = grind (arith, append_cancel_left, cut, played)
 
 -- Two searches that are answered alike.
 module _ {V W : Type 0} (contents : V → Option (List ℕ)) (contents' : W → Option (List ℕ)) (search : Search)
@@ -338,10 +328,6 @@ sent_more before (y ∷ gained) x = grind (arith, sent_more (before ++ y ∷ [])
 -- ---- the next move
 
 module _ (count : ℕ) (before : DeviceState) where
-  gained_more : (gained : List Entry) (x : Entry)
-      → next_move (serve_move count before) (gained ++ x ∷ []) ≡ serve_move count before (gained ++ x ∷ []) (Some x)
-  gained_more = grind (arith, last_push)
-
   -- The replies after one more wait.
   replies-push : (gained : List Entry) (device : DeviceState) → device ≡ device_behind before (arrivals_in gained)
       → (x : Entry) → replies_of before (arrivals_in (gained ++ x ∷ []))
@@ -353,11 +339,12 @@ module _ (count : ℕ) (before : DeviceState) where
       next_move (serve_move count before) (gained ++ Waited serve_wait heard ∷ [])
       ≡ or_reply (last_or None rs) (serve_next count (gained ++ Waited serve_wait heard ∷ []))
   behind_receive _ _ is Failure received rs e = absurd (received refl)
-  behind_receive gained _ is Silence _ rs e = grind (arith, gained_more)
+  behind_receive gained _ is Silence _ rs e = grind (arith, last_push)
   behind_receive gained _ is (Arrived from octets) _ rs e =
       let x = Waited serve_wait (Arrived from octets) in
       let next = serve_next count (gained ++ x ∷ []) in
-      gained_more gained x ∙ ap (λ (rs : List Reply). or_reply (last_or None rs) next) (replies-push gained _ is x)
+      next_push (serve_move count before) gained x
+      ∙ ap (λ (rs : List Reply). or_reply (last_or None rs) next) (replies-push gained _ is x)
       ∙ ap (λ (o : Option Reply). or_reply o next) (last_push None (replies_of _ (arrivals_in gained)) _)
       ∙ ap (λ (rs : List Reply). or_reply (last_or None rs) next) e
 
@@ -489,17 +476,18 @@ module _ {Origin : Type 0} {before device : DeviceState} {seen mid : Account Ori
             on_with turn.heard turn.leaves (awaited turn.heard ++ x ∷ []) (behind_sent turn.heard x refl refl) _ _
             turn.came (grind (arith, goes.sent_is)) (gains_wait _ _ more)
             (follows_sent _ within fewer turn.received x to octets e refl)
-            (gained_more count before (awaited turn.heard) x)
+            (next_push (serve_move count before) (awaited turn.heard) x)
         go (r ∷ s ∷ rs) e few more = absurd few
 
     pub serve_fails : (fault : ToolFault) → ServesTurn device after mid left (Err fault)
         → Serves count before after seen left (Err fault)
     serve_fails SendFailed lost =
-        search (arith, fails_with, behind_sent, gains_wait, follows_sent, gained_more)
+        search (arith, fails_with, behind_sent, gains_wait, follows_sent, next_push (serve_move count before))
     serve_fails ReceiveFailed failed =
         fails_with Failure failed.same (awaited Failure) (behind_waited Failure) (Err ReceiveFailed)
         (gains_one Failure failed.gains)
-        (follows_wait Failure within fewer) (gained_more count before goes.gained (Waited serve_wait Failure))
+        (follows_wait Failure within fewer)
+        (next_push (serve_move count before) goes.gained (Waited serve_wait Failure))
     serve_fails _ one = absurd one
 
 -- ---- the replies of a device, one after another, are those of the definition
@@ -558,12 +546,13 @@ module _ {D A : Type 0} (told : List Entry → Station → List ℕ → D)
   FailsThere (Unposted to octets) next = next ≡ Over (Err SendFailed)
   FailsThere _ next = next ≢ Over (Err SendFailed)
 
-  -- The list of due sends grows by the next one.
+  -- The list of due sends grows by the next one, and no datagram is offered.
   pub record SendsDues : Type 0 where
     pub first : IsSent [] (next_move move [])
     pub grows : (xs : List Entry) (x : Entry) → Follows move [] xs → next_move move xs ≡ Asks (question_of x)
         → due (xs ++ x ∷ []) ≡ due xs ++ sending (xs ++ x ∷ []) (move (xs ++ x ∷ []) (Some x))
     pub fails : (xs : List Entry) (x : Entry) → FailsThere x (move xs (Some x))
+    pub unoffered : (xs : List Entry) (to : Station) (octets : List ℕ) → next_move move xs ≢ Asks (ToOffer to octets)
 
   module _ (dues : SendsDues) where
     on : (xs : List Entry) (x : Entry) → Follows move [] xs → next_move move xs ≡ Asks (question_of x)
@@ -571,6 +560,7 @@ module _ {D A : Type 0} (told : List Entry → Station → List ℕ → D)
     on xs (Unposted to octets) follows asks so =
         rw (last_push, dues.fails (xs ++ Unposted to octets ∷ []) (Unposted to octets))
         (told xs to octets, grind (arith, dues, sent_push, append-nil))
+    on xs (Offered to octets taken) follows asks so = absurd (dues.unoffered xs to octets asks)
     on xs x follows asks so = grind (arith, dues, last_push, sent_push, append-nil)
 
     pub sent_so_far : (xs : List Entry) → Follows move [] xs → IsSent xs (next_move move xs)
@@ -592,6 +582,7 @@ module _ (count : ℕ) (device : DeviceState) where
     first = grind (arith, nat_tests);
     grows = grind (arith, arrivals-push, replies-append, flat_map-append, last_push, append-nil, nat_tests);
     fails = grind (arith, nat_tests);
+    unoffered = grind (arith, nat_tests);
   }
 
   module _ {gained : List Entry} {result : Result ℕ ToolFault}
@@ -628,6 +619,7 @@ module _ (search : Search) where
     first = refl;
     grows = grind (arith, at_times, waits_push, nat_tests);
     fails = grind (arith, nat_tests);
+    unoffered = grind (arith, nat_tests);
   }
 
   module _ {Origin W : Type 0} (contents : W → Option (List ℕ)) (before after : Checked W)
@@ -719,7 +711,7 @@ module _ (purpose : Purpose) (call : Call) where
   grows _ _ follows asks = cc
 
   dues : SendsDues told (move purpose call) owed
-  dues = record { first = refl; grows = grows; fails = grind (arith, cases_Bool) }
+  dues = grind (arith, grows, fails, cases_Bool)
 
   call_sent : {gained : List Entry} {result : Comes} → PlaysAll (move purpose call) gained result
       → AllSent (sends_of_call purpose call gained) (sent_at purpose call gained) result

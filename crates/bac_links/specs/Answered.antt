@@ -1,15 +1,17 @@
 -- The answers of a link; and tools that are answered alike ask alike.
-use Rattle.std.specs.Prelude.{[], Err, List, map, Option, Result, ℕ, ◌++◌, ◌∷◌, ◌≡◌}
+use Rattle.std.specs.Prelude.{[], Bool, Err, List, map, Option, Result, ℕ, ◌++◌, ◌∷◌, ◌≡◌}
 use Rattle.bac_print.specs.{Took, Checked.TakesFront, declared.checked.Checked.Checked}
 use Rattle.bac_links.specs.{Asking.question_of, declared.fault.ToolFault.{ToolFault, TheVariants.WriteFailed}}
-use Rattle.bac_links.specs.History.{Account, Entry, Heard, Posted, Timed, Unposted, Waited}
+use Rattle.bac_links.specs.History.{Account, Entry, Heard, Offered, Posted, Timed, Unposted, Waited}
 
--- An answer of a link: what a wait received, the time, that a datagram was sent, or that it could not be sent.
+-- An answer of a link: what a wait received, the time, that a datagram was sent, that it could not be sent, or whether
+-- an offered one was taken.
 pub data LinkAnswer : Type 0 where
   Brings : (heard : Heard) → LinkAnswer
   Shows : (time : ℕ) → LinkAnswer
   Takes : LinkAnswer
   Loses : LinkAnswer
+  Decides : (taken : Bool) → LinkAnswer
 
 -- The answer in an entry.
 abbrev pub answer_of : Entry → LinkAnswer
@@ -17,6 +19,7 @@ answer_of (Waited wait heard) = Brings heard
 answer_of (Timed time) = Shows time
 answer_of (Posted to octets) = Takes
 answer_of (Unposted to octets) = Loses
+answer_of (Offered to octets taken) = Decides taken
 
 -- The answers in these entries, in order.
 abbrev pub answers_of : List Entry → List LinkAnswer

@@ -2,13 +2,15 @@
 use Rattle.std.specs.{List.last_or, Prelude.[]}
 use Rattle.std.specs.Prelude.{Err, if◌then◌else◌, List, nat_lt, None, Option, Result, suc, zero, ℕ, ⊤, ◌++◌, ◌∷◌, ◌≡◌}
 use Rattle.{bac_pdu.specs.Station, bac_links.specs.declared.fault.ToolFault.{ToolFault, TheVariants.TurnsSpent}}
-use Rattle.bac_links.specs.{History.{Account, Entry, GainsAll, Posted, Timed, Unposted, Waited}, Limits.most_turns}
+use Rattle.bac_links.specs.{History.{Account, Entry, GainsAll, Offered, Posted, Timed}}
+use Rattle.bac_links.specs.{History.{Unposted, Waited}, Limits.most_turns}
 
--- A question to a link: for a datagram, in a wait of this length; for the time; to send a datagram.
+-- A question to a link: for a datagram, in a wait of this length; for the time; to send a datagram; to offer one.
 pub data Question : Type 0 where
   ForDatagram : (wait : ℕ) → Question
   ForTime : Question
   ToSend : (to : Station) (octets : List ℕ) → Question
+  ToOffer : (to : Station) (octets : List ℕ) → Question
 
 -- The question of an entry.
 abbrev pub question_of : Entry → Question
@@ -16,6 +18,7 @@ question_of (Waited wait heard) = ForDatagram wait
 question_of (Timed time) = ForTime
 question_of (Posted to octets) = ToSend to octets
 question_of (Unposted to octets) = ToSend to octets
+question_of (Offered to octets taken) = ToOffer to octets
 
 -- A tool has this next question, or is over with this result.
 pub data Move (R : Type 0) : Type 0 where

@@ -8,7 +8,8 @@ use Rattle.bac_links.specs.Asking.{Asks, ForTime, Move, Over, Plays, ToSend, tur
 use Rattle.bac_links.specs.declared.{call.Purpose.{Purpose, TheVariants.{Reading, Writing}}, exit.Exit.Exit}
 use Rattle.bac_links.specs.declared.fault.ToolFault.{ToolFault, TheVariants.{ReceiveFailed, SendFailed, WriteFailed}}
 use Rattle.bac_links.specs.{Ending.{ending_line, exit_of}, Handed.handed}
-use Rattle.bac_links.specs.{History.{Account, Entry, Failure, Posted, Timed, Unposted, Waited}, Limits.turn_wait}
+use Rattle.bac_links.specs.{History.{Account, Entry, Failure, Offered, Posted, Timed}}
+use Rattle.bac_links.specs.{History.{Unposted, Waited}, Limits.turn_wait}
 
 -- The service choices of ReadProperty and WriteProperty (clause 21, BACnetConfirmedServiceChoice).
 abbrev pub service_of : Purpose → ℕ
@@ -67,6 +68,7 @@ module _ (purpose : Purpose) (call : Call) where
       (if is_sent_last (events_of gained) then Asks (ToSend asked.request.peer asked.request.octets)
       else turn_after (turn_wait call.timeout) (waits_in gained))
   move gained (Some (Posted to octets)) = turn_after (turn_wait call.timeout) (waits_in gained)
+  move gained (Some (Offered to octets taken)) = turn_after (turn_wait call.timeout) (waits_in gained)
   move gained (Some (Unposted to octets)) = Over (Err SendFailed)
   move gained (Some (Waited wait Failure)) = Over (Err ReceiveFailed)
   move gained (Some (Waited wait heard)) = or_ended (end_in (events_of gained)) (Asks ForTime)

@@ -1,5 +1,5 @@
 -- The calls and answers of a link, one after another; and the parts from which it was made.
-use Rattle.std.specs.Prelude.{[], Err, List, None, Ok, Option, Result, Some, ℕ, ◌++◌, ◌∷◌, ◌≡◌}
+use Rattle.std.specs.Prelude.{[], Bool, Err, List, None, Ok, Option, Result, Some, ℕ, ◌++◌, ◌∷◌, ◌≡◌}
 use Rattle.bac_pdu.specs.{Station, station, declared.peer.Peer.Peer}
 
 -- The result of one receive.
@@ -9,12 +9,13 @@ pub data Heard : Type 0 where
   Failure : Heard
 
 -- One call of a link, with its answer: a wait of this length, and what it received; the time; a datagram that was sent,
--- or that could not be sent.
+-- or that could not be sent; a datagram that was offered: the system took it, or refused it and it is lost.
 pub data Entry : Type 0 where
   Waited : (wait : ℕ) (heard : Heard) → Entry
   Timed : (time : ℕ) → Entry
   Posted : (to : Station) (octets : List ℕ) → Entry
   Unposted : (to : Station) (octets : List ℕ) → Entry
+  Offered : (to : Station) (octets : List ℕ) (taken : Bool) → Entry
 
 -- A link as contracts see it: the parts from which it was made, and all its calls and answers.
 pub record Account (Origin : Type 0) : Type 0 where

@@ -41,7 +41,7 @@ pub use Rattle.bac_links.specs.{Answered.answers_of, Call.Tells, declared.call.P
 pub use Rattle.bac_links.specs.declared.{exit.Exit.{Exit, TheVariants.{Bad, Good}}, fault.ToolFault.ToolFault}
 pub use Rattle.bac_links.specs.declared.fault.ToolFault.TheVariants.{ReceiveFailed, SendFailed, TurnsSpent, WriteFailed}
 pub use Rattle.bac_links.specs.{declared.udp.OnRefusal.TheVariants.Fails, History.{Account, Arrived, Entry, Failure}}
-pub use Rattle.bac_links.specs.History.{GainsAll, Heard, Posted, Silence, Timed, Unposted, Waited}
+pub use Rattle.bac_links.specs.History.{GainsAll, Heard, Offered, Posted, Silence, Timed, Unposted, Waited}
 pub use Rattle.bac_links.specs.{Limits.most_turns, Socket.{Binds, BindsAtMost}, SystemCall.Bind}
 pub use Rattle.bac_print.specs.declared.checked.Checked.{Checked}
 pub use Rattle.bac_pdu.specs.declared.discovery.WhoIs.{WhoIs}

@@ -1,6 +1,6 @@
 -- The answers and the sends of a link in memory, from its scenes and its history.
-use Rattle.std.specs.Prelude.{[], List, min, Option, unwrap_or, ℕ, ⊤, ◌++◌, ◌+◌, ◌-◌, ◌^◌, ◌∷◌, ◌≡◌}
-use Rattle.{bac_pdu.specs.Station, bac_links.specs.History.{Entry, Heard, Posted, Silence, Timed, Waited}}
+use Rattle.std.specs.Prelude.{[], List, min, Option, true, unwrap_or, ℕ, ⊤, ◌++◌, ◌+◌, ◌-◌, ◌^◌, ◌∷◌, ◌≡◌}
+use Rattle.{bac_pdu.specs.Station, bac_links.specs.History.{Entry, Heard, Offered, Posted, Silence, Timed, Waited}}
 
 -- One receive of a link in memory, and the time after it. A receive that fails does not change the time.
 pub record Scene : Type 0 where
@@ -51,6 +51,7 @@ pub record Sending : Type 0 where
 -- The send in an entry, at this time.
 abbrev pub sending_in : (time : ℕ) → Entry → List Sending
 sending_in time (Posted to octets) = record { time = time; to = to; octets = octets } ∷ []
+sending_in time (Offered to octets true) = record { time = time; to = to; octets = octets } ∷ []
 sending_in time _ = []
 
 -- The sends in these entries, in order.

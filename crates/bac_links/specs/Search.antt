@@ -9,7 +9,8 @@ use Rattle.bac_print.specs.{peer_text, Took, declared.checked.Checked.Checked}
 use Rattle.bac_links.specs.Asking.{Asks, Follows, ForTime, Move, Over, Plays, times_in, ToSend, turn_after, waits_in}
 use Rattle.bac_links.specs.declared.exit.Exit.{Exit, TheVariants.{Bad, Good}}
 use Rattle.bac_links.specs.declared.fault.ToolFault.{ToolFault, TheVariants.{ReceiveFailed, SendFailed, WriteFailed}}
-use Rattle.bac_links.specs.History.{Account, Arrived, Entry, Failure, GainsAll, Heard, Posted, Timed, Unposted, Waited}
+use Rattle.bac_links.specs.History.{Account, Arrived, Entry, Failure, GainsAll, Heard, Offered, Posted, Timed, Unposted}
+use Rattle.bac_links.specs.History.{Waited}
 use Rattle.bac_links.specs.Limits.{turn_wait}
 
 -- The device that an entry finds, if there is one.
@@ -59,6 +60,7 @@ module _ (search : Search) where
   search_move gained None = Asks ForTime
   search_move gained (Some (Timed time)) = behind_time gained (waits_in gained)
   search_move gained (Some (Posted to octets)) = turn_after (turn_wait search.timeout) (waits_in gained)
+  search_move gained (Some (Offered to octets taken)) = turn_after (turn_wait search.timeout) (waits_in gained)
   search_move gained (Some (Unposted to octets)) = Over (Err SendFailed)
   search_move gained (Some (Waited wait Failure)) = Over (Err ReceiveFailed)
   search_move gained (Some (Waited wait heard)) = Asks ForTime

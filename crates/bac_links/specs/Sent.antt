@@ -1,14 +1,17 @@
 -- The sends over a link, from its history.
-use Rattle.std.specs.Prelude.{[], Err, length, List, map, Result, ℕ, ◌++◌, ◌-◌, ◌∷◌, ◌≡◌}
+use Rattle.std.specs.Prelude.{[], Err, length, List, map, Result, true, ℕ, ◌++◌, ◌-◌, ◌∷◌, ◌≡◌}
 use Rattle.{bac_pdu.specs.Station, bac_tsm.specs.Lookahead.sends, bac_text.specs.declared.jobs.Call.Call}
 use Rattle.bac_links.specs.{Call.{asked, events_of, rules_for}, declared.call.Purpose.Purpose}
-use Rattle.bac_links.specs.{declared.fault.ToolFault.{ToolFault, TheVariants.SendFailed}, History.{Entry, Posted}}
+use Rattle.bac_links.specs.{declared.fault.ToolFault.{ToolFault, TheVariants.SendFailed}}
+use Rattle.bac_links.specs.{History.{Entry, Offered, Posted}}
 
--- The sends after these entries, in order, each with its note.
+-- The sends after these entries, in order, each with its note. An offered datagram was sent if it was taken.
 abbrev pub sent_behind : {D : Type 0} → (List Entry → Station → List ℕ → D) → (before later : List Entry) → List D
 sent_behind told before [] = []
 sent_behind told before (Posted to octets ∷ later) =
     told before to octets ∷ sent_behind told (before ++ Posted to octets ∷ []) later
+sent_behind told before (Offered to octets true ∷ later) =
+    told before to octets ∷ sent_behind told (before ++ Offered to octets true ∷ []) later
 sent_behind told before (entry ∷ later) = sent_behind told (before ++ entry ∷ []) later
 
 -- The datagrams that were sent, in order, with their receivers.

@@ -9,8 +9,8 @@ use Rattle.std.specs.Prelude.{[], Bool, Err, false, if◌then◌else◌, length,
 use Rattle.std.specs.Prelude.{Some, suc, true, zero, ℕ, ◌*◌, ◌++◌, ◌+◌, ◌-◌, ◌/◌, ◌==◌, ◌^◌, ◌||◌, ◌∷◌, ◌≡◌, ◌≢◌, ◌⊎◌}
 use Rattle.bac_pdu.specs.{Station, station, declared.peer.Peer.Peer}
 use Rattle.bac_links.specs.declared.udp.{OnRefusal.{OnRefusal, TheVariants.{Fails, IsLost}}, Patience.Patience}
-use Rattle.bac_links.specs.History.{Account, Arrived, Entry, Failure, Heard, Posted, Silence, Timed, Unposted, Waited}
-use Rattle.bac_links.specs.Limits.{longest_datagram}
+use Rattle.bac_links.specs.History.{Account, Arrived, Entry, Failure, Heard, Offered, Posted, Silence, Timed, Unposted}
+use Rattle.bac_links.specs.{History.Waited, Limits.longest_datagram}
 use Rattle.bac_links.specs.SystemCall.{AtOnce, Bind, Elapsed, Limit, Receive, SendTo, SystemCall}
 
 -- The calls of the system that this log gained have this property.
@@ -170,12 +170,14 @@ time_behind time (Timed now) = now
 time_behind time _ = time
 
 module _ (refused : OnRefusal) where
-  -- The calls for one entry, from how receives wait and the time before it.
+  -- The calls for one entry, from how receives wait and the time before it. An offered datagram that the system refused
+  -- was not taken, even if refused datagrams count as lost.
   abbrev pub CallsFor : Patience → (time : ℕ) → Entry → List SystemCall → Type 0
   CallsFor patience time (Waited wait heard) = Waits refused patience wait heard
   CallsFor patience time (Timed now) = Times time now
   CallsFor patience time (Posted to octets) = Sends refused to octets true
   CallsFor patience time (Unposted to octets) = Sends refused to octets false
+  CallsFor patience time (Offered to octets taken) = Sends Fails to octets taken
 
   -- These are the calls for the first entry, then those for the next, and so on, and no others.
   abbrev pub AreCallsFor : Patience → (time : ℕ) → List Entry → List SystemCall → Type 0

@@ -82,6 +82,7 @@ pub fn run_write<L: Link, W: Write>(
 }
 
 // Makes the call's request, waits for its end, and prints the end.
+#[tactic(auto, using(crate::proofs::fails_so, crate::proofs::shown_so, crate::proofs::spent))]
 fn run<L: Link, W: Write>(
     purpose: Purpose,
     call: &Call,
@@ -107,6 +108,7 @@ fn run<L: Link, W: Write>(
 }
 
 // Reads the time, and makes and sends the request of the call.
+#[tactic(auto, using(crate::proofs::submitted_is, crate::proofs::unbegun))]
 fn begin<L: Link>(purpose: Purpose, call: &Call, link: &mut L) -> Result<Client, ToolFault>
     requires sound { L.has_failed link.old ≡ false }
     requires timeout { 0 < call.now.timeout }

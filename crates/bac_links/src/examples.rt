@@ -3,14 +3,15 @@
 ghost use Rattle.std.specs.declared.io.ErrorKind.TheVariants.{TimedOut, WouldBlock};
 ghost use Rattle.std.specs.Prelude.{[], codes, Err, false, None, Ok, Some, true, ℕ, ◌∷◌, ◌≡◌};
 ghost use Rattle.bac_print.specs.Inner.Examples.{having, unasked, unknown};
-ghost use Rattle.bac_links.specs.{account_over, account_with, AllSent, ArePrompt, AreTold, arrivals_in, Arrived};
-ghost use Rattle.bac_links.specs.{AskAlike, AtOnce, Bind, Binds, BindsAtMost, Elapsed, endless, Fails, Failure, Gains};
-ghost use Rattle.bac_links.specs.{heard_by, is_link_fault, is_write_fault, IsAccepted, Limit, link_fault_text, Logs};
-ghost use Rattle.bac_links.specs.{LogsHistory, longest_datagram, most_looks, most_turns, OneText, PlaysItsScenes};
-ghost use Rattle.bac_links.specs.{Posted, posted, Receive, ReceiveFailed, Searched, SendFailed, Sends, sends_of_call};
-ghost use Rattle.bac_links.specs.{SendTo, sent_at, sent_by, sent_in, Serves, Silence, Tells, Timed, Times};
-ghost use Rattle.bac_links.specs.{tool_fault_text, turn_wait, TurnsSpent, Unposted, Waited, Waits, waits_in, who_is_to};
-ghost use Rattle.bac_links.specs.{WriteFailed, Writing, declared.udp.OnRefusal.TheVariants.IsLost, Inner.answered};
+ghost use Rattle.bac_links.specs.{account_over, account_with, AllSent, answers_of, ArePrompt, AreTold, arrivals_in};
+ghost use Rattle.bac_links.specs.{Arrived, AskAlike, AtOnce, Bind, Binds, BindsAtMost, Elapsed, endless, Fails};
+ghost use Rattle.bac_links.specs.{Failure, Gains, heard_by, is_link_fault, is_write_fault, IsAccepted, Limit};
+ghost use Rattle.bac_links.specs.{link_fault_text, Logs, LogsHistory, longest_datagram, most_looks, most_turns};
+ghost use Rattle.bac_links.specs.{Offered, OneText, PlaysItsScenes, Posted, posted, question_of, Receive};
+ghost use Rattle.bac_links.specs.{ReceiveFailed, Searched, SendFailed, Sends, sends_of_call, SendTo, sent_at, sent_by};
+ghost use Rattle.bac_links.specs.{sent_in, Serves, Silence, Tells, Timed, Times, tool_fault_text, turn_wait};
+ghost use Rattle.bac_links.specs.{TurnsSpent, Unposted, Waited, Waits, waits_in, who_is_to, WriteFailed, Writing};
+ghost use Rattle.bac_links.specs.{Inner.answered, declared.udp.OnRefusal.TheVariants.IsLost};
 ghost use Rattle.bac_links.specs.Inner.{asked_so, AsksInVain, AsksTime, bad, broken, call, deaf, desk, device, good};
 ghost use Rattle.bac_links.specs.Inner.{IsNothing, local, long_came, looking, lost, waiting};
 ghost use Rattle.bac_tsm.specs.{Ask, Tick};
@@ -18,7 +19,6 @@ ghost use Rattle.bac_links.specs.Inner.{nobody, NoCut, once_asked, one_step, qui
 ghost use Rattle.bac_links.specs.Inner.{steady, to_desk, twice_asked, unsearched, unsent, unwritten, write};
 
 // The times of a clock, and how long waits take by it.
-#[tactic(none)]
 fn examples_of_time()
     // After one wait the clock shows 50.
     ensures told { AreTold steady 0 (Timed 0 ∷ Waited 50 Silence ∷ Timed 50 ∷ []) }
@@ -36,7 +36,6 @@ fn examples_of_time()
 {}
 
 // The received and sent datagrams in the entries of a history.
-#[tactic(none)]
 fn examples_of_entries()
     // A send that failed is not counted.
     ensures sent { sent_in (Posted desk (1 ∷ []) ∷ Timed 0 ∷ Unposted desk (2 ∷ []) ∷ Posted desk (3 ∷ []) ∷ [])
@@ -55,6 +54,14 @@ fn examples_of_entries()
     ensures posts { posted good desk [] ≡ Posted desk [] }
     ensures posts_not { posted unsent desk [] ≡ Unposted desk [] }
 
+    // An offered datagram was sent if it was taken. Whether it was taken is the answer to one question.
+    ensures offered { sent_in (Offered desk (1 ∷ []) true ∷ Offered desk (2 ∷ []) false ∷ Posted desk (3 ∷ []) ∷ [])
+        ≡ (desk, 1 ∷ []) ∷ (desk, 3 ∷ []) ∷ [] }
+    ensures asks_alike { question_of (Offered desk [] true) ≡ question_of (Offered desk [] false) }
+    ensures asks_another { question_of (Offered desk [] true) ≡ question_of (Posted desk []) → ⊥ }
+    ensures asks_others { question_of (Offered desk [] true) ≡ question_of (Offered desk (1 ∷ []) true) → ⊥ }
+    ensures answered_otherwise { answers_of (Offered desk [] true ∷ []) ≡ answers_of (Offered desk [] false ∷ []) → ⊥ }
+
     // A history gains one entry, and nothing else.
     ensures gained { Gains (Timed 5) (quiet_link []) (quiet_link (Timed 5 ∷ [])) }
     ensures other_gained { Gains (Timed 5) (quiet_link []) (quiet_link (Timed 6 ∷ [])) → ⊥ }
@@ -65,6 +72,8 @@ fn examples_of_entries()
     ensures other_time { PlaysItsScenes (quiet_link (Waited 50 Silence ∷ Timed 6 ∷ [])) → ⊥ }
     ensures other_heard { PlaysItsScenes (quiet_link (Waited 50 Failure ∷ [])) → ⊥ }
     ensures sent_then { sent_by (quiet_link (Waited 50 Silence ∷ Posted desk [] ∷ []))
+        ≡ record { time = 5; to = desk; octets = [] } ∷ [] }
+    ensures offered_then { sent_by (quiet_link (Offered desk [] false ∷ Waited 50 Silence ∷ Offered desk [] true ∷ []))
         ≡ record { time = 5; to = desk; octets = [] } ∷ [] }
 
     // A scene is a step of the link.
@@ -80,7 +89,6 @@ fn examples_of_entries()
 {}
 
 // Which faults are of the link, and the message of each fault.
-#[tactic(none)]
 fn examples_of_ends()
     ensures of_link { is_link_fault unsent ≡ true }
     ensures not_of_link { is_link_fault unwritten ≡ false }
@@ -94,7 +102,7 @@ fn examples_of_ends()
 {}
 
 // A call: its moves, its sends, its line and its answer.
-#[tactic(none)]
+#[tactic(auto, unfolding(bac_tsm::specs::next_invoke_id, bac_tsm::specs::refusal_of, bac_pdu::specs::wrapped))]
 fn examples_of_calls()
     // Its request is accepted after the first time, and at no other event.
     ensures accepted { IsAccepted Writing call once_asked }
@@ -122,7 +130,7 @@ fn examples_of_calls()
 {}
 
 // A search: its moves, its lines and its answer; and the end of a server.
-#[tactic(none)]
+#[tactic(auto, unfolding(bac_pdu::specs::wrapped))]
 fn examples_of_searches_and_servers()
     ensures who_is { who_is_to search ≡ 0x81 ∷ 0x0a ∷ 0x00 ∷ 0x08 ∷ 0x01 ∷ 0x00 ∷ 0x10 ∷ 0x08 ∷ [] }
     ensures searched { Searched search unknown unasked unasked (asked_so []) (asked_so unsearched) unsent }
@@ -141,7 +149,7 @@ fn examples_of_searches_and_servers()
 {}
 
 // The calls of the system for a link over a socket.
-#[tactic(none)]
+#[tactic(auto, unfolding(std::specs::Net::Addr::ipv4_bits, std::specs::Net::Addr::IsIpv4OfBits))]
 fn examples_of_sockets()
     ensures bound { Binds to_desk (Bind (local 47808) ∷ []) }
     ensures other_port { Binds to_desk (Bind (local 47809) ∷ []) → ⊥ }
@@ -195,10 +203,20 @@ fn examples_of_sockets()
     ensures not_logged { LogsHistory (account_over Fails [] (Timed 0 ∷ [])) [] → ⊥ }
     ensures more_logged { LogsHistory (account_over Fails [] []) (Elapsed None ∷ []) → ⊥ }
     ensures other_time { LogsHistory (account_over Fails [] (Timed 5 ∷ [])) (Elapsed None ∷ []) → ⊥ }
+
+    // After an offer that was refused the link goes on. It was not taken, even if refused datagrams count as lost.
+    ensures offers { LogsHistory (account_over Fails [] (Offered desk [] false ∷ Offered desk (1 ∷ []) true ∷ []))
+        (SendTo [] (local 47808) None ∷ SendTo (1 ∷ []) (local 47808) (Some 1) ∷ []) }
+    ensures not_taken { LogsHistory (account_over IsLost [] (Offered desk [] true ∷ []))
+        (SendTo [] (local 47808) None ∷ []) → ⊥ }
+    ensures not_refused { LogsHistory (account_over Fails [] (Offered desk [] false ∷ []))
+        (SendTo [] (local 47808) (Some 0) ∷ []) → ⊥ }
+    ensures offered_elsewhere { LogsHistory (account_over Fails [] (Offered desk [] true ∷ []))
+        (SendTo [] (local 47809) (Some 0) ∷ []) → ⊥ }
+    ensures not_offered { LogsHistory (account_over Fails [] (Offered desk [] false ∷ [])) [] → ⊥ }
 {}
 
 // Two tools that do the same.
-#[tactic(none)]
 fn examples_of_tools()
     // Both tools read the time, and end with it.
     ensures alike { AskAlike ℕ ℕ AsksTime AsksTime NoCut Same Same }

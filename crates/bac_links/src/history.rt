@@ -28,12 +28,14 @@ impl Model for EntryMade {
     ghost also_owns = { λ _. ftrue };
 }
 
-/// One call of a link, with its answer: a wait of this many milliseconds and its datagram; the time; a send.
+/// One call of a link, with its answer: a wait of this many milliseconds and its datagram; the time; a send; an offer,
+/// and whether it was taken.
 #[derive(Clone, Copy, Drop)]
 pub(crate) enum EntryNote<'a> {
     Waited(u32, &'a Result<Option<Peer>, LinkFault>, &'a Datagram),
     Timed(u64),
     Sent(&'a Result<(), LinkFault>, Peer, &'a [u8]),
+    Offered(bool, Peer, &'a [u8]),
 }
 
 impl NoteOf<EntryMade> for EntryNote<'_> {

@@ -62,6 +62,7 @@ pub fn a_server_hears_as_many<L: Link>()
 /// No call waits for ever. Take any clock that shows the link's times. If by this clock no turn takes longer than
 /// `longest`, the call ends, its last wait included, within the timeout and `longest` for each time that the request is
 /// sent (clause 5.4.4). This says nothing of a clock that stands still: then the turns are spent.
+#[tactic(auto, using(crate::proofs::told_in_time))]
 pub fn a_call_ends_in_time<L: Link, W: Write>()
     ensures { (purpose : Purpose) (call : Call) (before after : Checked W) (seen left : Account L.Origin)
         (result : Result ExitValue Fault) (gained : List Entry) (time_behind : ℕ → ℕ) (longest : ℕ)
@@ -81,6 +82,7 @@ pub fn a_call_is_accepted<L: Link, W: Write>()
 
 /// The sends of a call, and their events, are those of its one request by the look-ahead, among the events of its whole
 /// history. If a send failed, the last one is missing.
+#[tactic(auto, using(crate::proofs::told_sent))]
 pub fn a_call_sends_as_the_look_ahead_says<L: Link, W: Write>()
     ensures { (purpose : Purpose) (call : Call) (before after : Checked W) (seen left : Account L.Origin)
         (result : Result ExitValue Fault) (gained : List Entry)
@@ -89,6 +91,7 @@ pub fn a_call_sends_as_the_look_ahead_says<L: Link, W: Write>()
 {}
 
 /// A search sends its Who-Is, once, and nothing else; if that failed, nothing.
+#[tactic(auto, using(crate::proofs::one_sent))]
 pub fn a_search_sends_one_who_is<L: Link, W: Write>()
     ensures { (search : Search) (before after : Checked W) (seen left : Account L.Origin)
         (result : Result ExitValue Fault) (gained : List Entry)
@@ -136,6 +139,7 @@ pub fn a_server_is_a_function<K: Link, L: Link>()
 
 /// A link in memory always answers as its steps say: each wait plays the next step, or is silent once there is none,
 /// and each time is that of the last step.
+#[tactic(auto, using(crate::proofs::played_so))]
 pub fn a_memory_link_plays_its_steps<A: Allocator + Copy>(link: &MemoryLink<A>)
     ensures { PlaysItsScenes (⟦<MemoryLink<A> as Link>⟧.seen link.now) }
 {}

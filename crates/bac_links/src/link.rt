@@ -2,8 +2,8 @@
 ghost use Rattle.std.specs.{Option.option_flatten, Prelude.{Bool, false, IfNone, IfOk, IfSome, is_err, None, ◌≡◌}};
 ghost use Rattle.std.specs.Result.{result_ok};
 ghost use Rattle.{bac_pdu.specs.station, bac_print.specs.message_text};
-ghost use Rattle.bac_links.specs.{Account, Gains, heard_by, link_fault_text, most_turns, posted, Timed, turn_wait};
-ghost use Rattle.bac_links.specs.{Waited};
+ghost use Rattle.bac_links.specs.{Account, Gains, heard_by, link_fault_text, most_turns, Offered, posted, Timed};
+ghost use Rattle.bac_links.specs.{turn_wait, Waited};
 
 use crate::datagram::Datagram;
 use bac_pdu::Peer;
@@ -27,8 +27,8 @@ impl LinkFault {
     }
 }
 
-/// A link sends and receives datagrams, and knows the time. Once a send or a receive has failed, neither is called
-/// again.
+/// A link sends and receives datagrams, and knows the time. Once a send or a receive has failed, no datagram is sent,
+/// offered or received again.
 pub trait Link {
     // The parts from which a link of this kind is made.
     ghost Origin: { Type 0 } = { Unit {0} };
@@ -44,6 +44,13 @@ pub trait Link {
         requires { has_failed self.old ≡ false }
         ensures fault { has_failed self.new ≡ is_err result }
         ensures told { Gains (posted result (station to) octets.now) (seen self.old) (seen self.new) };
+
+    /// Sends the octets like `send`. If the system refuses them, they are lost, and the link goes on. Returns whether
+    /// the system took them.
+    fn offer(&mut self, to: Peer, octets: &[u8]) -> bool
+        requires { has_failed self.old ≡ false }
+        ensures fault { has_failed self.new ≡ false }
+        ensures told { Gains (Offered (station to) octets.now result) (seen self.old) (seen self.new) };
 
     /// Waits this many milliseconds for a datagram, and returns its sender. Returns None if none came; then, and after
     /// a fault, the datagram is unchanged.

@@ -1,9 +1,9 @@
 //! A link in memory.
 ghost use Rattle.std.specs.Option.{option_flatten, option_map, option_to_list};
-ghost use Rattle.std.specs.Prelude.{[], false, IfNone, IfOk, IfSome, is_err, IsTrue, length, List, map, MatchOption};
-ghost use Rattle.std.specs.{Prelude.{None, OnErr, OnOk, slice_get, Some, ◌++◌, ◌∷◌, ◌≡◌}, Result.result_ok};
-ghost use Rattle.{bac_pdu.specs.station, bac_links.specs.account_of};
-ghost use Rattle.bac_links.specs.{account_with, behind_wait, Gains, heard_by, heard_next, posted, Scene, scene_of_kept};
+ghost use Rattle.std.specs.Prelude.{[], false, if◌then◌else◌, IfNone, IfOk, IfSome, is_err, IsTrue, length, List};
+ghost use Rattle.std.specs.Prelude.{map, MatchOption, None, OnErr, OnOk, slice_get, Some, ◌++◌, ◌∷◌, ◌≡◌};
+ghost use Rattle.{std.specs.Result.result_ok, bac_pdu.specs.station, bac_links.specs.{account_of, account_with}};
+ghost use Rattle.bac_links.specs.{behind_wait, Gains, heard_by, heard_next, Offered, posted, Scene, scene_of_kept};
 ghost use Rattle.bac_links.specs.{scene_of_step, sending_of, sent_by, Timed, unrouted, Waited, HasPlayed.HasPlayed};
 
 use crate::datagram::Datagram;
@@ -59,7 +59,8 @@ pub struct MemoryLink<A: Allocator = Global> {
 }
 
 impl<A: Allocator + Copy> MemoryLink<A> {
-    /// Returns a link with these steps. The send with the number `fail_send`, from 0, fails.
+    /// Returns a link with these steps. The send with the number `fail_send`, from 0, fails. If it is an offer, it is
+    /// refused, and the next one is not.
     ///
     /// # Errors
     ///
@@ -132,6 +133,34 @@ impl<A: Allocator + Copy> Link for MemoryLink<A> {
         self.failed = sent.is_err();
         self.history.push(&EntryNote::Sent(&sent, to, octets));
         sent
+    }
+
+    /// Refuses the datagram if it has the number that was given to `new`, or if there is no memory for its record.
+    /// After a refusal no number fails any more.
+    fn offer(&mut self, to: Peer, octets: &[u8]) -> bool
+        requires { self.old.failed ≡ false }
+        ensures fault { self.new.failed ≡ false }
+        ensures told { Gains (Offered (station to) octets.now result)
+            (account_with self.old.steps.items self.old.history.items)
+            (account_with self.new.steps.items self.new.history.items) }
+        ensures its_number { self.old.fail_send
+            ≡ Some (length (sent_by (account_with self.old.steps.items self.old.history.items))) → result ≡ false }
+        ensures fails_at { self.new.fail_send ≡ (if result then self.old.fail_send else None) }
+    {
+        let sent = keep_sent(
+            self.alloc,
+            &mut self.sent,
+            self.fail_send,
+            self.time,
+            to,
+            octets,
+        );
+        let taken = sent.is_ok();
+        if !taken {
+            self.fail_send = None;
+        }
+        self.history.push(&EntryNote::Offered(taken, to, octets));
+        taken
     }
 
     fn receive(&mut self, wait_ms: u32, datagram: &mut Datagram) -> Result<Option<Peer>, LinkFault>

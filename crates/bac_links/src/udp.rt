@@ -4,9 +4,9 @@ ghost use Rattle.std.specs.Prelude.{[], false, IfErr, IfNone, IfOk, IfSome, is_e
 ghost use Rattle.std.specs.{Prelude.{None, Ok, OnErr, OnOk, vec_len, ◌*◌, ◌++◌, ◌+◌, ◌≡◌, ◌≢◌}, Result.result_ok};
 ghost use Rattle.{bac_pdu.specs.station, bac_links.specs.{account_over, Binds, BindsAtMost, Gains, heard_by}};
 ghost use Rattle.bac_links.specs.{endless, heard_from, is_quiet, IsAddressOf, limits, Logs, longest_datagram, Looks};
-ghost use Rattle.bac_links.specs.{modes, most_looks, OverSocket, patience_for, peer_at, posted, Sends, Sets, time_by};
-ghost use Rattle.bac_links.specs.{Timed, Times, Waited, Waits, Inner.{brought, IsPlain, KeepsUnheard, ReceivesOnce}};
-ghost use Rattle.bac_links.specs.Keeps.{Keeps};
+ghost use Rattle.bac_links.specs.{modes, most_looks, Offered, OverSocket, patience_for, peer_at, posted, Sends, Sets};
+ghost use Rattle.bac_links.specs.{time_by, Timed, Times, Waited, Waits, Inner.{brought, IsPlain, KeepsUnheard}};
+ghost use Rattle.bac_links.specs.{Inner.ReceivesOnce, Keeps.Keeps};
 
 use crate::datagram::{DATAGRAM_OCTETS, Datagram};
 use crate::history::{EntryNote, History, Log};
@@ -199,6 +199,22 @@ impl<S: Socket + Drop> Link for UdpLink<S> {
         sent
     }
 
+    fn offer(&mut self, to: Peer, octets: &[u8]) -> bool
+        requires { self.old.failed ≡ false }
+        ensures fault { self.new.failed ≡ false }
+        ensures left { (self.new.refused ≡ self.old.refused) × (self.new.time ≡ self.old.time)
+            × (self.new.patience ≡ self.old.patience) × (self.new.buffer ≡ self.old.buffer) }
+        ensures asked { Logs (Sends OnRefusal.Fails (station to) octets.now result)
+            (S.log self.old.socket) (S.log self.new.socket) }
+        ensures told { Gains (Offered (station to) octets.now result)
+            (account_over self.old.refused (S.log self.old.made_of.value) self.old.history.items)
+            (account_over self.new.refused (S.log self.new.made_of.value) self.new.history.items) }
+    {
+        let taken = post(&mut self.socket, OnRefusal::Fails, to, octets).is_ok();
+        self.history.push(&EntryNote::Offered(taken, to, octets));
+        taken
+    }
+
     fn receive(&mut self, wait_ms: u32, datagram: &mut Datagram) -> Result<Option<Peer>, LinkFault>
         requires { self.old.failed ≡ false }
         ensures fault { self.new.failed ≡ is_err result }
@@ -353,6 +369,7 @@ fn most_looks(wait_ms: u32) -> u32
 }
 
 // Returns the sender of the first datagram that is not skipped, if one comes in this many receives.
+#[tactic(auto, using(crate::proofs::looked, crate::proofs::looks_end, crate::proofs::looks_on))]
 fn look<S: Socket>(
     socket: &mut S,
     refused: OnRefusal,

@@ -103,7 +103,7 @@ fn examples_of_discovery()
 {}
 
 // The contents of a datagram, and the datagram that carries an APDU to a station (Annex J.2 and clause 6.2).
-#[tactic(none)]
+#[tactic(auto, using(crate::proofs::DatagramLaws::carried_is, crate::proofs::DatagramLaws::wrapped_takes), unfolding(crate::specs::address_at, crate::specs::header_at, crate::specs::link_at, crate::specs::carried, crate::specs::wrapped))]
 fn examples_of_carrying()
     // The length counts the whole datagram.
     ensures carried { Carries desk (0x81 ∷ 0x0a ∷ 0x00 ∷ 0x09 ∷ 0x01 ∷ 0x00 ∷ ack_octets_of_1)
@@ -179,7 +179,6 @@ fn examples_of_carrying()
 {}
 
 // Which octets are an APDU (clause 20.1), and which can be written.
-#[tactic(none)]
 fn examples_of_layouts()
     // Octets after a SimpleACK are not read, nor are the low bits of its first octet.
     ensures simple { IsLaidOut (0x2f ∷ 0x01 ∷ 0x0f ∷ 0x00 ∷ []) (simple_ack 1 15) }

@@ -1,16 +1,14 @@
 -- Texts that are printed in several pieces, folded or not; texts on a page of their own; and the texts of values.
 use Rattle.std.proofs.Common.{[], ap, append-nil, append_assoc, arith, Bool, codes, decimal, drop, Err, false, flat_map}
-use Rattle.std.proofs.Common.{get_or, IfSome, if◌then◌else◌, inl, inr, is_err, is_some, length, length-append}
-use Rattle.std.proofs.Common.{length-take, List, lit<, min, nat_lt, None, not, Ok, Option, option_map, pos, position}
-use Rattle.std.proofs.Common.{refl, Result, Some, subst, suc, sym, take, take-append-drop, true, unsigned_abs}
-use Rattle.std.proofs.Common.{unwrap_or, zero, ℕ, ℤ, ◌*◌}
-use Rattle.std.proofs.Common.{◌++◌, ◌+◌, ◌-◌, ◌<ℤ◌, ◌<◌, ◌==◌, ◌^◌, ◌||◌, ◌∙◌, ◌∷◌, ◌≡◌, ◌≢◌, ◌≤◌}
+use Rattle.std.proofs.Common.{get_or, IfSome, if◌then◌else◌, inl, inr, is_err, length, length-append, List, lit<, min}
+use Rattle.std.proofs.Common.{None, Ok, Option, option_map, pos, refl, Result, Some, subst, suc, sym, take}
+use Rattle.std.proofs.Common.{take-append-drop, unsigned_abs, zero, ℕ, ℤ, ◌*◌, ◌++◌, ◌+◌, ◌-◌, ◌<ℤ◌, ◌<◌, ◌==◌, ◌^◌}
+use Rattle.std.proofs.Common.{◌||◌, ◌∙◌, ◌∷◌, ◌≡◌, ◌≢◌, ◌≤◌}
 use Rattle.std.proofs.lemmas.{Bool.{cases_Bool, false≢true, Decides.nat_tests}, Fmt.length-decimal-le}
-use Rattle.std.proofs.lemmas.{Grind.flat_map-append, Int.{ints, to_z-of_z}, List.{take_all, take_more}}
-use Rattle.std.proofs.lemmas.List.Sums.{fold-append}
-use Rattle.std.proofs.{lemmas.{List.Sums.prefix_len-le-length, Option.none-some}, Math.Seq.take-append-add}
+use Rattle.std.proofs.lemmas.{Grind.flat_map-append, Int.{ints, to_z-of_z}, List.{Sums.fold-append, take_more}}
+use Rattle.std.proofs.{lemmas.Option.none-some, Math.Seq.take-append-add}
 use Rattle.std.specs.{declared.io.Error.Error, Fmt.signed_decimal, Io.KnownBytes.{Appends, WriteAppends}}
-use Rattle.std.specs.{List.position_or_len, Option.option_map_or, Result.result_unwrap_or}
+use Rattle.std.specs.{Option.option_map_or, Result.result_unwrap_or}
 use Rattle.{hex.specs.Hex.{encode_lower, encode_with}, bac_wire.proofs.DatumLaws.values-first}
 use Rattle.bac_wire.specs.{result_seen, value_at, values_of, values_within, Datum.Datum}
 use Rattle.bac_print.specs.{bits_text, calls_of, datum_text, ends_of, FlushCall, folded, folded_octet, Gave, gone}
@@ -53,45 +51,6 @@ pub room_after-none : (room : Option ℕ) → room_after room [] ≡ room
 unfolding room_after
 room_after-none None = refl
 room_after-none (Some left) = refl
-
-plain_before : (xs : List ℕ) (n left : ℕ) → n ≤ position_or_len (λ octet. octet == 10) xs → n ≤ left
-    → (folded left (take n xs) ≡ take n xs) × (left_after left (take n xs) ≡ left - n)
-plain_before xs zero left before room = (refl, omega arith)
-plain_before [] (suc n) left before room = absurd (omega (arith, before))
-plain_before (x ∷ xs) (suc n) left before room =
-    elim (cases_Bool (x == 10)) [
-      | inl feed ↦
-          let none : position_or_len (λ octet. octet == 10) (x ∷ xs) ≡ 0 = rw feed refl in
-          absurd (omega (arith, before, none))
-      | inr other ↦
-          let more : position_or_len (λ octet. octet == 10) (x ∷ xs) ≡ 1 + position_or_len (λ octet. octet == 10) xs =
-          rw other refl in
-          let some : nat_lt 0 left ≡ true = grind (arith, nat_tests, room) in
-          let (same, left_over) = plain_before xs n (left - 1) (omega (arith, before, more)) (omega (arith, room)) in
-          grind (arith, other, some, same, left_over)
-    ]
-
--- The octets before a line feed that fit in the line stay as they are.
-pub plain_front : (text front : List ℕ) (room : ℕ)
-    → front ≡ take (min (unwrap_or (position (λ octet. octet == 10) text) (length text)) room) text →
-    (folded room front ≡ front) × (left_after room front ≡ room - length front)
-plain_front text front room is =
-    let place = position_or_len (λ octet. octet == 10) text in
-    let within = prefix_len-le-length (λ octet. not (octet == 10)) text in
-    let found : unwrap_or (position (λ octet. octet == 10) text) (length text) ≡ place = grind (arith, within) in
-    let front_is : front ≡ take (min place room) text = rw found at is in
-    let (same, left) = plain_before text (min place room) room (omega arith) (omega arith) in
-    let long : length front ≡ min place room = grind (arith, front_is, length-take, within) in
-    (rw front_is same, rw front_is left ∙ ap (λ (n : ℕ). room - n) (sym long))
-
--- A text in which no line feed was found stays as it is, if it fits in its line.
-pub plain_text : (text : List ℕ) (room : ℕ) (found : Option ℕ) → found ≡ position (λ octet. octet == 10) text
-    → is_some found ≡ false → length text ≤ room
-    → (folded room text ≡ text) × (left_after room text ≡ room - length text)
-plain_text text room found is none fits =
-    let place = unwrap_or (position (λ octet. octet == 10) text) (length text) in
-    let whole : place ≡ length text = grind (arith, is, none) in
-    plain_front text text room (sym (take_all (min place room) text (grind (arith, whole, fits))))
 
 -- ---- one call more
 
@@ -234,17 +193,7 @@ module _ {W : Type 0} {contents : W → Option (List ℕ)} where
       → Prints contents middle after more →
       Prints contents before after (text ++ more)
   unfolding Wrote
-  ◌⨾◌ {before} {middle} {after} {text} {more} first second =
-      let laid = laid_out-append (room_of before) text more in
-      let room = room_after-append (room_of before) text more in
-      let behind = ap (λ (r : Option ℕ). laid_out r more) first.wrote.room in
-      record {
-        same = second.same ∙ first.same;
-        wrote = record {
-          writes = rw laid (writes_more first.wrote.writes (rw behind at second.wrote.writes));
-          room = second.wrote.room ∙ ap (λ (r : Option ℕ). room_after r more) first.wrote.room ∙ sym room;
-        };
-      }
+  ◌⨾◌ = grind (arith, laid_out-append, room_after-append, writes_more)
 
   -- The printed text, written in another way.
   pub printed_as : {before after : Page W} {text said : List ℕ} → Prints contents before after text → text ≡ said
@@ -256,55 +205,26 @@ module _ {W : Type 0} {contents : W → Option (List ℕ)} where
   -- Adding two texts in turn adds both.
   pub held_more : {before middle after : Page W} {text more : List ℕ} → Holds contents before middle text
       → Holds contents middle after more → Holds contents before after (text ++ more)
-  held_more first second = record {
-    same = second.same ∙ first.same;
-    writes = writes_more first.writes second.writes;
-    room = second.room ∙ first.room;
-  }
+  held_more = grind (arith, writes_more)
 
   -- A page that is turned in and then given a text was given the text.
   pub held_past : {before middle after : Page W} {text : List ℕ} → Prints contents before middle []
       → Holds contents middle after text → Holds contents before after text
   unfolding Wrote
-  held_past {before} {middle} first second =
-      let none = laid_out-none (room_of before) in
-      let turned : Holds contents before middle [] = record {
-        same = first.same;
-        writes = rw none at first.wrote.writes;
-        room = first.wrote.room ∙ room_after-none (room_of before);
-      } in
-      held_more turned second
+  held_past = grind (arith, laid_out-none, room_after-none, held_more, append_assoc, append-nil)
 
   -- Text that is added to a page without folding was printed.
   pub printed_whole : {before after : Page W} {text : List ℕ} → room_of before ≡ None → Holds contents before after text
       → Prints contents before after text
   unfolding Wrote laid_out room_after
-  printed_whole {before} {after} {text} none put =
-      let same = ap (λ (room : Option ℕ). laid_out room text) none in
-      record {
-        same = put.same;
-        wrote = record {
-          writes = subst (λ (said : List ℕ). Writes contents (writer_of before) (writer_of after) (held before)
-              (held after) said) (sym same) put.writes;
-          room = put.room ∙ none ∙ sym (ap (λ (room : Option ℕ). room_after room text) none);
-        };
-      }
+  printed_whole = grind arith
 
   -- Text that is added folded to a page with folding was printed.
   pub printed_folded : {before middle : Page W} {text : List ℕ} (left left' : ℕ) → room_of before ≡ Some left
       → Holds contents before middle (folded left text) → left' ≡ left_after left text
       → Prints contents before (record middle { room = Some left' }) text
   unfolding Wrote laid_out room_after
-  printed_folded {before} {middle} {text} left left' some put is =
-      let same = ap (λ (room : Option ℕ). laid_out room text) some in
-      record {
-        same = put.same;
-        wrote = record {
-          writes = subst (λ (said : List ℕ). Writes contents (writer_of before) (writer_of middle) (held before)
-              (held middle) said) (sym same) put.writes;
-          room = ap Some is ∙ sym (ap (λ (room : Option ℕ). room_after room text) some);
-        };
-      }
+  printed_folded = grind arith
 
   -- An empty text is folded onto the page.
   pub folds_none : (page : Page W) (room : ℕ) → FoldsTo contents page page room [] room
@@ -315,27 +235,14 @@ module _ {W : Type 0} {contents : W → Option (List ℕ)} where
   pub folds_more : {before middle after : Page W} {room left left' : ℕ} {text : List ℕ} (octet : ℕ)
       → FoldsTo contents before middle room text left → Holds contents middle after (folded_octet left octet)
       → left' ≡ left_behind left octet → FoldsTo contents before after room (text ++ octet ∷ []) left'
-  folds_more {room} {left} {text} octet first put is =
-      let whole = folded-append room text (octet ∷ []) in
-      let last = left_after-append room text (octet ∷ []) in
-      record {
-        held = rw (whole, sym first.is_left, append-nil (folded_octet left octet)) (held_more first.held put);
-        is_left = is ∙ ap (λ (n : ℕ). left_behind n octet) first.is_left ∙ sym last;
-      }
+  folds_more = grind (arith, folded-append, left_after-append, append-nil, held_more)
 
   -- The first octets are in their line unchanged, and the rest is folded.
   pub folds_on : {before middle after : Page W} {left : ℕ} (text front rest : List ℕ) (room : ℕ)
       → (folded room front ≡ front) × (left_after room front ≡ room - length front) → text ≡ front ++ rest
       → Holds contents before middle front → Holds contents middle after (folded (room - length front) rest)
       → left ≡ left_after (room - length front) rest → FoldsTo contents before after room text left
-  folds_on text front rest room (same, behind) whole first second is =
-      let all = folded-append room front rest in
-      let last = left_after-append room front rest in
-      record {
-        held = rw (whole, all, same, behind) (held_more first second);
-        is_left = is ∙ ap (λ (n : ℕ). left_after n rest) (sym behind) ∙ sym last
-            ∙ ap (λ (os : List ℕ). left_after room os) (sym whole);
-      }
+  folds_on = grind (arith, folded-append, left_after-append, held_more)
 
   pub then_prints : {before middle after : Page W} {text more said : List ℕ} → Prints contents before middle text →
       Prints contents middle after more →
@@ -396,9 +303,7 @@ module _ {W : Type 0} {contents : W → Option (List ℕ)} where
       Prints contents first last text → Writes contents (writer_of last) after (held last) [] []
       → Writes contents writer after [] [] text
   unfolding laid_out
-  finished {writer} {after} {text = text} same empty whole printed gone =
-      subst (λ (xs : List ℕ). Writes contents writer after [] [] xs)
-      (ap (λ (room : Option ℕ). laid_out room text) whole) (finished_as same empty printed gone)
+  finished same empty whole printed gone = rw whole at (finished_as same empty printed gone)
 
   -- The folded text, if the page's lines are folded.
   pub folded_out : {writer after : Checked W} {first last : Page W} {text : List ℕ} {left : ℕ}
@@ -406,9 +311,7 @@ module _ {W : Type 0} {contents : W → Option (List ℕ)} where
       Prints contents first last text → Writes contents (writer_of last) after (held last) [] []
       → Writes contents writer after [] [] (folded left text)
   unfolding laid_out
-  folded_out {writer} {after} {text = text} same empty folds printed gone =
-      subst (λ (xs : List ℕ). Writes contents writer after [] [] xs)
-      (ap (λ (room : Option ℕ). laid_out room text) folds) (finished_as same empty printed gone)
+  folded_out same empty folds printed gone = rw folds at (finished_as same empty printed gone)
 
   -- The whole text, if the writer did not fail.
   pub all_written : {before after : Checked W} {text : List ℕ} → Writes contents before after [] [] text
@@ -542,12 +445,21 @@ module _ {W : Type 0} {contents : W → Option (List ℕ)} where
           let other : (length values == 1) ≡ false = ap (λ (n : ℕ). n == 1) (sym same) ∙ several in
           printed_as (opened ⨾ p ⨾ closed) (rw other refl)
 
+  -- A region that is one value is shown by its text.
+  pub printed_value : {before after : Page W} (region rest : List ℕ) (value : Datum)
+      → Some (value, rest) ≡ value_at region → length rest < 1
+      → Prints contents before after (datum_text value) → Prints contents before after (region_text region)
+  unfolding values_within
+  printed_value region [] value first none printed =
+      printed_as printed (rw (values-first region value [] (sym first)) refl)
+  printed_value region (x ∷ xs) value first none printed = absurd (omega (arith, none))
+
   -- A region that is not values is shown by its octets.
   pub printed_octets : {before middle after : Page W} (region : List ℕ) → None ≡ option_map length (values_of region) →
       Prints contents before middle (codes "hex ") → Prints contents middle after (encode_lower region) →
       Prints contents before after (region_text region)
   printed_octets _ none first second = printed_as (first ⨾ second) (grind arith)
 
-pub ruleset printing_values = (front_none, front_whole)
+pub ruleset printing_values = (front_none, front_more, front_whole)
 
 pub ruleset printing_signed = (signed_negative, ints, to_z-of_z)

@@ -13,6 +13,7 @@ use std::io::Write;
 /// # Errors
 ///
 /// `WriteFailed` if the writer failed or took no octet. Then only the beginning of the text was written.
+#[tactic(auto, using(crate::proofs::shown))]
 pub fn show_outcome<W: Write>(
     outcome: &Outcome<'_>,
     writer: &mut Checked<W>,

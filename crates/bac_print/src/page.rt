@@ -1,18 +1,35 @@
 //! Text on its way to a writer.
-ghost use Rattle.std.specs.Prelude.{[], ◌++◌, ◌+◌, ◌==◌, ◌≡◌, ◌≤◌, decimal, drop, false, is_err, length, position};
-ghost use Rattle.hex.specs.Hex.{encode_lower};
+ghost use Rattle.std.specs.Prelude.{[], ◌*◌, ◌++◌, ◌+◌, ◌==◌, ◌≡◌, ◌≤◌, decimal, drop, false, is_err, length};
+ghost use Rattle.{std.specs.Prelude.{None, position}, hex.specs.Hex.encode_lower};
 ghost use Rattle.bac_print.specs.{folded, folded_line, folded_octet, has_failed, held, left_after, left_behind, Prints};
-ghost use Rattle.bac_print.specs.{room_of, TookOrFailed, writer_of, Writes, Inner.{HasNotRead, Holds}};
+ghost use Rattle.bac_print.specs.{room_of, TookOrFailed, writer_of, Writes};
+ghost use Rattle.bac_print.specs.Inner.{HasNoFeed, HasNotRead, hex_pairs, Holds};
 
 use crate::checked::{Checked, WriteFailed};
 use arrayvec::ArrayVec;
+use bac_text::{Delimiter, position_of_end};
 use std::io::Write;
 
 // The octets that a page holds before they go to the writer.
 const PAGE_ROOM: usize = 16_384;
 
+// From this many octets on, a text is long.
+const LONG_TEXT: usize = 16;
+
 // The octets that are turned into hexadecimal at a time.
 const HEX_PART: usize = 32;
+
+// The two hexadecimal digits of each octet, in lower case.
+const HEX_PAIRS: &[u8; 512] = b"\
+    000102030405060708090a0b0c0d0e0f101112131415161718191a1b1c1d1e1f\
+    202122232425262728292a2b2c2d2e2f303132333435363738393a3b3c3d3e3f\
+    404142434445464748494a4b4c4d4e4f505152535455565758595a5b5c5d5e5f\
+    606162636465666768696a6b6c6d6e6f707172737475767778797a7b7c7d7e7f\
+    808182838485868788898a8b8c8d8e8f909192939495969798999a9b9c9d9e9f\
+    a0a1a2a3a4a5a6a7a8a9aaabacadaeafb0b1b2b3b4b5b6b7b8b9babbbcbdbebf\
+    c0c1c2c3c4c5c6c7c8c9cacbcccdcecfd0d1d2d3d4d5d6d7d8d9dadbdcdddedf\
+    e0e1e2e3e4e5e6e7e8e9eaebecedeeeff0f1f2f3f4f5f6f7f8f9fafbfcfdfeff\
+    ";
 
 // The longest folded line, in octets without its line feed: as long as a line of a script may be.
 const FOLDED_LINE: usize = 4_096;
@@ -99,6 +116,7 @@ impl<'w, W: Write> Page<'w, W> {
     }
 
     /// Prints the text.
+    #[tactic(auto, using(crate::proofs::printed_whole))]
     #[inline(always)]
     pub fn print(&mut self, text: &[u8])
         ensures { Prints W.contents self.old self.new text.now }
@@ -110,21 +128,38 @@ impl<'w, W: Write> Page<'w, W> {
     }
 
     // Adds a text to the page, folded, if its first line has this much room. Returns the room after it. Most texts end
-    // before their line does, and fit in it: the compiler knows that of a constant.
+    // before their line does, or with it, and fit in it: the compiler knows that of a constant.
     #[inline(always)]
     fn fold(&mut self, text: &[u8], room: usize) -> usize
         ensures text { Holds W.contents self.old self.new (folded room text.now) }
         ensures left { result ≡ left_after room text.now }
     {
-        if let [b'\n'] = text {
-            self.hold(text);
-            return FOLDED_LINE;
+        match feed_position(text) {
+            None if text.len() <= room => {
+                self.hold(text);
+                room - text.len()
+            }
+            Some(end) if end + 1 == text.len() && end <= room => {
+                self.hold(text);
+                FOLDED_LINE
+            }
+            _ => self.fold_lines(text, room),
         }
-        if text.len() <= room && feed_position(text).is_none() {
-            self.hold(text);
-            return room - text.len();
+    }
+
+    // Adds a text without a line feed, and returns the room after it.
+    #[tactic(auto, using(crate::proofs::no_feed_fits, crate::proofs::no_feed_left))]
+    #[inline(always)]
+    fn fold_plain(&mut self, text: &[u8], room: usize) -> usize
+        requires { HasNoFeed text.now }
+        ensures text { Holds W.contents self.old self.new (folded room text.now) }
+        ensures left { result ≡ left_after room text.now }
+    {
+        if text.len() > room {
+            return self.fold_octets(text, room);
         }
-        self.fold_lines(text, room)
+        self.hold(text);
+        room - text.len()
     }
 
     // Adds a text of several lines, or of one that may not fit, and returns the room after it.
@@ -167,6 +202,19 @@ impl<'w, W: Write> Page<'w, W> {
         room - 1
     }
 
+    // Prints a text that has no line feed.
+    #[tactic(auto, using(crate::proofs::printed_whole))]
+    #[inline(always)]
+    pub(crate) fn print_plain(&mut self, text: &[u8])
+        requires { HasNoFeed text.now }
+        ensures { Prints W.contents self.old self.new text.now }
+    {
+        match self.room {
+            None => self.hold(text),
+            Some(left) => self.room = Some(self.fold_plain(text, left)),
+        }
+    }
+
     // Adds a text to the page unchanged.
     #[inline(always)]
     fn hold(&mut self, text: &[u8])
@@ -199,13 +247,13 @@ impl<'w, W: Write> Page<'w, W> {
 
 impl<W: Write> Page<'_, W> {
     /// Prints the number in decimal digits.
-    #[tactic(auto, using(crate::proofs::eight_octets))]
+    #[tactic(auto, using(crate::proofs::eight_octets, crate::proofs::no_feed_digits))]
     pub fn print_number(&mut self, number: u64)
         ensures { Prints W.contents self.old self.new (decimal number) }
     {
         let mut room = [0; LONGEST_NUMBER];
         let start = write_digits(number, &mut room, LONGEST_NUMBER);
-        self.print(&room[start..]);
+        self.print_plain(&room[start..]);
     }
 
     /// Prints the octets in hexadecimal digits, in lower case.
@@ -221,22 +269,42 @@ impl<W: Write> Page<'_, W> {
         }
     }
 
+    #[tactic(auto, using(crate::proofs::no_feed_hex))]
     fn print_hex_part(&mut self, octets: &[u8])
         requires { length octets.now ≤ HEX_PART }
         ensures { Prints W.contents self.old self.new (encode_lower octets.now) }
     {
         let mut digits = [0; 2 * HEX_PART];
         let digits = &mut digits[..2 * octets.len()];
-        hex::encode_to_slice(octets, digits).unwrap();
-        self.print(digits);
+        write_pairs(octets, digits, HEX_PAIRS);
+        self.print_plain(digits);
     }
 }
 
-// Returns the position of the first line feed.
+// Returns the position of the first line feed. The compiler finds it in a constant text that is short; a long text is
+// searched for several octets at a time.
 fn feed_position(text: &[u8]) -> Option<usize>
     ensures { result ≡ position (λ octet. octet == 10) text.now }
 {
-    text.iter().position(|octet| *octet == b'\n')
+    if text.len() < LONG_TEXT {
+        text.iter().position(|octet| *octet == b'\n')
+    } else {
+        position_of_end(text, Delimiter::At(b'\n'))
+    }
+}
+
+// Writes the two hexadecimal digits of each octet, which are looked up in the pairs of digits.
+#[inline(always)]
+fn write_pairs(octets: &[u8], digits: &mut [u8], pairs: &[u8; 512])
+    requires pairs { pairs.now ≡ hex_pairs }
+    requires room { length digits.old ≡ 2 * length octets.now }
+    ensures { digits.new ≡ encode_lower octets.now }
+{
+    for at in 0..octets.len() {
+        let pair = 2 * usize::from(octets[at]);
+        digits[2 * at] = pairs[pair];
+        digits[2 * at + 1] = pairs[pair + 1];
+    }
 }
 
 /// Writes the decimal digits of a number so that they end before position `end`, and returns where they begin.

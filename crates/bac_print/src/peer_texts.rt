@@ -13,13 +13,13 @@ const LONGEST_STATION: usize = 21;
 
 impl<W: Write> Page<'_, W> {
     /// Prints the IP address in dotted decimal, a colon and the port, and the route, if there is one.
-    #[tactic(auto, using(crate::proofs::printing, std::proofs::lemmas::List::take_rest, std::proofs::lemmas::Grind::common_steps))]
+    #[tactic(auto, using(crate::proofs::printing, std::proofs::lemmas::List::take_rest, std::proofs::lemmas::Grind::common_steps, crate::proofs::no_feed_station))]
     pub fn print_peer(&mut self, peer: Peer)
         ensures { Prints W.contents self.old self.new (peer_text (station peer)) }
     {
         let mut room = [0; LONGEST_STATION];
         let start = write_station(peer.ip, peer.port, &mut room);
-        self.print(&room[start..]);
+        self.print_plain(&room[start..]);
         self.print_route(peer.route);
     }
 

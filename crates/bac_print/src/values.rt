@@ -18,6 +18,7 @@ use std::io::Write;
 /// # Errors
 ///
 /// `WriteFailed` if the writer failed or took no octet. Then only the beginning of the text was written.
+#[tactic(auto, using(crate::proofs::shown))]
 pub fn show_value<W: Write>(region: &[u8], writer: &mut Checked<W>) -> Result<(), WriteFailed>
     requires { has_failed writer.old ≡ false }
     ensures text { TookOrFailed W.contents writer.old writer.new (region_text region.now) result }
@@ -44,7 +45,19 @@ impl<W: Write> Page<'_, W> {
     }
 
     /// Prints the values in a region, or its octets if it is not values.
+    #[tactic(auto, using(crate::proofs::printed_value))]
     pub fn print_region(&mut self, region: &[u8])
+        ensures { Prints W.contents self.old self.new (region_text region.now) }
+    {
+        match value_and_rest(region) {
+            Some((value, [])) => self.print_datum(value),
+            _ => self.print_whole_region(region),
+        }
+    }
+
+    // Prints a region that may have any number of values.
+    #[tactic(auto, using(crate::proofs::printed_octets))]
+    fn print_whole_region(&mut self, region: &[u8])
         ensures { Prints W.contents self.old self.new (region_text region.now) }
     {
         match count_values(region) {

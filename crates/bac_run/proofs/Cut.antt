@@ -1,20 +1,15 @@
 -- How lines are cut from the reader's octets, and the state of the reader then.
-use Rattle.bac_run.specs.{acts_of_result}
-use Rattle.std.proofs.Common.{IfOk, Ok, Some}
-use Rattle.std.proofs.Common.{[], ap, append-nil, append_assoc, arith, drop, Err, false, inl, inr, length, List, None}
-use Rattle.std.proofs.Common.{length-append, length-take-le, nat_le, ne_eqb, Option, refl, Result}
-use Rattle.std.proofs.Common.{subst, suc, sym, take, take-append-drop, zero, ℕ, ◌&&◌, ◌++◌, ◌-◌, ◌<◌}
-use Rattle.std.proofs.{Common.{◌+◌, ◌==◌, ◌∙◌, ◌∷◌, ◌≡◌, ◌≢◌, ◌≤◌, ◌⊎◌}, lemmas.Bool.{cases_Bool, Decides.nat_tests}}
-use Rattle.std.proofs.lemmas.List.{append_cancel_left}
-use Rattle.std.specs.{List.{concat}, Prelude.if◌then◌else◌}
-use Rattle.{bac_text.specs.longest_line, bac_print.specs.{ends_of, fresh, has_failed}, bac_run.specs.acts_of_line}
-use Rattle.bac_run.specs.{Act, addressed, AtEnd, Checked, ends_with_return, Failed, fault_of_line}
-use Rattle.bac_run.specs.{fault_of_said, Feeds, HasNoFeed, HasNoWhole, IsGood, IsLast, IsUsedUp, IsWholeLine, LineFault}
-use Rattle.bac_run.specs.{lines_in, LineTooLong, NoLine, Open, Reading, RunFault, said_of, TakesLines, Took, feeds_in}
-use Rattle.bac_run.specs.{TraceEnd}
-use Rattle.bac_script.proofs.Courses.Chunks.{ends_with_feed-push, said-long, said-whole_long}
-use Rattle.bac_script.specs.{ReaderStands, Said, said, declared.line.LineFault.TheVariants.TooLong}
-use Rattle.bac_script.specs.{Input.CanReadOn, Limits.line_room, Line.without_feed, NextLine.{IsLineCut}}
+use Rattle.std.proofs.Common.{[], ap, append-nil, append_assoc, arith, drop, Err, false, inl, inr, length}
+use Rattle.std.proofs.Common.{length-append, length-take-le, List, nat_le, ne_eqb, None, Option, refl, Result, subst}
+use Rattle.std.proofs.Common.{suc, sym, take, take-append-drop, zero, ℕ, ◌++◌, ◌-◌, ◌<◌, ◌==◌, ◌∙◌, ◌∷◌, ◌≡◌, ◌≢◌, ◌≤◌}
+use Rattle.std.proofs.{Common.◌⊎◌, lemmas.{Bool.{cases_Bool, Decides.nat_tests}, List.append_cancel_left}}
+use Rattle.{std.specs.{List.concat, Prelude.if◌then◌else◌}, bac_text.specs.longest_line, bac_print.specs.ends_of}
+use Rattle.{bac_print.specs.fresh, bac_script.proofs.Courses.Chunks.{ends_with_feed-push, said-long, said-whole_long}}
+use Rattle.bac_script.specs.{ReaderStands, Said, said, declared.line.LineFault.TheVariants.TooLong, Input.CanReadOn}
+use Rattle.{bac_script.specs.{Limits.line_room, Line.without_feed, NextLine.IsNext}, bac_run.specs.{Act, acts_of_line}}
+use Rattle.bac_run.specs.{acts_of_result, AtEnd, Checked, Failed, fault_of_line, fault_of_said, Feeds, feeds_in}
+use Rattle.bac_run.specs.{HasNoFeed, HasNoWhole, IsGood, IsLast, IsUsedUp, IsWholeLine, LineFault, lines_in}
+use Rattle.bac_run.specs.{LineTooLong, NoLine, Open, Reading, RunFault, said_of, TakesLines, Took, TraceEnd}
 
 -- ---- the input that acts take
 
@@ -23,29 +18,29 @@ lines_fed [] = refl
 lines_fed (Took line ∷ acts) = ap (λ (ls : List (List ℕ)). line ∷ ls) (lines_fed acts)
 lines_fed (_ ∷ acts) = lines_fed acts
 
--- Acts that take some input, and others that take more of it.
-pub feeds_on : (reading : Reading) (xs ys : List Act) (given kept more last : List ℕ) → Feeds Open given kept xs
-    → Feeds reading (kept ++ more) last ys → Feeds reading (given ++ more) last (xs ++ ys)
-feeds_on reading [] ys given kept more last is after =
-    subst (λ (os : List ℕ). Feeds reading (os ++ more) last ys) (sym is) after
-feeds_on reading (Took line ∷ xs) ys given kept more last (rest, is, inl whole, fed) after = (
-  rest ++ more,
-  ap (λ (os : List ℕ). os ++ more) is ∙ append_assoc line rest more,
-  inl whole,
-  feeds_on reading xs ys rest kept more last fed after,
-)
-feeds_on reading (Took line ∷ xs) ys given kept more last (rest, is, inr (over, _, _, _), fed) after = absurd (cc)
-feeds_on reading (NoLine Open ∷ xs) ys given kept more last (is, none, fed) after = absurd none
-feeds_on reading (NoLine AtEnd ∷ xs) ys given kept more last (is, none, fed) after = absurd (cc)
-feeds_on reading (NoLine Failed ∷ xs) ys given kept more last (is, none, fed) after = absurd (cc)
-feeds_on reading (_ ∷ xs) ys given kept more last fed after = absurd fed
+-- Acts that take some input, and others that take what is left of it.
+pub feeds_then : (reading : Reading) (xs ys : List Act) (given kept last : List ℕ) → Feeds reading given kept xs
+    → Feeds reading kept last ys → Feeds reading given last (xs ++ ys)
+feeds_then reading [] ys given kept last is after = subst (λ (os : List ℕ). Feeds reading os last ys) (sym is) after
+feeds_then reading (Took line ∷ xs) ys given kept last (rest, is, whole, fed) after =
+    (rest, is, whole, feeds_then reading xs ys rest kept last fed after)
+feeds_then reading (NoLine over ∷ xs) ys given kept last (is, up, fed) after =
+    (is, up, feeds_then reading xs ys given kept last fed after)
+feeds_then reading (_ ∷ xs) ys given kept last fed after = absurd fed
 
 -- While reading is open, more octets may follow those that were given.
 pub feeds_open : (reading : Reading) (xs : List Act) (given kept more : List ℕ) → Feeds Open given kept xs
     → Feeds reading (given ++ more) (kept ++ more) xs
-feeds_open reading xs given kept more fed =
-    subst (λ (ys : List Act). Feeds reading (given ++ more) (kept ++ more) ys) (append-nil xs)
-    (feeds_on reading xs [] given kept more (kept ++ more) fed refl)
+feeds_open reading [] given kept more is = ap (λ (os : List ℕ). os ++ more) is
+feeds_open reading (Took line ∷ xs) given kept more (rest, is, inl whole, fed) = (
+  rest ++ more,
+  ap (λ (os : List ℕ). os ++ more) is ∙ append_assoc line rest more,
+  inl whole,
+  feeds_open reading xs rest kept more fed,
+)
+feeds_open reading (Took line ∷ xs) given kept more (rest, is, inr (over, _, _, _), fed) = absurd (cc)
+feeds_open reading (NoLine over ∷ xs) given kept more (is, none, fed) = absurd (rw is at none)
+feeds_open reading (_ ∷ xs) given kept more fed = absurd fed
 
 pub feeds_whole : (reading : Reading) (xs : List Act) (given kept : List ℕ) → Feeds reading given kept xs
     → given ≡ concat (lines_in xs) ++ kept
@@ -75,39 +70,32 @@ first_line (suc n) (x ∷ xs) = if x == 10 then x ∷ [] else x ∷ first_line n
 first_ended : (room : ℕ) (text rest : List ℕ) → HasNoFeed text → length (text ++ 10 ∷ []) ≤ room
     → first_line room ((text ++ 10 ∷ []) ++ rest) ≡ text ++ 10 ∷ []
 unfolding first_line
-first_ended zero [] rest none short = absurd (omega (arith, short))
-first_ended zero (x ∷ xs) rest none short = absurd (omega (arith, short))
+first_ended zero text rest none short = absurd (omega (arith, short, length-append text (10 ∷ [])))
 first_ended (suc n) [] rest none short = refl
 first_ended (suc n) (x ∷ xs) rest (other, none) short =
     rw (ne_eqb x 10 other)
     (ap (λ (os : List ℕ). x ∷ os) (first_ended n xs rest none (omega (arith, short))))
 
-first_full : (room : ℕ) (line rest : List ℕ) → HasNoFeed line → length line ≡ room
-    → first_line room (line ++ rest) ≡ line
+first_free : (room : ℕ) (line rest : List ℕ) → HasNoFeed line → length line ≤ room
+    → (length line < room → rest ≡ []) → first_line room (line ++ rest) ≡ line
 unfolding first_line
-first_full zero [] rest none long = refl
-first_full zero (x ∷ xs) rest none long = absurd (omega (arith, long))
-first_full (suc n) [] rest none long = absurd (omega (arith, long))
-first_full (suc n) (x ∷ xs) rest (other, none) long =
+first_free zero [] rest none fits last = refl
+first_free zero (x ∷ xs) rest none fits last = absurd (omega (arith, fits))
+first_free (suc n) [] rest none fits last = rw (last (omega arith)) refl
+first_free (suc n) (x ∷ xs) rest (other, none) fits last =
     rw (ne_eqb x 10 other)
-    (ap (λ (os : List ℕ). x ∷ os) (first_full n xs rest none (omega (arith, long))))
-
-first_last : (room : ℕ) (line : List ℕ) → HasNoFeed line → length line < room → first_line room line ≡ line
-unfolding first_line
-first_last zero line none short = absurd (omega (arith, short))
-first_last (suc n) [] none short = refl
-first_last (suc n) (x ∷ xs) (other, none) short =
-    rw (ne_eqb x 10 other) (ap (λ (os : List ℕ). x ∷ os) (first_last n xs none (omega (arith, short))))
+    (ap (λ (os : List ℕ). x ∷ os)
+    (first_free n xs rest none (omega (arith, fits)) (λ short. last (omega (arith, short)))))
 
 took_first : (reading : Reading) (line rest : List ℕ) → IsWholeLine line ⊎ IsLast reading line rest
     → first_line line_room (line ++ rest) ≡ line
 took_first reading line rest (inl (inl ((text, none, is), short))) =
     ap (λ (os : List ℕ). first_line line_room (os ++ rest)) is
     ∙ first_ended line_room text rest none (subst (λ (os : List ℕ). length os ≤ line_room) is short) ∙ sym is
-took_first reading line rest (inl (inr (none, long))) = first_full line_room line rest none long
+took_first reading line rest (inl (inr (none, long))) =
+    first_free line_room line rest none (omega (arith, long)) (λ short. absurd (omega (arith, long, short)))
 took_first reading line rest (inr (_, over, (none, short), _)) =
-    ap (λ (os : List ℕ). first_line line_room (line ++ os)) over
-    ∙ ap (λ (os : List ℕ). first_line line_room os) (append-nil line) ∙ first_last line_room line none short
+    first_free line_room line rest none (omega (arith, short)) (λ less. over)
 
 pub has_feed : (text rest : List ℕ) → HasNoFeed ((text ++ 10 ∷ []) ++ rest) → ⊥
 has_feed [] rest (other, _) = other refl
@@ -117,7 +105,7 @@ none_left_of : (line rest : List ℕ) → line ++ rest ≡ [] → line ≡ []
 none_left_of [] rest is = refl
 none_left_of (x ∷ xs) rest is = absurd (cc)
 
-not_empty : (text : List ℕ) → [] ≡ text ++ 10 ∷ [] → ⊥
+pub not_empty : (text : List ℕ) → [] ≡ text ++ 10 ∷ [] → ⊥
 not_empty [] is = absurd (cc)
 not_empty (x ∷ xs) is = absurd (cc)
 
@@ -182,11 +170,7 @@ fed_alike reading (x ∷ xs) (y ∷ ys) given kept kept' fed fed' = search
 
 -- A line that is too long is bad, and its fault is that it is too long.
 said_of_long : (line : List ℕ) → said false line ≡ Err TooLong → said_of line ≡ Err TooLong
-said_of_long line is =
-    elim (cases_Bool (length line == longest_line && ends_with_return line)) [
-      | inl long ↦ rw long refl
-      | inr short ↦ rw short (ap addressed is)
-    ]
+said_of_long = grind (arith, append_assoc, append-nil)
 
 unsaid : (line : List ℕ) → said false line ≡ Err TooLong → acts_of_line line ≡ None
 unsaid line is = ap (λ (r : Result Said LineFault). acts_of_result line r) (said_of_long line is)
@@ -207,15 +191,7 @@ pub record Cuts (reading : Reading) (line later : List ℕ) : Type 0 where
 
 front_all : (reading : Reading) (line later : List ℕ) → IsWholeLine line ⊎ IsLast reading line later
     → Cuts reading line later
-front_all reading line later whole = record {
-  front = line;
-  rest = [];
-  split = sym (append-nil line);
-  whole = whole;
-  same = refl;
-  alike = λ n. refl;
-  all = λ good. refl;
-}
+front_all = grind (arith, append_assoc, append-nil)
 
 none_take : (n : ℕ) (xs : List ℕ) → HasNoFeed xs → HasNoFeed (take n xs)
 none_take zero xs none = tt
@@ -261,114 +237,49 @@ front_ended reading line text later is none =
           (front_long reading text later none (omega (arith, many, size, more)))
     ]
 
--- The next line, if reading has not failed.
-pub cut_front : (reading : Reading) (now : List ℕ) (n : ℕ) → reading ≢ Failed → (n ≡ 0 → ⊥) → n ≤ length now
-    → IsLineCut reading (take n now) → (reading ≡ AtEnd → drop n now ≡ []) → Cuts reading (take n now) (drop n now)
-cut_front Failed now n sure some within cut last = absurd (sure refl)
-cut_front Open now n sure some within (inl c) last = front_ended Open (take n now) c.text (drop n now) c.ended c.no_feed
-cut_front Open now n sure some within (inr c) last =
-    front_all Open (take n now) (drop n now) (inl (inr (c.no_feed, c.long)))
-cut_front AtEnd now n sure some within c last =
-    front_all AtEnd (take n now) (drop n now) (inr (refl, last refl, (c.no_feed, c.short), full))
-  where
-    full : take n now ≢ []
-    full none = some (sym (length-take-le n now within) ∙ ap (λ (os : List ℕ). length os) none)
+-- ---- the next line
 
--- If reading failed, no whole line is left.
-pub failed_none : {R : Type 0} (remaining : R → Option (List ℕ)) (a b : Checked R) (reading : Reading) (now : List ℕ)
-    (n : ℕ) → reading ≡ Failed → IsLineCut reading (take n now) → ReaderStands remaining reading a b (drop n now)
-    → HasNoWhole now
-failed_none remaining a b reading now n is cut stands =
-    let c = rw is at cut in
-    let s = rw is at stands in
-    let all : take n now ≡ now =
-    sym (append-nil (take n now)) ∙ ap (λ (xs : List ℕ). take n now ++ xs) (sym s.empty) ∙ take-append-drop n now in
-    subst HasNoWhole all (c.no_feed, c.short)
+module _ {R : Type 0} {remaining : R → Option (List ℕ)} {a b : Checked R} {now : List ℕ} {n : ℕ} where
+  -- The next line, if reading has not failed.
+  pub cut_next : (reading : Reading) → IsNext remaining a b now reading n → reading ≢ Failed → (n ≡ 0 → ⊥)
+      → Cuts reading (take n now) (drop n now)
+  cut_next Failed next sure some = absurd (sure refl)
+  cut_next Open next sure some = elim (next.cut) [
+    | inl c ↦ front_ended Open (take n now) c.text (drop n now) c.ended c.no_feed
+    | inr c ↦ front_all Open (take n now) (drop n now) (inl (inr (c.no_feed, c.long)))
+  ]
+  cut_next AtEnd next sure some =
+      front_all AtEnd (take n now) (drop n now)
+      (inr (refl, next.stands.empty, (next.cut.no_feed, next.cut.short), full))
+    where
+      full : take n now ≢ []
+      full none = some (sym (length-take-le n now next.within) ∙ ap (λ (os : List ℕ). length os) none)
 
--- ---- the state of the reader
+  -- If there is no next line, reading has ended, and nothing is held.
+  pub none_next : (reading : Reading) → IsNext remaining a b now reading n → reading ≢ Failed → n ≡ 0
+      → (reading ≡ AtEnd) × (now ≡ [])
+  none_next Failed next sure empty = absurd (sure refl)
+  none_next Open next sure empty = elim ((rw empty at next).cut) [
+    | inl c ↦ absurd (not_empty c.text c.ended)
+    | inr c ↦ absurd (omega (arith, c.long))
+  ]
+  none_next AtEnd next sure empty = (refl, (rw empty at next).stands.empty)
 
-pub at_last : {R : Type 0} (remaining : R → Option (List ℕ)) (before after : Checked R) (held : List ℕ)
-    (reading : Reading) → ReaderStands remaining reading before after held → reading ≡ AtEnd → held ≡ []
-at_last remaining before after held reading stands is = (rw is at stands).empty
+  -- If reading failed, no whole line is held.
+  pub none_whole : IsNext remaining a b now Failed n → HasNoWhole now
+  none_whole next =
+      let all : take n now ≡ now =
+      sym (append-nil (take n now)) ∙ ap (λ (xs : List ℕ). take n now ++ xs) (sym next.stands.empty)
+      ∙ take-append-drop n now in
+      subst HasNoWhole all (next.cut.no_feed, next.cut.short)
 
--- A reader that has not failed can be read on.
-pub can_read : {R : Type 0} (remaining : R → Option (List ℕ)) (before after : Checked R) (held : List ℕ)
-    (reading : Reading) → ReaderStands remaining reading before after held → reading ≢ Failed → has_failed after ≡ false
-can_read remaining before after held Open stands sure = stands.sound
-can_read remaining before after held AtEnd stands sure = stands.sound
-can_read remaining before after held Failed stands sure = absurd (sure refl)
-
--- A reader that can be read on, twice in a row.
-pub reads_on : {R : Type 0} {a b c : Checked R} → CanReadOn a b → CanReadOn b c → CanReadOn a c
-reads_on first after = record { sound = after.sound; unended = after.unended ∙ first.unended }
-
-pub reading_on : {R : Type 0} (remaining : R → Option (List ℕ)) (a b c : Checked R) (reading : Reading) → CanReadOn a b
-    → ReaderStands remaining reading b c [] → ReaderStands remaining reading a c []
-reading_on remaining a b c Open first after = reads_on first after
-reading_on remaining a b c AtEnd first after = record {
-  empty = refl;
-  sound = after.sound;
-  ended = after.ended;
-  once = after.once ∙ ap (λ (n : ℕ). n + 1) first.unended;
-  left = after.left;
-}
-reading_on remaining a b c Failed first after =
-    record { empty = refl; failed = after.failed; unended = after.unended ∙ first.unended }
-
--- The state of the reader when the next line was found, and nothing more is held or taken.
-pub still_stands : {R : Type 0} (remaining : R → Option (List ℕ)) (a b : Checked R) (held : List ℕ) (reading : Reading)
-    → ReaderStands remaining reading a b held → ReaderStands remaining reading a b []
-still_stands remaining a b held Open stands = stands
-still_stands remaining a b held AtEnd stands =
-    record { empty = refl; sound = stands.sound; ended = stands.ended; once = stands.once; left = stands.left }
-still_stands remaining a b held Failed stands =
-    record { empty = refl; failed = stands.failed; unended = stands.unended }
-
-pub open_stands : {R : Type 0} (remaining : R → Option (List ℕ)) (a b : Checked R) (held : List ℕ) (reading : Reading)
-    → reading ≢ Failed → reading ≢ AtEnd → ReaderStands remaining reading a b held → CanReadOn a b
-open_stands remaining a b held Open sure going stands = stands
-open_stands remaining a b held AtEnd sure going stands = absurd (going refl)
-open_stands remaining a b held Failed sure going stands = absurd (sure refl)
+-- The state of a reader that was read on, when nothing more is held.
+pub stands_on : {R : Type 0} (remaining : R → Option (List ℕ)) (a b c : Checked R) (reading : Reading)
+    (held : List ℕ) → CanReadOn a b → ReaderStands remaining reading b c held → ReaderStands remaining reading a c []
+stands_on = grind (arith, append_assoc, append-nil)
 
 pub still_open : (reading : Reading) → reading ≢ Failed → reading ≢ AtEnd → reading ≡ Open
-still_open Open sure going = refl
-still_open AtEnd sure going = absurd (going refl)
-still_open Failed sure going = absurd (sure refl)
-
-take_none : (n : ℕ) (now : List ℕ) → n ≡ 0 → take n now ≡ []
-take_none n now empty = rw empty refl
-
--- If reading is over and there is no next line, nothing is kept.
-pub none_left : {R : Type 0} (remaining : R → Option (List ℕ)) (before after : Checked R) (reading : Reading)
-    (now : List ℕ) (n : ℕ) → n ≡ 0 → reading ≢ Failed → IsLineCut reading (take n now)
-    → ReaderStands remaining reading before after (drop n now) → now ≡ []
-none_left remaining before after Open now n empty sure (inl c) stands =
-    absurd (not_empty c.text (sym (take_none n now empty) ∙ c.ended))
-none_left remaining before after Open now n empty sure (inr c) stands =
-    let long = rw (take_none n now empty) at c.long in absurd (omega (arith, long))
-none_left remaining before after AtEnd now n empty sure c stands = rw empty at stands.empty
-none_left remaining before after Failed now n empty sure c stands = absurd (sure refl)
-
--- Reading has ended if there is no next line.
-pub at_end : {R : Type 0} (remaining : R → Option (List ℕ)) (a b : Checked R) (reading : Reading) (now : List ℕ)
-    (n : ℕ) → n ≡ 0 → reading ≢ Failed → IsLineCut reading (take n now)
-    → ReaderStands remaining reading a b (drop n now) → ReaderStands remaining AtEnd a b []
-at_end remaining a b Open now n empty sure (inl c) stands =
-    absurd (not_empty c.text (sym (take_none n now empty) ∙ c.ended))
-at_end remaining a b Open now n empty sure (inr c) stands =
-    let long = rw (take_none n now empty) at c.long in absurd (omega (arith, long))
-at_end remaining a b AtEnd now n empty sure c stands = still_stands remaining a b (drop n now) AtEnd stands
-at_end remaining a b Failed now n empty sure c stands = absurd (sure refl)
-
--- ---- good lines
-
-pub good_so : {acts : List Act} (line : List ℕ) → acts_of_line line ≡ Some acts → IsGood line
-good_so line is none = absurd (let bad = sym is ∙ none in cc)
-
-pub good_line : {acts : List Act} (result : Result (Unit {0}) RunFault) (line : List ℕ) → acts_of_line line ≡ Some acts
-    → IfOk result (λ _. IsGood line)
-good_line (Ok done) line is = good_so line is
-good_line (Err fault) line is = tt
+still_open = grind (arith, append_assoc, append-nil)
 
 -- ---- how often reading met the end
 
@@ -380,6 +291,4 @@ ends Failed = 0
 
 pub ends_so : {R : Type 0} (remaining : R → Option (List ℕ)) (reading : Reading) (reader : R) (after : Checked R)
     → ReaderStands remaining reading (fresh reader) after [] → ends_of after ≡ ends reading
-ends_so remaining Open reader after stands = stands.unended
-ends_so remaining AtEnd reader after stands = stands.once
-ends_so remaining Failed reader after stands = stands.unended
+ends_so = grind (arith, append_assoc, append-nil)

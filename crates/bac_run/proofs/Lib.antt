@@ -8,9 +8,6 @@ pub mod Runs
 pub mod Sends
 pub mod Replays
 pub mod ReadBack
-pub mod Lines
-pub mod Plain
-pub mod Folded
 pub mod Readable
 pub mod Lookahead
 pub mod Alike
@@ -25,9 +22,6 @@ pub use Runs.*
 pub use Sends.*
 pub use Replays.*
 pub use ReadBack.*
-pub use Lines.*
-pub use Plain.*
-pub use Folded.*
 pub use Readable.*
 pub use Lookahead.*
 pub use Alike.*

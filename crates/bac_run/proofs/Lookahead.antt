@@ -1,91 +1,53 @@
 -- The notes of a run are those of the look-ahead.
-use Rattle.bac_run.specs.{Closed}
-use Rattle.bac_run.specs.{Rested, Sought}
-use Rattle.std.proofs.Common.{[], ap, arith, length, List, map, None, refl, suc, sym, take_all, ℕ, ◌*◌, ◌++◌, ◌+◌, ◌∙◌}
-use Rattle.std.proofs.Common.{◌∷◌, ◌≡◌, ◌≤◌}
-use Rattle.bac_tsm.{proofs.Laws.{never_due, open_soon}, specs.{Accepted, client_rules, clock, end, Event, initial}}
-use Rattle.bac_tsm.specs.{Note, outputs, Rules, rules_of, state_at, Client.Client, Laws.MachineIsLookahead}
-use Rattle.{bac_tsm.specs.Machine.folded, bac_run.specs.{Act, AreSteady, Asked, Came, client_after, events_of}}
-use Rattle.bac_run.specs.{new_client, NoLine, notes_of, Passed, Paused, Read, Told, Took, turn_at}
+use Rattle.std.proofs.Common.{[], ap, arith, length, List, map, None, refl, suc, sym, take_all, ℕ, ◌*◌, ◌+◌, ◌∙◌, ◌∷◌}
+use Rattle.std.proofs.{Common.{◌≡◌, ◌≤◌}, lemmas.List.map-append}
+use Rattle.bac_tsm.{proofs.Laws.{never_due, open_soon}, specs.{Accepted, client_rules, clock, Data, end, Event}}
+use Rattle.bac_tsm.specs.{initial, Note, outputs, Rules, rules_of, state_at, Tick, Client.Client}
+use Rattle.bac_tsm.specs.{Laws.MachineIsLookahead, Machine.folded}
+use Rattle.bac_run.specs.{Act, AreSteady, Asked, at_event, Came, client_after, events_of, new_client, notes_of, Told}
 
--- ---- notes without their positions
+-- Notes without their positions.
+abbrev bare : List (ℕ × Note) → List Note
+bare = map (λ (i, note). note)
 
-bare-append : (xs ys : List (ℕ × Note)) → map (λ (i, note). note) (xs ++ ys)
-    ≡ map (λ (i, note). note) xs ++ map (λ (i, note). note) ys
-bare-append [] ys = refl
-bare-append ((i, note) ∷ xs) ys = ap (λ (ns : List Note). note ∷ ns) (bare-append xs ys)
-
-bare-at : (i : ℕ) (notes : List Note) → map (λ (i, note). note) (map (λ (note : Note). (i, note)) notes) ≡ notes
+bare-at : (i : ℕ) (notes : List Note) → bare (map (λ (note : Note). (i, note)) notes) ≡ notes
 bare-at i [] = refl
 bare-at i (note ∷ notes) = ap (λ (ns : List Note). note ∷ ns) (bare-at i notes)
 
 -- ---- the client of a run is the machine
 
-told : (client : Client) (i : ℕ) (acts : List Act)
-    → map (λ (i, note). note) (folded (rules_of client) client.state i (events_of acts)).notes ≡ notes_of client acts
-told client i [] = refl
-told client i (Asked line event ∷ later) =
-    bare-append (map (λ (note : Note). (i, note)) (turn_at client (Asked line event)).notes) _
-    ∙ ap (λ (ns : List Note). ns ++ map (λ (i, note). note) (folded (rules_of client) (turn_at client
-    (Asked line event)).after.state (suc i) (events_of later)).notes) (bare-at i (turn_at client
-    (Asked line event)).notes)
-    ∙ ap (λ (ns : List Note). (turn_at client (Asked line event)).notes ++ ns) (told (turn_at client
-    (Asked line event)).after (suc i) later)
-told client i (Took line ∷ later) = told client i later
-told client i (NoLine reading ∷ later) = told client i later
-told client i (Paused ∷ later) = told client i later
-told client i (Sought to octets ∷ later) = told client i later
-told client i (Rested time ∷ later) = told client i later
-told client i (Came wait from octets ∷ later) =
-    bare-append (map (λ (note : Note). (i, note)) (turn_at client (Came wait from octets)).notes) _
-    ∙ ap (λ (ns : List Note). ns ++ map (λ (i, note). note) (folded (rules_of client) (turn_at client
-    (Came wait from octets)).after.state (suc i) (events_of later)).notes) (bare-at i (turn_at client
-    (Came wait from octets)).notes)
-    ∙ ap (λ (ns : List Note). (turn_at client (Came wait from octets)).notes ++ ns) (told (turn_at client
-    (Came wait from octets)).after (suc i) later)
-told client i (Passed wait heard ∷ later) = told client i later
-told client i (Closed ∷ later) = told client i later
-told client i (Read time ∷ later) = told client i later
-told client i (Told time ∷ later) =
-    bare-append (map (λ (note : Note). (i, note)) (turn_at client (Told time)).notes) _
-    ∙ ap (λ (ns : List Note). ns ++ map (λ (i, note). note) (folded (rules_of client) (turn_at client
-    (Told time)).after.state (suc i) (events_of later)).notes) (bare-at i (turn_at client (Told time)).notes)
-    ∙ ap (λ (ns : List Note). (turn_at client (Told time)).notes ++ ns) (told (turn_at client (Told time)).after
-    (suc i) later)
+-- The machine gives the notes of the client, and then has its state.
+abbrev IsMachine : Client → ℕ → List Act → Type 0
+IsMachine client i acts = (bare (folded (rules_of client) client.state i (events_of acts)).notes ≡ notes_of client acts)
+    × ((folded (rules_of client) client.state i (events_of acts)).after ≡ (client_after client acts).state)
 
-left : (client : Client) (i : ℕ) (acts : List Act)
-    → (folded (rules_of client) client.state i (events_of acts)).after ≡ (client_after client acts).state
-left client i [] = refl
-left client i (Asked line event ∷ later) = left (turn_at client (Asked line event)).after (suc i) later
-left client i (Took line ∷ later) = left client i later
-left client i (NoLine reading ∷ later) = left client i later
-left client i (Paused ∷ later) = left client i later
-left client i (Sought to octets ∷ later) = left client i later
-left client i (Rested time ∷ later) = left client i later
-left client i (Came wait from octets ∷ later) = left (turn_at client (Came wait from octets)).after (suc i) later
-left client i (Passed wait heard ∷ later) = left client i later
-left client i (Closed ∷ later) = left client i later
-left client i (Read time ∷ later) = left client i later
-left client i (Told time ∷ later) = left (turn_at client (Told time)).after (suc i) later
+at_next : (client : Client) (i : ℕ) (event : Event) (later : List Act)
+    → IsMachine (at_event client event).after (suc i) later → IsMachine client i (Asked [] event ∷ later)
+at_next = grind (arith, map-append, bare-at)
 
-pub told_ahead : (timeout retries : ℕ) (acts : List Act)
+is_machine : (client : Client) (i : ℕ) (acts : List Act) → IsMachine client i acts
+is_machine client i [] = (refl, refl)
+is_machine client i (Asked line event ∷ later) =
+    at_next client i event later (is_machine (at_event client event).after (suc i) later)
+is_machine client i (Came wait from octets ∷ later) =
+    at_next client i (Data from octets) later (is_machine (at_event client (Data from octets)).after (suc i) later)
+is_machine client i (Told time ∷ later) =
+    at_next client i (Tick time) later (is_machine (at_event client (Tick time)).after (suc i) later)
+is_machine client i (_ ∷ later) = is_machine client i later
+
+pub is_ahead : (timeout retries : ℕ) (acts : List Act)
     → MachineIsLookahead (client_rules timeout retries) 0 (events_of acts)
-    → notes_of (new_client timeout retries 0) acts
-    ≡ map (λ (i, note). note) (outputs (client_rules timeout retries) 0 (events_of acts) 0 (length (events_of acts)))
-told_ahead timeout retries acts is =
-    sym (told (new_client timeout retries 0) 0 acts)
-    ∙ ap (λ (ns : List (ℕ × Note)). map (λ (i, note). note) ns) is.notes
-
-pub kept_ahead : (timeout retries : ℕ) (acts : List Act)
-    → MachineIsLookahead (client_rules timeout retries) 0 (events_of acts)
-    → (client_after (new_client timeout retries 0) acts).state
-    ≡ state_at (client_rules timeout retries) 0 (events_of acts) (length (events_of acts))
-kept_ahead timeout retries acts is =
-    let all = events_of acts in
-    sym (left (new_client timeout retries 0) 0 acts)
-    ∙ ap (λ (events : List Event). (folded (client_rules timeout retries) (initial 0) 0 events).after)
-    (sym (take_all (length all) all (omega arith)))
-    ∙ is.kept (length all) (omega arith)
+    → (notes_of (new_client timeout retries 0) acts
+    ≡ bare (outputs (client_rules timeout retries) 0 (events_of acts) 0 (length (events_of acts))))
+    × ((client_after (new_client timeout retries 0) acts).state
+    ≡ state_at (client_rules timeout retries) 0 (events_of acts) (length (events_of acts)))
+is_ahead timeout retries acts is =
+    let (notes, after) = is_machine (new_client timeout retries 0) 0 acts in
+    let all = events_of acts in (
+      sym notes ∙ ap bare is.notes,
+      sym after ∙ ap (λ (events : List Event). (folded (client_rules timeout retries) (initial 0) 0 events).after)
+          (sym (take_all (length all) all (omega arith))) ∙ is.kept (length all) (omega arith),
+    )
 
 -- ---- how long a request waits
 

@@ -1,143 +1,69 @@
--- All acts of the lines that were taken were done, or are still to be done.
-use Rattle.std.proofs.Common.{None, Option}
-use Rattle.std.proofs.Common.{[], ap, append-nil, append_assoc, Bool, Err, false, flat_map, IfOk, length}
-use Rattle.std.proofs.Common.{List}
-use Rattle.std.proofs.Common.{nat_lt, Ok, refl, Result, Some, suc, sym, true, unwrap_or, zero, ℕ, ◌++◌, ◌-◌}
-use Rattle.std.proofs.{Common.{◌/◌, ◌==◌, ◌∙◌, ◌∷◌, ◌≡◌}, lemmas.List.Concat.flat_map-append}
-use Rattle.std.specs.{List.AllByRecursion, Prelude.{bytes_eq, codes, if◌then◌else◌, option_map}, Result.result_ok}
-use Rattle.{bac_wire.specs.◌>>=◌, bac_text.specs.{words_of, Address.reach_of, Words.{at_end, next_as, number_up_to}}}
-use Rattle.bac_script.specs.{Line.text_of_line, declared.line.LineFault.TheVariants.{Bad, TooLong}}
-use Rattle.bac_run.specs.{acts_of_result, limits_of, own_by, own_of, Rested, rest_of, Rests, seek_of, Sought}
-use Rattle.{bac_tsm.specs.{Ask, Data, Tick, Client.Client}}
-use Rattle.bac_script.specs.{Blank, Happens, Remark, Said, Settings, Line.Asks}
-use Rattle.bac_links.specs.{Arrived, Failure, Heard, most_turns, Silence}
-use Rattle.bac_run.specs.{Act, acted, acts_or_none, Aim, aims_for, AllDone, Broken, Came, closing, Does, DueIn, end_by}
-use Rattle.bac_run.specs.{Ends, EndsAt, first_stage, Fresh, freshened, Goes, heard_at, input_in, inputs_in, is_reached}
-use Rattle.bac_run.specs.{IsGood, left_of, line_in, lines_in, LineFault, longest_row, Looked, moved}
-use Rattle.bac_run.specs.{moved_in}
-use Rattle.bac_run.specs.{new_client, NextLine, NoLine, open_in, Outside, Passed, passed_at, Phase, Read, renewed}
-use Rattle.bac_run.specs.{result_in, RunFault}
-use Rattle.bac_run.specs.{said_of, Setup, settled_in, Stage, stage_after, stage_by, taking, Telling, telling}
-use Rattle.bac_run.specs.{TimeTold, Took, TraceEnd, TraceFault, Turns}
+-- What a run has still to do: acts of the lines that it took, and datagrams that it must offer to the link.
+use Rattle.std.proofs.Common.{[], ap, append-nil, append_assoc, arith, Err, flat_map, IfOk, length, List, Ok, Option}
+use Rattle.std.proofs.Common.{refl, Result, Some, suc, sym, unwrap_or, ℕ, ◌++◌, ◌∙◌, ◌∷◌, ◌≡◌}
+use Rattle.std.{proofs.lemmas.List.Concat.flat_map-append, specs.{List.AllByRecursion, Prelude.option_map}}
+use Rattle.{bac_pdu.specs.Station, bac_tsm.specs.{Ask, Data, rules_of, Tick, Client.Client, Machine.datagram}}
+use Rattle.bac_script.specs.{Blank, Happens, Remark, Said, Settings, declared.line.LineFault.TheVariants.{Bad, TooLong}}
+use Rattle.{bac_script.specs.Line.Asks, bac_links.specs.Heard, bac_run.{proofs.Acts.sends-answer, specs.{Act, act_of}}}
+use Rattle.bac_run.specs.{acted, acts_of_result, acts_or_none, Aim, aims_for, AllDone, asked_by, calls_of, Came}
+use Rattle.bac_run.specs.{closing, Does, DueIn, end_by, Ends, EndsAt, first_stage, Fresh, freshened, Goes, Handed}
+use Rattle.bac_run.specs.{Handing, handing, heard_at, input_in, inputs_in, IsGood, left_of, line_in, LineFault}
+use Rattle.bac_run.specs.{lines_in, Looked, moved, moved_in, new_client, NextLine, NoLine, offered_in, Outside, own_of}
+use Rattle.bac_run.specs.{OwnLine, Passed, passed_at, Phase, Read, renewed, Rests, result_in, RunFault, said_of}
+use Rattle.bac_run.specs.{sends_at, sends_of, settled_in, Setup, Stage, stage_after, stage_by, taking, Telling, Told}
+use Rattle.bac_run.specs.{Took, TraceEnd, TraceFault, turn_at, Turns}
 
 -- The acts of the taken lines that are still to be done, from the aims.
 abbrev todo : List Aim → List Act
 todo [] = []
 todo (Does act ∷ later) = input_in act ++ todo later
-todo (Turns until left ∷ later) = todo later
-todo (Fresh ∷ later) = todo later
-todo (Rests time ∷ later) = todo later
 todo (NextLine window taken ∷ later) = []
 todo (Ends end ∷ later) = []
+todo (aim ∷ later) = todo later
+
+-- The datagrams that must still be offered.
+abbrev pub pending : Phase → List (Station × List ℕ)
+pending (Handing sends) = sends
+pending _ = []
+
+pending_handing : (sends : List (Station × List ℕ)) → pending (handing sends) ≡ sends
+pending_handing [] = refl
+pending_handing (send ∷ later) = refl
+
+-- ---- stages with the same left to do
 
 left_todo : (client : Client) (since_told : ℕ) (aims : List Aim) → todo (left_of client since_told aims) ≡ todo aims
 left_todo client since_told [] = refl
-left_todo client since_told (Turns until left ∷ later) =
-    go (is_reached client since_told (Turns until left)) refl (left_todo client since_told later)
-  where
-    go : (b : Bool) → is_reached client since_told (Turns until left) ≡ b
-        → todo (left_of client since_told later) ≡ todo later
-        → todo (left_of client since_told (Turns until left ∷ later)) ≡ todo (Turns until left ∷ later)
-    go true e rest = rw e rest
-    go false e rest = rw e refl
-left_todo client since_told (aim ∷ later) = refl
+left_todo client since_told (aim ∷ later) =
+    let rest = left_todo client since_told later in grind (arith, append_assoc, append-nil, rest)
 
-settled_todo : (stage : Stage) (phase : Phase) → todo (settled_in stage phase).aims ≡ todo stage.aims
-settled_todo stage Outside = left_todo stage.client stage.since_told stage.aims
-settled_todo stage (Looked time) = refl
-settled_todo stage (Telling time) = refl
-settled_todo stage Broken = refl
+-- A stage has the client of another, no datagram to offer, and the same acts to do.
+record IsStill (stage after : Stage) : Type 0 where
+  client : after.client ≡ stage.client
+  offered : pending after.phase ≡ []
+  todo_is : todo after.aims ≡ todo stage.aims
 
-telling_aims : (stage : Stage) (time : ℕ) → (telling stage time).aims ≡ stage.aims
-telling_aims stage time = go (nat_lt stage.client.state.clock time) refl
-  where
-    go : (b : Bool) → nat_lt stage.client.state.clock time ≡ b → (telling stage time).aims ≡ stage.aims
-    go true e = rw e refl
-    go false e = rw e refl
+heard_still : (stage : Stage) (time : ℕ) → IsStill stage (heard_at stage time)
+heard_still = grind (arith, append_assoc, append-nil)
 
-heard_aims : (stage : Stage) (time : ℕ) → (heard_at stage time).aims ≡ stage.aims
-heard_aims stage time = go (nat_lt (suc stage.since_told) longest_row) refl
-  where
-    go : (b : Bool) → nat_lt (suc stage.since_told) longest_row ≡ b → (heard_at stage time).aims ≡ stage.aims
-    go true e = rw e refl
-    go false e = rw e (telling_aims stage time)
+passed_still : (stage : Stage) (time wait : ℕ) (heard : Heard) → IsStill stage (passed_at stage time wait heard)
+passed_still = grind (arith, append_assoc, append-nil)
 
-fresh_todo : (timeout : ℕ) (stage : Stage) (time : ℕ) → todo (freshened timeout stage time).aims ≡ todo stage.aims
-fresh_todo timeout stage time =
-    go (open_in stage.client == 0) refl (nat_lt (timeout / 10) (time - stage.client.state.clock)) refl
-  where
-    go : (none : Bool) → (open_in stage.client == 0) ≡ none → (late : Bool)
-        → nat_lt (timeout / 10) (time - stage.client.state.clock) ≡ late
-        → todo (freshened timeout stage time).aims ≡ todo stage.aims
-    go true e late f =
-        rw e (ap todo (telling_aims (record stage { aims = Turns TimeTold most_turns ∷ stage.aims }) time))
-    go false e true f = rw (e, f) refl
-    go false e false f = rw (e, f) refl
-
-passed_aims : (stage : Stage) (time wait : ℕ) (heard : Heard) → (passed_at stage time wait heard).aims ≡ stage.aims
-passed_aims stage time wait Silence = go (wait == 0) refl
-  where
-    go : (b : Bool) → (wait == 0) ≡ b → (passed_at stage time wait Silence).aims ≡ stage.aims
-    go true e = rw e (telling_aims stage time)
-    go false e = rw e (heard_aims stage time)
-passed_aims stage time wait (Arrived from octets) = heard_aims stage time
-passed_aims stage time wait Failure = refl
+fresh_still : (timeout : ℕ) (stage : Stage) (time : ℕ) → pending stage.phase ≡ []
+    → IsStill stage (freshened timeout stage time)
+fresh_still = grind (arith, append_assoc, append-nil)
 
 renewed_todo : (aims : List Aim) → todo aims ≡ todo (renewed aims)
-renewed_todo [] = refl
-renewed_todo (Turns until left ∷ later) = refl
-renewed_todo (aim ∷ later) = refl
+renewed_todo = grind (arith, append_assoc, append-nil)
 
 closing_todo : (end : Result TraceEnd TraceFault) (later : List Aim) → [] ≡ todo (closing end later)
 closing_todo (Ok end) later = refl
 closing_todo (Err fault) later = refl
 
--- ---- the act of a line `who` or `wait`
-
--- The act is a Who-Is or a wait.
-abbrev pub IsOwn : Option Act → Type 0
-IsOwn None = Unit {0}
-IsOwn (Some (Sought to octets)) = Unit {0}
-IsOwn (Some (Rested time)) = Unit {0}
-IsOwn (Some act) = ⊥
-
-end_only : (words : List (List ℕ)) (time : ℕ) → IsOwn (at_end words (Rested time))
-end_only [] time = tt
-end_only (word ∷ words) time = tt
-
-bind_only : {A : Type 0} (found : Option A) (made : A → Option Act) → ((x : A) → IsOwn (made x))
-    → IsOwn (found >>= made)
-bind_only None made is = tt
-bind_only (Some x) made is = is x
-
-map_only : {A : Type 0} (found : Option A) (made : A → Act) → ((x : A) → IsOwn (Some (made x)))
-    → IsOwn (option_map made found)
-map_only None made is = tt
-map_only (Some x) made is = is x
-
-if_only : (b : Bool) (one other : Option Act) → IsOwn one → IsOwn other → IsOwn (if b then one else other)
-if_only true one other is too = is
-if_only false one other is too = too
-
-by_only : (words : List (List ℕ)) → IsOwn (own_by words)
-by_only [] = tt
-by_only (name ∷ words) =
-    if_only (bytes_eq name (codes "who")) (seek_of words) _
-    (bind_only (next_as reach_of words) _ (λ (reach, words). if_only (reach.0.ip == 0) None _ tt
-    (map_only (limits_of words) _ (λ who. tt))))
-    (if_only (bytes_eq name (codes "wait")) (rest_of words) None
-    (bind_only (next_as (number_up_to 60000) words) _ (λ (pause, words). end_only words pause)) tt)
-
-pub own_only : (line : List ℕ) → IsOwn (own_of line)
-own_only line = bind_only (result_ok (text_of_line line)) _ (λ text. by_only (words_of text))
-
-own_todo : (own : Option Act) (window number : ℕ) (line : List ℕ) (later : List Aim) → IsOwn own
-    → todo (aims_for (option_map (λ act. act ∷ []) own) window number line later)
-    ≡ unwrap_or (option_map (λ act. act ∷ []) own) []
-own_todo None window number line later is = refl
-own_todo (Some (Sought to octets)) window number line later is = refl
-own_todo (Some (Rested time)) window number line later is = refl
-own_todo (Some act) window number line later is = absurd is
+own_todo : (own : Option OwnLine) (window number : ℕ) (line : List ℕ) (later : List Aim)
+    → todo (aims_for (option_map (λ own. act_of own ∷ []) own) window number line later)
+    ≡ unwrap_or (option_map (λ own. act_of own ∷ []) own) []
+own_todo = grind (arith, append_assoc, append-nil)
 
 -- Once a line is taken, its acts are to be done.
 line_todo : (line : List ℕ) (window number : ℕ) (later : List Aim)
@@ -149,7 +75,7 @@ line_todo line window number later = go (said_of line)
         → todo (aims_for (acts_of_result line r) window number line later)
         ≡ unwrap_or (acts_of_result line r) []
     go (Err TooLong) = refl
-    go (Err Bad) = own_todo (own_of line) window number line later (own_only line)
+    go (Err Bad) = own_todo (own_of line) window number line later
     go (Ok Blank) = refl
     go (Ok Remark) = refl
     go (Ok (Happens (Ask peer service body))) = refl
@@ -158,56 +84,123 @@ line_todo line window number later = go (said_of line)
     go (Ok (Settings timeout retries ticket)) = refl
     go (Ok (Asks arrival)) = refl
 
+-- ---- an act that was due
+
 abbrev wanted_by : Act → List Act
 wanted_by act = flat_map acts_or_none (line_in act)
+
+-- The acts that are left before an act, with those that it asks for, are its own and those that are left after it.
+record Moves (client : Client) (phase : Phase) (aims : List Aim) (act : Act) (after : Stage) : Type 0 where
+  client_is : after.client ≡ (turn_at client act).after
+  todo_is : todo aims ++ wanted_by act ≡ input_in act ++ todo after.aims
+  sends_are : pending phase ++ sends_at client act ≡ flat_map offered_in (asked_by act) ++ pending after.phase
 
 same_todo : (xs ys : List Act) → xs ≡ ys → xs ++ [] ≡ ys
 same_todo xs ys is = append-nil xs ∙ is
 
-moved_todo : (timeout : ℕ) (stage : Stage) (phase : Phase) (aims : List Aim) (act : Act) → stage.aims ≡ aims
-    → DueIn timeout stage phase aims act
-    → todo aims ++ wanted_by act ≡ input_in act ++ todo (moved_in timeout stage phase aims act).aims
-moved_todo timeout stage Outside (Turns until (suc left) ∷ later) (Read time) is due = append-nil (todo later)
-moved_todo timeout stage Outside (Fresh ∷ later) (Read time) is due =
-    same_todo _ _ (sym (fresh_todo timeout (record stage { aims = later }) time))
-moved_todo timeout stage Outside (Rests wait ∷ later) (Read time) is due = append-nil (todo later)
-moved_todo timeout stage Outside (Does due ∷ later) act is (same, none) =
-    ap (λ (a : Act). (input_in a ++ todo later) ++ wanted_by act) (sym same)
-    ∙ ap (λ (ls : List (List ℕ)). (input_in act ++ todo later) ++ flat_map acts_or_none ls) none ∙ append-nil _
-moved_todo timeout stage Outside (NextLine window taken ∷ later) (Took line) is due =
-    append-nil (acts_or_none line) ∙ sym (line_todo line window (suc taken) later)
-moved_todo timeout stage Outside (NextLine window taken ∷ later) (NoLine reading) is due =
-    closing_todo (end_by reading taken) later
-moved_todo timeout stage (Looked time) aims (Came wait from octets) is due =
-    same_todo _ _ (ap todo (sym is ∙ sym (heard_aims (acted stage (Came wait from octets)) time)))
-moved_todo timeout stage (Looked time) aims (Passed wait heard) is due =
-    same_todo _ _ (ap todo (sym is ∙ sym (passed_aims stage time wait heard)))
-moved_todo timeout stage (Telling time) aims act is due = rw due (same_todo _ _ (renewed_todo aims))
-moved_todo timeout stage phase aims act is due = search
+moves : (timeout : ℕ) (stage : Stage) (phase : Phase) (aims : List Aim) (act : Act) → stage.phase ≡ phase
+    → stage.aims ≡ aims → DueIn timeout stage phase aims act
+    → Moves stage.client phase aims act (moved_in timeout stage phase aims act)
+moves timeout stage Outside (Turns until (suc left) ∷ later) (Read time) was is due =
+    record { client_is = refl; todo_is = append-nil (todo later); sends_are = refl }
+moves timeout stage Outside (Fresh ∷ later) (Read time) was is due =
+    let still = fresh_still timeout (record stage { aims = later }) time (ap pending was) in
+    record {
+      client_is = still.client;
+      todo_is = same_todo _ _ (sym still.todo_is);
+      sends_are = sym still.offered;
+    }
+moves timeout stage Outside (Rests wait ∷ later) (Read time) was is due =
+    record { client_is = refl; todo_is = append-nil (todo later); sends_are = sym (ap pending was) }
+moves timeout stage Outside (Does due ∷ later) act was is (same, none, quiet) = record {
+  client_is = refl;
+  todo_is = ap (λ (a : Act). (input_in a ++ todo later) ++ wanted_by act) (sym same)
+      ∙ ap (λ (ls : List (List ℕ)). (input_in act ++ todo later) ++ flat_map acts_or_none ls) none ∙ append-nil _;
+  sends_are = rw quiet (sym (pending_handing (sends_at stage.client act)));
+}
+moves timeout stage Outside (NextLine window taken ∷ later) (Took line) was is due = record {
+  client_is = refl;
+  todo_is = append-nil (acts_or_none line) ∙ sym (line_todo line window (suc taken) later);
+  sends_are = sym (ap pending was);
+}
+moves timeout stage Outside (NextLine window taken ∷ later) (NoLine reading) was is due =
+    record { client_is = refl; todo_is = closing_todo (end_by reading taken) later; sends_are = sym (ap pending was) }
+moves timeout stage (Looked time) aims (Came wait from octets) was is due =
+    let still = heard_still (acted stage (Came wait from octets)) time in
+    record {
+      client_is = still.client;
+      todo_is = same_todo _ _ (ap todo (sym is) ∙ sym still.todo_is);
+      sends_are = sends-answer (datagram (rules_of stage.client) stage.client.state from octets).answer
+          ∙ sym still.offered;
+    }
+moves timeout stage (Looked time) aims (Passed wait heard) was is due =
+    let still = passed_still stage time wait heard in
+    record {
+      client_is = still.client;
+      todo_is = same_todo _ _ (ap todo (sym is) ∙ sym still.todo_is);
+      sends_are = sym still.offered;
+    }
+moves timeout stage (Telling time) aims act was is due = record {
+  client_is = refl;
+  todo_is = rw due (same_todo _ _ (renewed_todo aims));
+  sends_are = rw due (sym (pending_handing (sends_at stage.client (Told time))));
+}
+moves timeout stage (Handing ((to, octets) ∷ later)) aims (Handed a os taken) was is (same, all) = record {
+  client_is = refl;
+  todo_is = same_todo _ _ (ap todo (sym is));
+  sends_are = rw (same, all, pending_handing later) (append-nil _);
+}
+moves timeout stage phase aims act was is due = search
+
+record Settles (stage after : Stage) : Type 0 where
+  client_is : after.client ≡ stage.client
+  phase_is : after.phase ≡ stage.phase
+  todo_is : todo after.aims ≡ todo stage.aims
+
+settles : (stage : Stage) (phase : Phase) → Settles stage (settled_in stage phase)
+settles stage Outside =
+    record { client_is = refl; phase_is = refl; todo_is = left_todo stage.client stage.since_told stage.aims }
+settles stage phase = record { client_is = refl; phase_is = refl; todo_is = refl }
+
+moves_on : (timeout : ℕ) (stage : Stage) (act : Act) → DueIn timeout stage stage.phase stage.aims act
+    → Moves stage.client stage.phase stage.aims act (moved timeout stage act)
+moves_on timeout stage act due =
+    let here = moves timeout stage stage.phase stage.aims act refl refl due in
+    let next = moved_in timeout stage stage.phase stage.aims act in
+    let there = settles next next.phase in
+    record {
+      client_is = there.client_is ∙ here.client_is;
+      todo_is = here.todo_is ∙ ap (λ (xs : List Act). input_in act ++ xs) (sym there.todo_is);
+      sends_are = here.sends_are
+          ∙ ap (λ (phase : Phase). flat_map offered_in (asked_by act) ++ pending phase) (sym there.phase_is);
+    }
+
+-- ---- all acts of a run
 
 goes_todo : (timeout : ℕ) (stage : Stage) (acts : List Act) → Goes timeout stage acts
     → todo stage.aims ++ flat_map acts_or_none (lines_in acts)
     ≡ inputs_in acts ++ todo (stage_after timeout stage acts).aims
 goes_todo timeout stage [] goes = append-nil _
 goes_todo timeout stage (act ∷ acts) (due, goes) =
-    let here = moved_todo timeout stage stage.phase stage.aims act refl due in
-    let next = moved_in timeout stage stage.phase stage.aims act in
-    let there = settled_todo next next.phase in
+    let here = (moves_on timeout stage act due).todo_is in
     let later = goes_todo timeout (moved timeout stage act) acts goes in
-    let wanted = flat_map acts_or_none (lines_in acts) in
-    ap (λ (xs : List Act). todo stage.aims ++ xs) (flat_map-append acts_or_none (line_in act) (lines_in acts))
-    ∙ sym (append_assoc (todo stage.aims) (wanted_by act) wanted)
-    ∙ ap (λ (xs : List Act). xs ++ wanted) here ∙ append_assoc (input_in act) (todo next.aims) wanted
-    ∙ ap (λ (xs : List Act). input_in act ++ (xs ++ wanted)) (sym there)
-    ∙ ap (λ (xs : List Act). input_in act ++ xs) later
-    ∙ sym (append_assoc (input_in act) (inputs_in acts) (todo (stage_after timeout (moved timeout stage act)
-    acts).aims))
+    grind (arith, append_assoc, flat_map-append, here, later)
+
+-- All datagrams that these acts make are offered to the link, or must still be.
+pub goes_sends : (timeout : ℕ) (stage : Stage) (acts : List Act) → Goes timeout stage acts
+    → pending stage.phase ++ sends_of stage.client acts
+    ≡ flat_map offered_in (calls_of acts) ++ pending (stage_after timeout stage acts).phase
+goes_sends timeout stage [] goes = append-nil _
+goes_sends timeout stage (act ∷ acts) (due, goes) =
+    let here = moves_on timeout stage act due in
+    let later = goes_sends timeout (moved timeout stage act) acts goes in
+    let sends = here.sends_are in
+    let client = here.client_is in
+    grind (arith, append_assoc, flat_map-append, sends, client, later)
 
 -- If a run ends well, no act is left to be done.
 ended_todo : (phase : Phase) (aims : List Aim) (end : TraceEnd) → result_in phase aims ≡ Some (Ok end) → todo aims ≡ []
-ended_todo Outside (Ends end ∷ later) over is = refl
-ended_todo Outside (Turns until zero ∷ later) over is = absurd (cc)
-ended_todo phase aims over is = absurd (cc)
+ended_todo = grind (arith, append_assoc, append-nil)
 
 -- A run at its beginning, with all its aims.
 abbrev begun : Setup → Stage
@@ -226,7 +219,8 @@ done_so setup acts result kept goes ends whole = go result ends whole
   where
     wanted : flat_map acts_or_none (lines_in acts) ≡ inputs_in acts ++ todo (stage_by setup acts).aims
     wanted =
-        ap (λ (xs : List Act). xs ++ flat_map acts_or_none (lines_in acts)) (sym (settled_todo (begun setup) Outside))
+        ap (λ (xs : List Act). xs ++ flat_map acts_or_none (lines_in acts))
+        (sym (settles (begun setup) Outside).todo_is)
         ∙ goes_todo setup.config.timeout (first_stage setup) acts goes
 
     go : (result : Result TraceEnd RunFault) → EndsAt result (stage_by setup acts)

@@ -1,19 +1,17 @@
 -- The course of a run: its aims, and the act that is due after all acts so far.
-use Rattle.std.specs.{List.flat_map}
-use Rattle.std.specs.Prelude.{[], Bool, Err, false, if◌then◌else◌, length, List, max, min, nat_le, nat_lt, None, Ok}
-use Rattle.std.specs.Prelude.{Option}
-use Rattle.std.specs.Prelude.{Result, Some, suc, true, zero, ℕ, ⊤, ◌++◌, ◌+◌, ◌-◌, ◌/◌, ◌<◌, ◌==◌, ◌^◌, ◌∷◌, ◌≡◌, ◌≤◌}
-use Rattle.bac_tsm.specs.{clock, Event, Client.Client}
-use Rattle.bac_script.specs.declared.input.Reading.{Reading, TheVariants.AtEnd}
-use Rattle.bac_script.specs.declared.tracing.{TraceEnd.TraceEnd, TraceFault.TraceFault}
-use Rattle.bac_script.specs.declared.tracing.TraceFault.TheVariants.{ReadFailed, WriteFailed}
-use Rattle.bac_links.specs.{Arrived, Failure, Heard, most_turns, Silence, Limits.turn_wait}
-use Rattle.bac_links.specs.declared.fault.ToolFault.TheVariants.{ReceiveFailed, SendFailed, TurnsSpent}
-use Rattle.bac_run.specs.declared.{fault.RunFault.{RunFault, TheVariants.{Link, Script}}}
-use Rattle.bac_run.specs.declared.turns.Until.{Until, TheVariants.{ClockAt, FewOpen, TimeTold}}
-use Rattle.bac_run.specs.Input.{acts_of_line, fault_of_line, line_in}
-use Rattle.bac_run.specs.Journal.{Act, Asked, Came, Closed, has_line, NoLine, Passed, Paused, Read, Rested, Sought}
-use Rattle.bac_run.specs.Journal.{Told, Took, turn_at}
+use Rattle.std.specs.{List.flat_map, Prelude.{[], Bool, Err, false, if◌then◌else◌, length, List, max, min, nat_le}}
+use Rattle.std.specs.Prelude.{nat_lt, None, Ok, Option, Result, Some, suc, true, zero, ℕ, ⊤, ◌++◌, ◌+◌, ◌-◌, ◌/◌, ◌<◌}
+use Rattle.std.specs.Prelude.{◌==◌, ◌^◌, ◌∷◌, ◌≡◌, ◌≤◌}
+use Rattle.{bac_pdu.specs.Station, bac_tsm.specs.{clock, Event}}
+use Rattle.{bac_tsm.specs.{Client.Client, Machine.oldest_send}, bac_script.specs.declared.input.Reading.Reading}
+use Rattle.bac_script.specs.declared.{input.Reading.TheVariants.AtEnd, tracing.TraceEnd.TraceEnd}
+use Rattle.bac_script.specs.declared.tracing.TraceFault.{TraceFault, TheVariants.{ReadFailed, WriteFailed}}
+use Rattle.bac_links.specs.{Arrived, Failure, Heard, most_turns, Silence}
+use Rattle.bac_links.specs.{declared.fault.ToolFault.TheVariants.{ReceiveFailed, TurnsSpent}, Limits.turn_wait}
+use Rattle.bac_run.specs.declared.{fault.RunFault.{RunFault, TheVariants.{Link, Script}}, turns.Until.Until}
+use Rattle.bac_run.specs.{declared.turns.Until.TheVariants.{ClockAt, FewOpen, TimeTold}, Input.acts_of_line}
+use Rattle.bac_run.specs.{Input.{fault_of_line, line_in}, Journal.{Act, Asked, asked_by, Came, Closed, Handed}}
+use Rattle.bac_run.specs.Journal.{has_line, NoLine, Passed, Paused, Read, Rested, sends_at, Sought, Told, Took, turn_at}
 
 -- An aim of a run: to take at most this many turns until a wait is over; to read the time for a request; to read the
 -- time from which a wait of this many milliseconds begins; to do what a line asks for; to take the next line, after
@@ -26,13 +24,19 @@ pub data Aim : Type 0 where
   NextLine : (window taken : ℕ) → Aim
   Ends : (end : Result TraceEnd TraceFault) → Aim
 
--- The phase of a turn: outside a turn; the time was read, and a wait is due; the client must get a time; the wait
--- failed.
+-- The phase of a run: outside a turn; in a turn, the time was read, and a wait is due; the client must get a time;
+-- these datagrams must be offered to the link; the wait failed.
 pub data Phase : Type 0 where
   Outside : Phase
   Looked : (time : ℕ) → Phase
   Telling : (time : ℕ) → Phase
+  Handing : (sends : List (Station × List ℕ)) → Phase
   Broken : Phase
+
+-- Datagrams must be offered, or none.
+abbrev pub handing : List (Station × List ℕ) → Phase
+handing [] = Outside
+handing (send ∷ later) = Handing (send ∷ later)
 
 -- The stage of a run: its client; how many waits are over since the client last got the time, 0 if that was in the last
 -- turn; its phase; and its aims, in order.
@@ -50,9 +54,13 @@ open_in client = length client.state.waiting
 abbrev pub longest_row : ℕ
 longest_row = 256
 
+-- How many requests may be open at the end of a wait for at most this many: none if datagrams may be left to hear.
+abbrev pub most_open : (most since_told : ℕ) → ℕ
+most_open most since_told = if since_told == 0 then most else 0
+
 -- The aim is reached with this client and this many waits over since the client last got the time.
 abbrev pub is_reached : Client → (since_told : ℕ) → Aim → Bool
-is_reached client since_told (Turns (FewOpen most) left) = nat_le (open_in client) most
+is_reached client since_told (Turns (FewOpen most) left) = nat_le (open_in client) (most_open most since_told)
 is_reached client since_told (Turns TimeTold left) = since_told == 0
 is_reached client since_told (Turns (ClockAt time) left) = nat_le time client.state.clock
 is_reached client since_told aim = false
@@ -102,9 +110,10 @@ abbrev pub renewed : List Aim → List Aim
 renewed (Turns until left ∷ later) = Turns until most_turns ∷ later
 renewed aims = aims
 
--- The stage with the client after an act.
+-- The stage with the client after an act, whose datagrams must be offered.
 abbrev pub acted : Stage → Act → Stage
-acted stage act = record stage { client = (turn_at stage.client act).after }
+acted stage act =
+    record stage { client = (turn_at stage.client act).after; phase = handing (sends_at stage.client act) }
 
 -- A wait brought nothing for the client.
 abbrev pub IsPassed : Heard → Type 0
@@ -151,9 +160,16 @@ end_by reading taken = Err ReadFailed
 -- ---- the act that is due
 
 module _ (timeout : ℕ) where
-  -- How long a turn waits, in milliseconds. If a wait is over since the client last got the time, the turn only looks.
-  abbrev pub wait_at : (since_told : ℕ) → ℕ
-  wait_at since_told = if since_told == 0 then turn_wait timeout else 0
+  -- How long it takes from this time until the first open request is due, if it was last sent at this one.
+  abbrev pub due_in : (time : ℕ) → Option ℕ → ℕ
+  due_in time None = turn_wait timeout
+  due_in time (Some sent) = timeout - (time - sent)
+
+  -- How long a turn that begins at this time waits, in milliseconds: at most until the first open request is due. If a
+  -- wait is over since the client last got the time, the turn only looks.
+  abbrev pub wait_at : Client → (since_told time : ℕ) → ℕ
+  wait_at client since_told time =
+      if since_told == 0 then min (turn_wait timeout) (due_in time (oldest_send client.state)) else 0
 
   -- The time was read for a request. If none is open, the client gets it. Otherwise, if the client's last time is older
   -- than a tenth of the timeout, turns are taken until the client gets a time.
@@ -170,13 +186,15 @@ module _ (timeout : ℕ) where
   DueIn stage Outside (Turns until (suc left) ∷ later) (Read time) = ⊤
   DueIn stage Outside (Fresh ∷ later) (Read time) = ⊤
   DueIn stage Outside (Rests time ∷ later) (Read now) = ⊤
-  DueIn stage Outside (Does due ∷ later) act = (act ≡ due) × (line_in act ≡ [])
+  DueIn stage Outside (Does due ∷ later) act = (act ≡ due) × (line_in act ≡ []) × (asked_by act ≡ [])
   DueIn stage Outside (NextLine window taken ∷ later) (Took line) = ⊤
   DueIn stage Outside (NextLine window taken ∷ later) (NoLine reading) = ⊤
   DueIn stage (Looked time) aims (Came wait from octets) =
-      (wait ≡ wait_at stage.since_told) × (has_line (length octets) ≡ true)
-  DueIn stage (Looked time) aims (Passed wait heard) = (wait ≡ wait_at stage.since_told) × IsPassed heard
+      (wait ≡ wait_at stage.client stage.since_told time) × (has_line (length octets) ≡ true)
+  DueIn stage (Looked time) aims (Passed wait heard) =
+      (wait ≡ wait_at stage.client stage.since_told time) × IsPassed heard
   DueIn stage (Telling time) aims act = act ≡ Told time
+  DueIn stage (Handing ((to, octets) ∷ later)) aims (Handed to' octets' taken) = (to' ≡ to) × (octets' ≡ octets)
   DueIn stage phase aims act = ⊥
 
   -- The stage after this act, in this phase, with these aims.
@@ -193,7 +211,8 @@ module _ (timeout : ℕ) where
       record stage { aims = ending (end_by reading taken) later }
   moved_in stage (Looked time) aims (Came wait from octets) = heard_at (acted stage (Came wait from octets)) time
   moved_in stage (Looked time) aims (Passed wait heard) = passed_at stage time wait heard
-  moved_in stage (Telling time) aims act = record (acted stage act) { phase = Outside; aims = renewed aims }
+  moved_in stage (Telling time) aims act = record (acted stage act) { aims = renewed aims }
+  moved_in stage (Handing (send ∷ later)) aims act = record stage { phase = handing later }
   moved_in stage phase aims act = stage
 
   -- The act is due at the stage, and the stage after it.
@@ -227,10 +246,9 @@ result_in phase aims = None
 abbrev pub result_at : Stage → Option (Result TraceEnd RunFault)
 result_at stage = result_in stage.phase stage.aims
 
--- A run with this fault stops at this stage. If a writer or a send fails, it may stop at any stage.
+-- A run with this fault stops at this stage. If the writer fails, it may stop at any stage.
 abbrev pub StopsAt : RunFault → Stage → Type 0
 StopsAt (Script WriteFailed) stage = ⊤
-StopsAt (Link SendFailed) stage = ⊤
 StopsAt fault stage = result_at stage ≡ Some (Err fault)
 
 -- A run with this result ends at this stage.

@@ -1,16 +1,14 @@
 -- The lines of the input, and the acts of each.
-use Rattle.std.specs.{List.{AllByRecursion, flat_map}, Prelude.{[], Err, false, if◌then◌else◌, length}}
-use Rattle.std.specs.Prelude.{List, None, Ok, Option, option_map, Result, Some, unwrap_or, ℕ, ◌&&◌, ◌<◌, ◌≤◌}
-use Rattle.std.specs.{Prelude.{◌++◌, ◌==◌, ◌∷◌, ◌≡◌, ◌≢◌, ◌⊎◌}}
-use Rattle.bac_script.specs.{Limits.line_room, ReaderStands}
-use Rattle.bac_script.specs.{declared.input.Reading.{Reading, TheVariants.{AtEnd, Failed, Open}}}
-use Rattle.{bac_tsm.specs.Ask, bac_text.specs.longest_line, bac_print.specs.{Gave, declared.checked.Checked.Checked}}
-use Rattle.bac_script.specs.{Blank, Happens, Remark, Said, said}
-use Rattle.bac_script.specs.{declared.line.LineFault.{LineFault, TheVariants.{Bad, TooLong}}}
-use Rattle.bac_script.specs.declared.tracing.{TraceEnd.TraceEnd, TraceFault.{TraceFault, TheVariants.BadLine}}
-use Rattle.bac_script.specs.Script.{fault_at}
-use Rattle.bac_run.specs.{declared.fault.RunFault.RunFault}
-use Rattle.bac_run.specs.{Journal.{Act, Asked, ends_with_return, NoLine, Paused, Rested, Sought, Took}, Own.own_of}
+use Rattle.std.specs.{List.{AllByRecursion, flat_map}, Prelude.{[], Err, false, if◌then◌else◌, length, List, None, Ok}}
+use Rattle.std.specs.Prelude.{Option, option_map, Result, Some, unwrap_or, ℕ, ◌&&◌, ◌++◌, ◌<◌, ◌==◌, ◌∷◌, ◌≡◌, ◌≢◌, ◌≤◌}
+use Rattle.std.specs.Prelude.{◌⊎◌}
+use Rattle.{bac_tsm.specs.Ask, bac_text.specs.longest_line, bac_print.specs.Gave}
+use Rattle.{bac_print.specs.declared.checked.Checked.Checked, bac_script.specs.{Blank, Happens, ReaderStands, Remark}}
+use Rattle.bac_script.specs.{Said, said, declared.input.Reading.{Reading, TheVariants.{AtEnd, Failed, Open}}}
+use Rattle.bac_script.specs.declared.{line.LineFault.{LineFault, TheVariants.{Bad, TooLong}}, tracing.TraceEnd.TraceEnd}
+use Rattle.bac_script.specs.{declared.tracing.TraceFault.{TraceFault, TheVariants.BadLine}, Limits.line_room}
+use Rattle.{bac_script.specs.Script.fault_at, bac_run.specs.{declared.fault.RunFault.RunFault, Journal.{Act, Asked}}}
+use Rattle.bac_run.specs.{Journal.{ends_with_return, NoLine, Paused, Rested, Sought, Took}, Own.{act_of, own_of}}
 
 -- The acts of a line with this meaning: at a line without words the run waits, at a remark it does nothing, and a
 -- request is made. Any other line is bad.
@@ -35,7 +33,7 @@ said_of line =
 -- The acts of a line with this result of a script's reader. A line that a script does not have may be `who` or `wait`.
 abbrev pub acts_of_result : List ℕ → Result Said LineFault → Option (List Act)
 acts_of_result line (Ok what) = acts_of_said line what
-acts_of_result line (Err Bad) = option_map (λ act. act ∷ []) (own_of line)
+acts_of_result line (Err Bad) = option_map (λ own. act_of own ∷ []) (own_of line)
 acts_of_result line (Err TooLong) = None
 
 -- The acts of a line, if it is not bad.

@@ -1,18 +1,19 @@
 -- The acts of a run, one after another; their journal, their calls of the link, and the text that `bactrace` prints
 -- from the journal.
 use Rattle.std.specs.{List.flat_map, Prelude.{[], Bool, codes, decimal, if◌then◌else◌, length, List, nat_le, nat_lt}}
-use Rattle.std.specs.Prelude.{None, slice_index, true, ℕ, ◌&&◌, ◌++◌, ◌-◌, ◌<◌, ◌==◌, ◌^◌, ◌∷◌, ◌≡◌}
+use Rattle.std.specs.Prelude.{false, None, Option, slice_index, Some, true, ℕ, ◌&&◌, ◌++◌, ◌-◌, ◌<◌, ◌==◌, ◌^◌}
+use Rattle.std.specs.{Option.option_to_list, Prelude.{◌∷◌, ◌≡◌}}
 use Rattle.{hex.specs.Hex.{encode_lower, IsBytes}, bac_pdu.specs.Station}
 use Rattle.bac_tsm.specs.{Data, Event, keeping, Note, Sent, step_of, Tick, Client.Client}
 use Rattle.{bac_print.specs.peer_text, bac_script.specs.{Line.ends_with_feed, Text.note_text}}
 use Rattle.{bac_script.specs.declared.input.Reading.Reading}
-use Rattle.bac_links.specs.{Arrived, Entry, Heard, Posted, Timed, Waited}
+use Rattle.bac_links.specs.{Arrived, Entry, Heard, Offered, Timed, Waited}
 
 -- One act of a run: it takes a line of its input; it finds no more lines, since reading has ended or failed; it makes
--- the request of a line; it has waited at a line without words; it sends a Who-Is, which opens no request; it has
+-- the request of a line; it has waited at a line without words; it makes a Who-Is, which opens no request; it has
 -- waited this many milliseconds for a line; it receives a datagram in a wait of this length, and passes it to the
 -- client; it waits this long and receives nothing for the client; it reads the time; the client gets a time that was
--- read; it ends well, and closes its journal.
+-- read; it offers a datagram to the link, which takes or refuses it; it ends well, and closes its journal.
 pub data Act : Type 0 where
   Took : (line : List ℕ) → Act
   NoLine : (reading : Reading) → Act
@@ -24,6 +25,7 @@ pub data Act : Type 0 where
   Passed : (wait : ℕ) (heard : Heard) → Act
   Read : (time : ℕ) → Act
   Told : (time : ℕ) → Act
+  Handed : (to : Station) (octets : List ℕ) (taken : Bool) → Act
   Closed : Act
 
 -- The notes of the client, and the client after them.
@@ -35,22 +37,23 @@ abbrev pub at_event : Client → Event → Turn
 at_event client event =
     record { notes = (step_of client event).notes; after = keeping client (step_of client event).after }
 
--- The client's notes on an act, and the client after it.
-abbrev pub turn_at : Client → Act → Turn
-turn_at client (Asked line event) = at_event client event
-turn_at client (Came wait from octets) = at_event client (Data from octets)
-turn_at client (Told time) = at_event client (Tick time)
-turn_at client _ = record { notes = []; after = client }
-
 -- The event of an act, if it has one for the client; and those of all acts, in their order.
-abbrev pub event_in : Act → List Event
-event_in (Asked line event) = event ∷ []
-event_in (Came wait from octets) = Data from octets ∷ []
-event_in (Told time) = Tick time ∷ []
-event_in _ = []
+abbrev pub event_in : Act → Option Event
+event_in (Asked line event) = Some event
+event_in (Came wait from octets) = Some (Data from octets)
+event_in (Told time) = Some (Tick time)
+event_in _ = None
 
 abbrev pub events_of : List Act → List Event
-events_of = flat_map event_in
+events_of = flat_map (λ act. option_to_list (event_in act))
+
+-- The client's notes on an act, and the client after it.
+abbrev pub turn_for : Client → Option Event → Turn
+turn_for client None = record { notes = []; after = client }
+turn_for client (Some event) = at_event client event
+
+abbrev pub turn_at : Client → Act → Turn
+turn_at client act = turn_for client (event_in act)
 
 -- The last octet of a line is a carriage return (13).
 abbrev pub ends_with_return : List ℕ → Bool
@@ -80,9 +83,12 @@ time_line time = codes "tick " ++ (decimal time ++ 10 ∷ [])
 abbrev pub has_line : ℕ → Bool
 has_line count = nat_lt 0 count && nat_le count 2034
 
--- The remark of a Who-Is that was sent, and of a wait that is over.
+-- The remark of a Who-Is, of a datagram that was refused, and of a wait that is over.
 abbrev pub seek_text : Station → List ℕ → List ℕ
 seek_text to octets = codes "who " ++ (peer_text to ++ 32 ∷ (encode_lower octets ++ 10 ∷ []))
+
+abbrev pub unsent_text : Station → List ℕ → List ℕ
+unsent_text to octets = codes "unsent " ++ (peer_text to ++ 32 ∷ (encode_lower octets ++ 10 ∷ []))
 
 abbrev pub rest_text : ℕ → List ℕ
 rest_text time = codes "wait " ++ (decimal time ++ 10 ∷ [])
@@ -99,6 +105,7 @@ line_of (Sought to octets) = codes "# " ++ seek_text to octets
 line_of (Rested time) = codes "# " ++ rest_text time
 line_of (Came wait from octets) = arrival_line from octets
 line_of (Told time) = time_line time
+line_of (Handed to octets false) = codes "# " ++ unsent_text to octets
 line_of Closed = codes "# " ++ closing_text
 line_of _ = []
 
@@ -117,26 +124,29 @@ remark note = codes "# " ++ note_text note
 abbrev pub remarks : List Note → List ℕ
 remarks = flat_map remark
 
--- The calls of an act on the link, except the client's sends.
+-- The call of an act on the link, if it makes one; and those of all acts, in their order.
 abbrev pub asked_by : Act → List Entry
 asked_by (Came wait from octets) = Waited wait (Arrived from octets) ∷ []
 asked_by (Passed wait heard) = Waited wait heard ∷ []
 asked_by (Read time) = Timed time ∷ []
+asked_by (Handed to octets taken) = Offered to octets taken ∷ []
 asked_by _ = []
 
--- The send in a note.
-abbrev pub post_in : Note → List Entry
-post_in (Sent ticket peer octets) = Posted peer octets ∷ []
-post_in _ = []
+abbrev pub calls_of : List Act → List Entry
+calls_of = flat_map asked_by
 
--- The sends among notes.
-abbrev pub posts : List Note → List Entry
-posts = flat_map post_in
+-- The datagram in a note on a send, with its receiver; and those in all notes, in their order.
+abbrev pub sent_in : Note → List (Station × List ℕ)
+sent_in (Sent ticket to octets) = (to, octets) ∷ []
+sent_in _ = []
 
--- The sends of an act: a Who-Is, or the client's datagrams.
-abbrev pub sends_at : Client → Act → List Entry
-sends_at client (Sought to octets) = Posted to octets ∷ []
-sends_at client act = posts (turn_at client act).notes
+abbrev pub sends_in : List Note → List (Station × List ℕ)
+sends_in = flat_map sent_in
+
+-- The datagrams that an act makes, which the run then offers to the link: a Who-Is, or those in the client's notes.
+abbrev pub sends_at : Client → Act → List (Station × List ℕ)
+sends_at client (Sought to octets) = (to, octets) ∷ []
+sends_at client act = sends_in (turn_at client act).notes
 
 -- The client after these acts.
 abbrev pub client_after : Client → List Act → Client

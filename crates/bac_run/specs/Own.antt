@@ -7,6 +7,16 @@ use Rattle.bac_text.specs.{words_of, Address.reach_of, Words.{at_end, next_as, n
 use Rattle.bac_script.specs.Line.{text_of_line}
 use Rattle.bac_run.specs.Journal.{Act, Rested, Sought}
 
+-- What such a line asks for: a Who-Is to this peer, or a wait of this many milliseconds.
+pub data OwnLine : Type 0 where
+  WhoLine : (to : Station) (octets : List ℕ) → OwnLine
+  WaitLine : (time : ℕ) → OwnLine
+
+-- The act of such a line.
+abbrev pub act_of : OwnLine → Act
+act_of (WhoLine to octets) = Sought to octets
+act_of (WaitLine time) = Rested time
+
 -- The datagram of a Who-Is: to a peer; or to a router, which broadcasts it in this network (clause 6.2.2).
 abbrev pub seek_octets : Station × Option ℕ → WhoIs → List ℕ
 seek_octets (to, None) who = wrapped to.route false (laid_out (unconfirmed 8 (who_is_octets who)))
@@ -22,25 +32,25 @@ limits_of (word ∷ words) = do
   if nat_le low high then at_end words (Range low high) else None
 
 -- A Who-Is: PEER, ROUTER/NETWORK or ROUTER/*, but not at 0.0.0.0, and optional limits.
-abbrev pub seek_of : List (List ℕ) → Option Act
+abbrev pub seek_of : List (List ℕ) → Option OwnLine
 seek_of words = do
   (reach, words) ← next_as reach_of words
-  if reach.0.ip == 0 then None else option_map (λ who. Sought reach.0 (seek_octets reach who)) (limits_of words)
+  if reach.0.ip == 0 then None else option_map (λ who. WhoLine reach.0 (seek_octets reach who)) (limits_of words)
 
 -- A wait: TIME, at most a minute.
-abbrev pub rest_of : List (List ℕ) → Option Act
+abbrev pub rest_of : List (List ℕ) → Option OwnLine
 rest_of words = do
   (time, words) ← next_as (number_up_to 60000) words
-  at_end words (Rested time)
+  at_end words (WaitLine time)
 
--- The act in the words of a line `who` or `wait`.
-abbrev pub own_by : List (List ℕ) → Option Act
+-- The meaning of the words of a line `who` or `wait`.
+abbrev pub own_by : List (List ℕ) → Option OwnLine
 own_by [] = None
 own_by (name ∷ words) =
     if bytes_eq name (codes "who") then seek_of words
     else if bytes_eq name (codes "wait") then rest_of words
     else None
 
--- The act of a line `who` or `wait`.
-abbrev pub own_of : List ℕ → Option Act
+-- The meaning of a line `who` or `wait`.
+abbrev pub own_of : List ℕ → Option OwnLine
 own_of line = result_ok (text_of_line line) >>= (λ text. own_by (words_of text))

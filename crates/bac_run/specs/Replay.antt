@@ -1,11 +1,11 @@
 -- The journal as a script: the meaning of its lines, and the text that `bactrace` prints from it.
-use Rattle.std.specs.List.{AllByRecursion, flat_map}
-use Rattle.std.specs.Prelude.{[], Bool, Err, false, List, Ok, Result, true, ℕ, ⊤, ◌++◌, ◌∷◌, ◌≡◌, ◌≢◌, ◌⊎◌}
-use Rattle.{bac_pdu.specs.Station, bac_tsm.specs.{Data, Note, Sent, Tick, Client.Client}, bac_script.specs.Happens}
+use Rattle.std.specs.List.{AllByRecursion}
+use Rattle.std.specs.Prelude.{[], Bool, Err, false, List, Ok, Result, true, ℕ, ⊤, ◌++◌, ◌∷◌, ◌≡◌, ◌≢◌}
+use Rattle.{bac_pdu.specs.Station, bac_tsm.specs.{Data, Tick, Client.Client}, bac_script.specs.Happens}
 use Rattle.bac_script.specs.{Blank, Said, said, Settings, declared.tracing.TraceFault.TheVariants.WriteFailed}
-use Rattle.bac_links.specs.{Entry, Posted, Asking.question_of, declared.fault.ToolFault.TheVariants.SendFailed}
-use Rattle.bac_run.specs.declared.{fault.RunFault.{RunFault, TheVariants.{Link, Script}}, setup.Setup.Setup}
-use Rattle.bac_run.specs.Journal.{Act, Asked, Came, line_of, Paused, settings_line, Sought, Told, turn_at}
+use Rattle.bac_links.specs.{Entry, Offered, Posted, Unposted, Asking.question_of}
+use Rattle.bac_run.specs.declared.{fault.RunFault.{RunFault, TheVariants.Script}, setup.Setup.Setup}
+use Rattle.bac_run.specs.Journal.{Act, Asked, Came, Handed, line_of, Paused, sends_at, settings_line, Told, turn_at}
 
 -- The text is one line, with its only line feed (10) at its end, and has this meaning. The flag says whether it may
 -- have settings.
@@ -28,35 +28,32 @@ abbrev pub AreSettings : Setup → Type 0
 AreSettings setup = IsLineOf true (settings_line setup.config.timeout setup.config.retries)
     (Settings setup.config.timeout setup.config.retries 0)
 
--- The datagram and the receiver of a send: in an entry of the link's history, and in a note.
-abbrev pub posted_in : Entry → List (Station × List ℕ)
-posted_in (Posted to octets) = (to, octets) ∷ []
-posted_in _ = []
+-- The datagram that was sent or offered in a call of the link, with its receiver; and that which the link refused.
+abbrev pub offered_in : Entry → List (Station × List ℕ)
+offered_in (Offered to octets taken) = (to, octets) ∷ []
+offered_in (Posted to octets) = (to, octets) ∷ []
+offered_in (Unposted to octets) = (to, octets) ∷ []
+offered_in _ = []
 
-abbrev pub sent_in : Note → List (Station × List ℕ)
-sent_in (Sent ticket to octets) = (to, octets) ∷ []
-sent_in _ = []
+abbrev pub refused_in : Entry → List (Station × List ℕ)
+refused_in (Offered to octets false) = (to, octets) ∷ []
+refused_in (Unposted to octets) = (to, octets) ∷ []
+refused_in _ = []
 
--- A Who-Is that an act sends.
-abbrev pub sought_in : Act → List (Station × List ℕ)
-sought_in (Sought to octets) = (to, octets) ∷ []
-sought_in _ = []
-
--- The sends of these acts with this client: those of the remarks `who` and `send`.
+-- The datagrams of these acts with this client: those of the remarks `who` and `send`.
 abbrev pub sends_of : Client → List Act → List (Station × List ℕ)
 sends_of client [] = []
-sends_of client (act ∷ later) =
-    (sought_in act ++ flat_map sent_in (turn_at client act).notes) ++ sends_of (turn_at client act).after later
+sends_of client (act ∷ later) = sends_at client act ++ sends_of (turn_at client act).after later
 
--- All due sends before a lost one were made, in order.
-abbrev pub IsLost : {D : Type 0} → (due sent : List D) → Type 0
-IsLost {D} due sent = (lost : D) × (later : List D) × (due ≡ sent ++ lost ∷ later)
+-- The datagram of a remark `unsent`.
+abbrev pub unsent_in : Act → List (Station × List ℕ)
+unsent_in (Handed to octets false) = (to, octets) ∷ []
+unsent_in _ = []
 
--- With this result all due sends were made, in order. If a send failed, it and the later ones were not.
-abbrev pub AreSent : {A D : Type 0} → Result A RunFault → (due sent : List D) → Type 0
-AreSent (Err (Link SendFailed)) due sent = IsLost due sent
-AreSent (Err (Script WriteFailed)) due sent = (sent ≡ due) ⊎ IsLost due sent
-AreSent _ due sent = sent ≡ due
+-- With this result all due datagrams were offered, in order. If the writer failed, later ones may be left.
+abbrev pub AreOffered : {A D : Type 0} → Result A RunFault → (due offered : List D) → Type 0
+AreOffered {D = D} (Err (Script WriteFailed)) due offered = (later : List D) × (due ≡ offered ++ later)
+AreOffered _ due offered = offered ≡ due
 
 -- The next entries of two runs have the same call, if both go on.
 abbrev pub AskNext : (rest other_rest : List Entry) → Type 0

@@ -4,12 +4,12 @@ use Rattle.std.specs.Prelude.{[], length, List, Option, Result, ℕ, ◌++◌, �
 use Rattle.{bac_pdu.specs.longest_body, bac_tsm.specs.{Ask, new_client}}
 use Rattle.bac_print.specs.{folded_line, last_of, octets_of, Writes, declared.checked.Checked.Checked, Page.folded}
 use Rattle.bac_script.specs.{IsFrontOf, declared.tracing.TraceEnd.TraceEnd}
-use Rattle.bac_links.specs.{Account}
+use Rattle.bac_links.specs.{Account, GainsAll}
 use Rattle.bac_run.specs.Course.{EndsAt, Goes, NextLine, open_in, Outside, ready, Stage, stage_after, taking}
 use Rattle.bac_run.specs.declared.{fault.RunFault.RunFault, setup.Setup.Setup}
 use Rattle.bac_run.specs.Input.{HasNoWhole, lines_in, TakesLines}
-use Rattle.bac_run.specs.Journal.{Act, Asked, Came, client_after, FitsLine, journal, Passed, settings_line}
-use Rattle.bac_run.specs.{Replay.AreSettings, Effects.{HasAsked, IsOver, IsWithin}}
+use Rattle.bac_run.specs.Journal.{Act, Asked, calls_of, Came, client_after, FitsLine, journal, Passed, settings_line}
+use Rattle.bac_run.specs.{Replay.AreSettings, Effects.{IsOver, IsWithin}}
 
 -- The lines of the journal of a run: its settings, and its acts.
 abbrev pub journal_lines : Setup → List Act → List ℕ
@@ -91,7 +91,7 @@ pub record Runs {Origin R W : Type 0} (remaining : R → Option (List ℕ)) (con
   pub read : IsReadWhenDue setup reader reader' takes.given acts (IsTold setup before after)
   pub printed : IsPrinted contents before after (journal_of setup acts)
   pub out : IsOut setup before after acts
-  pub asks : HasAsked result (new_client setup.config.timeout setup.config.retries 0) acts seen left
+  pub asks : GainsAll (calls_of acts) seen left
   pub over : IsOver result (client_after (new_client setup.config.timeout setup.config.retries 0) acts)
   pub within : IsWithin setup.window (new_client setup.config.timeout setup.config.retries 0) acts
   pub fit : AllByRecursion FitsLine acts

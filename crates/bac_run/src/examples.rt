@@ -3,19 +3,19 @@
 ghost use Rattle.std.specs.Prelude.{[], codes, Err, false, List, replicate, true, ℕ, ◌++◌, ◌+◌, ◌<◌, ◌^◌, ◌∷◌, ◌≡◌};
 ghost use Rattle.{bac_tsm.specs.Tick, bac_script.specs.{Blank, Happens, declared.line.LineFault.TheVariants.TooLong}};
 ghost use Rattle.std.specs.Prelude.{None, Some};
-ghost use Rattle.bac_run.specs.{acts_of_line, ClockAt, moved, Rested, Rests, sends_of, Sought, taking, Turns};
-ghost use Rattle.bac_run.specs.{AreSent, AreSteady, Asked, AskNext, AtEnd, BadLine, Came, Closed, Does, EndsAt};
-ghost use Rattle.bac_run.specs.{EndsWithFeed, events_of, Failed, Feeds, FitsLine, Fresh, Goes, HasNoFeed, IsAsked};
-ghost use Rattle.bac_run.specs.{IsDue, IsLineOf, IsOut, IsPassed, IsReplayed, IsWithin, journal, journal_of, Link};
-ghost use Rattle.bac_run.specs.{NextLine, NoLine, notes_of, Open, Passed, passed_at, Paused, posted_in, Read};
-ghost use Rattle.bac_run.specs.{ReadFailed, ReceiveFailed, room_for, Runs, said_of, Script};
-ghost use Rattle.bac_run.specs.{SendFailed, sent_in, stage_after, time_line, Told, Took, TurnsSpent};
-ghost use Rattle.bac_run.specs.{FewOpen, LastIsDue, Telling, WantsLine, write_failed, Inner.drained};
-ghost use Rattle.bac_run.specs.Inner.{about, answer, asked, busy, deaf, desk, ended, filled, history_of, idle};
-ghost use Rattle.bac_run.specs.Inner.{full_after, given_once, IsRunOf, link_with, long_answer, octets, one_by_one};
-ghost use Rattle.bac_run.specs.Inner.{read, read_line, sent, slow, told_at, unknown, unsent, waiting};
-ghost use Rattle.bac_links.specs.{Arrived, most_turns, Posted, Silence, Timed, Unposted, Waited};
-ghost use Rattle.{bac_print.specs.fresh, bac_run.specs.has_line};
+ghost use Rattle.bac_run.specs.{acts_of_line, AreOffered, AreSteady, Asked, AskNext, AtEnd, BadLine, calls_of, Came};
+ghost use Rattle.bac_run.specs.{ClockAt, Closed, Does, EndsAt, EndsWithFeed, events_of, Failed, Feeds, FewOpen};
+ghost use Rattle.bac_run.specs.{FitsLine, Fresh, Goes, Handed, has_line, HasNoFeed, IsDue, IsLineOf, IsOut, IsPassed};
+ghost use Rattle.bac_run.specs.{is_reached, IsReplayed, IsWithin, journal, journal_of, LastIsDue, Link, moved};
+ghost use Rattle.bac_run.specs.{NextLine, NoLine, notes_of, offered_in, Open, Passed, passed_at, Paused, Read};
+ghost use Rattle.bac_run.specs.{ReadFailed, ReceiveFailed, refused_in, Rested, Rests, room_for, Runs, said_of, Script};
+ghost use Rattle.bac_run.specs.{SendFailed, sends_of, sent_in, Sought, stage_after, taking, Telling, time_line, Told};
+ghost use Rattle.bac_run.specs.{Took, Turns, TurnsSpent, unsent_in, WantsLine, write_failed};
+ghost use Rattle.bac_run.specs.Inner.{about, answer, asked, busy, deaf, desk, drained, ended, filled, full_after};
+ghost use Rattle.bac_run.specs.Inner.{given_once, handed, idle, IsRunOf, link_with, long_answer, octets, one_by_one};
+ghost use Rattle.bac_run.specs.Inner.{read, read_line, sent, slow, told_at, unknown, waiting};
+ghost use Rattle.bac_links.specs.{Arrived, most_turns, Offered, Posted, Silence, Timed, Unposted, Waited};
+ghost use Rattle.{bac_print.specs.fresh};
 
 // The act that is due while a run waits for open requests. The timeout is three seconds, so a turn waits for 50
 // milliseconds.
@@ -31,6 +31,10 @@ fn examples_of_turns()
     ensures other_time { Goes 3000 (waiting 0 9)
         (Read 40 ∷ Passed 50 Silence ∷ Read 90 ∷ Passed 0 Silence ∷ Told 40 ∷ []) → ⊥ }
     ensures no_look { Goes 3000 (waiting 0 9) (Read 40 ∷ Passed 50 Silence ∷ Read 90 ∷ Told 90 ∷ []) → ⊥ }
+    // A wait ends when the first request is due: this one was sent at 0.
+    ensures short { Goes 3000 (waiting 0 9) (Read 2990 ∷ Passed 10 Silence ∷ []) }
+    ensures past_due { Goes 3000 (waiting 0 9) (Read 2990 ∷ Passed 50 Silence ∷ []) → ⊥ }
+    ensures due { Goes 3000 (waiting 0 9) (Read 3000 ∷ Passed 0 Silence ∷ Told 3000 ∷ handed ∷ []) }
     ensures no_wait { Goes 3000 (waiting 0 9) (Read 40 ∷ Told 40 ∷ []) → ⊥ }
     ensures other_wait { Goes 3000 (waiting 0 9) (Read 40 ∷ Passed 49 Silence ∷ []) → ⊥ }
     ensures no_later { Goes 3000 (waiting 1 9) (Read 0 ∷ Passed 0 Silence ∷ Told 0 ∷ []) → ⊥ }
@@ -70,15 +74,15 @@ fn examples_of_turns()
 fn examples_of_lines()
     // A line is taken if no other act is due. Its acts come before the next line.
     ensures request { Goes 3000 (about idle 0 (NextLine 2 0 ∷ [])) (Took read_line ∷ Read 40 ∷ Told 40 ∷ asked
-        ∷ Took read_line ∷ []) }
+        ∷ handed ∷ Took read_line ∷ []) }
     ensures two { Goes 3000 (about idle 0 (NextLine 2 0 ∷ [])) (Took read_line ∷ Took read_line ∷ []) → ⊥ }
     ensures untaken { Goes 3000 (about idle 0 (NextLine 2 0 ∷ [])) (Read 40 ∷ []) → ⊥ }
 
     // There must be room for one more request: with a window of one the run waits for the first.
     ensures full { Goes 3000 (about idle 0 (NextLine 1 0 ∷ []))
-        (Took read_line ∷ Read 40 ∷ Told 40 ∷ asked ∷ Took read_line ∷ []) → ⊥ }
-    ensures waits { Goes 3000 (about idle 0 (NextLine 1 0 ∷ [])) (Took read_line ∷ Read 40 ∷ Told 40 ∷ asked ∷ Read
-        41 ∷ []) }
+        (Took read_line ∷ Read 40 ∷ Told 40 ∷ asked ∷ handed ∷ Took read_line ∷ []) → ⊥ }
+    ensures waits { Goes 3000 (about idle 0 (NextLine 1 0 ∷ [])) (Took read_line ∷ Read 40 ∷ Told 40 ∷ asked ∷ handed
+        ∷ Read 41 ∷ []) }
 
     // At a line without words the run waits until nothing is open, and at a remark it does nothing.
     ensures empty { Goes 3000 (about busy 0 (NextLine 2 1 ∷ [])) (Took (10 ∷ []) ∷ Read 40 ∷ []) }
@@ -126,7 +130,48 @@ fn examples_of_lines()
     ensures unheard { EndsAt (Err (Link ReceiveFailed)) deaf }
     ensures heard { EndsAt (Err (Link ReceiveFailed)) (waiting 0 9) → ⊥ }
     ensures unwritten { EndsAt (Err write_failed) (waiting 0 9) }
-    ensures unsent { EndsAt (Err (Link SendFailed)) (waiting 0 9) }
+    ensures unsent { EndsAt (Err (Link SendFailed)) (waiting 0 9) → ⊥ }
+{}
+
+// The datagrams that a run offers to its link. If the link refuses one, the run goes on, and the request is sent again
+// at its timeout.
+#[tactic(auto, unfolding(bac_script::proofs::Computed::computed))]
+fn examples_of_sends()
+    ensures offered { Goes 3000 (about idle 0 (Does asked ∷ Fresh ∷ [])) (asked ∷ handed ∷ Read 40 ∷ []) }
+    ensures refused { Goes 3000 (about idle 0 (Does asked ∷ Fresh ∷ [])) (asked ∷ Handed desk octets false ∷ Read 40
+        ∷ []) }
+    ensures again { Goes 3000 (record (waiting 0 9) { phase = Telling 3000 }) (Told 3000 ∷ handed ∷ Read 3001 ∷ []) }
+    ensures unoffered { Goes 3000 (about idle 0 (Does asked ∷ Fresh ∷ [])) (asked ∷ Read 40 ∷ []) → ⊥ }
+    ensures twice { Goes 3000 (about idle 0 (Does asked ∷ [])) (asked ∷ handed ∷ handed ∷ []) → ⊥ }
+    ensures too_early { Goes 3000 (record (waiting 0 9) { phase = Telling 2999 }) (Told 2999 ∷ handed ∷ []) → ⊥ }
+    ensures other_octets { Goes 3000 (about idle 0 (Does asked ∷ [])) (asked ∷ Handed desk (7 ∷ []) true ∷ []) → ⊥ }
+    ensures other_peer { Goes 3000 (about idle 0 (Does asked ∷ []))
+        (asked ∷ Handed (record desk { port = 1 }) octets true ∷ []) → ⊥ }
+    ensures sought { Goes 3000 (about idle 0 (Does (Sought desk (7 ∷ [])) ∷ Fresh ∷ []))
+        (Sought desk (7 ∷ []) ∷ Handed desk (7 ∷ []) true ∷ Read 40 ∷ []) }
+
+    // A remark says which datagram was refused.
+    ensures remarked { journal idle (asked ∷ Handed desk octets false ∷ [])
+        ≡ codes "read 127.0.0.1 0 5 85\n# send 0 127.0.0.1:47808 810a001101040005010c0c000000051955\n"
+        ++ codes "# unsent 127.0.0.1:47808 810a001101040005010c0c000000051955\n" }
+    ensures named { unsent_in (Handed desk octets false) ≡ (desk, octets) ∷ [] }
+    ensures unnamed { unsent_in handed ≡ [] }
+
+    // The datagrams in the calls of the link.
+    ensures in_call { offered_in (Offered desk octets false) ≡ (desk, octets) ∷ [] }
+    ensures sent { offered_in (Posted desk octets) ≡ (desk, octets) ∷ [] }
+    ensures unsent { offered_in (Unposted desk octets) ≡ (desk, octets) ∷ [] }
+    ensures in_other_call { offered_in (Timed 40) ≡ [] }
+    ensures lost { refused_in (Offered desk octets false) ≡ (desk, octets) ∷ [] }
+    ensures taken { refused_in (Offered desk octets true) ≡ [] }
+    ensures failed { refused_in (Unposted desk octets) ≡ (desk, octets) ∷ [] }
+    ensures sent_well { refused_in (Posted desk octets) ≡ [] }
+
+    // Only a run whose writer failed may leave datagrams.
+    ensures all { AreOffered {D = ℕ} (ended 2) (1 ∷ 2 ∷ []) (1 ∷ 2 ∷ []) }
+    ensures one_less { AreOffered {D = ℕ} (ended 2) (1 ∷ 2 ∷ []) (1 ∷ []) → ⊥ }
+    ensures cut_off { AreOffered {A = ℕ} {D = ℕ} (Err write_failed) (1 ∷ 2 ∷ []) (1 ∷ []) }
+    ensures one_more { AreOffered {A = ℕ} {D = ℕ} (Err write_failed) (1 ∷ []) (1 ∷ 2 ∷ []) → ⊥ }
 {}
 
 // The lines that a run takes from its input.
@@ -170,7 +215,8 @@ fn examples_of_seeking()
     ensures too_long { acts_of_line (codes "wait 60001\n") ≡ None }
 
     // A Who-Is opens no request, and is sent once: it is never sent again.
-    ensures sent { history_of idle (Sought desk (7 ∷ []) ∷ Told 9000 ∷ []) ≡ Posted desk (7 ∷ []) ∷ [] }
+    ensures sent { calls_of (Sought desk (7 ∷ []) ∷ Handed desk (7 ∷ []) true ∷ Told 9000 ∷ [])
+        ≡ Offered desk (7 ∷ []) true ∷ [] }
     ensures sends { sends_of idle (Sought desk (7 ∷ []) ∷ asked ∷ []) ≡ (desk, 7 ∷ []) ∷ (desk, octets) ∷ [] }
     ensures remarked { journal idle (Sought desk (7 ∷ []) ∷ Rested 50 ∷ [])
         ≡ codes "# who 127.0.0.1:47808 07\n# wait 50\n" }
@@ -204,23 +250,9 @@ fn examples_of_acts()
     ensures notes { notes_of idle (asked ∷ Told 3000 ∷ []) ≡ sent ∷ sent ∷ [] }
     ensures journal { journal idle (asked ∷ Told 40 ∷ [])
         ≡ codes "read 127.0.0.1 0 5 85\n# send 0 127.0.0.1:47808 810a001101040005010c0c000000051955\ntick 40\n" }
-    ensures history { history_of idle (asked ∷ Read 40 ∷ Passed 50 Silence ∷ Told 40 ∷ [])
-        ≡ Posted desk octets ∷ Timed 40 ∷ Waited 50 Silence ∷ [] }
+    ensures calls { calls_of (asked ∷ handed ∷ Read 40 ∷ Passed 50 Silence ∷ Told 40 ∷ [])
+        ≡ Offered desk octets true ∷ Timed 40 ∷ Waited 50 Silence ∷ [] }
     ensures in_note { sent_in sent ≡ (desk, octets) ∷ [] }
-    ensures in_entry { posted_in (Posted desk octets) ≡ (desk, octets) ∷ [] }
-    ensures not_in_entry { posted_in (Unposted desk octets) ≡ [] }
-
-    // Two sends, of which the second failed.
-    ensures lost { AreSent {D = ℕ} unsent (1 ∷ 2 ∷ []) (1 ∷ []) }
-    ensures none_lost { AreSent {D = ℕ} unsent (1 ∷ 2 ∷ []) (1 ∷ 2 ∷ []) → ⊥ }
-    ensures one_less { AreSent {D = ℕ} (ended 2) (1 ∷ 2 ∷ []) (1 ∷ []) → ⊥ }
-
-    // A send that fails is the last call of the link, and belongs to the last act, even if the writer fails too.
-    ensures unsent { IsAsked unsent idle (asked ∷ []) (Unposted desk octets ∷ []) }
-    ensures unwritten { IsAsked {A = ℕ} (Err write_failed) idle (asked ∷ []) (Unposted desk octets ∷ []) }
-    ensures all_sent { IsAsked unsent idle (asked ∷ []) (Posted desk octets ∷ []) → ⊥ }
-    ensures gone_on { IsAsked unsent idle (asked ∷ Read 40 ∷ []) (Unposted desk octets ∷ []) → ⊥ }
-    ensures ended_well { IsAsked (ended 2) idle (asked ∷ []) (Unposted desk octets ∷ []) → ⊥ }
 
     ensures no_feed { HasNoFeed (13 ∷ []) }
     ensures feed { HasNoFeed (10 ∷ []) → ⊥ }
@@ -233,11 +265,11 @@ fn examples_of_runs()
         (codes "client 3000 3 0\nread 127.0.0.1 0 5 85\n# send 0 127.0.0.1:47808 810a001101040005010c0c000000051955\n"
         ++ codes "data 127.0.0.1:47808 810a0017010030010c0c0000000519553e444290999a3f\n# done 0 value 4290999a\n"
         ++ codes "# end of the run\n")
-        (Timed 0 ∷ Posted desk octets ∷ Timed 5 ∷ Waited 50 (Arrived desk answer) ∷ []) }
+        (Timed 0 ∷ Offered desk octets true ∷ Timed 5 ∷ Waited 50 (Arrived desk answer) ∷ []) }
 
     // Whatever is printed: a remark uses no link, and the request of a line is sent.
     ensures unasked { (printed : List ℕ) → IsRunOf (codes "# x\n") printed
-        (Timed 0 ∷ Posted desk octets ∷ Timed 5 ∷ Waited 50 (Arrived desk answer) ∷ []) → ⊥ }
+        (Timed 0 ∷ Offered desk octets true ∷ Timed 5 ∷ Waited 50 (Arrived desk answer) ∷ []) → ⊥ }
     ensures unsent { (printed : List ℕ) → IsRunOf read_line printed
         (Timed 0 ∷ Timed 5 ∷ Waited 50 (Arrived desk answer) ∷ []) → ⊥ }
 
@@ -257,14 +289,14 @@ fn examples_of_runs()
 
     // A line of a journal does not have a time of 65 bits, nor a script a timeout of 33 bits.
     ensures past_the_clock { (printed : List ℕ) → IsRunOf read_line printed
-        (Timed (2 ^ 64) ∷ Posted desk octets ∷ Timed (2 ^ 64 + 5) ∷ Waited 50 (Arrived desk answer) ∷ []) → ⊥ }
+        (Timed (2 ^ 64) ∷ Offered desk octets true ∷ Timed (2 ^ 64 + 5) ∷ Waited 50 (Arrived desk answer) ∷ []) → ⊥ }
     ensures too_slow { (timed : 0 < 2 ^ 32) (some : 0 < 1) (printed : List ℕ) → Runs unknown unknown (slow timed some)
         (fresh 0) (drained (codes "# x\n")) (fresh 0) (filled printed) (link_with []) (link_with []) (ended 1) → ⊥ }
 
     // A run whose writer fails did not wait for an answer before its request was printed.
     ensures waited_unprinted { (timed : 0 < 3000) (some : 0 < 1) → Runs unknown unknown (one_by_one timed some)
         (fresh 0) (given_once read_line) (fresh 0) (full_after (codes "client 3000 3 0\n")) (link_with [])
-        (link_with (Timed 0 ∷ Posted desk octets ∷ Timed 5 ∷ Waited 50 Silence ∷ [])) (Err write_failed) → ⊥ }
+        (link_with (Timed 0 ∷ Offered desk octets true ∷ Timed 5 ∷ Waited 50 Silence ∷ [])) (Err write_failed) → ⊥ }
 
     // With a window of one no read is due while a request is open, or while a whole line is held.
     ensures early { (timed : 0 < 3000) (some : 0 < 1) → LastIsDue (one_by_one timed some) (drained read_line) read_line
@@ -329,4 +361,11 @@ fn examples_of_limits()
     ensures to_be_said { IsPassed (Arrived desk (7 ∷ [])) → ⊥ }
 
     ensures room { room_for 8 ≡ Turns (FewOpen 7) most_turns }
+
+    // With one request open, there is room for another one of two after a look that found nothing. After a datagram
+    // others may follow, and they are heard first.
+    ensures few { is_reached busy 0 (Turns (FewOpen 1) 9) ≡ true }
+    ensures none_few { is_reached busy 0 (Turns (FewOpen 0) 9) ≡ false }
+    ensures unheard { is_reached busy 3 (Turns (FewOpen 1) 9) ≡ false }
+    ensures none_open { is_reached idle 3 (Turns (FewOpen 0) 9) ≡ true }
 {}

@@ -2,10 +2,10 @@
 ghost use Rattle.std.specs.{List.flat_map, Prelude.{Err, false, length, List, map, None, Ok, Result, suc, true, ℕ}};
 ghost use Rattle.std.specs.Prelude.{◌*◌, ◌++◌, ◌+◌, ◌<◌, ◌^◌, ◌≡◌, ◌≢◌, ◌≤◌, ◌⊎◌};
 ghost use Rattle.{bac_wire.specs.{EqualsBy, MakesCopies}, bac_print.specs.fresh};
-ghost use Rattle.bac_run.specs.{Act, AreSent, AreSteady, arrival_line, Asked, AskNext, AtEnd, Checked, client_after};
+ghost use Rattle.bac_run.specs.{Act, AreOffered, AreSteady, arrival_line, Asked, AskNext, AtEnd, Checked, client_after};
 ghost use Rattle.bac_run.specs.{EndsWithFeed, events_of, HasNoFeed, IsLineOf, IsReplayed, journal_of, new_client};
-ghost use Rattle.bac_run.specs.{notes_of, Paused, posted_in, RunFault as Fault, Runs, said_of, sends_of};
-ghost use Rattle.bac_run.specs.{Setup as Settings, settings_line, Told, TraceEnd, write_failed};
+ghost use Rattle.bac_run.specs.{notes_of, offered_in, Paused, refused_in, RunFault as Fault, Runs, said_of, sends_of};
+ghost use Rattle.bac_run.specs.{Setup as Settings, settings_line, Told, TraceEnd, unsent_in, write_failed};
 ghost use Rattle.bac_script.specs.{GaveSame, Happens, lines, Settings as SettingsSaid, Script.{first_fault, text}};
 ghost use Rattle.{bac_script.specs.Text.notes_text, hex.specs.Hex.IsBytes};
 ghost use Rattle.bac_tsm.specs.{Accepted, client_rules, clock, Data, end, Event, outputs, state_at};
@@ -17,15 +17,19 @@ use bac_links::Link;
 use bac_tsm::client_is_lookahead;
 use std::io::{Read, Write};
 
-/// The link sent the datagrams of the remarks `send` and `who`, in their order. If a send failed, that datagram and the
-/// later ones were not sent.
+/// The link was offered the datagrams of the remarks `send` and `who`, in their order, and no others. It refused those
+/// of the remarks `unsent`. If the writer failed, later ones may be left.
 pub fn a_run_sends_what_it_remarks<L: Link, R: Read, W: Write>()
-    ensures { (setup : Settings) (reader reader' : Checked R) (before after : Checked W)
+    ensures sends { (setup : Settings) (reader reader' : Checked R) (before after : Checked W)
         (seen left : Account L.Origin) (result : Result TraceEnd Fault) (gained : List Entry)
         → (runs : Runs R.remaining W.contents setup reader reader' before after seen left result)
         → left.history ≡ seen.history ++ gained
-        → AreSent result (sends_of (new_client setup.config.timeout setup.config.retries 0) runs.acts)
-        (flat_map posted_in gained) }
+        → AreOffered result (sends_of (new_client setup.config.timeout setup.config.retries 0) runs.acts)
+        (flat_map offered_in gained) }
+    ensures unsent { (setup : Settings) (reader reader' : Checked R) (before after : Checked W)
+        (seen left : Account L.Origin) (result : Result TraceEnd Fault) (gained : List Entry)
+        → (runs : Runs R.remaining W.contents setup reader reader' before after seen left result)
+        → left.history ≡ seen.history ++ gained → flat_map refused_in gained ≡ flat_map unsent_in runs.acts }
 {}
 
 /// The client of a run gives the notes of the look-ahead at each of its events, and has the same requests open. The

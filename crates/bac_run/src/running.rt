@@ -4,9 +4,10 @@ ghost use Rattle.std.specs.Prelude.{[], Err, false, IfErr, IfOk, IfSome, Ok, tru
 ghost use Rattle.{bac_wire.specs.result_seen, bac_pdu.specs.station, bac_links.specs.most_turns};
 ghost use Rattle.bac_script.specs.{declared.tracing.TraceFault.TheVariants.WriteFailed, LineSeen.line_seen};
 ghost use Rattle.{bac_tsm.specs.Ask, bac_print.specs.{has_failed, held, Prints, writer_of}, bac_run.specs.acts_of_line};
-ghost use Rattle.bac_run.specs.{aims_for, Asked, Does, ending, Ends, FewOpen, Fresh, is_of_link, IsGood, IsOver};
-ghost use Rattle.bac_run.specs.{IsOverAt, open_in, Paused, room_for, Runs, said_of, taking, Turns, whole_line};
-ghost use Rattle.bac_run.specs.{Rested, Rests, Inner.{IsOfWait, Opened, own_seen, RunsOn, send_failed, started}};
+ghost use Rattle.bac_run.specs.{act_of, aims_for, Asked, Does, ending, Ends, FewOpen, Fresh, is_of_link, IsGood};
+ghost use Rattle.bac_run.specs.{IsOver, IsOverAt, open_in, Paused, room_for, Runs, said_of, taking, Turns};
+ghost use Rattle.bac_run.specs.{whole_line};
+ghost use Rattle.bac_run.specs.{Rested, Rests, Inner.{done, IsOfWait, own_seen, RunsOn, started}};
 ghost use Rattle.bac_run.specs.{write_failed, declared.own.Own.TheVariants.Seek, Inner.{stopped, Went.Went}};
 ghost use Rattle.bac_script.specs.declared.line.LineFault.TheVariants.{Bad};
 
@@ -15,7 +16,7 @@ use crate::own::{Own, read_own, who_is};
 use crate::setup::Setup;
 use crate::turns::{
     Runner, Until, print_line, print_settings, remark, remark_any, remark_closing, remark_rest,
-    remark_seek, send_any, send_seek,
+    remark_seek,
 };
 use bac_links::{Datagram, Link};
 use bac_pdu::{Peer, WRITE_PROPERTY, WhoIs};
@@ -72,7 +73,6 @@ fn run_lines<L: Link, R: Read, W: Write>(
     let mut lines = 0;
     print_settings(page, setup.config);
     'lines: loop {
-        run.make_room(link, page)?;
         let next = chunk.next_line(reader, page)?;
         if next.reading == Reading::Failed {
             return Err(run.stop(TraceFault::ReadFailed, link, page));
@@ -82,8 +82,8 @@ fn run_lines<L: Link, R: Read, W: Write>(
         }
         lines += 1;
         run.take_line(chunk.front(next.length), lines, &mut room, link, page)?;
+        run.make_room(link, page)?;
         if next.reading == Reading::AtEnd {
-            run.make_room(link, page)?;
             return run.end(lines, link, page);
         }
         chunk.skip(next.length);
@@ -92,6 +92,7 @@ fn run_lines<L: Link, R: Read, W: Write>(
 
 impl Runner {
     // Does what a line asks for.
+    #[tactic(auto, using(std::proofs::lemmas::List::append_assoc))]
     fn take_line<L: Link, W: Write>(
         &mut self,
         line: &[u8],
@@ -131,6 +132,7 @@ impl Runner {
     }
 
     // Does what a line `who` or `wait` asks for. Any other line is bad.
+    #[tactic(auto, using(std::proofs::lemmas::List::append_assoc))]
     fn take_own<L: Link, W: Write>(
         &mut self,
         line: &[u8],
@@ -156,6 +158,7 @@ impl Runner {
     }
 
     // Sends a Who-Is, once.
+    #[tactic(auto, using(std::proofs::lemmas::List::append_assoc))]
     fn seek<L: Link, W: Write>(
         &mut self,
         reach: Reach,
@@ -167,7 +170,7 @@ impl Runner {
         requires network { IfSome reach.network (λ network. 0 < network) }
         ensures fault { L.has_failed link.new ≡ is_of_link result }
         ensures went { Went W.contents self.old self.new page.old page.new (L.seen link.old) (L.seen link.new)
-            (λ later. started self.old (Fresh ∷ Does (own_seen (Seek reach who)) ∷ later))
+            (λ later. started self.old (Fresh ∷ Does (act_of (own_seen (Seek reach who))) ∷ later))
             (λ later. started self.new later) result [] }
         ensures not_written { result ≡ Err write_failed → has_failed (writer_of page.new) ≡ true }
         ensures cause { IfErr result IsOfWait }
@@ -175,10 +178,12 @@ impl Runner {
         self.refresh_time(link, page)?;
         let datagram = who_is(reach, who);
         remark_seek(page, reach.to, datagram.as_slice());
-        send_seek(reach.to, datagram.as_slice(), link)
+        self.send(reach.to, datagram.as_slice(), link, page);
+        Ok(())
     }
 
     // Waits this many milliseconds, whatever is open.
+    #[tactic(auto, using(std::proofs::lemmas::List::append_assoc))]
     fn sit_out<L: Link, W: Write>(
         &mut self,
         time: u32,
@@ -218,6 +223,7 @@ impl Runner {
     }
 
     // Makes a request to the peer with the client, and sends it.
+    #[tactic(auto, using(std::proofs::lemmas::List::append_assoc))]
     fn ask<L: Link, W: Write>(
         &mut self,
         line: &[u8],
@@ -240,8 +246,37 @@ impl Runner {
         if !may_ask(service, page) {
             return Err(RunFault::Script(TraceFault::WriteFailed));
         }
+        self.submit(line, peer, service, body, link, page);
+        Ok(())
+    }
+
+    // Prints the line of a request, makes the request to the peer with the client, and sends it.
+    fn submit<L: Link, W: Write>(
+        &mut self,
+        line: &[u8],
+        peer: Peer,
+        service: u8,
+        body: &[u8],
+        link: &mut L,
+        page: &mut Page<'_, W>,
+    )
+        requires link { L.has_failed link.old ≡ false }
+        requires room { open_in self.old.client < self.old.setup.window }
+        requires out { service ≡ 15 → (has_failed (writer_of page.old) ≡ false) × (held page.old ≡ []) }
+        ensures sound { L.has_failed link.new ≡ false }
+        ensures went { Went W.contents self.old self.new page.old page.new (L.seen link.old) (L.seen link.new)
+            (λ later. started self.old (Does (Asked line.now (Ask (station peer) service body.now)) ∷ later))
+            (started self.new) done [] }
+    {
         print_request(page, service, line);
-        submit(&mut self.client, peer, service, body, link, page)
+        match self.client.submit(peer, service, body) {
+            Ok(ticket) => {
+                let note = self.client.sent(ticket);
+                remark_any(page, note);
+                self.send_any(note, link, page);
+            }
+            Err(fault) => remark(page, Note::Refused(fault)),
+        }
     }
 
     // Waits until one more request may be open. Before that no line is read.
@@ -307,34 +342,6 @@ impl Runner {
                 Ok(TraceEnd { lines })
             }
             Err(fault) => Err(fault),
-        }
-    }
-}
-
-// Makes a request to the peer with the client, and sends it. Its line was printed before.
-fn submit<L: Link, W: Write>(
-    client: &mut Client,
-    peer: Peer,
-    service: u8,
-    body: &[u8],
-    link: &mut L,
-    page: &mut Page<'_, W>,
-) -> Result<(), RunFault>
-    requires { L.has_failed link.old ≡ false }
-    ensures fault { L.has_failed link.new ≡ is_of_link result }
-    ensures opened { Opened W.contents client.old client.new page.old page.new (L.seen link.old) (L.seen link.new)
-        result (Ask (station peer) service body.now) }
-    ensures not_written { result ≡ Err write_failed → has_failed (writer_of page.new) ≡ true }
-    ensures cause { IfErr result (λ fault. fault ≡ send_failed) }
-{
-    match client.submit(peer, service, body) {
-        Ok(ticket) => {
-            remark_any(page, client.sent(ticket));
-            send_any(client.sent(ticket), link)
-        }
-        Err(fault) => {
-            remark(page, Note::Refused(fault));
-            Ok(())
         }
     }
 }

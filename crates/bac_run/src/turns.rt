@@ -3,15 +3,16 @@
 
 ghost use Rattle.std.specs.{List.flat_map, Option.{option_map, option_to_list}};
 ghost use Rattle.std.specs.Prelude.{[], codes, decimal, Err, false, if◌then◌else◌, IfErr, IfOk, List, true, ℕ};
-ghost use Rattle.std.specs.Prelude.{◌++◌, ◌<◌, ◌∷◌, ◌≡◌, ◌≤◌};
+ghost use Rattle.std.specs.Prelude.{◌++◌, ◌∷◌, ◌≡◌, ◌≤◌};
 ghost use Rattle.{bac_pdu.specs.station, bac_print.specs.{has_failed, held, Prints, writer_of}};
 ghost use Rattle.bac_tsm.specs.{due_notes, Client.end_seen, Machine.datagram_notes, Seen.note_seen};
-ghost use Rattle.bac_links.specs.{most_turns, Posted, Silence};
-ghost use Rattle.bac_run.specs.{Aim, arrival_line, closing_text, Fresh, has_line, heard_at, is_of_link, is_reached};
-ghost use Rattle.bac_run.specs.{open_in, passed_at, posts, remark, remarks, rest_text, Rests, seek_text, settings_line};
-ghost use Rattle.bac_run.specs.{settled, time_line, Turns, wait_at, whole_line, write_failed};
-ghost use Rattle.bac_run.specs.Inner.{begins_turn, ends_turn, GainsDue, heard_until, hearing, IsOfWait, looking};
-ghost use Rattle.bac_run.specs.Inner.{MovesClock, outside, send_failed, started, telling_in};
+ghost use Rattle.bac_links.specs.{most_turns, Silence};
+ghost use Rattle.bac_run.specs.{Aim, arrival_line, closing_text, due_in, Fresh, has_line, heard_at, is_of_link};
+ghost use Rattle.bac_run.specs.{is_reached, most_open, open_in, passed_at, remark, remarks, rest_text, Rests};
+ghost use Rattle.bac_run.specs.{seek_text, sends_in, settings_line, settled, time_line, Turns, unsent_text, wait_at};
+ghost use Rattle.bac_run.specs.{whole_line, write_failed};
+ghost use Rattle.bac_run.specs.Inner.{begins_turn, done, ends_turn, heard_until, hearing, IsOfWait, looking};
+ghost use Rattle.bac_run.specs.Inner.{MovesClock, outside, started, telling_in, to_hand, told_in};
 ghost use Rattle.bac_run.specs.Inner.Went.{Went};
 
 use crate::fault::RunFault;
@@ -43,7 +44,7 @@ pub(crate) struct Runner {
 // The end of a wait.
 #[derive(Clone, Copy)]
 pub(crate) enum Until {
-    // At most this many requests are open.
+    // At most this many requests are open, and no datagram is left to hear; or no request is open.
     FewOpen(usize),
     // The client has the time of the last turn.
     TimeTold,
@@ -96,7 +97,7 @@ impl Runner {
     {
         let now = link.now();
         if self.client.open_count() == 0 {
-            self.tell_time(now, link, page)?;
+            self.tell_time(now, link, page);
             return Ok(());
         }
         let late = u64::from(self.setup.config.timeout / 10);
@@ -131,29 +132,38 @@ impl Runner {
         ensures { result ≡ is_reached self.now.client self.now.since_told (Turns until 0) }
     {
         match until {
-            Until::FewOpen(most) => self.client.open_count() <= most,
+            Until::FewOpen(most) => self.client.open_count() <= self.most_open(most),
             Until::TimeTold => self.since_told == 0,
             Until::ClockAt(time) => self.client.clock() >= time,
         }
     }
 
-    // Returns how long a turn waits, in milliseconds: 0 if a wait is over since the client last got the time.
-    fn longest_wait(&self) -> u32
-        ensures { result ≡ wait_at self.now.setup.config.timeout self.now.since_told }
+    // Returns how many requests may be open at the end of a wait for at most this many: none if datagrams may be left
+    // to hear.
+    fn most_open(&self, most: usize) -> usize
+        ensures { result ≡ most_open most self.now.since_told }
     {
-        if self.since_told == 0 {
-            turn_wait(self.setup.config.timeout)
-        } else {
-            0
+        if self.since_told == 0 { most } else { 0 }
+    }
+
+    // Returns how long a turn that begins now waits, in milliseconds: at most until the first open request is due. It
+    // is 0 if a wait is over since the client last got the time.
+    fn longest_wait(&self, now: u64) -> u32
+        ensures { result ≡ wait_at self.now.setup.config.timeout self.now.client self.now.since_told now }
+    {
+        if self.since_told > 0 {
+            return 0;
         }
+        let timeout = self.setup.config.timeout;
+        turn_wait(timeout).min(due_in(timeout, now, self.client.oldest_send()))
     }
 
     // Writes all output, unless the turn only looks.
     fn let_out<W: Write>(&self, page: &mut Page<'_, W>)
         ensures printed { Prints W.contents page.old page.new [] }
-        ensures out { 0 < wait_at self.now.setup.config.timeout self.now.since_told → held page.new ≡ [] }
+        ensures out { self.now.since_told ≡ 0 → held page.new ≡ [] }
     {
-        if self.longest_wait() > 0 {
+        if self.since_told == 0 {
             page.turn_in();
         }
     }
@@ -180,10 +190,10 @@ impl Runner {
             return Err(RunFault::from(WriteFailed));
         }
         let now = link.now();
-        if self.hear(link, page)? {
+        if self.hear(now, link, page)? {
             return Ok(false);
         }
-        self.tell_time(now, link, page)
+        Ok(self.tell_time(now, link, page))
     }
 
     // Passes the client the datagram that the link receives in the turn's wait, if there is one. Returns true if the
@@ -191,21 +201,22 @@ impl Runner {
     // is old.
     fn hear<L: Link, W: Write>(
         &mut self,
+        now: u64,
         link: &mut L,
         page: &mut Page<'_, W>,
     ) -> Result<bool, RunFault>
         requires link { L.has_failed link.old ≡ false }
         requires sound { has_failed (writer_of page.old) ≡ false }
-        requires out { 0 < wait_at self.old.setup.config.timeout self.old.since_told → held page.old ≡ [] }
+        requires out { self.old.since_told ≡ 0 → held page.old ≡ [] }
         ensures fault { L.has_failed link.new ≡ is_of_link result }
         ensures went { Went W.contents self.old self.new page.old page.new (L.seen link.old) (L.seen link.new)
-            (looking self.old) (hearing self.new result) result [] }
+            (λ aims. looking self.old (now, aims)) (λ aims. hearing self.new result (now, aims)) result [] }
         ensures not_written { result ≡ Err write_failed → has_failed (writer_of page.new) ≡ true }
         ensures kept { open_in self.new.client ≤ open_in self.old.client }
         ensures still { MovesClock false self.old.client self.new.client }
         ensures cause { IfErr result IsOfWait }
     {
-        let wait_ms = self.longest_wait();
+        let wait_ms = self.longest_wait(now);
         let from = match link.receive(wait_ms, &mut self.datagram) {
             Ok(Some(from)) => from,
             Ok(None) => return Ok(self.passes(wait_ms)),
@@ -245,56 +256,75 @@ impl Runner {
         now: u64,
         link: &mut L,
         page: &mut Page<'_, W>,
-    ) -> Result<bool, RunFault>
+    ) -> bool
         requires { L.has_failed link.old ≡ false }
-        ensures fault { L.has_failed link.new ≡ is_of_link result }
+        ensures sound { L.has_failed link.new ≡ false }
         ensures went { Went W.contents self.old self.new page.old page.new (L.seen link.old) (L.seen link.new)
-            (telling_in self.old now) (ends_turn self.new result) result [] }
-        ensures not_written { result ≡ Err write_failed → has_failed (writer_of page.new) ≡ true }
+            (telling_in self.old now) (told_in self.new result) done [] }
         ensures kept { open_in self.new.client ≤ open_in self.old.client }
-        ensures moves { IfOk result (λ told. MovesClock told self.old.client self.new.client) }
+        ensures moves { MovesClock result self.old.client self.new.client }
         ensures told { self.new.since_told ≡ 0 }
-        ensures cause { IfErr result IsOfWait }
     {
         self.since_told = 0;
         if now <= self.client.clock() {
-            return Ok(false);
+            return false;
         }
         let due = self.client.tick(now);
         print_time(page, now);
         remark_due(page, &self.client, due.as_slice());
-        send_due(&self.client, due.as_slice(), link)?;
-        Ok(true)
+        self.send_due(due.as_slice(), link, page);
+        true
     }
-}
 
-/// Sends the datagram of a note, if the note is on a send.
-pub(crate) fn send_any<L: Link>(note: Option<Note<'_>>, link: &mut L) -> Result<(), RunFault>
-    requires { L.has_failed link.old ≡ false }
-    ensures fault { L.has_failed link.new ≡ is_of_link result }
-    ensures cause { IfErr result (λ fault. fault ≡ send_failed) }
-    ensures sent { GainsDue result (posts (option_to_list (option_map note_seen note.entry))) (L.seen link.old)
-        (L.seen link.new) }
-{
-    if let Some(Note::Sent(_, to, octets)) = note {
-        if link.send(to, octets).is_err() {
-            return Err(RunFault::Link(ToolFault::SendFailed));
+    // Sends the datagrams that are due.
+    fn send_due<L: Link, W: Write>(&self, due: &[DueEntry], link: &mut L, page: &mut Page<'_, W>)
+        requires { L.has_failed link.old ≡ false }
+        ensures sound { L.has_failed link.new ≡ false }
+        ensures went { Went W.contents self.now self.now page.old page.new (L.seen link.old) (L.seen link.new)
+            (λ later. to_hand self.now (sends_in (flat_map (due_notes self.now.client.state) due.now), later))
+            (started self.now) done [] }
+    {
+        for entry in due {
+            self.send_any(self.client.due(*entry), link, page);
         }
     }
-    Ok(())
-}
 
-/// Sends a Who-Is.
-pub(crate) fn send_seek<L: Link>(to: Peer, octets: &[u8], link: &mut L) -> Result<(), RunFault>
-    requires { L.has_failed link.old ≡ false }
-    ensures fault { L.has_failed link.new ≡ is_of_link result }
-    ensures cause { IfErr result (λ fault. fault ≡ send_failed) }
-    ensures sent { GainsDue result (Posted (station to) octets.now ∷ []) (L.seen link.old) (L.seen link.new) }
-{
-    if link.send(to, octets).is_err() {
-        return Err(RunFault::Link(ToolFault::SendFailed));
+    /// Sends the datagram of a note, if the note is on a send.
+    pub fn send_any<L: Link, W: Write>(
+        &self,
+        note: Option<Note<'_>>,
+        link: &mut L,
+        page: &mut Page<'_, W>,
+    )
+        requires { L.has_failed link.old ≡ false }
+        ensures sound { L.has_failed link.new ≡ false }
+        ensures went { Went W.contents self.now self.now page.old page.new (L.seen link.old) (L.seen link.new)
+            (λ (later, aims). to_hand self.now
+            (sends_in (option_to_list (option_map note_seen note.entry)) ++ later, aims))
+            (to_hand self.now) done [] }
+    {
+        if let Some((to, octets)) = datagram_in(note) {
+            self.send(to, octets, link, page);
+        }
     }
-    Ok(())
+
+    /// Sends a datagram. If the system refuses it, it is lost, and a remark says so.
+    pub fn send<L: Link, W: Write>(
+        &self,
+        to: Peer,
+        octets: &[u8],
+        link: &mut L,
+        page: &mut Page<'_, W>,
+    )
+        requires { L.has_failed link.old ≡ false }
+        ensures sound { L.has_failed link.new ≡ false }
+        ensures went { Went W.contents self.now self.now page.old page.new (L.seen link.old) (L.seen link.new)
+            (λ (later, aims). to_hand self.now ((station to, octets.now) ∷ later, aims)) (to_hand self.now) done [] }
+    {
+        if !link.offer(to, octets) {
+            remark_unsent(page, to, octets);
+        }
+    }
 }
 
 /// Prints the settings of the client.
@@ -328,6 +358,15 @@ pub(crate) fn remark_seek<W: Write>(page: &mut Page<'_, W>, to: Peer, octets: &[
     ensures { Prints W.contents page.old page.new (codes "# " ++ seek_text (station to) octets.now) }
 {
     page.print(b"# who ");
+    print_datagram(page, to, octets);
+}
+
+// Prints a remark: this datagram was refused.
+#[tactic(auto, using(bac_print::proofs::Printed::printing))]
+fn remark_unsent<W: Write>(page: &mut Page<'_, W>, to: Peer, octets: &[u8])
+    ensures { Prints W.contents page.old page.new (codes "# " ++ unsent_text (station to) octets.now) }
+{
+    page.print(b"# unsent ");
     print_datagram(page, to, octets);
 }
 
@@ -365,6 +404,31 @@ pub(crate) fn remark_any<W: Write>(page: &mut Page<'_, W>, note: Option<Note<'_>
 {
     if let Some(note) = note {
         remark(page, note);
+    }
+}
+
+// Returns how long it takes from this time until the first open request is due, if it was last sent then. If none is
+// open, a turn ends before that.
+fn due_in(timeout: u32, now: u64, sent: Option<u64>) -> u32
+    ensures { result ≡ due_in timeout now sent }
+{
+    match sent {
+        None => turn_wait(timeout),
+        Some(sent) => {
+            let passed = now.saturating_sub(sent).min(u64::from(timeout));
+            timeout - passed as u32
+        }
+    }
+}
+
+// Returns the datagram of a note on a send, and its receiver.
+fn datagram_in(note: Option<Note<'_>>) -> Option<(Peer, &[u8])>
+    ensures { option_to_list (option_map (λ to. (station to.0, to.1.now)) result)
+        ≡ sends_in (option_to_list (option_map note_seen note.entry)) }
+{
+    match note? {
+        Note::Sent(_, to, octets) => Some((to, octets)),
+        Note::Refused(_) | Note::Done(_) | Note::Dropped | Note::TimedOut(_) => None,
     }
 }
 
@@ -417,20 +481,6 @@ fn remark_due<W: Write>(page: &mut Page<'_, W>, client: &Client, due: &[DueEntry
     for entry in due {
         remark_any(page, client.due(*entry));
     }
-}
-
-// Sends the datagrams that are due.
-fn send_due<L: Link>(client: &Client, due: &[DueEntry], link: &mut L) -> Result<(), RunFault>
-    requires { L.has_failed link.old ≡ false }
-    ensures fault { L.has_failed link.new ≡ is_of_link result }
-    ensures cause { IfErr result (λ fault. fault ≡ send_failed) }
-    ensures sent { GainsDue result (posts (flat_map (due_notes client.now.state) due.now)) (L.seen link.old)
-        (L.seen link.new) }
-{
-    for entry in due {
-        send_any(client.due(*entry), link)?;
-    }
-    Ok(())
 }
 
 // Prints the retries of a client, and its first ticket.

@@ -2,16 +2,16 @@
 -- between two lines, and where it stops.
 pub mod Chunks
 use Rattle.std.proofs.Common.{[], ap, append-nil, append_assoc, arith, Bool, drop, eqb-true, Err, false, IfOk, IfSome}
-use Rattle.std.proofs.Common.{if◌then◌else◌, inl, inr, length, length-append, List, MatchOption, nat_lt, None, Ok}
-use Rattle.std.proofs.Common.{ok_or, Option, option_map, refl, Result, slice_get, Some, subst, suc, sym, take}
+use Rattle.std.proofs.Common.{if◌then◌else◌, inl, inr, length, length-append, List, MatchOption, None, Ok, ok_or}
+use Rattle.std.proofs.Common.{Option, option_map, refl, Result, slice_get, Some, subst, suc, sym, take}
 use Rattle.std.proofs.Common.{take-append-drop, true, zero, ℕ, ◌&&◌, ◌++◌, ◌+◌, ◌<◌, ◌==◌, ◌∙◌, ◌∷◌, ◌≡◌, ◌≢◌, ◌≤◌, ◌⊎◌}
-use Rattle.std.proofs.lemmas.{Bool.{eqb-false, Decides.nat_tests}, List.append_cancel_right}
-use Rattle.std.specs.{List.AllByRecursion, Option.option_map_or, Prelude.⊤, Result.result_ok}
+use Rattle.std.proofs.lemmas.{Bool.{cases_Bool, eqb-false}, List.append_cancel_right}
+use Rattle.std.specs.{Option.option_map_or, Prelude.⊤, Result.result_ok}
 use Rattle.{bac_pdu.specs.Station, bac_tsm.proofs.Laws.{back_late, begins, by_invoke_id, few_open, one_step}}
-use Rattle.bac_tsm.specs.{client_rules, Event, keeping, new_client, Note, State, state_at, Stepped, Client.Client}
+use Rattle.bac_tsm.specs.{client_rules, Event, new_client, Note, state_at, Client.Client}
 use Rattle.bac_tsm.specs.{Laws.InvokeIdsComeBackLate, Limits.table_size, Lookahead.output}
-use Rattle.{bac_device.specs.{demo_points, DeviceState, replies_to, Write}, bac_text.specs.longest_line}
-use Rattle.bac_print.proofs.Printed.{all_written, finished, Gave-none, prints_nothing, ◌⨾◌}
+use Rattle.bac_device.specs.{demo_points, DeviceState, replies_to, Write}
+use Rattle.bac_print.proofs.Printed.{finished, Gave-none, prints_nothing, ◌⨾◌}
 use Rattle.bac_print.specs.{ends_of, fresh, has_failed, held as on_page, last_of, octets_of, Prints, reads_of, room_of}
 use Rattle.bac_print.specs.{writer_of, Writes, Page.{laid_out, Wrote}}
 use Rattle.bac_script.specs.{all_said, AreAlike, arrivals_in, Asks, AtEnd, BadLine, Blank, Checked, empty_reads, EndsAs}
@@ -34,23 +34,15 @@ text_from stage [] = []
 text_from stage (one ∷ later) = (ran stage one).text ++ text_from (ran stage one).after later
 
 -- The line does not have settings.
-abbrev pub IsOther : Said → Type 0
-IsOther Blank = Unit {0}
-IsOther Remark = Unit {0}
+abbrev IsOther : Said → Type 0
 IsOther (Settings timeout retries first_ticket) = ⊥
-IsOther (Happens event) = Unit {0}
-IsOther (Asks arrival) = Unit {0}
+IsOther _ = Unit {0}
 
--- No line has settings.
-abbrev pub NoSettings : List Said → Type 0
-NoSettings = AllByRecursion IsOther
-
--- Only the first line that is not blank or a remark has settings.
-abbrev pub SettingsFirst : List Said → Type 0
-SettingsFirst [] = Unit {0}
-SettingsFirst (Blank ∷ later) = SettingsFirst later
-SettingsFirst (Remark ∷ later) = SettingsFirst later
-SettingsFirst (_ ∷ later) = NoSettings later
+-- Only the first line that is not blank or a remark has settings, if the flag says that such a line is to come.
+abbrev pub SettingsFirst : List Said → Bool → Type 0
+SettingsFirst [] _ = Unit {0}
+SettingsFirst (one ∷ later) true = SettingsFirst later (is_nothing one)
+SettingsFirst (one ∷ later) false = IsOther one × SettingsFirst later false
 
 drop_next : (events : List Event) (n : ℕ) (event : Event) (later : List Event) → drop n events ≡ event ∷ later →
     (slice_get events n ≡ Some event) × (drop (suc n) events ≡ later)
@@ -79,13 +71,8 @@ module _ (timeout retries first_ticket : ℕ) (events : List Event) where
   abbrev notes : ℕ → List Note
   notes = output (client_rules timeout retries) first_ticket events
 
-  -- The text after a step of the client.
-  abbrev text_after : ℕ → List Write → List Said → Stepped → List ℕ
-  text_after n writes later one =
-      notes_text one.notes
-      ++ text_from (record { client = keeping (stage_at n writes).client one.after; writes = writes }) later
-
-  pub prints_output : (n : ℕ) (writes : List Write) (all : List Said) → NoSettings all → drop n events ≡ events_in all →
+  pub prints_output : (n : ℕ) (writes : List Write) (all : List Said) → SettingsFirst all false
+      → drop n events ≡ events_in all →
       text_from (stage_at n writes) all ≡ printed notes n all (replies_after writes all)
   prints_output n _ [] h e = refl
   prints_output n writes (Blank ∷ later) (_, none) e = prints_output n writes later none e
@@ -95,29 +82,24 @@ module _ (timeout retries first_ticket : ℕ) (events : List Event) where
       let (here, behind) = drop_next _ n _ _ e in
       let now = one_step (client_rules timeout retries) first_ticket events (by_invoke_id timeout retries) few_open n
       event here in
-      ap (text_after n writes later) now
-      ∙ ap (λ (xs : List ℕ). notes_text (notes n) ++ xs) (prints_output (suc n) writes later none behind)
+      rw now (ap (λ (xs : List ℕ). notes_text (notes n) ++ xs) (prints_output (suc n) writes later none behind))
   prints_output n writes (Asks arrival ∷ later) (_, none) e =
       grind (arith, prints_output n (writes_with writes arrival) later none e)
 
-  pub prints_all : (all : List Said) → NoSettings all → events ≡ events_in all →
+  pub prints_all : (all : List Said) → SettingsFirst all false → events ≡ events_in all →
       text_from (record { client = new_client timeout retries first_ticket; writes = [] }) all
       ≡ printed notes 0 all (replies_after [] all)
   prints_all all h e =
-      ap (λ (state : State).
-      text_from (record { client = record { timeout = timeout; retries = retries; state = state }; writes = [] }) all)
-      (begins (client_rules timeout retries) first_ticket events (by_invoke_id timeout retries) few_open)
-      ∙ prints_output 0 [] all h e
+      rw (begins (client_rules timeout retries) first_ticket events (by_invoke_id timeout retries) few_open)
+      (prints_output 0 [] all h e)
 
 -- The text of a script is what the machine prints.
-pub text_is : (all : List Said) → SettingsFirst all → text_of all ≡ text_from first_stage all
+pub text_is : (all : List Said) → SettingsFirst all true → text_of all ≡ text_from first_stage all
 text_is [] h = refl
 text_is (Blank ∷ later) h = text_is later h
 text_is (Remark ∷ later) h = text_is later h
 text_is (Settings t r f ∷ later) h = sym (prints_all t r f _ _ h refl)
-text_is (Happens event ∷ later) h =
-    sym (prints_all 3000 3 0 (events_in (Happens event ∷ later)) (Happens event ∷ later) (tt, h) refl)
-text_is (Asks arrival ∷ later) h = sym (prints_all 3000 3 0 (events_in later) (Asks arrival ∷ later) (tt, h) refl)
+text_is (one ∷ later) h = sym (prints_all 3000 3 0 _ (one ∷ later) (tt, h) refl)
 
 -- Two requests of a script with the same invoke id have many others between them.
 pub requests_late : (all : List Said) → InvokeIdsComeBackLate table_size (requests_in all)
@@ -128,8 +110,7 @@ requests_late all = grind (arith, back_late, few_open)
 -- If an option is mapped to lines without settings, its line has no settings.
 mapped_other : {A : Type 0} (say : A → Said) (found : Option A) → ((a : A) → IsOther (say a))
     → IfSome (option_map say found) IsOther
-mapped_other _ None h = tt
-mapped_other _ (Some a) h = h a
+mapped_other = grind arith
 
 either : (b : Bool) (x y : Option Said) → IfSome x IsOther → IfSome y IsOther → IfSome (if b then x else y) IsOther
 either = grind arith
@@ -145,24 +126,15 @@ text_other : (r : Result (List ℕ) LineFault) → IfOk (said_in false r) IsOthe
 text_other (Err _) = tt
 text_other (Ok text) = grind (arith, found_other, words_other)
 
-other_then : (s : Result Said LineFault) (later : List Said) → IfOk s IsOther → NoSettings later
-    → NoSettings (option_map_or (λ one. one ∷ later) (result_ok s) [])
-other_then = grind arith
+settled_then : (s : Result Said LineFault) (is_first : Bool) (lines : List (List ℕ))
+    → (is_first ≡ false → IfOk s IsOther) → ((first : Bool) → SettingsFirst (said_from first lines) first) →
+    SettingsFirst (option_map_or (λ one. one ∷ said_from (is_first && is_nothing one) lines) (result_ok s) []) is_first
+settled_then = grind arith
 
--- After the first line with a meaning, no line has settings.
-others_settled : (lines : List (List ℕ)) → NoSettings (said_from false lines)
-others_settled [] = tt
-others_settled (line ∷ lines) =
-    other_then _ _ (text_other (text_of_line line)) (others_settled lines)
-
-first_then : (s : Result Said LineFault) (lines : List (List ℕ)) → SettingsFirst (said_from true lines)
-    → NoSettings (said_from false lines) →
-    SettingsFirst (option_map_or (λ one. one ∷ said_from (is_nothing one) lines) (result_ok s) [])
-first_then = grind arith
-
-pub settings_first : (lines : List (List ℕ)) → SettingsFirst (all_said lines)
-settings_first [] = tt
-settings_first (line ∷ lines) = first_then (said true line) lines (settings_first lines) (others_settled lines)
+pub settled : (lines : List (List ℕ)) (is_first : Bool) → SettingsFirst (said_from is_first lines) is_first
+settled [] _ = tt
+settled (line ∷ lines) is_first =
+    settled_then (said is_first line) is_first lines (λ no. rw no (text_other (text_of_line line))) (settled lines)
 
 -- ---- the course of a script, line after line
 
@@ -179,161 +151,76 @@ behind front later = record { text = front ++ later.text; fault = later.fault; c
 pub behind_both : (xs ys : List ℕ) (later : Course) → behind xs (behind ys later) ≡ behind (xs ++ ys) later
 behind_both = grind (arith, append_assoc)
 
--- The text of one line, and then the course of the later lines.
-abbrev pub and_on : ScriptStage → ℕ → Result Said LineFault → (Said → Course) → Course
-and_on stage count (Ok one) later = behind (ran stage one).text (later one)
-and_on stage count (Err fault) later =
-    record { text = []; fault = Some (fault_at (count + 1) fault); count = count }
+-- The text of these lines from a state on.
+abbrev text_on : ScriptStage → Bool → List (List ℕ) → List ℕ
+text_on stage is_first all = text_from stage (said_from is_first all)
 
 -- The course of these lines from a state on, if this number of lines came before them.
 abbrev pub course : ScriptStage → Bool → ℕ → List (List ℕ) → Course
-course stage is_first count [] = record { text = []; fault = None; count = count }
-course stage is_first count (line ∷ later) =
-    and_on stage count (said is_first line)
-    (λ one. course (ran stage one).after (is_first && is_nothing one) (count + 1) later)
-
--- The course after a line with this meaning.
-abbrev pub course_on : ScriptStage → Bool → ℕ → List (List ℕ) → Said → Course
-course_on stage is_first count later one = course (ran stage one).after (is_first && is_nothing one) (count + 1) later
+course stage is_first count all = record {
+  text = text_on stage is_first all;
+  fault = fault_from is_first (count + 1) all;
+  count = count + length all;
+}
 
 -- The course of a script.
 abbrev pub whole : List (List ℕ) → Course
 whole all = course first_stage true 0 all
 
--- A course in terms of the meanings of its lines up to the first fault.
-record IsCourse (stage : ScriptStage) (is_first : Bool) (count : ℕ) (all : List (List ℕ)) (says : List Said)
-    (c : Course) : Type 0 where
-  text : c.text ≡ text_from stage says
-  fault : c.fault ≡ fault_from is_first (count + 1) all
-  counted : c.fault ≡ None → c.count ≡ count + length all
-
-is_course : (all : List (List ℕ)) (stage : ScriptStage) (is_first : Bool) (count : ℕ)
-    → IsCourse stage is_first count all (said_from is_first all) (course stage is_first count all)
-is_course [] _ _ _ = record { text = refl; fault = refl; counted = λ none. omega arith }
-is_course (line ∷ later) stage is_first count =
-    go (said is_first line) refl (λ one. is_course later (ran stage one).after (is_first && is_nothing one) (count + 1))
-  where
-    go : (s : Result Said LineFault) → said is_first line ≡ s →
-        ((one : Said) → IsCourse (ran stage one).after (is_first && is_nothing one) (count + 1) later
-        (said_from (is_first && is_nothing one) later) (course_on stage is_first count later one)) →
-        IsCourse stage is_first count (line ∷ later)
-        (option_map_or (λ one. one ∷ said_from (is_first && is_nothing one) later) (result_ok s) [])
-        (and_on stage count s (course_on stage is_first count later))
-    go (Ok one) is h = record {
-      text = ap (λ (xs : List ℕ). (ran stage one).text ++ xs) (h one).text;
-      fault = rw is (h one).fault;
-      counted = λ none. let more = (h one).counted none in omega (arith, more);
-    }
-    go (Err fault) is h = record { text = refl; fault = rw is refl; counted = λ none. absurd (cc) }
+-- The course of a line with this meaning, and of the lines after it.
+one_then : (stage : ScriptStage) (is_first : Bool) (count : ℕ) (line : List ℕ) (all : List (List ℕ)) (one : Said)
+    → said is_first line ≡ Ok one → course stage is_first count (line ∷ all)
+    ≡ behind (ran stage one).text (course (ran stage one).after (is_first && is_nothing one) (count + 1) all)
+one_then stage is_first count line all one ok = grind (arith, ok)
 
 pub runs_text : (all : List (List ℕ)) → (whole all).text ≡ text_of (all_said all)
-runs_text = grind (arith, is_course, first_stage, true, text_is, settings_first)
-
--- The fault of a script is that of its course.
-pub fault_is : (all : List (List ℕ)) → (whole all).fault ≡ first_fault all
-fault_is all = (is_course all first_stage true 0).fault
-
--- The whole text was written, and the result is the first fault, or how the input ended.
-abbrev pub RunsWhole : List ℕ → Reading → List ℕ → Result TraceEnd TraceFault → Type 0
-RunsWhole octets reading written answer = (written ≡ text octets reading)
-    × MatchOption (first_fault (lines octets reading)) (EndsAs reading (length (lines octets reading)) answer)
-    (λ fault. answer ≡ Err fault)
-
--- A script with this course runs with its text and result.
-pub runs_as : (octets : List ℕ) (reading : Reading) (one : Course) (answer : Result TraceEnd TraceFault)
-    → whole (lines octets reading) ≡ one →
-    MatchOption one.fault (EndsAs reading one.count answer) (λ fault. answer ≡ Err fault)
-    → RunsWhole octets reading one.text answer
-runs_as octets reading one answer is ends =
-    let c = is_course (lines octets reading) first_stage true 0 in
-    let said = runs_text (lines octets reading) in
-    grind (arith, c, said)
+runs_text all = sym (text_is (all_said all) (settled all true))
 
 -- ---- the text of the first octets of a script is the beginning of its text
 
--- The octets up to the first line feed, and those after it.
-pub record FirstLine (octets : List ℕ) : Type 0 where
-  pub line : List ℕ
-  pub rest : List ℕ
-  pub none : HasNoFeed line
-  pub is : octets ≡ (line ++ 10 ∷ []) ++ rest
-
-pub first_line : (octets : List ℕ) → HasNoFeed octets ⊎ FirstLine octets
-first_line [] = inl tt
-first_line (x ∷ xs) = here (x == 10) refl (first_line xs)
-  where
-    here : (b : Bool) → (x == 10) ≡ b → HasNoFeed xs ⊎ FirstLine xs → HasNoFeed (x ∷ xs) ⊎ FirstLine (x ∷ xs)
-    here true e _ = inr (record { line = []; rest = xs; none = tt; is = ap (λ (n : ℕ). n ∷ xs) (eqb-true x 10 e) })
-    here false e (inl none) = inl (eqb-false x 10 e, none)
-    here false e (inr f) =
-        inr (record {
-          line = x ∷ f.line;
-          rest = f.rest;
-          none = (eqb-false x 10 e, f.none);
-          is = ap (λ (ys : List ℕ). x ∷ ys) f.is;
-        })
-
 -- From each state on, the text of the first lines is the beginning of the text of the others.
 abbrev FrontFrom : List (List ℕ) → List (List ℕ) → Type 0
-FrontFrom some all = (stage : ScriptStage) (is_first : Bool) (count : ℕ) →
-    IsFrontOf (course stage is_first count some).text (course stage is_first count all).text
+FrontFrom some all = (stage : ScriptStage) (is_first : Bool)
+    → IsFrontOf (text_on stage is_first some) (text_on stage is_first all)
 
 one_line : (line : List ℕ) (some all : List (List ℕ)) → FrontFrom some all → FrontFrom (line ∷ some) (line ∷ all)
-one_line line some all fronts stage is_first count = go (said is_first line)
+one_line line some all fronts stage is_first = go (said is_first line)
   where
-    go : (s : Result Said LineFault) → IsFrontOf (and_on stage count s (course_on stage is_first count some)).text
-        (and_on stage count s (course_on stage is_first count all)).text
+    go : (s : Result Said LineFault) → IsFrontOf
+        (text_from stage (option_map_or (λ one. one ∷ said_from (is_first && is_nothing one) some) (result_ok s) []))
+        (text_from stage (option_map_or (λ one. one ∷ said_from (is_first && is_nothing one) all) (result_ok s) []))
     go (Ok one) =
-        let (rest, whole) = fronts (ran stage one).after (is_first && is_nothing one) (count + 1) in (
-          rest,
-          ap (λ (ys : List ℕ). (ran stage one).text ++ ys) whole
-              ∙ sym (append_assoc (ran stage one).text (course_on stage is_first count some one).text rest),
-        )
+        let front = fronts (ran stage one).after (is_first && is_nothing one) in grind (arith, front, append_assoc)
     go (Err _) = ([], refl)
 
 -- Octets without a line feed have no text: they are not a line yet, or one that is too long.
 no_line : (octets : List ℕ) (all : List (List ℕ)) → HasNoFeed octets → FrontFrom (lines octets Open) all
-no_line [] all h stage is_first count = grind arith
-no_line (x ∷ xs) all h stage is_first count = go _ refl
-  where
-    go : (b : Bool) → nat_lt longest_line (length (x ∷ xs)) ≡ b →
-        IsFrontOf (course stage is_first count (lines (x ∷ xs) Open)).text (course stage is_first count all).text
-    go true e =
-        rw (
-          pieces-open x xs h,
-          ends_with_feed-none (x ∷ xs) h,
-          e,
-          said-long is_first (x ∷ xs) (rw (ends_with_feed-none (x ∷ xs) h) (grind (arith, nat_tests, e))),
-        ) ((course stage is_first count all).text, refl)
-    go false e =
-        rw (pieces-open x xs h, ends_with_feed-none (x ∷ xs) h, e) ((course stage is_first count all).text, refl)
+no_line octets all none stage is_first = rw (said-open is_first octets none) (text_on stage is_first all, refl)
 
-lines_front : (n : ℕ) (octets more : List ℕ) (reading : Reading) → length octets ≤ n
-    → FrontFrom (lines octets Open) (lines (octets ++ more) reading)
-lines_front zero [] more reading within = no_line [] (lines more reading) tt
-lines_front zero (x ∷ xs) more reading within = absurd (omega (arith, within))
-lines_front (suc n) octets more reading within =
-    after (first_line octets) (λ rest shorter. lines_front n rest more reading shorter)
-  where
-    after : HasNoFeed octets ⊎ FirstLine octets →
-        ((rest : List ℕ) → length rest ≤ n → FrontFrom (lines rest Open) (lines (rest ++ more) reading))
-        → FrontFrom (lines octets Open) (lines (octets ++ more) reading)
-    after (inl none) others = no_line octets (lines (octets ++ more) reading) none
-    after (inr f) others =
-        let size = ap length f.is in
-        let shorter : length f.rest ≤ n =
-        omega (arith, within, size, length-append (f.line ++ 10 ∷ []) f.rest, length-append f.line (10 ∷ [])) in
-        subst (λ (ys : List ℕ). FrontFrom (lines ys Open) (lines (ys ++ more) reading)) (sym f.is)
-        (rw (
-          append_assoc (f.line ++ 10 ∷ []) f.rest more,
-          lines-ended f.line f.rest Open f.none,
-          lines-ended f.line (f.rest ++ more) reading f.none,
-        ) (one_line (f.line ++ 10 ∷ []) (lines f.rest Open) (lines (f.rest ++ more) reading) (others f.rest shorter)))
+-- The first of these octets have no line feed.
+lines_front : (done octets more : List ℕ) (reading : Reading) → HasNoFeed done
+    → FrontFrom (lines (done ++ octets) Open) (lines (done ++ (octets ++ more)) reading)
+lines_front done [] more reading none = rw (append-nil done) (no_line done (lines (done ++ more) reading) none)
+lines_front done (x ∷ xs) more reading none =
+    elim (cases_Bool (x == 10)) [
+      | inl feed ↦
+          rw (
+            eqb-true x 10 feed,
+            ← append_assoc done (10 ∷ []) xs,
+            ← append_assoc done (10 ∷ []) (xs ++ more),
+            lines-ended done xs Open none,
+            lines-ended done (xs ++ more) reading none,
+          ) (one_line (done ++ 10 ∷ []) (lines xs Open) (lines (xs ++ more) reading)
+          (lines_front [] xs more reading tt))
+      | inr other ↦
+          rw (← append_assoc done (x ∷ []) xs, ← append_assoc done (x ∷ []) (xs ++ more))
+          (lines_front (done ++ x ∷ []) xs more reading (no_feed_on done (x ∷ []) none (eqb-false x 10 other, tt)))
+    ]
 
 pub text_front : (octets more : List ℕ) (reading : Reading)
     → IsFrontOf (text octets Open) (text (octets ++ more) reading)
 text_front octets more reading =
-    let (rest, whole) = lines_front (length octets) octets more reading (omega arith) first_stage true 0 in
+    let (rest, whole) = lines_front [] octets more reading tt first_stage true in
     (rest, grind (arith, runs_text))
 
 -- ---- a script is a function of its octets and of whether they ended
@@ -357,10 +244,6 @@ same_lines = grind arith
 front_of : (octets : List ℕ) (reading : Reading) (written : List ℕ) (answer : Result TraceEnd TraceFault)
     → ScriptRuns octets reading written answer → IsFrontOf written (text octets reading)
 front_of = grind (arith, append-nil)
-
-whole_of : (octets : List ℕ) (reading : Reading) (written : List ℕ) (answer : Result TraceEnd TraceFault)
-    → answer ≢ Err WriteFailed → ScriptRuns octets reading written answer → RunsWhole octets reading written answer
-whole_of = grind arith
 
 -- ---- a run that could not read on
 
@@ -389,12 +272,6 @@ read_fails reader reader' writer writer' run =
 
 -- ---- two runs
 
-same_answer : (fault : Option TraceFault) (reading other : Reading) (count : ℕ)
-    (answer answer' : Result TraceEnd TraceFault) → ends reading ≡ ends other →
-    MatchOption fault (EndsAs reading count answer) (λ fault. answer ≡ Err fault)
-    → MatchOption fault (EndsAs other count answer') (λ fault. answer' ≡ Err fault) → answer ≡ answer'
-same_answer = grind arith
-
 module _ (octets : List ℕ) (reading other : Reading) (alike : ends reading ≡ ends other) (written written' : List ℕ)
     (answer answer' : Result TraceEnd TraceFault)
     (runs : ScriptRuns octets reading written answer) (runs' : ScriptRuns octets other written' answer') where
@@ -403,9 +280,7 @@ module _ (octets : List ℕ) (reading other : Reading) (alike : ends reading ≡
     text = text octets other;
     wrote = grind arith;
     other_wrote = grind arith;
-    same = λ all all'. let whole = whole_of octets reading written answer all runs in
-        let whole' = whole_of octets other written' answer' all' runs' in
-        same_answer _ reading other _ answer answer' alike (grind arith) whole'.1;
+    same = λ all all'. let same = same_lines octets reading other alike in grind (arith, same);
   }
 
 module _ {R S V W : Type 0} {remaining : R → Option (List ℕ)} {remaining' : S → Option (List ℕ)}
@@ -424,20 +299,12 @@ module _ {R S V W : Type 0} {remaining : R → Option (List ℕ)} {remaining' : 
       × IsWrittenOf (octets_of other_writer') text other_answer
   traces_front less =
       let (unwritten, written) = front_of run.given run.reading run.written answer run.runs in
+      let (ungiven, gave) = less.front in
+      let (more, whole) = text_front run.given ungiven other.reading in
       let lines_are = same_lines run.given run.reading Open (grind arith) in
       let open_text : text run.given Open ≡ run.written ++ unwritten = grind arith in
-      let (ungiven, gave) = less.front in
       let given : other.given ≡ run.given ++ ungiven = grind arith in
-      let (more, whole) = text_front run.given ungiven other.reading in (
-        text other.given other.reading,
-        (
-          unwritten ++ more,
-          ap (λ (xs : List ℕ). text xs other.reading) given ∙ whole ∙ ap (λ (xs : List ℕ). xs ++ more) open_text
-              ∙ append_assoc run.written unwritten more
-              ∙ ap (λ (xs : List ℕ). xs ++ (unwritten ++ more)) (sym run.took.passed),
-        ),
-        grind arith,
-      )
+      (text other.given other.reading, (unwritten ++ more, grind (arith, append_assoc)), grind arith)
 
 -- ---- the state between two lines of a script, and where it stops
 
@@ -447,13 +314,7 @@ out_so_far : {W : Type 0} {contents : W → Option (List ℕ)} {page between : P
     → has_failed (writer_of between) ≡ false →
     octets_of (writer_of between) ++ on_page between ≡ octets_of (writer_of page) ++ printed
 unfolding Wrote laid_out
-out_so_far {contents = contents} {page} {between} {printed} prints empty whole good =
-    let same = ap (λ (room : Option ℕ). laid_out room printed) whole in
-    let writes : Writes contents (writer_of page) (writer_of between) (on_page page) (on_page between) printed =
-    subst
-    (λ (said : List ℕ). Writes contents (writer_of page) (writer_of between) (on_page page) (on_page between) said)
-    same prints.wrote.writes in
-    grind (arith, append_assoc, writes)
+out_so_far = grind (arith, append_assoc)
 
 -- The course of each script that begins with these octets: this text, and then the course from this state on.
 abbrev GoesOn : List ℕ → List ℕ → ScriptStage → Bool → ℕ → Type 0
@@ -489,9 +350,7 @@ pub record SoFar {R W : Type 0} (remaining : R → Option (List ℕ)) (contents 
 goes_to : (octets line held text : List ℕ) (stage : ScriptStage) (is_first : Bool) (count : ℕ) (reading : Reading)
     (all : List (List ℕ)) → GoesOn octets text stage is_first count → lines (line ++ held) reading ≡ all
     → whole (lines ((octets ++ line) ++ held) reading) ≡ behind text (course stage is_first count all)
-goes_to octets line held text stage is_first count reading _ goes_on are =
-    ap (λ (os : List ℕ). whole (lines os reading)) (append_assoc octets line held) ∙ goes_on (line ++ held) reading
-    ∙ ap (λ (ls : List (List ℕ)). behind text (course stage is_first count ls)) are
+goes_to = grind (arith, append_assoc)
 
 -- One more line is run.
 goes_further : (octets line text : List ℕ) (stage : ScriptStage) (is_first is_first' : Bool) (count : ℕ) (one : Said)
@@ -501,12 +360,10 @@ goes_further : (octets line text : List ℕ) (stage : ScriptStage) (is_first is_
 goes_further _ line text _ is_first _ _ _ goes_on (inr c) ok still =
     grind (arith, said-whole_long)
 goes_further octets line text stage is_first _ count one goes_on (inl c) ok still = λ more reading.
-    let later = λ (s : Said) (first : Bool). course (ran stage s).after first (count + 1) (lines more reading) in
-    goes_to octets line more text stage is_first count reading (line ∷ lines more reading) goes_on
-    (rw c.ended (lines-ended c.text more reading c.no_feed))
-    ∙ ap (λ (r : Result Said LineFault). behind text (and_on stage count r (λ s. later s (is_first && is_nothing s))))
-    ok ∙ behind_both text (ran stage one).text (later one (is_first && is_nothing one))
-    ∙ ap (λ (first : Bool). behind (text ++ (ran stage one).text) (later one first)) (sym still)
+    let here = goes_to octets line more text stage is_first count reading (line ∷ lines more reading) goes_on
+    (rw c.ended (lines-ended c.text more reading c.no_feed)) in
+    let on = one_then stage is_first count line (lines more reading) one ok in
+    rw still (here ∙ ap (behind text) on ∙ behind_both text (ran stage one).text _)
 
 -- The line that was taken is the next line of the script.
 pub NextLine-from : {R : Type 0} (remaining : R → Option (List ℕ)) (reading : Reading) (before reader : Checked R)
@@ -520,9 +377,13 @@ stands_more : {R : Type 0} (remaining : R → Option (List ℕ)) (reading : Read
     ReaderStands remaining reading second third held → ReaderStands remaining reading first third []
 stands_more = grind arith
 
-runs_so : (octets : List ℕ) (reading : Reading) (text : List ℕ) (answer : Result TraceEnd TraceFault)
-    → answer ≢ Err WriteFailed → RunsWhole octets reading text answer → ScriptRuns octets reading text answer
-runs_so = grind arith
+-- A script with this course runs with its text and result.
+runs_so : (octets : List ℕ) (reading : Reading) (one : Course) (answer : Result TraceEnd TraceFault)
+    → whole (lines octets reading) ≡ one → answer ≢ Err WriteFailed →
+    MatchOption one.fault (EndsAs reading one.count answer) (λ fault. answer ≡ Err fault)
+    → ScriptRuns octets reading one.text answer
+runs_so octets reading one answer is sound ends =
+    let said = runs_text (lines octets reading) in grind (arith, said)
 
 -- An empty line is cut only at the end.
 at_end : (reading : Reading) (line : List ℕ) → IsLineCut reading line → reading ≢ Failed → length line ≡ 0
@@ -565,7 +426,7 @@ module _ {R W : Type 0} {remaining : R → Option (List ℕ)} {contents : W → 
   -- If no line is held, the lines so far are all, and none has a fault.
   no_fault : (more : List ℕ) → HasNoFeed more → length more < line_room
       → first_fault (lines (s.octets ++ more) Open) ≡ None
-  no_fault = grind (arith, fault_is, behind, course, lines-rest)
+  no_fault = grind (arith, behind, course, lines-rest)
 
   -- The last read was needed.
   needed : IsNeeded reader reader' taken.given
@@ -622,35 +483,26 @@ module _ {R W : Type 0} {remaining : R → Option (List ℕ)} {contents : W → 
       stops answer (prints_nothing kept) (s.printed ⨾ handed) (rw is (later, grind (arith, is_left, said, append-nil)))
 
   -- The run stops here if this is the course of the lines that are left.
-  settles : {last : Page W} (all : List (List ℕ)) (later : Course) (answer : Result TraceEnd TraceFault)
-      → lines (line ++ rest) reading ≡ all → course s.stage is_first count all ≡ later →
-      Prints contents kept last later.text → answer ≢ Err WriteFailed
-      → MatchOption later.fault (EndsAs reading later.count answer) (λ fault. answer ≡ Err fault) →
+  settles : {last : Page W} (all : List (List ℕ)) (answer : Result TraceEnd TraceFault)
+      → lines (line ++ rest) reading ≡ all → Prints contents kept last (course s.stage is_first count all).text
+      → answer ≢ Err WriteFailed → MatchOption (course s.stage is_first count all).fault
+      (EndsAs reading (course s.stage is_first count all).count answer) (λ fault. answer ≡ Err fault) →
       RunsOn remaining contents reader reader' page last answer
-  settles _ later answer are is printed sound ends =
+  settles all answer are printed sound ends =
       stops answer printed (s.printed ⨾ handed ⨾ printed)
-      (runs_so octets_now reading (s.text ++ later.text) answer sound
-      (runs_as octets_now reading (behind s.text later) answer (left _ are ∙ ap (behind s.text) is) ends))
+      (runs_so octets_now reading (behind s.text (course s.stage is_first count all)) answer (left all are) sound ends)
 
   -- The run stops because the reader fails, or its reads are spent.
   pub unread : reading ≡ Failed → IsLineCut reading line
       → RunsOn remaining contents reader reader' page kept (Err ReadFailed)
   unread is cut =
-      let c = rw is at cut in
-      let h = rw is at stands in
-      settles [] _ (Err ReadFailed) (rw (is, h.empty, append-nil line) (lines-rest line c.no_feed c.short)) refl
-      (prints_nothing kept) (grind arith) (rw is refl)
+      let c = rw is at cut in let h = rw is at stands in
+      grind (arith, settles {last = kept} [], prints_nothing, lines-rest, append-nil)
 
   -- The run stops because the input ends after a line feed.
   pub to_end : reading ≢ Failed → IsLineCut reading line → n ≡ 0
       → RunsOn remaining contents reader reader' page kept (Ok (record { lines = count }))
-  to_end going cut none =
-      let empty : line ≡ [] = rw none refl in
-      let is = at_end reading line cut going (ap length empty) in
-      let h = rw is at stands in
-      let none_left : rest ≡ [] = h.empty in
-      settles [] _ (Ok (record { lines = count })) (rw (empty, none_left) refl) refl (prints_nothing kept) (grind arith)
-      (rw is refl)
+  to_end = grind (arith, at_end, settles, prints_nothing)
 
   -- The run stops at a line with a fault.
   pub faulty : (fault : LineFault) → reading ≢ Failed → IsLineCut reading line → 0 < length line
@@ -658,23 +510,17 @@ module _ {R W : Type 0} {remaining : R → Option (List ℕ)} {contents : W → 
       RunsOn remaining contents reader reader' page kept (Err (fault_at (count + 1) fault))
   faulty fault going cut some bad =
       let next = NextLine-from remaining reading middle reader' line rest cut stands going some in
-      settles (next.whole ∷ next.others)
-      (record { text = []; fault = Some (fault_at (count + 1) fault); count = count })
-      (Err (fault_at (count + 1) fault)) next.split
-      (ap (λ (r : Result Said LineFault). and_on s.stage count r (course_on s.stage is_first count next.others))
-      (next.same is_first ∙ bad)) (prints_nothing kept) (grind arith) refl
+      let is = next.same is_first ∙ bad in
+      settles (next.whole ∷ next.others) (Err (fault_at (count + 1) fault)) next.split (rw is (prints_nothing kept))
+      (grind arith) (rw is refl)
 
   -- The run stops because the input ends in a line without its line feed.
   pub to_last : {last : Page W} (one : Said) → reading ≡ AtEnd → IsLineCut reading line → 0 < length line
       → said is_first line ≡ Ok one → Prints contents kept last (ran s.stage one).text
       → RunsOn remaining contents reader reader' page last (Ok (record { lines = count + 1 }))
   to_last {last} one is cut some ok printed =
-      let c = rw is at cut in
-      let h = rw is at stands in
-      settles (line ∷ []) (behind (ran s.stage one).text (course_on s.stage is_first count [] one))
-      (Ok (record { lines = count + 1 })) (rw (is, h.empty, append-nil line) (lines-last line c.no_feed some))
-      (ap (λ (r : Result Said LineFault). and_on s.stage count r (course_on s.stage is_first count [])) ok)
-      (printed ⨾ prints_nothing last) (grind arith) (rw is refl)
+      let c = rw is at cut in let h = rw is at stands in
+      grind (arith, settles {last = last} (line ∷ []), lines-last, append-nil)
 
   -- One more line was run.
   pub goes_on : {page' : Page W} {is_first' : Bool} {client' : Client} {device' : DeviceState} (one : Said)
@@ -704,9 +550,10 @@ module _ {R W : Type 0} {remaining : R → Option (List ℕ)} {contents : W → 
       }
 
 -- If no octets were given, there was no text to print.
+-- If no octets were given, there was no text to print.
 untold : {out : List ℕ} (before last : List ℕ) → [] ≡ before ++ last
     → (later : List ℕ) × (out ≡ (out ++ text before Open) ++ later)
-untold {out = out} [] _ _ = ([], sym (append-nil (out ++ []) ∙ append-nil out))
+untold [] _ _ = ([], grind (arith, append-nil))
 untold (octet ∷ before) _ split = absurd (cc)
 
 pub SoFar-none : {R W : Type 0} (remaining : R → Option (List ℕ)) (contents : W → Option (List ℕ)) (reader : Checked R)
@@ -732,12 +579,6 @@ SoFar-none _ _ reader held page _ _ empty whole sound none fresh unwritten = rec
   printed = prints_nothing page;
 }
 
--- If a run's text is cut short, the run is one whose writer failed.
-pub front_runs : (octets : List ℕ) (reading : Reading) (printed taken rest : List ℕ)
-    (answer : Result TraceEnd TraceFault) → ScriptRuns octets reading printed answer →
-    printed ≡ taken ++ rest → ScriptRuns octets reading taken (Err WriteFailed)
-front_runs = grind (arith, append_assoc)
-
 -- Text that was printed before the last read is written once the page is finished.
 told_still : {R W : Type 0} {contents : W → Option (List ℕ)} (reader' : Checked R) (first last : Page W)
     {writer after : Checked W} {given : List ℕ} → writer_of first ≡ writer
@@ -745,41 +586,24 @@ told_still : {R W : Type 0} {contents : W → Option (List ℕ)} (reader' : Chec
     Writes contents (writer_of last) after (on_page last) [] [] → IsToldFirst reader' writer after given
 told_still = grind (arith, append_assoc)
 
-module _ {R W : Type 0} {remaining : R → Option (List ℕ)} {contents : W → Option (List ℕ)} {reader reader' : Checked R}
-    {writer after back : Checked W}
-    {first last : Page W} {answer : Result TraceEnd TraceFault} where
-  -- The page of a run was finished, and all was written.
-  pub traces_all : after ≡ back → RunsOn remaining contents reader reader' first last answer → writer_of first ≡ writer
-      → on_page first ≡ [] → room_of first ≡ None → Writes contents (writer_of last) after (on_page last) [] []
-      → has_failed after ≡ false
-      → Traces remaining contents reader reader' writer back answer
-  traces_all is s same empty unfolded gone good =
-      subst (λ (w : Checked W). Traces remaining contents reader reader' writer w answer) is
-      (record {
-        given = s.given;
-        reading = s.reading;
-        written = s.printed;
-        read = s.read;
-        told = told_still reader' first last same s.told gone;
-        took = all_written (finished same empty unfolded s.prints gone) good;
-        runs = s.runs;
-      })
-
-  -- The page of a run was finished, and the writer has failed.
-  pub trace_cut : (told : Result TraceEnd TraceFault) → told ≡ Err WriteFailed → after ≡ back
-      → RunsOn remaining contents reader reader' first last answer →
-      writer_of first ≡ writer → on_page first ≡ [] → room_of first ≡ None
-      → Writes contents (writer_of last) after (on_page last) [] []
-      → Traces remaining contents reader reader' writer back told
-  trace_cut told failed is s same empty unfolded gone =
-      let w = finished same empty unfolded s.prints gone in
-      subst (λ (w : Checked W). Traces remaining contents reader reader' writer w told) is
-      (record {
-        given = s.given;
-        reading = s.reading;
-        written = w.taken;
-        read = s.read;
-        told = told_still reader' first last same s.told gone;
-        took = w.took;
-        runs = grind (arith, front_runs);
-      })
+-- The page of a run was finished, and all was written, or the writer has failed.
+pub traced : {R W : Type 0} {remaining : R → Option (List ℕ)} {contents : W → Option (List ℕ)}
+    {reader reader' : Checked R} {writer after back : Checked W} {first last : Page W}
+    {answer : Result TraceEnd TraceFault} (told : Result TraceEnd TraceFault)
+    → ((has_failed after ≡ false) × (told ≡ answer)) ⊎ (told ≡ Err WriteFailed)
+    → after ≡ back → RunsOn remaining contents reader reader' first last answer → writer_of first ≡ writer
+    → on_page first ≡ [] → room_of first ≡ None → Writes contents (writer_of last) after (on_page last) [] []
+    → Traces remaining contents reader reader' writer back told
+traced {W = W} {remaining} {contents} {reader} {reader'} {writer} {first = first} {last} told how is s same empty
+    unfolded gone =
+    let w = finished same empty unfolded s.prints gone in
+    subst (λ (end : Checked W). Traces remaining contents reader reader' writer end told) is
+    (record {
+      given = s.given;
+      reading = s.reading;
+      written = w.taken;
+      read = s.read;
+      told = told_still reader' first last same s.told gone;
+      took = w.took;
+      runs = grind (arith, append_assoc, append-nil);
+    })

@@ -60,7 +60,6 @@ fn examples_of_limits()
 {}
 
 // The write that words order, in the standard's words: the present value of analog-value 2 is -5, at priority 16.
-#[tactic(none)]
 fn examples_of_writes()
     ensures written { IsWritten value 85 None (Some 16) (codes "3" ∷ codes "-5" ∷ []) minus_five }
     ensures nothing { IsWritten value 85 None (Some 16) (codes "3" ∷ codes "-5" ∷ []) [] → ⊥ }

@@ -1,12 +1,10 @@
 -- Lemmas for the examples of runs.
-use Rattle.std.proofs.Common.{[], ap, arith, false, inr, length, List, Ok, Option, refl, Some, subst, sym, ℕ}
-use Rattle.std.proofs.Common.{◌++◌, ◌∷◌, ◌≡◌, ◌≢◌}
+use Rattle.std.proofs.Common.{[], ap, arith, false, inr, length, List, Ok, refl, ℕ, ◌++◌, ◌∷◌, ◌≡◌, ◌≢◌}
 use Rattle.std.specs.declared.io.Error.{Error}
 use Rattle.bac_print.specs.{octets_of, Writes, Checked.{calls_of, passes_none}}
-use Rattle.{bac_links.specs.{Entry, Asking.{Move, next_move, Over, Plays}}, bac_words.specs.Telling.Line}
 use Rattle.bac_script.{proofs.Computed.computed, specs.{Tracing.{IsToldFirst, Traces}}}
 use Rattle.bac_script.specs.declared.input.Reading.TheVariants.{AtEnd}
-use Rattle.bac_tools.specs.{IsTold, Inner.{asked_so, drained, having, no_contents, unasked}}
+use Rattle.bac_tools.specs.{Inner.{drained, having, no_contents, unasked}}
 
 -- A writer that took a text was given this text.
 pub given : (text : List ℕ) → text ≢ [] → octets_of (having text) ≡ text → text ≡ text ++ []
@@ -19,17 +17,6 @@ given text some passed whole all = record {
   sound = λ sound. (refl, refl);
   stopped = λ stopped. grind arith;
 }
-
--- A writer without a call got no line.
-pub silent : (text : List ℕ) → IsTold no_contents unasked unasked (Some (Line text)) → ⊥
-silent text (octets, are, w) =
-    let passed = w.took.passed in let whole = w.whole in let kept = (w.sound refl).1 in grind arith
-
--- A run over a new link is over if its history says so.
-pub ends : {R : Type 0} {move : List Entry → Option Entry → Move R} {h : List Entry} {result : R}
-    → Plays move (asked_so []) (asked_so h) result → next_move move h ≡ Over result
-ends {move = move} {result = result} p =
-    subst (λ g. next_move move g ≡ Over result) (sym (ap (λ account. account.history) p.gains)) p.over
 
 -- A writer without a call took no octet.
 pub untaken : (text : List ℕ) → having text ≡ unasked → ⊥

@@ -6,13 +6,16 @@ ghost use Rattle.std.specs.Prelude.{[], codes, Err, false, List, None, Ok, Some,
 ghost use Rattle.std.specs.{String.string_bytes, Vec.Iter.into_iter_items};
 ghost use Rattle.{clap.specs.Words.Text, bac_links.specs.{Bind, Timed, declared.exit.Exit.TheVariants.{Bad, Good}}};
 ghost use Rattle.bac_links.specs.{declared.fault.ToolFault.TheVariants.SendFailed, SystemCall.Limit};
+ghost use Rattle.bac_links.specs.declared.udp.OnRefusal.TheVariants.{Fails};
 ghost use Rattle.bac_script.specs.declared.tracing.TraceFault.TheVariants.{BadLine, ReadFailed};
-ghost use Rattle.bac_tools.specs.{AreAlike, AreGivenAlike, AskForScript, AsksAtMostOnce, BatchRuns, CalledRun};
-ghost use Rattle.bac_tools.specs.{EndAlike, fault_status, GiveNoJob, GivesSockets, IsPrinted, IsRun, IsStatusOf};
-ghost use Rattle.bac_tools.specs.{IsTold, Link, Memory, on_error, on_output, once_given, Only, ProgramRun};
-ghost use Rattle.bac_tools.specs.{ReceiveFailed, report_of, run_status_of, RunsAsCalls, RunsUnasked, RunsWithout};
-ghost use Rattle.bac_tools.specs.{Script, ScriptCalled, status_of, texts_of, ToolRuns, trace_status_of, Usage};
-ghost use Rattle.bac_tools.specs.{usage_status_of, declared.report.Fault.TheVariants.NoText};
+ghost use Rattle.bac_text.specs.declared.jobs.Search.{Search};
+ghost use Rattle.bac_tools.specs.{AreAlike, AreGivenAlike, asked_by, AskForScript, AsksAtMostOnce, BatchRuns};
+ghost use Rattle.bac_tools.specs.{CalledRun, EndAlike, fault_status, GiveNoJob, GivesSockets, IsLost, IsPrinted};
+ghost use Rattle.bac_tools.specs.{IsRun, IsStatusOf, IsTold, Link, Memory, on_error, on_output, once_given, Only};
+ghost use Rattle.bac_tools.specs.{ProgramRun, ReceiveFailed, report_of, Run, run_status_of, RunsAsCalls, RunsUnasked};
+ghost use Rattle.bac_tools.specs.{RunsWithout, Script, ScriptCalled, status_of, texts_of, ToolRuns, Trace};
+ghost use Rattle.bac_tools.specs.{trace_status_of, Usage, usage_status_of, Use, WhoIs};
+ghost use Rattle.bac_tools.specs.declared.report.Fault.TheVariants.{NoText};
 ghost use Rattle.bac_tools.specs.Inner.{any_at, asked_so, bad_read_words, bad_words, batch_of, deaf, deaf_calls};
 ghost use Rattle.bac_tools.specs.Inner.{device, device_words, ran_in_vain, script_words};
 ghost use Rattle.bac_tools.specs.Inner.{drained, FailsAfter, forgotten, gives_any, gives_none, GivesThat, having};
@@ -27,7 +30,6 @@ ghost use Rattle.bac_tools.specs.declared.report.Fault.TheVariants as faults;
 
 // Two runs that had no memory for their words asked for nothing, so their sockets were answered alike and they are
 // alike. They did not ask the time.
-#[tactic(none)]
 fn examples_of_runs()
     ensures given { AreGivenAlike forgotten forgotten [] [] [] [] }
     ensures not_given { AreGivenAlike forgotten forgotten one_time [] [] [] → ⊥ }
@@ -67,7 +69,6 @@ fn examples_of_runs()
 {}
 
 // Words that ask for a script, or give no job; and the text of a script.
-#[tactic(none)]
 fn examples_of_scripts()
     ensures script { (program : Text) → tool_named program ≡ Some (codes "bactrace")
         → AskForScript (Ok (program ∷ [])) }
@@ -93,7 +94,6 @@ fn examples_of_scripts()
 {}
 
 // The status of each end, of a fault, and without a fault.
-#[tactic(none)]
 fn examples_of_statuses()
     ensures good_end { status_of (Ok Good) ≡ 0 }
     ensures bad_end { status_of (Ok Bad) ≡ 1 }
@@ -120,7 +120,6 @@ fn examples_of_statuses()
 {}
 
 // The program if the system gives no words.
-#[tactic(none)]
 fn examples_of_no_words()
     // The report has this fault, and its message is on standard error.
     ensures run { IsRun gives_none unknown no_contents 0 unasked unasked unasked unasked unasked told_no_text
@@ -167,7 +166,6 @@ fn examples_of_no_words()
 {}
 
 // The program with words of a script, of a read and of a device.
-#[tactic(none)]
 fn examples_of_programs()
     // A script without lines asks for no socket, so this network, and no other, is handed back.
     ensures scripted { Program gives_none unknown 0 unasked drained unasked unasked (ran_without well (Some 0))
@@ -188,7 +186,6 @@ fn examples_of_programs()
 {}
 
 // A device whose first wait fails, its calls of the system, and its calls if there is no socket.
-#[tactic(none)]
 fn examples_of_a_device()
     ensures runs { ToolRuns no_contents unasked unasked (asked_so []) (asked_so deaf) (Err ReceiveFailed) device }
     ensures other_fault { ToolRuns no_contents unasked unasked (asked_so []) (asked_so deaf) (Err SendFailed) device
@@ -234,7 +231,6 @@ fn examples_of_a_device()
 {}
 
 // The calls of the system that networks make.
-#[tactic(none)]
 fn examples_of_networks()
     ensures gives { GivesSockets GivesThat nothing_asked one_bind }
     ensures gives_unasked { GivesSockets GivesThat nothing_asked no_bind → ⊥ }
@@ -245,8 +241,18 @@ fn examples_of_networks()
     ensures not_kept { AsksAtMostOnce (FailsAfter []) (λ none. suc none.kept) (λ none. none.log) → ⊥ }
 {}
 
+// The sockets that jobs ask for. Those of many requests and of a device count a refused datagram as lost.
+fn examples_of_sockets()
+    ensures many { asked_by (Run (batch_of 3000))
+        ≡ Some (record { at = record { ip = 0; port = 0; route = None }; refused = IsLost }) }
+    ensures device { asked_by (Use device)
+        ≡ Some (record { at = record { ip = 0; port = 47808; route = None }; refused = IsLost }) }
+    ensures search { (search : Search) → asked_by (Use (WhoIs search))
+        ≡ Some (record { at = record { ip = 0; port = search.port; route = None }; refused = Fails }) }
+    ensures script { asked_by Trace ≡ None }
+{}
+
 // A run without requests: the settings are printed, and the link is not used.
-#[tactic(none)]
 fn examples_of_many_requests()
     ensures none { BatchRuns no_contents no_contents (batch_of 3000) unasked drained unasked empty_journal (asked_so [])
         (asked_so []) (read_to_end 0) }

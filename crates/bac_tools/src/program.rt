@@ -6,8 +6,8 @@ ghost use Rattle.{clap.specs.Walk.texts, bac_print.specs.{fresh, has_failed}};
 ghost use Rattle.bac_links.specs.{Binds, BindsAtMost, Fault.{is_link_fault, is_write_fault}, Socket.account_over};
 ghost use Rattle.{bac_run.specs.Fault.{is_of_link, write_failed}, bac_words.specs.Job.{CanOpen, CanRun, IsReady}};
 ghost use Rattle.bac_tools.specs.{asked_by, BatchRuns, binding_of, client_at, DevicePlays, IsCalled, IsRun, IsSetupOf};
-ghost use Rattle.bac_tools.specs.{outside, texts_of, ToolRuns, declared.program.Binding.Binding, Program.Program};
-ghost use Rattle.bac_tools.specs.Inner.{RunsJob, RunsLinked};
+ghost use Rattle.bac_tools.specs.{outside, texts_of, tolerant_at, ToolRuns, declared.program.Binding.Binding};
+ghost use Rattle.bac_tools.specs.{Program.Program, Inner.{RunsJob, RunsLinked}};
 
 use crate::report::{Fault, Report};
 use bac_device::demo;
@@ -178,10 +178,7 @@ pub fn binding_for(tool: &Tool) -> Binding
     match tool {
         Tool::Read(call) | Tool::Write(call) => client_at(call.port),
         Tool::WhoIs(search) => client_at(search.port),
-        Tool::Device(device) => Binding {
-            refused: OnRefusal::IsLost,
-            ..client_at(device.port)
-        },
+        Tool::Device(device) => tolerant_at(device.port),
     }
 }
 
@@ -298,8 +295,19 @@ fn asked_by(job: &Job) -> Option<Binding>
 {
     match job {
         Job::Trace => None,
-        Job::Run(batch) => Some(client_at(batch.port)),
+        Job::Run(batch) => Some(tolerant_at(batch.port)),
         Job::Use(tool) => Some(binding_for(tool)),
+    }
+}
+
+// Returns the socket of many requests or of a server: like a client's, but a datagram that the system refuses counts as
+// lost.
+fn tolerant_at(port: u16) -> Binding
+    ensures { result ≡ tolerant_at port }
+{
+    Binding {
+        refused: OnRefusal::IsLost,
+        ..client_at(port)
     }
 }
 

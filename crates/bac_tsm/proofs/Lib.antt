@@ -1,4 +1,5 @@
 mod Calls
+mod Computed
 pub mod Laws
 mod WholeRun
 mod TableTick

@@ -1,21 +1,22 @@
 -- The loop over the open requests that are due at a tick.
 pub mod TableLaws
 use Rattle.std.proofs.Common.{[], add-one, All, AllPairs, ap, append-nil, append_assoc, arith, Bool, count_by, drop}
-use Rattle.std.proofs.Common.{false, filter, flat_map, get_or, if◌then◌else◌, length, length-append, List, map, nat_le}
-use Rattle.std.proofs.Common.{nat_lt, None, Option, refl, remove, set, slice_get, Some, suc, sym, take}
-use Rattle.std.proofs.Common.{take-append-drop, take_all, true, zero, ℕ, ◌++◌, ◌+◌, ◌-◌, ◌<◌, ◌∙◌, ◌∷◌, ◌≡◌, ◌≤◌}
-use Rattle.std.proofs.lemmas.{Bool.false≢true, Grind.{common_steps, flat_map-append}, List.drop_all}
-use Rattle.std.proofs.lemmas.List.{drop_more, get_or_default, length-map, same_lists, set_split, Elements.All-append}
-use Rattle.std.proofs.lemmas.List.{Elements.{All-drop, All-take, Contains-get_or}, Folds.{list_any_at, list_any_none}}
-use Rattle.std.proofs.lemmas.List.{Kept.AllPairs-filter, Sorted.{Contains-permutation, IsPermutation-append_right}}
-use Rattle.std.proofs.lemmas.List.Sorted.{IsPermutation-middle, IsPermutation-trans, length_permutation}
-use Rattle.std.proofs.lemmas.List.{Sorted.sum_by-IsPermutation, Sums.{count_by-le-length, length-filter, sum_by-cons}}
-use Rattle.std.proofs.lemmas.Option.{get_or_from_slice_get, slice_get_within}
-use Rattle.std.specs.List.{list_any, refill, Sorted.{IsNonDecreasingBy, IsPermutation}}
-use Rattle.bac_tsm.{proofs.Calls.{kept_of_one, pairs_map, TicketsRise}, specs.{AreBySend, due_answer, due_entry}}
-use Rattle.bac_tsm.specs.{DueEntry, held_at, is_due, IsTable, IsInOrder, kept, nothing, open_slots, Resend, Rules}
-use Rattle.bac_tsm.specs.{table_size, times_of_slot, declared.due.DueEntry.TheVariants.TimedOut as Expired}
-use Rattle.bac_tsm.specs.{Inner.{IsPassed, IsRankOf, Leaves, sent_at, ticket_of, waiting_in}, Machine.Waiting}
+use Rattle.std.proofs.Common.{false, filter, flat_map, get_or, if◌then◌else◌, inl, inr, length, length-append, List}
+use Rattle.std.proofs.Common.{map, min, nat_le, nat_lt, None, Option, refl, remove, set, slice_get, Some, subst, suc}
+use Rattle.std.proofs.Common.{sym, take, take-append-drop, take_all, true, zero, ℕ, ◌++◌, ◌+◌, ◌-◌, ◌<◌, ◌∙◌, ◌∷◌, ◌≡◌}
+use Rattle.std.proofs.{Common.{◌≤◌, ◌⊎◌}, lemmas.{Bool.false≢true, Grind.{common_steps, flat_map-append}}}
+use Rattle.std.proofs.lemmas.List.{drop_all, drop_more, get_or_default, length-map, same_lists, set_split}
+use Rattle.std.proofs.lemmas.List.Elements.{All-append, All-drop, All-get_or, All-take, Contains-get_or}
+use Rattle.std.proofs.lemmas.List.{Folds.{list_any_at, list_any_none}, Kept.AllPairs-filter}
+use Rattle.std.proofs.lemmas.List.Sorted.{Contains-permutation, IsPermutation-append_right, IsPermutation-middle}
+use Rattle.std.proofs.lemmas.List.Sorted.{IsPermutation-trans, length_permutation, sum_by-IsPermutation}
+use Rattle.std.proofs.lemmas.{List.Sums.{count_by-le-length, length-filter, sum_by-cons}, Option.get_or_from_slice_get}
+use Rattle.std.{proofs.lemmas.Option.slice_get_within, specs.List.{fold, list_any, reduce, refill}}
+use Rattle.{std.specs.List.Sorted.{IsNonDecreasingBy, IsPermutation}, bac_tsm.proofs.Calls.{kept_of_one, pairs_map}}
+use Rattle.bac_tsm.{proofs.Calls.TicketsRise, specs.{AreBySend, due_answer, due_entry, DueEntry, held_at, is_due}}
+use Rattle.bac_tsm.specs.{IsInOrder, IsTable, kept, nothing, open_slots, Resend, Rules, table_size, times_of_slot}
+use Rattle.bac_tsm.specs.{declared.due.DueEntry.TheVariants.TimedOut as Expired, Inner.{IsPassed, IsRankOf, Leaves}}
+use Rattle.bac_tsm.specs.{Inner.{sent_at, ticket_of, waiting_in}, Machine.Waiting}
 use TableLaws.*
 
 -- ---- a list whose keys rise is the result of any sort of its elements by the key
@@ -162,6 +163,35 @@ younger : (timeout clock early late : ℕ) → nat_le timeout (clock - early) �
     → nat_le timeout (clock - late) ≡ false
 younger = grind arith
 
+-- A time that is one of these, and none is earlier, is the least.
+least_so : (a m : ℕ) (ws : List Waiting) → m ≤ a
+    → ((k : ℕ) → k < length ws → m ≤ (get_or ws k nothing).last_sent)
+    → (a ≡ m) ⊎ ((i : ℕ) × (i < length ws) × (m ≡ (get_or ws i nothing).last_sent))
+    → fold min a (map (λ v. v.last_sent) ws) ≡ m
+least_so a m [] few all (inl is) = is
+least_so a m [] few all (inr (i, lt, is)) = absurd (omega (arith, lt))
+least_so a m (x ∷ ws) few all found =
+    least_so (min a x.last_sent) m ws (omega (arith, few, all 0 (omega arith)))
+    (λ k lt. all (suc k) (omega (arith, lt)))
+    (go found)
+  where
+    go : (a ≡ m) ⊎ ((i : ℕ) × (i < length (x ∷ ws)) × (m ≡ (get_or (x ∷ ws) i nothing).last_sent))
+        → (min a x.last_sent ≡ m) ⊎ ((i : ℕ) × (i < length ws) × (m ≡ (get_or ws i nothing).last_sent))
+    go (inl is) = inl (omega (arith, is, all 0 (omega arith)))
+    go (inr (zero, lt, is)) = inl (omega (arith, few, is))
+    go (inr (suc i, lt, is)) = inr (i, omega (arith, lt), is)
+
+least_of : (ws : List Waiting) (i : ℕ) (w : Waiting) → i < length ws → w ≡ get_or ws i nothing
+    → ((k : ℕ) → k < length ws → w.last_sent ≤ (get_or ws k nothing).last_sent)
+    → reduce min (map (λ v. v.last_sent) ws) ≡ Some w.last_sent
+least_of [] i w lt is all = absurd (omega (arith, lt))
+least_of (x ∷ ws) zero w lt is all =
+    ap Some (least_so x.last_sent w.last_sent ws (all 0 lt) (λ k lt. all (suc k) (omega (arith, lt)))
+    (inl (ap (λ (v : Waiting). v.last_sent) (sym is))))
+least_of (x ∷ ws) (suc i) w lt is all =
+    ap Some (least_so x.last_sent w.last_sent ws (all 0 (omega arith)) (λ k lt. all (suc k) (omega (arith, lt)))
+    (inr (i, omega (arith, lt), ap (λ (v : Waiting). v.last_sent) is)))
+
 -- If some request is due, the list of sends is not empty.
 pub some_sent : {slots : List Waiting} {invoke_ids : List (Option ℕ)} {order tickets sends : List ℕ}
     → IsInOrder slots invoke_ids order tickets sends → (ws : List Waiting) → waiting_in slots order tickets ≡ ws
@@ -203,32 +233,44 @@ module _ {slots : List Waiting} {invoke_ids : List (Option ℕ)} {order tickets 
   lt : i < length ws
   lt = turn_lt t ws view slot some
 
-  module _ (rules : Rules) (clock : ℕ) (w : Waiting) (reads : w ≡ get_or slots slot nothing) where
+  -- No open request was last sent before this one.
+  later : (k : ℕ) (e : Waiting) → k < length (held_at slots sends)
+      → (get_or (held_at slots sends) 0 e).last_sent ≤ (get_or (held_at slots sends) k e).last_sent
+  later k e lt = grind (arith, q.by_send 0 k e)
+
+  module _ (w : Waiting) (reads : w ≡ get_or slots slot nothing) where
+    here : (e : Waiting) → get_or (held_at slots sends) 0 e ≡ w
+    here e = get_or_default (held_at _ sends) 0 e _ (rw length-map sent) ∙ held_got _ _ 0 _ sent first ∙ sym reads
+
     read : w ≡ get_or ws i nothing
     read = reads ∙ open_read t ws view slot some
 
+    all_later : All (λ v. w.last_sent ≤ v.last_sent) ws
+    all_later =
+        rw view at (all_opened q (λ v. w.last_sent ≤ v.last_sent)
+        (λ k e lt. subst (λ (v : Waiting). v.last_sent ≤ (get_or (held_at slots sends) k e).last_sent) (here e)
+        (later k e lt)))
+
+    pub oldest : reduce min (map (λ v. v.last_sent) ws) ≡ Some w.last_sent
+    oldest = least_of ws i w lt read (λ k lt.
+        All-get_or (λ v. w.last_sent ≤ v.last_sent) ws k nothing lt all_later)
+
+  module _ (rules : Rules) (clock : ℕ) (w : Waiting) (reads : w ≡ get_or slots slot nothing) where
     none_due : is_due rules clock w ≡ false → All (λ v. is_due rules clock v ≡ false) ws
     none_due young =
         rw view at (all_opened q (λ v. is_due rules clock v ≡ false)
-        (λ k e lt. younger _ _ (get_or (held_at _ sends) 0 e).last_sent (get_or _ k e).last_sent (rw (here e) young)
-        (later k e lt)))
-      where
-        here : (e : Waiting) → get_or (held_at slots sends) 0 e ≡ w
-        here e = get_or_default (held_at _ sends) 0 e _ (rw length-map sent) ∙ held_got _ _ 0 _ sent first ∙ sym reads
-
-        later : (k : ℕ) (e : Waiting) → k < length (held_at slots sends)
-            → (get_or (held_at slots sends) 0 e).last_sent ≤ (get_or (held_at slots sends) k e).last_sent
-        later k e lt = grind (arith, q.by_send 0 k e)
+        (λ k e lt. younger _ _ (get_or (held_at _ sends) 0 e).last_sent (get_or _ k e).last_sent
+        (rw (here w reads e) young) (later k e lt)))
 
     pub some_due : is_due rules clock w ≡ list_any (is_due rules clock) ws
-    some_due = grind (arith, list_any_at, lt, read, list_any_none, none_due)
+    some_due = grind (arith, list_any_at, lt, read w reads, list_any_none, none_due)
 
     pub not_found : (ticket : ℕ) → due_entry rules w ≡ Expired ticket → IsRankOf ticket ws None → ⊥
-    not_found = grind (arith, lt, read)
+    not_found = grind (arith, lt, read w reads)
 
     module _ (due : list_any (is_due rules clock) ws ≡ true) where
       due_there : is_due rules clock (get_or ws i nothing) ≡ true
-      due_there = cc (read, some_due)
+      due_there = cc (read w reads, some_due)
 
       pub sent_again : All (λ v. v.last_sent ≤ clock) ws → (ticket : ℕ) → due_entry rules w ≡ Resend ticket
           → (changed : List Waiting) (rest after : List ℕ) →
@@ -240,9 +282,10 @@ module _ {slots : List Waiting} {invoke_ids : List (Option ℕ)} {order tickets 
           let v = sent_at clock (get_or slots slot _) in
           let (changed, table) = changed_by t ws view i lt slot (stands t ws view slot some) v refl in
           let kept_now : v ∷ [] ≡ kept rules clock (get_or ws i nothing) =
-          grind (arith, due_there, nat_lt, read, is_again, some) in
+          grind (arith, due_there, nat_lt, read w reads, is_again, some) in
           rw (is, back) (record {
-            told = (i, lt, due_there, grind (arith, read), grind (arith, changed, set_split ws i v lt, kept_now));
+            told =
+                (i, lt, due_there, grind (arith, read w reads), grind (arith, changed, set_split ws i v lt, kept_now));
             whole = record {
               table = table;
               queue = queue-again q slot rest (record { rank = 0; within = sent; stood = first; left = out }) v
@@ -252,4 +295,4 @@ module _ {slots : List Waiting} {invoke_ids : List (Option ℕ)} {order tickets 
 
       pub ended : (ticket j : ℕ) → due_entry rules w ≡ Expired ticket → IsRankOf ticket ws (Some j)
           → (after : List Waiting) → after ≡ remove ws j → IsPassed rules clock ws (Expired ticket) after
-      ended = grind (arith, common_steps, is_over, one_turn, lt, read, due_there)
+      ended = grind (arith, common_steps, is_over, one_turn, lt, read w reads, due_there)

@@ -3,8 +3,8 @@
 ghost use Rattle.std.specs.{Option.option_to_list, Prelude.{length, option_map, ◌≡◌, ◌≤◌}};
 ghost use Rattle.bac_pdu.specs.{error_of, station, Apdu.message};
 ghost use Rattle.bac_tsm.specs.{answer_in_apdu, answer_in_datagram, client_of, datagram, due_notes, end_seen, initial};
-ghost use Rattle.bac_tsm.specs.{note_seen, open_under, outcome_seen, refusal_of, rules_of, sent, submit, table_size};
-ghost use Rattle.bac_tsm.specs.{TakesStep, tick, to_send, Inner.{answer_seen, error_outcome}};
+ghost use Rattle.bac_tsm.specs.{note_seen, oldest_send, open_under, outcome_seen, refusal_of, rules_of, sent, submit};
+ghost use Rattle.bac_tsm.specs.{table_size, TakesStep, tick, to_send, Inner.{answer_seen, error_outcome}};
 
 use crate::config::Config;
 use crate::due::{Due, DueEntry, Entries};
@@ -184,6 +184,14 @@ impl Client {
     {
         let open = self.table.find(ticket)?;
         Some(open.invoke_id)
+    }
+
+    /// Returns the client's time when the open request that was sent longest ago was last sent, or None if no request
+    /// is open. No request is due before the timeout has passed since then.
+    pub fn oldest_send(&self) -> Option<u64>
+        ensures { result ≡ oldest_send self.now.state }
+    {
+        self.table.oldest_send()
     }
 
     /// Returns the greatest time that was given to a tick, or 0 before the first tick.

@@ -1,8 +1,8 @@
 //! The open requests.
 
-ghost use Rattle.std.specs.List.{All, AllPairs, filter, find, flat_map, list_any};
+ghost use Rattle.std.specs.List.{All, AllPairs, filter, find, flat_map, list_any, reduce};
 ghost use Rattle.std.specs.{List.Sorted.{IsNonDecreasingBy, IsPermutation}, Option.{option_copied, option_to_list}};
-ghost use Rattle.std.specs.Prelude.{[], get_or, length, map, nat_eq, None, not, position, remove, replicate, set};
+ghost use Rattle.std.specs.Prelude.{[], get_or, length, map, min, nat_eq, None, not, position, remove, replicate, set};
 ghost use Rattle.std.specs.Prelude.{slice_get, Some, true, ℕ, ◌++◌, ◌<◌, ◌∷◌, ◌≡◌, ◌≤◌};
 ghost use Rattle.{bac_pdu.specs.longest_body, bac_tsm.specs.{client_rules, due_answer, is_answer_to, is_due, kept}};
 ghost use Rattle.bac_tsm.specs.{next_invoke_id, nothing, table_size, times, times_of_slot, Inner.{answer_seen, begun}};
@@ -134,6 +134,14 @@ impl Table {
             Some(slot) => held(&self.slots, *slot).is_due(clock, config),
             None => false,
         }
+    }
+
+    /// Returns when the request that was sent longest ago was last sent.
+    pub(crate) fn oldest_send(&self) -> Option<u64>
+        ensures { result ≡ reduce min (map (λ w. w.last_sent) self.now) }
+    {
+        let slot = self.send_order.first()?;
+        Some(held(&self.slots, *slot).last_sent)
     }
 
     /// Brings each request that is due to this clock, and lists what becomes of each, in the order of tickets. It is a

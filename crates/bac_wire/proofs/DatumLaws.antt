@@ -10,13 +10,14 @@ use Rattle.std.proofs.lemmas.{Option.{none-some, same_Some, some_pair_parts}, Si
 use Rattle.std.{proofs.Math.Seq.take-append_seam, specs.{Int.w64, List.range_with_len}}
 use Rattle.byteorder.{proofs.Bytes.pow256, specs.Endian.{big_bytes, big_number, low_bytes, twos_complement}}
 use Rattle.byteorder.specs.Numbers.{big_from-lt, big_number-reads_back, length-bytes_high_first}
-use Rattle.bac_wire.proofs.TagLaws.{begins_read, behind, bind_some, chosen, found_at, one_front, plain_tag_spells}
-use Rattle.bac_wire.{proofs.TagLaws.{reader_of, tag_least, tag_reader, Took, unless}, specs.{App, AreOctets, behind_at}}
-use Rattle.bac_wire.specs.{bit_string, bits_of, boolean, boolean_of, chars_of, contents_of, exactly, identifier_of}
-use Rattle.bac_wire.specs.{InRange, IsDatum, IsReader, IsShortest, IsSound, number_of, number_within, object}
-use Rattle.bac_wire.specs.{octet_count, plain, plain_contents, plain_tag, Shape, shape_number, signed, signed_count}
-use Rattle.bac_wire.specs.{Spells, SpellsAll, SpellsTag, StandsFor, tag_before, tag_number, value_at, values_of}
-use Rattle.bac_wire.specs.{values_within, with_shape, ◌>>=◌, Datum.Datum, Identifier.Identifier, Inner.tagged}
+use Rattle.bac_wire.proofs.TagLaws.{begins_read, behind, bind_some, chosen, found_at, is_spelled, one_front}
+use Rattle.bac_wire.proofs.TagLaws.{plain_tag_spells, reader_of, tag_least, tag_reader, Took, unless}
+use Rattle.bac_wire.specs.{App, AreOctets, behind_at, bit_string, bits_of, boolean, boolean_of, chars_of, contents_of}
+use Rattle.bac_wire.specs.{exactly, identifier_of, InRange, IsDatum, IsReader, IsShortest, IsSound, number_of}
+use Rattle.bac_wire.specs.{number_within, object, octet_count, plain, plain_contents, plain_tag, Shape, shape_number}
+use Rattle.bac_wire.specs.{signed, signed_count, Spells, SpellsAll, SpellsTag, StandsFor, tag_before, tag_number}
+use Rattle.bac_wire.specs.{value_at, values_of, values_within, with_shape, ◌>>=◌, Datum.Datum, Identifier.Identifier}
+use Rattle.bac_wire.specs.{Inner.tagged}
 use lib.Lanes.{chunk, put_chunk}
 
 -- Functions with the same values below this number.
@@ -348,6 +349,10 @@ value_takes _ value rest e =
 
 pub value_reader : IsReader Spells value_at
 value_reader = reader_of _ _ value_takes value_again
+
+-- octets spell the value that is read from all of them
+pub value_spelled : (octets : List ℕ) (value : Datum) → value_at octets ≡ Some (value, []) → Spells octets value
+value_spelled = is_spelled value_reader
 
 -- no spelling of a value begins another
 pub one_value : (a b u v : List ℕ) (x y : Datum) → Spells a x → Spells b y → a ++ u ≡ b ++ v → (a ≡ b) × (x ≡ y)

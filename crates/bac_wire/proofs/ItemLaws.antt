@@ -482,8 +482,8 @@ region_takes _ _ region rest e =
     }
 
 -- a region at the front, and its closing tag
-abbrev closed_region : (number : ℕ) (octets region rest : List ℕ) (b : Begins (SpellsClosed number) octets region rest)
-    → IsClosedRegion 32 number octets region
+abbrev pub closed_region : (number : ℕ) (octets region rest : List ℕ)
+    (b : Begins (SpellsClosed number) octets region rest) → IsClosedRegion 32 number octets region
 closed_region _ _ _ rest b =
     let s = b.spelled in
     record {

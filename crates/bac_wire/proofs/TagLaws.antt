@@ -257,6 +257,10 @@ tag_takes (initial ∷ octets) tag rest e =
 pub tag_reader : IsReader SpellsTag tag_at
 tag_reader = reader_of _ _ tag_takes tag_again
 
+-- octets spell the tag that is read from all of them
+pub tag_spelled : (octets : List ℕ) (tag : Tag) → tag_at octets ≡ Some (tag, []) → SpellsTag octets tag
+tag_spelled = is_spelled tag_reader
+
 -- no spelling of a tag begins another
 pub one_tag : (a b u v : List ℕ) (x y : Tag) → SpellsTag a x → SpellsTag b y → a ++ u ≡ b ++ v → (a ≡ b) × (x ≡ y)
 one_tag = one_front _ _ tag_reader

@@ -12,7 +12,7 @@ ghost use Rattle.bac_wire.specs.Inner.{always, Any, Costly, device, first_at, Fr
 ghost use Rattle.bac_wire.specs.Inner.{Same, SpellsAny, SpellsOne, unsigned_tag, WritesValue, written, zero_at};
 
 // The octets of a value, written and read back (ANSI/ASHRAE 135, 20.2.2 to 20.2.14).
-#[tactic(none)]
+#[tactic(auto, unfolding(crate::proofs::Computed::computed))]
 fn examples_of_octets()
     ensures null { WritesValue null (0x00 ∷ []) }
     ensures boolean { WritesValue (boolean true) (0x11 ∷ []) }
@@ -39,7 +39,7 @@ fn examples_of_octets()
 {}
 
 // The value at the front of octets, and the octets after it.
-#[tactic(none)]
+#[tactic(auto, unfolding(crate::proofs::Computed::computed))]
 fn examples_of_reading()
     // The first value.
     ensures first { value_at (0x21 ∷ 0x05 ∷ 0x21 ∷ 0x06 ∷ []) ≡ Some (unsigned 5, 0x21 ∷ 0x06 ∷ []) }
@@ -57,7 +57,7 @@ fn examples_of_reading()
 {}
 
 // The parameters of a service: a number, an object and a value under context tags.
-#[tactic(none)]
+#[tactic(auto, unfolding(crate::proofs::Computed::computed))]
 fn examples_of_parameters()
     // The property 85 under tag 1, and analog-input 5 under tag 0.
     ensures number { number_octets 1 85 ≡ 0x19 ∷ 0x55 ∷ [] }
@@ -77,7 +77,7 @@ fn examples_of_parameters()
 {}
 
 // Which octets spell a tag (20.2.1) or a value, and which tags, values and identifiers exist.
-#[tactic(none)]
+#[tactic(auto, using(crate::proofs::tag_spelled, crate::proofs::value_spelled), unfolding(crate::proofs::Computed::computed))]
 fn examples_of_spellings()
     // The tag before a number of one octet, in its shortest form and in a longer one. A length in two octets or in four
     // has the high one first.
@@ -117,7 +117,7 @@ fn examples_of_spellings()
 {}
 
 // Readers and writers, whatever they read or write.
-#[tactic(none)]
+#[tactic(auto, using(crate::proofs::TagLaws::plain_tag_shortest), unfolding(crate::proofs::Computed::computed))]
 fn examples_of_readers()
     // No octet begins another; the empty list begins any.
     ensures apart { IsPrefixFree SpellsOne }
@@ -158,7 +158,7 @@ fn examples_of_readers()
 {}
 
 // Items and regions (20.2.1.3.2), and parameters under context tags.
-#[tactic(none)]
+#[tactic(auto, using(crate::proofs::items_is), unfolding(crate::proofs::Computed::computed))]
 fn examples_of_regions()
     // The number 5, and the number 5 in brackets, one deep.
     ensures item { IsItem 0 (0x21 ∷ 0x05 ∷ []) }

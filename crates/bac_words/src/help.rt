@@ -135,6 +135,7 @@ Prints a journal, which is a script of bactrace: client TIMEOUT RETRIES 0, each 
 that was done, each datagram (data PEER HEX) and each time (tick MILLISECONDS). The results of these
 follow them as remarks, each # and a line as bactrace prints it:
   send TICKET PEER HEX  a request was sent; the first has the ticket 0
+  unsent PEER HEX       the system refused to send this; it counts as lost
   done TICKET OUTCOME   it was answered: ok, value and the value, or what bacrp and bacwp print
   timeout TICKET        it had no answer
   drop                  a datagram that answers nothing

@@ -73,9 +73,8 @@ def _each(octets: bytes, first: int, count: int) -> list[Told] | None:
 
 
 def _properties(object_id: ObjectId, body: Item, first: int, count: int) -> list[Told] | None:
-    """Reads properties: the tag `first` has the property, and the tags after it an index, a value
-    and an error, as far as `count`. A notification may have a priority in place of the error, which
-    is skipped."""
+    """Reads properties: the tag `first` has the property, those after it an index, a value and an
+    error, up to `count`. In a notification a priority may stand for the error: it is skipped."""
     items = _tagged(body.inner)
     found: list[Told] = []
     if items is None:

@@ -1,13 +1,14 @@
 -- Clients, stages, results and whole runs for the examples.
-use Rattle.std.specs.Prelude.{[], codes, Err, false, length, List, None, Ok, Option, replicate, Result, ℕ, ◌++◌, ◌<◌}
+use Rattle.std.specs.Prelude.{[], codes, false, length, List, None, Ok, Option, replicate, Result, ℕ, ◌++◌, ◌<◌}
 use Rattle.std.specs.Prelude.{true, ◌^◌, ◌∷◌}
 use Rattle.{bac_pdu.specs.Station, bac_tsm.specs.{Ask, Event, new_client, Note, Sent, Client.Client}}
 use Rattle.bac_print.specs.{fresh, declared.checked.Checked.Checked, StreamCall.{ReadCall, WriteCall}}
 use Rattle.bac_script.specs.{declared.tracing.TraceEnd.TraceEnd}
-use Rattle.bac_links.specs.{Account, Entry, declared.fault.ToolFault.TheVariants.SendFailed}
+use Rattle.bac_links.specs.{Account, Entry}
 use Rattle.bac_run.specs.Course.{Aim, Broken, Outside, Stage, Turns}
-use Rattle.bac_run.specs.declared.{fault.RunFault.{RunFault, TheVariants.Link}, setup.Setup.Setup}
-use Rattle.bac_run.specs.{declared.turns.Until.TheVariants.FewOpen, Journal.{Act, Asked, Told, turn_at}, Run.Runs}
+use Rattle.bac_run.specs.declared.{fault.RunFault.RunFault, setup.Setup.Setup}
+use Rattle.bac_run.specs.{declared.turns.Until.TheVariants.FewOpen, Run.Runs}
+use Rattle.bac_run.specs.Journal.{Act, Asked, Handed, Told, turn_at}
 
 -- 127.0.0.1, port 47808.
 abbrev pub desk : Station
@@ -29,6 +30,10 @@ octets = 0x81 ∷ 0x0a ∷ 0x00 ∷ 0x11 ∷ 0x01 ∷ 0x04 ∷ 0x00 ∷ 0x05 ∷
 
 abbrev pub sent : Note
 sent = Sent 0 desk octets
+
+-- The link takes that datagram.
+abbrev pub handed : Act
+handed = Handed desk octets true
 
 -- The answer with the value 72.3, a Real.
 abbrev pub answer : List ℕ
@@ -63,12 +68,9 @@ deaf = record (waiting 0 9) { phase = Broken }
 abbrev pub told_at : ℕ → Stage → Stage
 told_at time stage = record stage { client = (turn_at stage.client (Told time)).after }
 
--- The end of the input after this many lines; and the fault of a send.
+-- The end of the input after this many lines.
 abbrev pub ended : ℕ → Result TraceEnd RunFault
 ended lines = Ok (record { lines = lines })
-
-abbrev pub unsent : Result (Unit {0}) RunFault
-unsent = Err (Link SendFailed)
 
 -- ---- a whole run
 

@@ -1,11 +1,11 @@
 -- A run of which some of the journal may still be on the page.
 use Rattle.std.specs.{List.AllByRecursion, Prelude.{List, Option, Result, ℕ, ◌++◌, ◌∷◌, ◌≡◌}}
-use Rattle.bac_print.specs.{Prints, writer_of, declared.{checked.Checked.Checked, page.Page.Page}}
-use Rattle.{bac_tsm.specs.new_client, bac_script.specs.declared.tracing.TraceEnd.TraceEnd, bac_links.specs.Account}
-use Rattle.bac_run.specs.declared.{fault.RunFault.RunFault, setup.Setup.Setup}
-use Rattle.bac_run.specs.{Inner.Went.HasPassed, Input.TakesLines, Journal.{Act, client_after, FitsLine}}
-use Rattle.bac_run.specs.{Course.{EndsAt, Goes}, Run.{first_stage, IsReadWhenDue, WantsOut, journal_lines, stage_by}}
-use Rattle.bac_run.specs.{Effects.{HasAsked, IsOver, IsWithin}}
+use Rattle.{bac_tsm.specs.new_client, bac_print.specs.{Prints, writer_of, declared.checked.Checked.Checked}}
+use Rattle.{bac_print.specs.declared.page.Page.Page, bac_script.specs.declared.tracing.TraceEnd.TraceEnd}
+use Rattle.{bac_links.specs.{Account, GainsAll}, bac_run.specs.Course.{EndsAt, Goes}}
+use Rattle.bac_run.specs.{declared.{fault.RunFault.RunFault, setup.Setup.Setup}, Effects.{IsOver, IsWithin}}
+use Rattle.bac_run.specs.{Inner.Went.HasPassed, Input.TakesLines, Journal.{Act, calls_of, client_after, FitsLine}}
+use Rattle.bac_run.specs.Run.{first_stage, IsReadWhenDue, journal_lines, stage_by, WantsOut}
 
 -- A run like that of `Runs`, except that some of the journal may still be on the page.
 pub record RunsOn {Origin R W : Type 0} (remaining : R → Option (List ℕ)) (contents : W → Option (List ℕ))
@@ -20,7 +20,7 @@ pub record RunsOn {Origin R W : Type 0} (remaining : R → Option (List ℕ)) (c
   pub prints : Prints contents page page' (journal_lines setup acts)
   pub out : (earlier later : List Act) (wait : Act) → WantsOut wait → acts ≡ earlier ++ wait ∷ later
       → HasPassed page (writer_of page') (journal_lines setup earlier)
-  pub asks : HasAsked result (new_client setup.config.timeout setup.config.retries 0) acts seen left
+  pub asks : GainsAll (calls_of acts) seen left
   pub over : IsOver result (client_after (new_client setup.config.timeout setup.config.retries 0) acts)
   pub within : IsWithin setup.window (new_client setup.config.timeout setup.config.retries 0) acts
   pub fit : AllByRecursion FitsLine acts

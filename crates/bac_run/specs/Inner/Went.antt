@@ -1,37 +1,24 @@
 -- The effect of a part of a run on its client, its page and its link.
-use Rattle.std.specs.{List.AllByRecursion, Prelude.{[], Bool, Err, false, if◌then◌else◌, List, Ok, Option}}
+use Rattle.std.specs.{List.AllByRecursion, Prelude.{Bool, Err, false, if◌then◌else◌, List, Ok, Option}}
 use Rattle.std.specs.Prelude.{Result, suc, true, ℕ, ◌++◌, ◌<◌, ◌^◌, ◌∷◌, ◌≡◌}
-use Rattle.{bac_tsm.specs.{Event, Client.Client}, bac_print.specs.{has_failed, held, octets_of, Prints, room_of}}
+use Rattle.{bac_pdu.specs.Station, bac_tsm.specs.{Client.Client}}
+use Rattle.bac_print.specs.{has_failed, held, octets_of, Prints, room_of}
 use Rattle.bac_print.specs.{writer_of, declared.{checked.Checked.Checked, page.Page.Page}, Page.laid_out}
 use Rattle.bac_script.specs.{IsFrontOf, declared.tracing.TraceFault.TheVariants.WriteFailed}
-use Rattle.bac_links.specs.{Account, Entry, GainsAll, most_turns, declared.fault.ToolFault.TheVariants.SendFailed}
-use Rattle.bac_run.specs.Course.{Aim, Goes, Looked, Outside, settled, Stage, stage_after, StopsAt, telling, Turns}
+use Rattle.bac_links.specs.{Account, GainsAll, most_turns}
+use Rattle.bac_run.specs.Course.{Aim, Goes, handing, Looked, Outside, settled, Stage, stage_after, StopsAt, telling}
+use Rattle.bac_run.specs.Course.{Turns}
 use Rattle.bac_run.specs.declared.fault.RunFault.{RunFault, TheVariants.{Link, Script}}
 use Rattle.bac_run.specs.declared.turns.{Runner.Runner, Until.Until}
-use Rattle.bac_run.specs.{Input.feeds_in, Journal.{Act, asked_by, at_event, client_after, FitsLine, journal}}
-use Rattle.bac_run.specs.{Run.WantsOut}
-use Rattle.bac_run.specs.Journal.{posts, remarks, sends_at, turn_at}
-use Rattle.bac_run.specs.Effects.{HasAsked, IsCut, IsWithin}
+use Rattle.bac_run.specs.{Effects.IsWithin, Input.feeds_in, Run.WantsOut}
+use Rattle.bac_run.specs.Journal.{Act, calls_of, client_after, FitsLine, journal}
 
--- A result: the run stopped with this fault.
+-- The result that all was done; and that the run stopped with this fault.
+abbrev pub done : Result (Unit {0}) RunFault
+done = Ok tt
+
 abbrev pub stopped : RunFault → Result (Unit {0}) RunFault
 stopped fault = Err fault
-
--- A fault: the link could not send.
-abbrev pub send_failed : RunFault
-send_failed = Link SendFailed
-
--- With this result the link was called for all that is due, or, if a send failed, for all before that send.
-abbrev pub IsGained : {A : Type 0} → Result A RunFault → (due gained : List Entry) → Type 0
-IsGained (Err (Link SendFailed)) due gained = IsCut due gained
-IsGained _ due gained = gained ≡ due
-
--- The history of a link gains what is due, as far as the result says.
-pub record GainsDue {Origin A : Type 0} (result : Result A RunFault) (due : List Entry) (seen left : Account Origin)
-    : Type 0 where
-  pub gained : List Entry
-  pub gains : GainsAll gained seen left
-  pub as_due : IsGained result due gained
 
 -- With this result a part of a run leads to this stage; with a fault it stops at the stage that it reached.
 abbrev pub ComesTo : {A : Type 0} → Result A RunFault → (stage left : Stage) → Type 0
@@ -45,13 +32,20 @@ outside run aims = record { client = run.client; since_told = run.since_told; ph
 abbrev pub started : Runner → List Aim → Stage
 started run aims = settled (outside run aims)
 
+-- The stage in which these datagrams must be offered to the link.
+abbrev pub to_hand : Runner → List (Station × List ℕ) × List Aim → Stage
+to_hand run (sends, aims) = settled (record (outside run aims) { phase = handing sends })
+
 -- The stages before and after a turn: a wait has one turn less, or all again if the client got a time.
 abbrev pub begins_turn : Runner → Until × ℕ × List Aim → Stage
 begins_turn run (until, left, later) = outside run (Turns until (suc left) ∷ later)
 
+abbrev pub told_in : Runner → (told : Bool) → Until × ℕ × List Aim → Stage
+told_in run told (until, left, later) = started run (Turns until (if told then most_turns else left) ∷ later)
+
 abbrev pub ends_turn : {A : Type 0} → Runner → Result Bool A → Until × ℕ × List Aim → Stage
-ends_turn run (Ok told) (until, left, later) = started run (Turns until (if told then most_turns else left) ∷ later)
-ends_turn run (Err fault) (until, left, later) = started run (Turns until left ∷ later)
+ends_turn run (Ok told) = told_in run told
+ends_turn run (Err fault) = told_in run false
 
 -- The clock of a client moved on if the client got a time, and is unchanged otherwise.
 abbrev pub MovesClock : (told : Bool) → (before after : Client) → Type 0
@@ -102,25 +96,12 @@ pub record Went {Origin W A I : Type 0} (contents : W → Option (List ℕ)) (ru
   pub client_is : run'.client ≡ client_after run.client acts
   pub prints : Prints contents page page' (journal run.client acts)
   pub out : IsOutAt run.client page page' acts
-  pub asks : HasAsked result run.client acts seen left
+  pub asks : GainsAll (calls_of acts) seen left
   pub fit : AllByRecursion FitsLine acts
   pub within : IsWithin run.setup.window run.client acts
-
--- The client made its step at this event, its notes were printed as remarks, and its datagrams were sent.
-pub record Opened {Origin W A : Type 0} (contents : W → Option (List ℕ)) (client client' : Client) (page page' : Page W)
-    (seen left : Account Origin) (result : Result A RunFault) (event : Event) : Type 0 where
-  pub client_is : client' ≡ (at_event client event).after
-  pub prints : Prints contents page page' (remarks (at_event client event).notes)
-  pub asks : GainsDue result (posts (at_event client event).notes) seen left
 
 -- The fault may come while requests are open: it is of the link, or of the writer.
 abbrev pub IsOfWait : RunFault → Type 0
 IsOfWait (Link fault) = Unit {0}
 IsOfWait (Script WriteFailed) = Unit {0}
 IsOfWait (Script fault) = ⊥
-
--- The calls of these acts on the link: for each act its own, and then the client's sends.
-abbrev pub history_of : Client → List Act → List Entry
-history_of client [] = []
-history_of client (act ∷ later) =
-    (asked_by act ++ sends_at client act) ++ history_of (turn_at client act).after later

@@ -13,7 +13,7 @@ use Rattle.bac_print.{proofs.Printed.{laid_out-none, ◌⨾◌}, specs.{has_fail
 use Rattle.bac_print.specs.{Prints, reads_of, room_of, writer_of, Checked.inner_of, Page.Wrote}
 use Rattle.bac_script.specs.{AtEnd, Checked, chunk_room, ends_with_feed, Failed, HasNoFeed, HasNoLine, is_line}
 use Rattle.bac_script.specs.{IsLineCut, IsNext, IsTurnedIn, IsUnread, line_room, lines, Open, Page, pieces}
-use Rattle.bac_script.specs.{ReaderStands, ReadForLine, Reading, said, TakesAndKeeps, without_feed}
+use Rattle.bac_script.specs.{ReaderStands, ReadForLine, Reading, said, said_from, TakesAndKeeps, without_feed}
 use Rattle.bac_script.specs.{declared.line.LineFault.TheVariants.TooLong, Inner.HasNotEnded}
 use borrow.Rule.Slice.PartMut.{put_mid}
 
@@ -125,6 +125,15 @@ next_last line h some =
 pub said-whole_long : (is_first : Bool) (line : List ℕ) → HasNoFeed line → length line ≡ line_room
     → said is_first line ≡ Err TooLong
 said-whole_long = grind (arith, said-long, ends_with_feed-none)
+
+-- Octets without a line feed say nothing: they are not a line yet, or one that is too long.
+pub said-open : (is_first : Bool) (octets : List ℕ) → HasNoFeed octets → said_from is_first (lines octets Open) ≡ []
+said-open is_first [] none = refl
+said-open is_first (x ∷ xs) none =
+    let long = said-long is_first (x ∷ xs) in
+    let one = pieces-open x xs none in
+    let open_ended = ends_with_feed-none (x ∷ xs) none in
+    grind (arith, nat_tests, long, one, open_ended)
 
 -- ---- what is taken in several steps
 

@@ -4,6 +4,7 @@ ghost use Rattle.std.specs.Prelude.{◌≡◌, false};
 mod devices;
 mod errors;
 mod failing;
+mod offers;
 mod requests;
 mod sockets;
 mod watching;

@@ -1,6 +1,8 @@
 //! Many requests over links in memory that fail, with readers and writers that fail.
 ghost use Rattle.std.specs.Prelude.{◌≡◌, false};
 
+mod unsent;
+
 use super::*;
 use crate::tests::I_AM;
 use crate::tests::links::quiet;
@@ -76,21 +78,33 @@ pub(crate) fn run<L: Link, R: Read + Drop, W: Write + Drop>(
 ) -> Option<Ran>
     requires { L.has_failed link.old ≡ false }
 {
-    let setup = Setup::new(Config::new(100, 0)?, window)?;
+    run_again(0, window, link, reader, writer)
+}
+
+/// Makes the requests over the link, with this many retries, this many at a time, with a timeout of 100 ms.
+fn run_again<L: Link, R: Read + Drop, W: Write + Drop>(
+    retries: u8,
+    window: usize,
+    link: &mut L,
+    reader: R,
+    writer: W,
+) -> Option<Ran>
+    requires { L.has_failed link.old ≡ false }
+{
+    let setup = Setup::new(Config::new(100, retries)?, window)?;
     let mut reader = Checked::new(reader);
     let mut writer = Checked::new(writer);
     Some(run_requests(setup, link, &mut reader, &mut writer))
 }
 
-/// Returns whether a run of these lines has this end over these steps, with this much of the journal, if the send with
-/// this number fails.
+/// Returns whether a run of these lines has this end over these steps, with this much of the journal.
 fn ends(
     alloc: Global,
     (window, lines): (usize, &[u8]),
-    (steps, fail): (&[Step<'_>], Option<u32>),
+    steps: &[Step<'_>],
     (answer, length): (Ran, usize),
 ) -> bool {
-    let Ok(mut link) = MemoryLink::new(alloc, steps, fail) else {
+    let Ok(mut link) = MemoryLink::new(alloc, steps, None) else {
         return false;
     };
     let mut taken = Vec::new(alloc);
@@ -113,26 +127,23 @@ fn links_fail(rt: HostRuntime) {
     let silence = quiet(&rt);
     let (one, two) = ((1, LINES), (2, BAD));
     let unheard = at_link(ToolFault::ReceiveFailed);
-    let unsent = at_link(ToolFault::SendFailed);
     let spent = at_link(ToolFault::TurnsSpent);
     let bad = Err(RunFault::Script(TraceFault::BadLine(2)));
     let [sent, done, sent_next, _, ended] = ENDS;
-    assert!(rt; ends(rt.alloc(), one, (&[FIRST, SECOND], None), (WHOLE, ended)));
-    assert!(rt; ends(rt.alloc(), one, (&[Step::Broken], None), (unheard, sent)));
+    assert!(rt; ends(rt.alloc(), one, &[FIRST, SECOND], (WHOLE, ended)));
+    assert!(rt; ends(rt.alloc(), one, &[Step::Broken], (unheard, sent)));
     assert!(rt;
         ends(
             rt.alloc(),
             one,
-            (&[FIRST, Step::Broken], None),
+            &[FIRST, Step::Broken],
             (unheard, sent_next)
         )
     );
-    assert!(rt; ends(rt.alloc(), one, (&[], Some(0)), (unsent, sent)));
-    assert!(rt; ends(rt.alloc(), one, (&[FIRST], Some(1)), (unsent, sent_next)));
-    assert!(rt; ends(rt.alloc(), one, (silence.as_slice(), None), (spent, sent)));
-    assert!(rt; ends(rt.alloc(), two, (&[FIRST], None), (bad, done)));
-    assert!(rt; ends(rt.alloc(), two, (&[Step::Broken], None), (unheard, sent)));
-    assert!(rt; ends(rt.alloc(), two, (silence.as_slice(), None), (spent, sent)));
+    assert!(rt; ends(rt.alloc(), one, silence.as_slice(), (spent, sent)));
+    assert!(rt; ends(rt.alloc(), two, &[FIRST], (bad, done)));
+    assert!(rt; ends(rt.alloc(), two, &[Step::Broken], (unheard, sent)));
+    assert!(rt; ends(rt.alloc(), two, silence.as_slice(), (spent, sent)));
 }
 
 /// Returns whether each datagram of these lines is sent once, in their order, and the wait goes on with the open

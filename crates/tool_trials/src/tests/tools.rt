@@ -111,6 +111,8 @@ const SENT: &str = "send 0 127.0.0.1:47808 810a001101040005010c0c000000051955\n"
 
 const CLIENT: (u16, OnRefusal) = (0, OnRefusal::Fails);
 
+const MANY: (u16, OnRefusal) = (0, OnRefusal::IsLost);
+
 const DEVICE: (u16, OnRefusal) = (47_808, OnRefusal::IsLost);
 
 const UNBOUND: (&str, u8, &str) = ("", 3, "bind failed");
@@ -118,14 +120,15 @@ const UNBOUND: (&str, u8, &str) = ("", 3, "bind failed");
 /// The words of a line, and the port of the socket that they ask for; the printed text, the status and the fault.
 type Row<'a> = (&'a str, (u16, OnRefusal), (&'a str, u8, &'a str));
 
-/// Command lines over a network that answers a read.
-static ANSWERED: [Row<'static>; 7] = [
+/// Command lines over a network that answers a read. Only many requests go on if one is refused.
+static ANSWERED: [Row<'static>; 8] = [
     (READ, CLIENT, ("4290999a\n", 0, "")),
     (WRITE, CLIENT, ("timeout\n", 1, "")),
     (READ_AT_9, CLIENT, UNBOUND),
     (READ_NOWHERE, CLIENT, ("", 2, "bad mac")),
-    (RUN, CLIENT, (FRONT, 3, "writing failed")),
-    (RUN_AT_9, CLIENT, UNBOUND),
+    (RUN, MANY, (FRONT, 3, "writing failed")),
+    (RUN, CLIENT, UNBOUND),
+    (RUN_AT_9, MANY, UNBOUND),
     (TRACE, CLIENT, (SENT, 2, "line 2: bad line")),
 ];
 

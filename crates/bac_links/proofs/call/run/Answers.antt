@@ -1,12 +1,7 @@
 -- Each exit of the loop ends the call in another way.
-use Rattle.std.proofs.{Common.{add-one, arith, refl}, lemmas.Result.err_from_is_err_and}
-use Rattle.bac_links.{proofs.{fails_so, shown_so, spent}, specs.Inner.ending_seen}
+use Rattle.std.proofs.{lemmas.Result.err_from_is_err_and}
+use Rattle.bac_links.{proofs.{fails_so, shown_so}, specs.Inner.ending_seen}
 use Rattle.bac_links.proofs.call.run.Goals as goal
-
-pub returns-in_err-client-clause-told : goal.returns-in_err-client-clause-told
-returns-in_err-client-clause-told g c =
-    let (_, was, same) = err_from_is_err_and c.from_residual.result c.from_residual.ensures.1 in
-    rw (was, same, c.in_err-client.ensures.err) (record { unprinted = refl; plays = c.in_err-client.ensures.over })
 
 pub returns-in_err-ending-clause-told : goal.returns-in_err-ending-clause-told
 returns-in_err-ending-clause-told g c =
@@ -26,19 +21,3 @@ returns-in-Some-clause-told g c =
     rw (← c.loop-turn.invariant.unwritten)
     (shown_so c.args.purpose c.args.call.now g.W.Write.contents _ _ (ending_seen c.in-Some.ending) c.show_ending.result
     c.show_ending.ensures.text c.show_ending.ensures.exit c.show_ending.ensures.fault ended)
-
-pub loop-turn-preserved : goal.loop-turn-preserved
-loop-turn-preserved g c = record {
-  sound = c.in_ok-ending.ensures.fault;
-  unwritten = c.loop-turn.invariant.unwritten;
-  so_far =
-      rw add-one (rw c.in_default.is at
-      (c.in_ok-ending.ensures.ok c.args.purpose c.args.call.now _ _ c.turn_wait-wait_ms.ensures
-      (rw c.most_turns-turn-end.ensures at c.loop-turn-test.true) c.loop-turn.invariant.so_far));
-}
-
-pub returns-clause-told : goal.returns-clause-told
-returns-clause-told g c = record {
-  unprinted = c.loop-turn.invariant.unwritten;
-  plays = spent c.loop-turn._turn (omega arith) c.loop-turn.invariant.so_far;
-}

@@ -1,18 +1,7 @@
 -- The history gained the received datagram, whose octets are in the room now.
-use Rattle.std.proofs.{Common.{append-nil, refl}, lemmas.Result.err_from_is_err_and}
-use Rattle.{bac_pdu.specs.{station, Found.found_seen}, bac_print.proofs.Printed.Took-none, bac_links.specs.Arrived}
+use Rattle.std.proofs.{Common.{refl}, lemmas.Result.err_from_is_err_and}
+use Rattle.{bac_pdu.specs.{station, Found.found_seen}, bac_links.specs.Arrived}
 use Rattle.bac_links.proofs.search.listen.Goals as goal
-
-pub returns-in_ok-show_found-in-Some-clause-told : goal.returns-in_ok-show_found-in-Some-clause-told
-returns-in_ok-show_found-in-Some-clause-told g c =
-    let gains = rw (c.in-Ok-Some.field-0-is, ← c.as_slice.ensures.value) at c.in-Ok-Some.ensures.told in
-    record {
-      heard = Arrived (station c.in-Ok-Some.from) c.as_slice.result.now;
-      gains = gains;
-      received = λ q. cc;
-      any_is = rw (← c.in-Some.ensures) refl;
-      printed = rw (← c.in-Some.ensures, append-nil) c.in_ok-show_found-in-Some.ensures.text;
-    }
 
 pub returns-in_err-show_found-in-Some-clause-told : goal.returns-in_err-show_found-in-Some-clause-told
 returns-in_err-show_found-in-Some-clause-told g c =
@@ -29,14 +18,3 @@ returns-in_err-show_found-in-Some-clause-told g c =
       line = line;
       printed = printed;
     })
-
-pub returns-in-None-clause-told : goal.returns-in-None-clause-told
-returns-in-None-clause-told g c =
-    let gains = rw (c.in-Ok-Some.field-0-is, ← c.as_slice.ensures.value) at c.in-Ok-Some.ensures.told in
-    record {
-      heard = Arrived (station c.in-Ok-Some.from) c.as_slice.result.now;
-      gains = gains;
-      received = λ q. cc;
-      any_is = rw (← c.in-None.ensures) refl;
-      printed = rw (← c.in-None.ensures) (Took-none _);
-    }

@@ -1,21 +1,10 @@
 -- Each exit of the loop ends the search in another way.
 use Rattle.std.proofs.{Common.{add-one, arith, refl, ◌∙◌}, lemmas.Result.err_from_is_err_and}
-use Rattle.bac_links.{proofs.{ended, fails, goes_on, search_begun, search_spent, search_unbegun}, specs.{Bad, Good}}
+use Rattle.bac_links.{proofs.{ended, fails, goes_on, search_spent, search_unbegun}, specs.{Bad, Good}}
 use Rattle.bac_links.proofs.search.run_whois.Goals as goal
 
 pub returns-in_err-ask-clause-told : goal.returns-in_err-ask-clause-told
-returns-in_err-ask-clause-told g c =
-    let (_, was, same) = err_from_is_err_and c.from_residual.result c.from_residual.ensures.1 in
-    rw (was, same, c.in_err-ask.ensures.err)
-    (search_unbegun c.args.search.now c.now-first.result c.now-first.ensures.told c.in_err-ask.ensures.told)
-
-pub loop-turn-init : goal.loop-turn-init
-loop-turn-init g c = record {
-  sound = c.in_ok-ask.ensures.fault;
-  unfailed = c.requires.writer;
-  later = omega arith;
-  goes = search_begun c.args.search.now c.now-first.result c.now-first.ensures.told c.in_ok-ask.ensures.told;
-}
+returns-in_err-ask-clause-told g c = grind (arith, err_from_is_err_and, search_unbegun)
 
 pub returns-in_err-any-clause-told : goal.returns-in_err-any-clause-told
 returns-in_err-any-clause-told g c =

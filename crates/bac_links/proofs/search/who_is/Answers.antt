@@ -1,8 +1,8 @@
 -- The datagram always fits, since a Who-Is is short.
-use Rattle.std.proofs.Common.{[], ap, arith, Err, length, length-append, List, None, Ok, OnErr, OnOk, refl, Result, ℕ}
-use Rattle.std.proofs.Common.{◌++◌, ◌<◌, ◌∙◌, ◌∷◌, ◌≡◌, ◌≤◌}
+use Rattle.std.proofs.Common.{[], arith, Err, length, length-append, None, Ok, OnErr, OnOk, refl, Result, ℕ}
+use Rattle.std.proofs.Common.{◌++◌, ◌<◌, ◌≡◌, ◌≤◌}
 use Rattle.{bac_wire.specs.{number_octets, object_octets, plain_tag}, bac_pdu.proofs.ShortestLaws.read_octets_short}
-use Rattle.{bac_pdu.specs.{plain_parameter, station, wrapped, Discovery.who_is_octets}, bac_links.specs.WhoIs}
+use Rattle.{bac_pdu.specs.{plain_parameter, Discovery.who_is_octets}, bac_links.specs.WhoIs}
 use Rattle.bac_pdu.specs.declared.discovery.WhoIs.TheVariants as limits
 use Rattle.bac_links.proofs.search.who_is.Goals as goal
 
@@ -28,13 +28,4 @@ who_is_short (limits.Range low high) =
     omega (arith, limit_short low, same, limit_short high, length-append (number_octets 0 low) (number_octets 1 high))
 
 pub returns : goal.returns
-returns c =
-    let short = who_is_short c.args.who in
-    let front : c.write_apdu.new.frame ≡ 16 ∷ 8 ∷ [] =
-    has_room _ _ 1497 _ c.write_apdu.ensures.appended.ok c.write_apdu.ensures.appended.full
-    (rw c.new-frame.ensures (omega arith)) ∙ rw c.new-frame.ensures refl in
-    let apdu : c.write_whois.new.frame ≡ 16 ∷ 8 ∷ who_is_octets c.args.who =
-    has_room _ _ 1497 _ c.write_whois.ensures.appended.ok c.write_whois.ensures.appended.full
-    (rw front (omega (arith, short))) ∙ ap (λ (xs : List ℕ). xs ++ who_is_octets c.args.who) front in
-    has_room _ _ 1480 _ c.wrap_within.ensures.ok c.wrap_within.ensures.room (rw apdu (omega (arith, short)))
-    ∙ ap (wrapped (station c.args.to).route _) apdu
+returns c = grind (arith, who_is_short, has_room)

@@ -6,14 +6,6 @@ use Rattle.bac_links.proofs.serving.serve.Goals as goal
 pub returns-then-count-eq0-clause-told : goal.returns-then-count-eq0-clause-told
 returns-then-count-eq0-clause-told g c = serve_done serves_none (sym c.if-count-eq0.true)
 
-pub loop-turn-init : goal.loop-turn-init
-loop-turn-init g c = record {
-  sound = c.requires;
-  fewer = omega (arith, c.if-count-eq0.false);
-  few = omega arith;
-  goes = serves_none;
-}
-
 pub returns-in_err-brought-clause-told : goal.returns-in_err-brought-clause-told
 returns-in_err-brought-clause-told g c =
     let (_, was, same) = err_from_is_err_and c.from_residual.result c.from_residual.ensures.1 in

@@ -1,10 +1,7 @@
 -- A page whose writer had no call yet holds all that was printed on it.
 use Rattle.std.proofs.Common.{[], arith, List, refl, ℕ, ◌++◌, ◌∷◌}
-use Rattle.bac_print.specs.{laid_out, Prints, room_after, Took, Wrote, Inner.{page, unasked, unknown}}
+use Rattle.bac_print.{proofs.Took-none, specs.{laid_out, Prints, room_after, Wrote, Inner.{page, unasked, unknown}}}
 use Rattle.bac_print.proofs.examples.examples_of_pages.Goals as goal
-
-nothing : Took unknown unasked unasked []
-nothing = record { passed = refl; known = grind arith; made = []; calls = refl; asked = refl }
 
 holds : (held text : List ℕ) → Prints unknown (page held) (page (held ++ text)) text
 unfolding Wrote laid_out room_after
@@ -14,7 +11,7 @@ holds held text = record {
     writes = record {
       taken = [];
       rest = held ++ text;
-      took = nothing;
+      took = Took-none unasked;
       whole = refl;
       sound = λ sound. (refl, refl);
       stopped = λ stopped. grind arith;

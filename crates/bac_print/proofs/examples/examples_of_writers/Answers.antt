@@ -1,22 +1,19 @@
 -- A writer with no call yet took nothing.
 use Rattle.std.proofs.Common.{[], arith, refl, ◌∷◌}
-use Rattle.bac_print.specs.{Took, Inner.{unasked, unknown}}
+use Rattle.bac_print.{proofs.Took-none, specs.Inner.unasked}
 use Rattle.bac_print.proofs.examples.examples_of_writers.Goals as goal
-
-nothing : Took unknown unasked unasked []
-nothing = record { passed = refl; known = grind arith; made = []; calls = refl; asked = refl }
 
 pub returns : goal.returns
 returns c = record {
-  took = nothing;
+  took = Took-none unasked;
   took_less = λ t. let passed = t.passed in grind arith;
   took_one =
       record { passed = refl; known = tt; made = _; calls = refl; asked = (refl, (λ none. grind arith), refl) };
-  took_front = ([], 1 ∷ [], refl, nothing);
+  took_front = ([], 1 ∷ [], refl, Took-none unasked);
   held = record {
     taken = [];
     rest = 1 ∷ 2 ∷ [];
-    took = nothing;
+    took = Took-none unasked;
     whole = refl;
     sound = λ sound. (refl, refl);
     stopped = λ stopped. grind arith;

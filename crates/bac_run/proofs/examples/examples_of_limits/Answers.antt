@@ -1,6 +1,5 @@
 -- Each row is computed.
-use Rattle.std.proofs.Common.{arith, refl}
-use Rattle.bac_script.proofs.Computed.{computed}
+use Rattle.{std.proofs.Common.{arith, refl}, bac_script.proofs.Computed.computed}
 use Rattle.bac_run.proofs.examples.examples_of_limits.Goals as goal
 
 pub returns : goal.returns
@@ -16,4 +15,8 @@ returns c = record {
   unsaid = refl;
   to_be_said = λ h. grind arith;
   room = refl;
+  few = refl;
+  none_few = refl;
+  unheard = refl;
+  none_open = refl;
 }

@@ -1,7 +1,7 @@
 -- A text with two line feeds has one before its end.
 use Rattle.std.proofs.Common.{[], arith, List, refl, subst, sym, ℕ, ◌++◌, ◌∙◌, ◌∷◌, ◌≡◌}
-use Rattle.std.proofs.lemmas.List.{append_cancel_right}
-use Rattle.bac_run.{proofs.ReadBack.time_read_back, specs.HasNoFeed}
+use Rattle.{std.proofs.lemmas.List.append_cancel_right, bac_run.proofs.{Cut.not_empty, ReadBack.time_read_back}}
+use Rattle.bac_run.specs.{HasNoFeed}
 use Rattle.bac_run.proofs.examples.examples_of_reading.Goals as goal
 
 stops : HasNoFeed (10 ∷ []) → ⊥
@@ -9,10 +9,6 @@ stops (other, none) = other refl
 
 no_line : (text : List ℕ) → HasNoFeed text → 10 ∷ 10 ∷ [] ≡ text ++ 10 ∷ [] → ⊥
 no_line text free ended = stops (subst HasNoFeed (sym (append_cancel_right (10 ∷ []) text (10 ∷ []) ended)) free)
-
-not_empty : (text : List ℕ) → [] ≡ text ++ 10 ∷ [] → ⊥
-not_empty [] e = grind arith
-not_empty (octet ∷ text) e = grind arith
 
 pub returns-clause-feed : goal.returns-clause-feed
 returns-clause-feed c = (13 ∷ [], (λ same. grind (arith, same), tt), refl)

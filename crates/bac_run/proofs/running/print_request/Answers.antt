@@ -1,6 +1,5 @@
 -- The line of a write is written at once.
-use Rattle.std.proofs.lemmas.List.{append-nil}
-use Rattle.bac_print.proofs.Printed.{printed_as, ◌⨾◌}
+use Rattle.{std.proofs.lemmas.List.append-nil, bac_print.proofs.Printed.{printed_as, ◌⨾◌}}
 use Rattle.bac_run.proofs.running.print_request.Goals as goal
 
 pub returns-then-service-eq-WRITE_PROPERTY : goal.returns-then-service-eq-WRITE_PROPERTY

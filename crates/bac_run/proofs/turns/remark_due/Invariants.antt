@@ -1,5 +1,5 @@
-use Rattle.std.{proofs.Common.take, specs.List.flat_map}
-use Rattle.{bac_tsm.specs.due_notes, bac_print.specs.Prints, bac_run.specs.remarks}
+use Rattle.{std.{proofs.Common.take, specs.List.flat_map}, bac_tsm.specs.due_notes, bac_print.specs.Prints}
+use Rattle.bac_run.specs.{remarks}
 use Rattle.bac_run.proofs.turns.remark_due.Given as goal
 
 abbrev pub invariant-loop-entry : goal.invariant-loop-entry

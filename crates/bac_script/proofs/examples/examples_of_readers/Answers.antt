@@ -1,10 +1,6 @@
 -- Each row is computed, or is arithmetic; a negative row follows from one field.
-use Rattle.std.proofs.Common.{[], ◌∷◌, arith, inl, inr, refl}
-use Rattle.{bac_print.specs.Inner.Examples.{unasked, unknown}, bac_script.specs.{Failed, ReaderStands, Inner.gave}}
+use Rattle.std.proofs.Common.{[], ◌∷◌, arith, inl, refl}
 use Rattle.bac_script.proofs.examples.examples_of_readers.Goals as goal
-
-sound : ReaderStands unknown Failed unasked (gave (1 ∷ [])) [] → ⊥
-sound h = elim (h.failed) as (λ _. ⊥) [ inl failed ↦ grind arith | inr spent ↦ grind arith ]
 
 pub returns : goal.returns
 returns c = record {
@@ -22,7 +18,7 @@ returns c = record {
   not_at_end = λ h. let ended = h.ended in grind arith;
   held_at_end = λ h. let empty = h.empty in grind arith;
   failed = record { empty = refl; failed = inl refl; unended = refl };
-  not_failed = sound;
+  not_failed = λ h. grind arith;
   taken = record { given = 1 ∷ 2 ∷ []; gave = record { passed = refl; known = tt }; order = refl };
   dropped = λ h. let passed = h.gave.passed in let order = h.order in grind arith;
   not_given = λ h. let passed = h.gave.passed in let order = h.order in grind arith;

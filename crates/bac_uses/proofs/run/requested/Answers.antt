@@ -6,8 +6,8 @@ use Rattle.bac_tsm.specs.{client_rules, Event, outputs}
 use Rattle.bac_print.specs.{Gave, has_failed, Took, Writes, declared.checked.Checked.Checked}
 use Rattle.{bac_script.specs.declared.tracing.TraceEnd.TraceEnd, bac_links.specs.{Account, Entry, GainsAll}}
 use Rattle.bac_run.specs.{declared.fault.RunFault.RunFault, Input.{AllDone, lines_in}}
-use Rattle.bac_run.specs.{new_client, Journal.{Act, events_of, notes_of}}
-use Rattle.bac_run.specs.{Replay.{AreSent, posted_in, sends_of}, Run.journal_of}
+use Rattle.bac_run.specs.{new_client, Journal.{Act, calls_of, events_of, notes_of}}
+use Rattle.bac_run.specs.{Replay.{AreOffered, offered_in, sends_of}, Run.journal_of}
 use Rattle.bac_run.proofs.Cut.{given_lines}
 use Rattle.bac_uses.proofs.run.requested.Goals as goal
 
@@ -72,12 +72,13 @@ returns-clause-all g c = if_ok _ c.run_requests.result (λ end is.
       took = took_whole g.W.Write.contents c.args.writer.now c.run_requests.new.writer (journal_of setup runs.acts)
           sound runs.printed;
       replayed = c.a_journal_is_a_script.ensures.text setup _ _ _ _ _ _ _ runs;
-      gained = runs.asks.gained;
-      gains = runs.asks.gains;
+      gains = runs.asks;
       sent = subst (λ (result : Result TraceEnd RunFault).
-          AreSent result (sends_of (new_client setup.config.timeout setup.config.retries 0) runs.acts)
-          (flat_map posted_in runs.asks.gained))
-          is (c.a_run_sends_what_it_remarks.ensures setup _ _ _ _ _ _ _ _ runs
-          (asked_on (g.L.Link.seen c.args.link.now) (g.L.Link.seen c.run_requests.new.link) runs.asks.gained
-          runs.asks.gains)) ∙ sends_so setup.config.timeout setup.config.retries runs.acts timed again;
+          AreOffered result (sends_of (new_client setup.config.timeout setup.config.retries 0) runs.acts)
+          (flat_map offered_in (calls_of runs.acts)))
+          is (c.a_run_sends_what_it_remarks.ensures.sends setup _ _ _ _ _ _ _ _ runs (asked_on
+          (g.L.Link.seen c.args.link.now) (g.L.Link.seen c.run_requests.new.link) (calls_of runs.acts) runs.asks))
+          ∙ sends_so setup.config.timeout setup.config.retries runs.acts timed again;
+      unsent = c.a_run_sends_what_it_remarks.ensures.unsent setup _ _ _ _ _ _ _ _ runs (asked_on
+          (g.L.Link.seen c.args.link.now) (g.L.Link.seen c.run_requests.new.link) (calls_of runs.acts) runs.asks);
     })

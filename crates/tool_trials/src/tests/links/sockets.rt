@@ -12,7 +12,7 @@ use std::net::{Net, SocketAddr, UdpSocket};
 use std::time::{Clock, Duration};
 
 /// Returns whether a link receives these octets within five seconds, from this peer.
-fn hears<L: Link>(link: &mut L, from: Peer, octets: &[u8]) -> Result<bool, LinkFault>
+pub(super) fn hears<L: Link>(link: &mut L, from: Peer, octets: &[u8]) -> Result<bool, LinkFault>
     requires { L.has_failed link.old ≡ false }
     ensures { L.has_failed link.new ≡ is_err result }
 {
@@ -61,7 +61,7 @@ fn two_sockets(rt: HostRuntime) -> Result<(), Fail> {
 }
 
 /// The sender and the receiver of octets.
-type Way = (Peer, Peer);
+pub(super) type Way = (Peer, Peer);
 
 /// Sends octets from one link to the other, and returns whether they arrive whole.
 fn carries<L: Link>(from: &mut L, to: &mut L, way: Way, octets: &[u8]) -> Is

@@ -48,6 +48,11 @@ impl Link for Watching<'_> {
         self.link.send(to, octets)
     }
 
+    fn offer(&mut self, to: Peer, octets: &[u8]) -> bool {
+        let _ = self.before_sends.push(self.written.get());
+        self.link.offer(to, octets)
+    }
+
     fn receive(&mut self, wait: u32, datagram: &mut Datagram) -> Result<Option<Peer>, LinkFault> {
         let _ = self.before.push(self.written.get());
         let _ = self.waits.push(wait);

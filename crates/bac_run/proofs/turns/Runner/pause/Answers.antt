@@ -1,7 +1,6 @@
 -- The wait at a line without words.
-use Rattle.std.proofs.{Common.{refl, ◌∷◌}, lemmas.Result.err_from_is_err_and}
-use Rattle.bac_run.proofs.{due_nothing, went_at, went_failed, went_more, went_one}
-use Rattle.bac_run.specs.{Does, Paused}
+use Rattle.{std.proofs.{Common.{refl, ◌∷◌}, lemmas.Result.err_from_is_err_and}, bac_run.proofs.{went_at, went_failed}}
+use Rattle.bac_run.{proofs.{went_more, went_silent}, specs.{Does, Paused}}
 use Rattle.bac_run.proofs.turns.Runner.pause.Goals as goal
 
 pub returns-in_err-wait-clause-went : goal.returns-in_err-wait-clause-went
@@ -12,5 +11,5 @@ returns-in_err-wait-clause-went g c =
 pub returns-clause-went : goal.returns-clause-went
 returns-clause-went g c =
     went_more (went_at (λ later. Does Paused ∷ later) c.in_ok-wait.ensures.went)
-    (went_one Paused tt refl refl (λ later. (refl, refl)) (λ later. refl) c.print.ensures (λ waits. absurd waits)
-    (due_nothing _) tt)
+    (went_silent _ Paused tt refl refl (λ later. (refl, refl, refl)) (λ later. refl) c.print.ensures
+    (λ waits. waits) tt)

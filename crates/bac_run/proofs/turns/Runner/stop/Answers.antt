@@ -1,6 +1,6 @@
 -- A wait, and then the run stops with the fault.
-use Rattle.std.proofs.Common.{Err, ◌∷◌}
-use Rattle.bac_run.{proofs.{stops_so, went_at, went_failed, went_more, went_stopped}, specs.Ends}
+use Rattle.{std.proofs.Common.{Err, ◌∷◌}, bac_run.proofs.{stops_so, went_at, went_failed, went_more, went_stopped}}
+use Rattle.bac_run.specs.{Ends}
 use Rattle.bac_run.proofs.turns.Runner.stop.Goals as goal
 
 pub returns-in-Ok-clause-went : goal.returns-in-Ok-clause-went

@@ -1,9 +1,7 @@
 -- A turn: the time is read, a wait follows, and after that the client may get the time.
-use Rattle.std.proofs.{Common.{Bool, false, refl, ◌∷◌}, lemmas.Result.err_from_is_err_and}
+use Rattle.std.proofs.{Common.{Bool, false, refl}, lemmas.Result.err_from_is_err_and}
 use Rattle.bac_script.specs.declared.tracing.TraceFault.TheVariants.{WriteFailed}
-use Rattle.bac_run.proofs.{moved_after, went_at, went_failed, went_more, went_ok, went_read, went_stopped, went_to}
-use Rattle.bac_run.proofs.{went_turned}
-use Rattle.bac_run.specs.{Turns}
+use Rattle.bac_run.proofs.{went_failed, went_more, went_ok, went_stopped, went_to, went_turn, went_turned}
 use Rattle.bac_run.proofs.turns.Runner.turn.Goals as goal
 
 pub returns-then-failed-clause-went : goal.returns-then-failed-clause-went
@@ -15,31 +13,17 @@ pub returns-in_err-hear-clause-went : goal.returns-in_err-hear-clause-went
 returns-in_err-hear-clause-went g c =
     let (_, was, same) = err_from_is_err_and c.from_residual.result c.from_residual.ensures.1 in
     rw (was, same)
-    (went_turned c.let_out.ensures.printed
-    (went_more
-    (went_read _ _ _ c.now-now.result refl refl (λ (until, left, later). tt) (λ
-    (until, left, later). refl) c.now-now.ensures.told)
-    (went_failed Bool _
-    (went_at (λ (until, left, later). (c.now-now.result, Turns until left ∷ later)) c.in_err-hear.ensures.went))))
+    (went_failed Bool _ (went_turn _ c.let_out.ensures.printed c.now-now.ensures.told c.in_err-hear.ensures.went))
 
 pub returns-then-branch-clause-went : goal.returns-then-branch-clause-went
 returns-then-branch-clause-went g c =
-    went_turned c.let_out.ensures.printed
-    (went_more
-    (went_read _ _ _ c.now-now.result refl refl (λ (until, left, later). tt) (λ
-    (until, left, later). refl) c.now-now.ensures.told)
-    (went_ok false (went_to (λ (until, left, later). rw c.if-branch.true refl)
-    (went_at (λ (until, left, later). (c.now-now.result, Turns until left ∷ later)) c.in_ok-hear.ensures.went))))
+    went_ok false
+    (went_to (λ (until, left, later). rw c.if-branch.true refl)
+    (went_turn _ c.let_out.ensures.printed c.now-now.ensures.told c.in_ok-hear.ensures.went))
 
 pub returns-clause-went : goal.returns-clause-went
 returns-clause-went g c =
-    went_turned c.let_out.ensures.printed
-    (went_more
-    (went_read _ _ _ c.now-now.result refl refl (λ (until, left, later). tt) (λ
-    (until, left, later). refl) c.now-now.ensures.told)
-    (went_more (went_to (λ (until, left, later). rw c.if-branch.false refl)
-    (went_at (λ (until, left, later). (c.now-now.result, Turns until left ∷ later)) c.in_ok-hear.ensures.went))
-    c.tell_time.ensures.went))
-
-pub returns-clause-moves : goal.returns-clause-moves
-returns-clause-moves g c = moved_after c.tell_time.result _ _ _ c.in_ok-hear.ensures.still c.tell_time.ensures.moves
+    went_more
+    (went_to (λ (until, left, later). rw c.if-branch.false refl)
+    (went_turn _ c.let_out.ensures.printed c.now-now.ensures.told c.in_ok-hear.ensures.went))
+    (went_ok c.tell_time.result c.tell_time.ensures.went)

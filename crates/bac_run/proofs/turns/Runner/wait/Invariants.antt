@@ -1,7 +1,7 @@
 -- One turn after another.
 use Rattle.std.proofs.Common.{[], false, ◌∷◌, ◌≡◌, ◌≤◌}
-use Rattle.{bac_links.specs.most_turns, bac_run.proofs.{done, room_left}}
-use Rattle.bac_run.specs.{open_in, Turns, Inner.{started, Went.Went}}
+use Rattle.{bac_links.specs.most_turns, bac_run.proofs.room_left}
+use Rattle.bac_run.specs.{open_in, Turns, Inner.{done, started, Went.Went}}
 use Rattle.bac_run.proofs.turns.Runner.wait.Given as goal
 
 abbrev pub invariant-turns : goal.invariant-turns

@@ -33,9 +33,6 @@ returns-then-failed-clause-printed g c = c.loop-length.invariant.printed ⨾ c.t
 pub returns-then-failed-clause-needed : goal.returns-then-failed-clause-needed
 returns-then-failed-clause-needed g c = still_for_line c.loop-length.invariant.needed c.turn_in.ensures.printed
 
-pub returns-then-ne-clause-given : goal.returns-then-ne-clause-given
-returns-then-ne-clause-given g c = Takes-more c.loop-length.invariant.given c.read_more-reading.ensures.given
-
 pub returns-then-ne-clause-next : goal.returns-then-ne-clause-next
 returns-then-ne-clause-next g c =
     let over : c.read_more-reading.result ≡ Open → ⊥ = grind arith in

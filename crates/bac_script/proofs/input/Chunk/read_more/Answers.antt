@@ -25,9 +25,6 @@ ready g c =
           })
     ]
 
-pub invariant_of-self : goal.invariant_of-self
-invariant_of-self g c = let r = ready g c.before in (r.within, omega (arith, r.room))
-
 pub returns-in_default-clause-given : goal.returns-in_default-clause-given
 returns-in_default-clause-given g c =
     let r = ready g c.before in
@@ -36,9 +33,6 @@ returns-in_default-clause-given g c =
 pub returns-in_default-clause-same : goal.returns-in_default-clause-same
 returns-in_default-clause-same g c = let r = ready g c.before in λ _. still_held r _ _
 
-pub invariant_of-self-then-count-eq0 : goal.invariant_of-self-then-count-eq0
-invariant_of-self-then-count-eq0 g c = let r = ready g c.before.before in (r.within, omega (arith, r.room))
-
 pub returns-then-count-eq0-clause-given : goal.returns-then-count-eq0-clause-given
 returns-then-count-eq0-clause-given g c =
     let r = ready g c.before.before in
@@ -46,11 +40,6 @@ returns-then-count-eq0-clause-given g c =
 
 pub returns-then-count-eq0-clause-same : goal.returns-then-count-eq0-clause-same
 returns-then-count-eq0-clause-same g c = let r = ready g c.before.before in λ _. still_held r _ _
-
-pub invariant_of-self-2 : goal.invariant_of-self-2
-invariant_of-self-2 g c =
-    let r = ready g c.before.before.before in
-    (omega (arith, r.within), omega (arith, r.room, c.in-Ok.ensures.bound.0))
 
 pub returns-clause-given : goal.returns-clause-given
 returns-clause-given g c =
