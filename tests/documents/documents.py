@@ -4,7 +4,9 @@ parameters that yields differences. Usage: tests/documents/documents.py [numbers
 any, and reports them. The word `numbers` has it write numbers.txt again.
 """
 import ast
+import collections
 import functools
+import gc
 import glob
 import inspect
 import os
@@ -15,17 +17,21 @@ import textwrap
 
 sys.path[:0] = [os.path.dirname(__file__) + "/..", os.path.dirname(__file__) + "/../site"]
 import bacsite_faults
+import tree
 from program.rows import LETTERS
 from sources import OF_PROGRAM, PATTERNS, code_of
-from tree import TOP, all_crates, files, plain, ran, sections_of, table_of, text_of, well_or, write
-from weak_tests import asserted, cases, weak
+from tree import TOP, all_crates, plain, ran, sections_of, table_of, well_or, write
+from weak_tests import asserted, cases, walked, weak, within
 
+text_of, files = map(functools.lru_cache(maxsize=None), (tree.text_of, tree.files))  # each is read once
 SOURCES = ["crates/*/src/**/*.rt", "crates/*/specs/**/*.antt", "crates/*/proofs/**/*.antt"]
 WORDS = {name: {*words.split()} for name, words in PATTERNS["words"]}
 PATHS, COUNTED, LISTED, NUMBERS_AND_CODES = (re.compile(pattern) for _, pattern in PATTERNS["in documents"])
 OF_OTHERS = "rt |rattle |man |bacsite |crontab|system"  # how commands begin that no file of the tree has
 NUMBERS, PINS = "tests/documents/numbers.txt", "tests/documents/pins.txt"
 UNREAD = []  # the files of Python that it cannot read
+JUDGED = ast.Call, ast.Compare, ast.Attribute, ast.FunctionDef, ast.For, ast.comprehension, ast.BoolOp
+TESTED = ast.If, ast.IfExp, ast.Assert, ast.While
 
 
 @functools.lru_cache(maxsize=None)
@@ -121,8 +127,8 @@ def what_tries_nothing():
     """Functions next to tests are called; and each fault of bacsite_faults.txt has a place."""
     for place, pattern in PATTERNS["functions beside tests"]:
         texts = "".join(map(text_of, files(place)))
-        words = re.findall(r"\w+", texts)
-        lost = (name for name in re.findall(pattern, texts, re.M) if words.count(name) == 1)
+        words = collections.Counter(re.findall(r"\w+", texts))
+        lost = (name for name in re.findall(pattern, texts, re.M) if words[name] == 1)
         yield from (f"{place}: {name} is no test, and nothing calls it" for name in lost)
     for path, _, old, _ in bacsite_faults.faults():
         if not os.path.isfile(path) or text_of(path).count(old) != 1:
@@ -133,11 +139,12 @@ def what_tries_nothing():
 def nodes_of(file):
     """The nodes of a file of Python; none if Python cannot read it, which is a difference."""
     try:
-        compile(text_of(file), file, "exec")
+        whole = ast.parse(text_of(file), file)
+        compile(whole, file, "exec")
     except SyntaxError as fault:
         UNREAD.append(f"{file}: {fault}")
         return []
-    return [*ast.walk(ast.parse(text_of(file)))]
+    return walked(whole, [])
 
 
 def what_is_not_there():
@@ -183,10 +190,10 @@ def compared_with_itself():
     """No test compares a thing with itself or with several others, tests a constant, loops over an empty list that it
     writes, asserts nothing, or is always left out; and none is weak (weak_tests.py)."""
     for file in filter(nodes_of, files("tests/**/*.py", "bench/*.py")):
-        for node in filter(is_vacuous, nodes_of(file)):
+        for node in filter(is_vacuous, (it for it in nodes_of(file) if isinstance(it, JUDGED + TESTED))):
             line = getattr(node, "lineno", 0) or node.iter.lineno
             yield f"{file}:{line}: it compares a thing with itself, or nothing"
-        yield from (f"{file}:{line}: {why}" for line, why in weak(text_of(file)))
+        yield from (f"{file}:{line}: {why}" for line, why in weak(nodes_of(file)))
 
 
 def is_vacuous(node):
@@ -203,7 +210,7 @@ def is_vacuous(node):
     if name in ("assertTrue", "assertFalse") and len(sides) == 2:  # the second is what is told, and no other thing
         return not isinstance(sides[1], ast.Constant) and ast.dump(sides[1]) not in ast.dump(sides[0])
     if isinstance(node, ast.FunctionDef) and node.name.startswith("test_"):
-        called = (getattr(getattr(it, "func", None), "attr", "") for it in ast.walk(node))
+        called = (getattr(getattr(it, "func", None), "attr", "") for it in within(node))
         return not any(it == "rows" or it.startswith("assert") for it in called)
     if isinstance(node, (ast.For, ast.comprehension)):
         return isinstance(node.iter, (ast.List, ast.Tuple)) and not node.iter.elts
@@ -381,7 +388,7 @@ def numbers_between_words(document):
     opposite, with the word before it and the one after it; and each list of words. The rows of the rules, which are
     read back elsewhere, are left out. A test in Python has its cases and its limits here."""
     if document.endswith(".py"):
-        return cases(text_of(document))
+        return cases(nodes_of(document))
     left_out = r"(?m)^ *\d+\. " + r"|^\|[^\n]*$" * (document == "docs/PROTOCOL.md")
     text = re.sub(left_out, "", text_of(document)).replace("\\", "")
     text = plain(re.sub(r"\b(?:It|Li|Ql|Ta|Ar|Ns|Fl|Sy)\b", "", text)).lower()
@@ -394,8 +401,8 @@ def names_with_counts(document):
     """How often a document has each name in backquotes, and a page each word that is marked as one of a command."""
     marked = r"(?m)^\.?(?:(?:It|Op|Ql|Pq|Ta|No) +)*(?:Li|Ar|Fl|Xr|Sy|Ql) +(.*)$"
     words = marked if document[-2] == "." else r"`([^`\n]+)`"
-    found = [it.strip() for it in re.findall(words, re.sub(r"(?ms)^```.*?^```$|;", "", text_of(document)))]
-    return {f"{found.count(it)}x {it}" for it in found if document[-3:] != ".py"}
+    found = (it.strip() for it in re.findall(words, re.sub(r"(?ms)^```.*?^```$|;", "", text_of(document))))
+    return {f"{count}x {it}" for it, count in collections.Counter(found).items() if document[-3:] != ".py"}
 
 
 def numbers_in_one_place(path):
@@ -442,6 +449,7 @@ def links():
 
 def main():
     os.chdir(TOP)
+    gc.disable()  # which would take longer than all else, for so many nodes of Python
     if sys.argv[1:] == ["numbers"]:
         return write_numbers()
     checks = [it for it in globals().values() if inspect.isgeneratorfunction(it) and not it.__code__.co_argcount]

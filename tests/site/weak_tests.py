@@ -11,6 +11,26 @@ LONGEST = 25  # seconds that a test may allow
 PARTS = {"len", "sorted", "set", "bool", "str", "type", "strip", "lower", "upper", "split"}
 
 
+def walked(node, every):
+    """Puts a node and those within it, in the order of the text, into a list, which each then has as `within`: their
+    places, so that nothing is walked twice."""
+    first = len(every)
+    every.append(node)
+    for name in node._fields:
+        part = getattr(node, name, None)
+        for it in part if isinstance(part, list) else (part,):
+            if isinstance(it, ast.AST) and not isinstance(it, ast.expr_context):
+                walked(it, every)
+    node.within = every, first, len(every)
+    return every
+
+
+def within(node):
+    """The nodes of a walked node, with itself."""
+    every, first, last = node.within
+    return every[first:last]
+
+
 def name_of(call):
     """The name of a called function or method."""
     return getattr(getattr(call, "func", None), "attr", getattr(getattr(call, "func", None), "id", ""))
@@ -27,7 +47,7 @@ def inside(node):
 def given_once(function):
     """The values of the names that a function gives one value."""
     given = {}
-    for node in ast.walk(function):
+    for node in within(function):
         if isinstance(node, ast.Assign) and isinstance(node.targets[0], ast.Name):
             given.setdefault(node.targets[0].id, []).append(node.value)
     return {name: values[0] for name, values in given.items() if len(values) == 1}
@@ -54,14 +74,13 @@ def is_of_parts(call):
 def is_patient(call):
     """Whether a time may be far longer than any that a test needs."""
     is_time = name_of(call) == "assertLess" and "monotonic" in ast.dump(call.args[0])
-    limits = [it.value for it in ast.walk(call.args[1]) if isinstance(it, ast.Constant)] if is_time else []
+    limits = [it.value for it in within(call.args[1]) if isinstance(it, ast.Constant)] if is_time else []
     return any(isinstance(it, (int, float)) and it > LONGEST for it in limits)
 
 
-def cases(text):
+def cases(nodes):
     """How many elements the rows, lists, sets and tables of a test in Python have, and how many lines its texts, so
     that one case fewer is seen; and the limits that it sets, each once."""
-    nodes = [*ast.walk(ast.parse(text))]
     shown = (getattr(it, "elts", getattr(it, "keys", [])) for it in nodes)
     limits = [it.args[1] for it in nodes if name_of(it).startswith(("assertLess", "assertGreater"))]
     lines = sum(it.value.count("\n") for it in nodes if isinstance(it, ast.Constant) and isinstance(it.value, str))
@@ -71,7 +90,7 @@ def cases(text):
 
 def matches_anything(call):
     """Whether an assertion looks for a constant pattern that nonsense has."""
-    for it in ast.walk(call) if name_of(call)[:6] == "assert" else ():
+    for it in within(call) if name_of(call)[:6] == "assert" else ():
         if name_of(it) in ("search", "match", "fullmatch") and isinstance(it.args[0], ast.Constant):
             pattern, nonsense = it.args[0].value, "\u2603\n<~>"
             nonsense = nonsense.encode() if isinstance(pattern, bytes) else nonsense
@@ -96,15 +115,15 @@ def is_length(node):
     return len(sides) == 2 and name_of(sides[0]) == "len" and getattr(sides[1], "value", 1) == 0
 
 
-def weak(text):
-    """Yields the line of each weak assertion of a test, and why it is weak."""
-    tree = ast.parse(text)
-    calls = [it for it in ast.walk(tree) if isinstance(it, ast.Call)]
-    for handler in (it for it in ast.walk(tree) if isinstance(it, ast.ExceptHandler)):
+def weak(nodes):
+    """Yields the line of each weak assertion among the nodes of a test, and why it is weak."""
+    calls = [it for it in nodes if isinstance(it, ast.Call)]
+    for handler in (it for it in nodes if isinstance(it, ast.ExceptHandler)):
         is_any = handler.type is None or getattr(handler.type, "id", "") in ANYTHING
         if is_any and not isinstance(handler.body[-1], ast.Raise):
             yield handler.lineno, "any failure is swallowed"
-    yield from ((it.lineno, "every length is right") for it in ast.walk(tree) if is_length(it))
+    compared = (it for it in nodes if isinstance(it, (ast.Call, ast.Compare)))
+    yield from ((it.lineno, "every length is right") for it in compared if is_length(it))
     for call in calls:
         if name_of(call) == "suppress" and {getattr(it, "id", "") for it in call.args} & ANYTHING:
             yield call.lineno, "any failure is swallowed"
@@ -114,9 +133,9 @@ def weak(text):
             yield call.lineno, "only a part of both sides is compared"
         if is_wide(call) or matches_anything(call):
             yield call.lineno, "almost any text has this"
-    for function in (it for it in ast.walk(tree) if isinstance(it, ast.FunctionDef)):
+    for function in (it for it in nodes if isinstance(it, ast.FunctionDef)):
         given = given_once(function)
-        for call in (it for it in ast.walk(function) if isinstance(it, ast.Call) and is_made_of_it(it, given)):
+        for call in (it for it in within(function) if isinstance(it, ast.Call) and is_made_of_it(it, given)):
             yield call.lineno, "the expected value is made of the found one"
 
 
