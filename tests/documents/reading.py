@@ -12,6 +12,8 @@ a changed signature.
 """
 import collections
 import difflib
+import functools
+import gc
 import os
 import re
 import sys
@@ -197,18 +199,26 @@ def said_by(calls):
     """The text of each clause of these calls, with the definitions that it names, and those made for examples that it
     uses."""
     for call in calls:
-        for clause in call.clauses:
-            said = [it for it in call.file.said_in([clause]) if isinstance(it, Item)]
-            for item in said:
-                if item.file.path.endswith("/Inner/Examples.antt"):
-                    said.extend(it for it in item.needs if isinstance(it, Item) and it not in said)
-            yield clause[1].strip("{} \n"), {it for it in said if isinstance(it, Definition)}
+        yield from said_of(call)
+
+
+@functools.lru_cache(maxsize=None)
+def said_of(call):
+    every = []
+    for clause in call.clauses:
+        said = [it for it in call.file.said_in([clause]) if isinstance(it, Item)]
+        for item in said:
+            if item.file.path.endswith("/Inner/Examples.antt"):
+                said.extend(it for it in item.needs if isinstance(it, Item) and it not in said)
+        every.append((clause[1].strip("{} \n"), {it for it in said if isinstance(it, Definition)}))
+    return every
 
 
 def of_files(name):
     return [it for path, file in SOURCES.items() if name in path for it in file.items.values()]
 
 
+@functools.lru_cache(maxsize=None)
 def named():
     """The definitions that laws and public clauses name, in order."""
     calls = [call for crate in OF_PROGRAM for call in public_calls(crate)[0].values()]
@@ -225,6 +235,7 @@ def is_relation(item):
     return kind_of(item).endswith("Type 0") and bool(re.search(r"[({→]", given))
 
 
+@functools.lru_cache(maxsize=None)
 def as_premise(item):
     """A pattern of clauses that deny this relation, or conclude something from it."""
     return re.compile(rf"→ ⊥$|→ {item.name}\b[^→]*→")
@@ -270,9 +281,8 @@ def unrefused():
     examples, times = {row[:3]: (*row[3:], "")[:2] for row in rows}, collections.Counter(row[:3] for row in rows)
     wrong, clauses = [f"tests/documents/fields.txt: {' '.join(it)} twice" for it in times if times[it] > 1], {}
     for call in of_files("/examples.rt"):
-        for (text, said), (_, whole) in zip(said_by([call]), call.clauses):
-            name = re.search(rf"ensures (\w+) {re.escape(whole)}", call.file.code)[1]
-            clauses.setdefault((call.file.crate, name), []).append((text, said))
+        for found, name in zip(said_of(call), call.titles):
+            clauses.setdefault((call.file.crate, name), []).append(found)
     for record in (it for it in named() if it.kind == "record" and is_relation(it)):
         crate, used = record.file.crate, set()
         for field in fields_of(record):
@@ -304,18 +314,20 @@ def used_and_said(code, is_rust):
     uses = lambda margin, text: "\n".join(re.findall(rf"(?m)^{margin}ghost use [^;]*;", text))
     clauses = lambda text: " ".join(found[3] for found in CLAUSE.finditer(text))
     blocks = re.split(r"(?m)^(?=\S)", code)
-    return [(uses("", code), clauses(code)), *((uses(" +", block), clauses(block)) for block in blocks)]
+    inner = ((found, clauses(block)) for block in blocks if (found := uses(" +", block)))
+    return [(uses("", code), clauses(code)), *inner]
 
 
 def names_in(text):
     """Each token of a text, and the text before its dot."""
     tokens = {*TOKEN.findall(text)}
-    tokens |= {part for token in tokens for part in (token.partition(".")[0], token.rstrip("."))}
+    tokens |= {part for token in tokens if "." in token for part in (token.partition(".")[0], token.rstrip("."))}
     return tokens | {">>="} if "do" in tokens else tokens
 
 
 def main(arguments):
     os.chdir(TOP)
+    gc.disable()  # nothing is left before the end
     read_tree()
     texts, sizes = pages()
     told = f"{len(texts)} pages of {FOLDER} agree with the tree"

@@ -29,7 +29,7 @@ CLAUSE = re.compile(rf"\b(requires|ensures|ghost)\*?(?: (?!use\b)(\w+))?\s*[:=]?
 
 
 def blank(pattern, text):
-    return pattern.sub(lambda found: re.sub(r"[^\n]", " ", found[0]), text)
+    return pattern.sub(lambda found: "\n".join(" " * len(line) for line in found[0].split("\n")), text)
 
 
 @functools.lru_cache(maxsize=None)
@@ -41,20 +41,23 @@ def code_of(path):
 def leaves(path):
     """The single paths of a `use`."""
     each = lambda found: ", ".join(found[1] + one.strip() for one in found[2].split(",") if one.strip())
-    while GROUP.search(path):
-        path = GROUP.sub(each, path)
+    while "{" in path and (found := GROUP.subn(each, path))[1]:
+        path = found[0]
     return [one.strip() for one in path.split(",")]
 
 
+@functools.lru_cache(maxsize=None)
 def uses_in(code):
     """Returns what `use` lines import: a module, a name of it or None, the name here, and whether it is passed on."""
+    found = []
     for public, path, group, alias in USE.findall(code):
         for leaf in leaves(f"{path}.{group}") if group else ():
             there, _, here = leaf.removeprefix("Rattle.").partition(" as ")
             module, _, name = there.rpartition(".")
-            yield module, name, here or name, bool(public)
+            found.append((module, name, here or name, bool(public)))
         if not group:
-            yield path, None, alias or path.rpartition(".")[2], bool(public)
+            found.append((path, None, alias or path.rpartition(".")[2], bool(public)))
+    return found
 
 
 def parts_of(name):
@@ -80,6 +83,10 @@ class Item:
     def needs(self):
         """The other items that it uses, and the names from outside, with their modules."""
         return [it for it in dict.fromkeys(self.says()) if it is not self]
+
+    @functools.cached_property
+    def items(self):
+        return [it for it in self.needs if isinstance(it, Item)]
 
 
 class Definition(Item):
@@ -107,7 +114,8 @@ class Declared(Item):
     def __init__(self, file, name, kind, start, end, names, around=""):
         super().__init__(file, name, kind, start, end)
         self.text = around + CLAUSE.sub("", re.sub(r"\bghost use [^;]*;", "", file.code[start:end]))
-        self.clauses = [({**file.names, **names}, it[3]) for it in CLAUSE.finditer(file.code, start, end)]
+        found, names = [*CLAUSE.finditer(file.code, start, end)], {**file.names, **names}
+        self.clauses, self.titles = [(names, it[3]) for it in found], [it[2] for it in found]
         self.shown, self.kept, self.public = [], [], True
         if kind == "enum":
             self.text = re.sub(r"([{,]\s*)[A-Z]\w*", r"\1", self.text)
@@ -124,7 +132,7 @@ class File:
         self.items, self.known, self.names = {}, {}, {}
 
     def lines_in(self, start, end):
-        return sum(1 for line in self.code[start:end].split("\n") if line.strip())
+        return sum(map(bool, map(str.strip, self.code[start:end].split("\n"))))
 
     def blocks(self, depth, start, end):
         """The start and the end of each block of lines between two places whose first line has this indent."""
@@ -135,8 +143,8 @@ class File:
     def meant(self, names, token):
         """Returns the item that a token of a term stands for, with these imported names."""
         head, _, rest = token.partition(".")
-        for module, there in (names[name] for name in (head, token) if name in names):
-            return defined(module, there or rest.partition(".")[0])
+        if found := names.get(head) or names.get(token):
+            return defined(found[0], found[1] or rest.partition(".")[0])
         return self.known.get(head)
 
     def said(self, names, text, pattern="", bound=()):
@@ -145,7 +153,7 @@ class File:
         bound = {*bound, *(it for it in binders if it[0].islower() and "." not in it and it not in CONSTRUCTORS)}
         tokens = [token.rstrip(".") or token for token in TOKEN.findall(f"{pattern} {LABEL.sub('', text)}")]
         tokens += [">>="] if "do" in tokens else []
-        free = (token for token in tokens if not {token, token.partition(".")[0]} & bound)
+        free = (token for token in tokens if token not in bound and token.partition(".")[0] not in bound)
         return [it for it in (self.meant(names, token) for token in free) if it], bound
 
 
@@ -328,8 +336,9 @@ def closed(roots, kept=False):
     found = dict.fromkeys(roots)
     rest = list(found)  # which grows during the loop
     for item in rest:
-        for need in [*item.needs, *(item.file.said_in(item.kept) if kept and item.kept else ())]:
-            if isinstance(need, Item) and need not in found:
+        invariant = item.file.said_in(item.kept) if kept and item.kept else ()
+        for need in [*item.items, *(it for it in invariant if isinstance(it, Item))]:
+            if need not in found:
                 found[need] = None
                 rest.append(need)
     return found
