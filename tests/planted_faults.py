@@ -1,7 +1,8 @@
 #!/usr/bin/env python3
 """Plants faults in a copy of the tree; the script that looks for each fault must report it. It also makes each check of
-such a script pass always, one at a time: then a fault must be missed. Usage: tests/planted_faults.py PROGRAM [SCRIPT],
-with planted_faults.txt, whose head explains the rows.
+such a script pass always, one at a time: then a fault must be missed; or of a check whose name stands in each line that
+it prints, a fault must be reported by nothing else. Usage: tests/planted_faults.py PROGRAM [SCRIPT], with
+planted_faults.txt, whose head explains the rows.
 """
 import os
 import pathlib
@@ -26,8 +27,9 @@ def plant(tree, path, old, new):
     return [] if old == "*" or old in text else [f"{path} has no {old}"]
 
 
-def missed(command, faults, check):
-    """The faults that the command does not report in a copy of the tree in which this check always passes."""
+def missed(command, faults, check, named):
+    """The faults that the command does not report in a copy of the tree in which this check always passes; and of
+    these named checks those that no fault needs: each line that reports a fault may have the name."""
     with tempfile.TemporaryDirectory(prefix="false-checks-", dir=f"{TOP}/out") as room:
         tree = f"{room}/tree"
         shutil.copytree(TOP, tree, symlinks=True, ignore=NOT_COPIED, copy_function=os.link)
@@ -35,22 +37,26 @@ def missed(command, faults, check):
         runs = "bash" if command[0].endswith(".sh") else sys.executable
         done = ran("timeout", "1200", runs, *command, cwd=tree)
     lost += [message for *_, message in faults if message not in done.stdout]
+    told = [[line for line in done.stdout.split("\n") if message in line] for *_, message in faults]
+    lost += [name for name in named if not any(lines and all(name in it for it in lines) for lines in told)]
     return lost if done.returncode else [*lost, "status 0"]
 
 
 def tries(program, only):
-    """The command of each section, its faults, and one check that passes always, or none, with a name."""
+    """The command of each section, its faults, and one check that passes always, or all named ones, with a name."""
     for head, rows in table_of("tests/planted_faults.txt"):
         script, needed, words = re.fullmatch(r"(\S+)(?: if ([\w+]+))?(.*)", head).groups()
         tools = [it for it in (needed or "").split("+") if it and (it != "root" or os.geteuid() != 0)]
         if only in head and not left_out(*tools):
             command = [script, *words.replace("PROGRAM", program).split()]
             faults = [[cell.replace("\\n", "\n") for cell in row] for row in rows if len(row) == 4]
-            yield f"{head}: faults", command, faults, []
+            places = ((text_of(row[0]), row[1]) for row in rows if len(row) == 2)
+            named = [at[1] for text, pattern in places for at in re.finditer(pattern, text, re.M)]
+            yield f"{head}: faults", command, faults, [], named
             for path, old, new in (row for row in rows if len(row) == 3):
                 for at in re.finditer(old, text_of(path), re.M):
                     check = [(path, at[0], at.expand(new))]
-                    yield f"{head}, where {at[0].strip()} passes always", command, faults, check
+                    yield f"{head}, where {at[0].strip()} passes always", command, faults, check, []
 
 
 def main(words):
@@ -62,9 +68,9 @@ def main(words):
     every = list(tries(os.path.realpath(program), "".join(words[1:])))
     with ThreadPoolExecutor(processors()) as pool:
         found = list(pool.map(lambda it: missed(*it[1:]), every))
-    wrong = [f"{name}: missed: {lost}" for (name, _, _, check), lost in zip(every, found) if bool(check) != bool(lost)]
-    faults = sum(len(faults) for _, _, faults, check in every if not check)
-    checks = sum(bool(check) for *_, check in every)
+    wrong = [f"{name}: missed: {lost}" for (name, *_, check, _), lost in zip(every, found) if bool(check) != bool(lost)]
+    faults = sum(len(faults) for _, _, faults, check, _ in every if not check)
+    checks = sum(bool(check) + len(named) for *_, check, named in every)
     return status_of(wrong, faults and checks, f"{faults} faults and {checks} false checks, {len(wrong)} not seen")
 
 

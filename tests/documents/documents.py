@@ -453,7 +453,7 @@ def main():
     if sys.argv[1:] == ["numbers"]:
         return write_numbers()
     checks = [it for it in globals().values() if inspect.isgeneratorfunction(it) and not it.__code__.co_argcount]
-    differences = [difference for check in checks for difference in check()] + UNREAD
+    differences = [f"{check.__name__}: {difference}" for check in checks for difference in check()] + UNREAD
     count, others = len(rows_of_rules()), len([*pins(PINS)]) - len(rows_of_rules())
     well = f"{count} rows of docs/PROTOCOL.md are read back, and {others} other texts"
     return well_or(differences, f"{well}; the documents agree with the tree")

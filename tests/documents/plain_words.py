@@ -27,7 +27,7 @@ def prose(name, text):
     """The prose of a text in the same lines, with CODE for code."""
     for place, new, pattern in TABLE["prose"]:
         if re.search(place, name):
-            text = re.sub(pattern, lambda found: in_lines(found.expand(new), found[0]), text)
+            text = re.sub(pattern, lambda it: in_lines(new or "".join(filter(None, it.groups())), it[0]), text)
     return text
 
 

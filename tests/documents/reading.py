@@ -342,7 +342,8 @@ def main(arguments):
         for path, text in texts.items():
             write(f"{TOP}/{path}", text)
     else:
-        PROBLEMS.extend([*compare(texts), *rooms(), *unheld(), *unrefused(), *unused_or_gone()])
+        checks = (compare, texts), (rooms,), (unheld,), (unrefused,), (unused_or_gone,)
+        PROBLEMS.extend(f"{check.__name__}: {it}" for check, *given in checks for it in check(*given))
     crates = len(re.findall(r"(?m)^\w+$", texts[SIGNATURES]))
     return well_or(PROBLEMS, f"{told}\n{SCRIPT}: {crates} crates in {SIGNATURES} agree with the tree")
 

@@ -14,8 +14,8 @@ import tempfile
 
 sys.path[:0] = [os.path.dirname(__file__) + "/..", os.path.dirname(__file__) + "/../../man"]
 import tables
-from tree import TOOLS, TOP, device, files, free_port, left_out, plain, put_tools, ran, same, says, shown, table_of
-from tree import text_of, verdict, write
+from tree import TOOLS, TOP, WRONG, device, files, free_port, left_out, plain, put_tools, ran, same, says, shown
+from tree import table_of, text_of, verdict, write
 from bacsite import points
 from bacsite.streams import Failure
 
@@ -235,7 +235,9 @@ def main(names):
     with device(program=[PROGRAM]) as (_, port):
         SETTINGS["DEV"] = f"127.0.0.1:{port}"
         for name in names or parts:
+            count = len(WRONG)
             parts[name]()
+            WRONG[count:] = [f"{name}: {it}" for it in WRONG[count:]]
     return verdict("texts of pages, documents and the help say what is so")
 
 
