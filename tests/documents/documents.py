@@ -354,9 +354,9 @@ def rows_of_rules():
 
 
 def rows_are_read_back():
-    """Each row of the rules is named in pins.txt, once, by its first cells, with a text of the worked row or example
-    that would fail if the row were wrong in the definition and the code. The text also has each number of three digits
-    or more, or a number next to it, in decimal or as octets."""
+    """Each row of the rules is named in pins.txt, once, by its first cells, and each item of a list by a text in it,
+    with a text of the worked row or example that would fail if the row were wrong in the definition and the code. The
+    text also has each number of three digits or more, or a number next to it, in decimal or as octets."""
     rows, named, parts = rows_of_rules(), set(), sections("docs/PROTOCOL.md")
     for heading, key, places in pins(PINS):
         key, arrow, said = key.partition(" => ")
@@ -381,6 +381,10 @@ def rows_are_read_back():
     for heading, row in rows:
         if (heading, row) not in named:
             yield f"{heading}: nothing in pins.txt reads this row back: {row[:100]}"
+    for heading, section in parts.items():
+        for item in map(on_one_line, re.findall(r"(?m)^(?:-|\d+\.) (.*(?:\n  +.*)*)", section)):
+            if not any(key in item for it, key in named if it == heading):
+                yield f"{heading}: nothing in pins.txt reads back a text of the item: {item[:100]}"
 
 
 def numbers_between_words(document):
@@ -434,17 +438,24 @@ def write_numbers():
 
 
 def links():
-    """Links lead to files that a package has."""
+    """Links lead to files that a package has, and each has a word of the place, or is one of patterns.txt."""
     documents = files("*.md", "docs/**/*.md")
     there = {"LICENSE", *documents, *glob.glob("docs/*.png"), *glob.glob("examples/*")}
     anchor_of = lambda head: re.sub(r"[^\w\- ]", "", head.lower()).replace(" ", "-")
+    words = lambda it: {*re.findall(r"\b[a-z]{4}", it.lower())}
+    others, said = {*map(tuple, PATTERNS["links in other words"])}, set()
     for file in documents:
-        for link in re.findall(r"\]\(([^)\s]+)\)", prose(file)):
+        for text, link in re.findall(r"\[([^][]+)\]\(([^)\s]+)\)", prose(file)):
             path, _, anchor = link.partition("#")
             target = os.path.normpath(os.path.join(os.path.dirname(file), path)) if path else file
             anchors = {"", *map(anchor_of, sections(target) if target in documents else ())}
             if "://" not in link and (target not in there or anchor not in anchors):
                 yield f"{file}: {link} leads nowhere"
+            said.add((on_one_line(text), link))
+            is_known = target.startswith("docs/reading/") or (on_one_line(text), link) in others
+            if not words(text) & words(link) and not is_known:
+                yield f"{file}: [{text}] has no word of {link}"
+    yield from (f"patterns.txt: no document has the link {text} | {link}" for text, link in sorted(others - said))
 
 
 def main():
