@@ -21,7 +21,7 @@ import tree
 from program.rows import LETTERS
 from sources import OF_PROGRAM, PATTERNS, code_of
 from tree import TOP, all_crates, plain, ran, sections_of, table_of, well_or, write
-from weak_tests import asserted, cases, walked, weak, within
+from weak_tests import asserted, cases, walked, weak
 
 text_of, files = map(functools.lru_cache(maxsize=None), (tree.text_of, tree.files))  # each is read once
 SOURCES = ["crates/*/src/**/*.rt", "crates/*/specs/**/*.antt", "crates/*/proofs/**/*.antt"]
@@ -30,8 +30,6 @@ PATHS, COUNTED, LISTED, NUMBERS_AND_CODES = (re.compile(pattern) for _, pattern 
 OF_OTHERS = "rt |rattle |man |bacsite |crontab|system"  # how commands begin that no file of the tree has
 NUMBERS, PINS = "tests/documents/numbers.txt", "tests/documents/pins.txt"
 UNREAD = []  # the files of Python that it cannot read
-JUDGED = ast.Call, ast.Compare, ast.Attribute, ast.FunctionDef, ast.For, ast.comprehension, ast.BoolOp
-TESTED = ast.If, ast.IfExp, ast.Assert, ast.While
 
 
 @functools.lru_cache(maxsize=None)
@@ -189,35 +187,8 @@ def counts_are_told():
 def compared_with_itself():
     """No test compares a thing with itself or with several others, tests a constant, loops over an empty list that it
     writes, asserts nothing, or is always left out; and none is weak (weak_tests.py)."""
-    for file in filter(nodes_of, files("tests/**/*.py", "bench/*.py")):
-        for node in filter(is_vacuous, (it for it in nodes_of(file) if isinstance(it, JUDGED + TESTED))):
-            line = getattr(node, "lineno", 0) or node.iter.lineno
-            yield f"{file}:{line}: it compares a thing with itself, or nothing"
+    for file in files("tests/**/*.py", "bench/*.py"):
         yield from (f"{file}:{line}: {why}" for line, why in weak(nodes_of(file)))
-
-
-def is_vacuous(node):
-    """Whether the result of a test in Python is known, whatever the code does."""
-    name = getattr(getattr(node, "func", None), "attr", getattr(getattr(node, "func", None), "id", ""))
-    sides = node.args[1:3] if name in ("same", "alike") else node.args[:2] if name[:6] == "assert" else []
-    sides = [node.left, *node.comparators] if isinstance(node, ast.Compare) else sides
-    if len(sides) == 2 and len({*map(ast.dump, sides)}) == 1:
-        return True
-    if isinstance(node, ast.Attribute):
-        return node.attr in ("skip", "expectedFailure")
-    if name == "assertIn" and isinstance(sides[1], (ast.Tuple, ast.List, ast.Set)):  # several things would do
-        return True
-    if name in ("assertTrue", "assertFalse") and len(sides) == 2:  # the second is what is told, and no other thing
-        return not isinstance(sides[1], ast.Constant) and ast.dump(sides[1]) not in ast.dump(sides[0])
-    if isinstance(node, ast.FunctionDef) and node.name.startswith("test_"):
-        called = (getattr(getattr(it, "func", None), "attr", "") for it in within(node))
-        return not any(it == "rows" or it.startswith("assert") for it in called)
-    if isinstance(node, (ast.For, ast.comprehension)):
-        return isinstance(node.iter, (ast.List, ast.Tuple)) and not node.iter.elts
-    if isinstance(node, ast.BoolOp):
-        return any(isinstance(getattr(it, "value", None), bool) for it in node.values)
-    known = getattr(node, "test", sides[0] if len(sides) == 1 else None)
-    return isinstance(known, ast.Constant) and not isinstance(node, ast.While)
 
 
 def what_must_not_be_there():
@@ -426,6 +397,24 @@ def numbers_stand_twice():
     for document, alone in numbers_in_one_place(NUMBERS):
         lost = sorted(alone ^ listed[document])
         yield from (f"{document}: `{it}` stands there or in {NUMBERS} alone" for it in lost)
+
+
+def rows_of_tables():
+    """What a table says of a tool, a command or an option has more words of its page than of another one's."""
+    told, words = {}, lambda text: {*re.findall(r"\b[a-z]{3,5}", text.lower())} - WORDS["in most texts"]
+    entries = r"(?m)^\.(?:Nm (.*)\n\.Nd (.*)|(?:Ss|It Fl) (?:Fl )?([a-z-]+).*\n((?:(?!\.It|\.El|\.Bd|\.\\).*\n)*))"
+    for tool, said, name, text in re.findall(entries, "".join(map(text_of, files("man/bac*.1")))):
+        for key in (tool or name, f"bacsite {name}", f"--{name}"):
+            told[key] = told.get(key, set()) | words(said + text)
+    for document in ("README.md", "docs/GUIDE.md"):
+        for table in re.findall(r"(?m)(?:^\|.*\n)+", text_of(document)):
+            rows = ([*row.values()][:2] for row in tables(table))
+            names = lambda it: {*re.findall(r"`((?:bacsite )?[a-z-]+)", it)} & {*told}
+            named = [(names(it), what) for it, what in rows if it[:1] == "`"]
+            for mine, what in named:
+                fits = {it: len(words(what) & told[it]) for others, _ in named for it in others}
+                if mine and max(fits[it] for it in mine) < max(fits.values()):
+                    yield f"{document}: not of {min(mine)}: {what}"
 
 
 def write_numbers():

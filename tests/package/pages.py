@@ -33,7 +33,6 @@ TITLES = [*dict(HELP["Wireshark"]), "Types of a value"]
 NUMBERS = {f"{title.split()[0]} {row[1]}": row[0] for title in TITLES for row in SECTIONS[title]}
 COUNTS = "no one two three four five six seven eight nine ten eleven twelve".split()
 PAGES = ["README.md", "SECURITY.md", "docs/GUIDE.md", "docs/PROTOCOL.md", "docs/LIMITS.md", *files(f"{TOP}/man/*.[17]")]
-COMMON = {*"the and for that with are its one each this not from all".split()}
 NO_ADDRESSES = ["0.0.0.0", "192.0.2.1/5"]  # which every tool refuses, and which a line `who` alone may have
 OTHER_OPTIONS = ["--collector", "--dadr", "--dnet", "--now"]  # of systemctl, node_exporter and bacnet-stack
 
@@ -228,24 +227,9 @@ def addresses_and_options():
             same(f"{page}: {option} {value}", value in (choices.get(option) or [value]), True)
 
 
-def rows_of_tables():
-    """What a table says of a tool, a command or an option has more words of its help than of another one's."""
-    told, words = {}, lambda text: {*re.findall(r"\b[a-z]{3,5}", text.lower())} - COMMON
-    for of, (name, text, options) in ((it, tool) for it, tools in tables.programs(PROGRAM) for tool in tools):
-        texts = [(name, text), (f"{of[0]} {name}", text), *((it, word.text) for word in options for it in word.names)]
-        for key, said in texts:
-            told[key] = told.get(key, set()) | words(said)
-    for page, table in ((it, table) for it in PAGES[:3] for table in re.findall(r"(?m)(?:^\|.*\n)+", text_of(it))):
-        rows = re.findall(r"(?m)^\| (`[^|]*`) \| ([^|]*) \|", table)
-        names = {row: {*re.findall(r"`((?:bacsite )?[a-z-]+)", row[0])} & {*told} for row in rows}
-        for row in (row for row in rows if names[row]):
-            fits = {name: len(words(row[1]) & told[name]) for of in names.values() for name in of}
-            same(f"{page}: {row[1]}", max(fits[it] for it in names[row]), max(fits.values()))
-
-
 def main(names):
     every = made_pages, lists, facts, properties, examples, tools_of_readme, examples_of_help, numbers_of_help
-    every += numbers_of_tags, addresses_and_options, rows_of_tables, wireshark
+    every += numbers_of_tags, addresses_and_options, wireshark
     parts = {it.__name__: it for it in every}
     put_tools(PROGRAM, ROOM.name)
     with device(program=[PROGRAM]) as (_, port):

@@ -1,6 +1,6 @@
-"""Weak assertions of tests in Python: an expected value that is made of the found one, a pattern or a text that almost
-anything contains, a part of what is to be compared, a length of zero or more, a long time, and a failure that is
-swallowed."""
+"""Weak assertions of tests in Python: a thing that is compared with itself or with several others, a constant, a loop
+over an empty list, an expected value that is made of the found one, a pattern or a text that almost anything contains,
+a part of what is to be compared, a length of zero or more, a long time, and a failure that is swallowed."""
 import ast
 import re
 
@@ -8,6 +8,9 @@ FEWEST = {"assertRegex": 3, "assertNotRegex": 3, "assertIn": 2, "assertNotIn": 2
 SHOWS_LITTLE = ("sorted", "set", "len", "setdefault")  # what these make of the found value may be expected
 ANYTHING = {"Exception", "BaseException"}
 LONGEST = 25  # seconds that a test may allow
+# The nodes of which the result may be known, whatever the code does.
+JUDGED = ast.Call, ast.Compare, ast.Attribute, ast.FunctionDef, ast.For, ast.comprehension, ast.BoolOp
+TESTED = ast.If, ast.IfExp, ast.Assert, ast.While
 PARTS = {"len", "sorted", "set", "bool", "str", "type", "strip", "lower", "upper", "split"}
 
 
@@ -115,9 +118,35 @@ def is_length(node):
     return len(sides) == 2 and name_of(sides[0]) == "len" and getattr(sides[1], "value", 1) == 0
 
 
+def is_vacuous(node):
+    """Whether the result of a test in Python is known, whatever the code does."""
+    name = getattr(getattr(node, "func", None), "attr", getattr(getattr(node, "func", None), "id", ""))
+    sides = node.args[1:3] if name in ("same", "alike") else node.args[:2] if name[:6] == "assert" else []
+    sides = [node.left, *node.comparators] if isinstance(node, ast.Compare) else sides
+    if len(sides) == 2 and len({*map(ast.dump, sides)}) == 1:
+        return True
+    if isinstance(node, ast.Attribute):
+        return node.attr in ("skip", "expectedFailure")
+    if name == "assertIn" and isinstance(sides[1], (ast.Tuple, ast.List, ast.Set)):  # several things would do
+        return True
+    if name in ("assertTrue", "assertFalse") and len(sides) == 2:  # the second is what is told, and no other thing
+        return not isinstance(sides[1], ast.Constant) and ast.dump(sides[1]) not in ast.dump(sides[0])
+    if isinstance(node, ast.FunctionDef) and node.name.startswith("test_"):
+        called = (getattr(getattr(it, "func", None), "attr", "") for it in within(node))
+        return not any(it == "rows" or it.startswith("assert") for it in called)
+    if isinstance(node, (ast.For, ast.comprehension)):
+        return isinstance(node.iter, (ast.List, ast.Tuple)) and not node.iter.elts
+    if isinstance(node, ast.BoolOp):
+        return any(isinstance(getattr(it, "value", None), bool) for it in node.values)
+    known = getattr(node, "test", sides[0] if len(sides) == 1 else None)
+    return isinstance(known, ast.Constant) and not isinstance(node, ast.While)
+
+
 def weak(nodes):
     """Yields the line of each weak assertion among the nodes of a test, and why it is weak."""
     calls = [it for it in nodes if isinstance(it, ast.Call)]
+    for node in (it for it in nodes if isinstance(it, JUDGED + TESTED) and is_vacuous(it)):
+        yield getattr(node, "lineno", 0) or node.iter.lineno, "it compares a thing with itself, or nothing"
     for handler in (it for it in nodes if isinstance(it, ast.ExceptHandler)):
         is_any = handler.type is None or getattr(handler.type, "id", "") in ANYTHING
         if is_any and not isinstance(handler.body[-1], ast.Raise):
