@@ -6,25 +6,10 @@ that the mutant has too needs no such try: if it were never taken, the mutant wo
 import collections
 import re
 
-TOKEN = re.compile(
-    r"""\"(?:[^\"\\]|\\.)*\" | b?'(?:[^'\\]|\\.)' | '\w+ | \w+!?(?!=) | \w+
-    | <<= | >>= | << | >> | && | \|\| | [=!<>]= | => | -> | :: | \.\.=? | [-+*/%^&|]= | \S""",
-    re.VERBOSE,
-)
-# Calls and arithmetic that change nothing.
-NEUTRAL = re.compile(
-    r"""\ (?: \.\ (?:max|(?:wrapping|saturating)_(?:add|sub))\ \(\ 0\ \) | \.\ min\ \(\ \w+\ ::\ MAX\ \)
-    | [-+|^]\ 0 | [*/]\ 1 | \[\ (?:0\ )?\.\.\ \] | (?<=[({=;,]\ )(?:0\ [+|^]|1\ \*) )(?=\ )""",
-    re.VERBOSE,
-)
-NAME = r"(?:_|(?:mut )?(?!true |false )[a-z]\w*)"
-ONE_ARM = re.compile(rf" match ([^{{}}]*) (\{{) ({NAME}|\( (?:{NAME} ,? ?)*\)) => ")
-PARTS = re.compile(rf" let (\() (?:{NAME} ,? ?)*\) = (\() ")
-# Methods about which the prover knows equally little.
-METHODS = re.compile(
-    r"(?:checked_|wrapping_|saturating_|overflowing_)?(?:pow|rem_euclid|div_euclid|rem|div|shl|shr|ilog\w*|isqrt|abs_diff)"
-    r"|count_(?:ones|zeros)|(?:leading|trailing)_(?:ones|zeros)|rotate_\w+|swap_bytes|reverse_bits|is_power_of_two"
-)
+from tree import table_of
+
+PATTERNS = {head: [re.compile(it) for _, it in rows] for head, rows in table_of("tests/bodies/patterns.txt")}
+TOKEN, NEUTRAL, ONE_ARM, PARTS, METHODS = PATTERNS["controls.py"]
 NO_WORDS = "match let mut ref return if else true false _ self".split()
 EMPTY = "unreachable!()"
 

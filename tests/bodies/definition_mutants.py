@@ -15,13 +15,12 @@ from concurrent.futures import ThreadPoolExecutor
 
 sys.path.insert(0, sys.path[0] + "/..")
 from tree import TOP, copy_crate, processors, status_of, text_of, write
+from controls import PATTERNS
 from edits import entries_in
 from mutants import TOGETHER, command, said_of
 from stubs import put_stubs
 
-BY = re.compile(r"(?m)^(by|error): (.*)$")
-ERROR = re.compile(r"(?m)^(?:\./)?(\S+): error")
-PAIR = re.compile(r"(?m)^file: (.*)\nold: (.*)\nnew: (.*)$")
+BY, ERROR, PAIR = PATTERNS["definition_mutants.py"]
 
 
 def pairs_of(text):

@@ -13,11 +13,8 @@ import controls
 from tree import TOP as ROOT
 
 text_of = functools.cache(tree.text_of)
-HEAD = re.compile(r"( *)(?:pub(?:\([^)]*\))? )?(?:const |unsafe )*fn (\w+)")
-IMPL = re.compile(r"impl(?:<.*?>)? (?:(?:\w+::)*(\w+)(<.*>)? for )?(?:\w+::)*(\w+)")
-CLAUSE = re.compile(r" *(requires|ensures)\*?(?: (\w+))? \{")
+HEAD, IMPL, CLAUSE, LEMMAS, GHOSTS, METHOD, BRINGS = controls.PATTERNS["edits.py"]
 ANSWERS = ("Proof.antt", "Invariants.antt", "Answers.antt")
-LEMMAS = re.compile(r"(?m)^ *#\[tactic\(.*\b(?:using|unfolding)\(")  # which the searches of a `goal:` do not have
 INVARIANT = "invariant"  # in a line `clause:`: the body is refused by no clause but by this
 
 
@@ -193,10 +190,6 @@ def must_fail(entry):
 WRONG, CONTROL, EMPTIED, GHOST = "", "control", "emptied control", "ghost clause alone"
 REFUTED, RIGHT_REFUTED, NEVER, UNMET = "refuted", "right one refuted", "never called", "right one never called"
 OF_VALUES = REFUTED, RIGHT_REFUTED, NEVER, UNMET  # those of an `at:`
-GHOSTS = re.compile(r"ghost .*?; (?=fn )")  # of an `impl`
-METHOD = re.compile(r"\bimpl(?:<[^<>]*>)? (\w+) for (\w+).*?\bfn (\w+)")  # added to a type
-# About the effects of these, the prover knows only what an invariant or a contract says, if there is one.
-BRINGS = re.compile(r"\b(for|while|loop|fn|impl)\b|(?:[(,={]|\bmove|\breturn)\s*\|[\w\s,&*()_:]*\|")
 # How a body is refused, or that it is proved; and how it is shown to be wrong.
 KINDS = ["clause", "safety", "step", PROVED := "PROVED", "bad"]
 BY_VALUES, BY_PROOF, BY_CONTROL = SHOWN = ["by values", "by a proof", "by a control"]

@@ -40,11 +40,7 @@ from tree import write
 CHECK_MEMORY = 3000000000  # octets of memory that a check takes
 SAMPLE = 5
 LARGEST, TOGETHER = 320, 6  # bodies of a round, and copies of a crate in a check
-# What a check prints about a goal, an answer, a function, and a text that is not a program.
-NOTE = re.compile(r"note: src/\S+ .*not proved.*?\(`(\S+)`\)(.*)")
-ANSWER = re.compile(r"(?:\./)?proofs/(\S+)/\w+\.antt:\d+:\d+: error: (?:`(\S+)`: )?(.*)")
-VERDICT = re.compile(r"fn (\S+): (proved|not proved|no proof|could not tell)(.*)")
-REFUSED = re.compile(r"(?m)^(?:\./)?(src/\S+?):(\d+):\d+: error.*")
+NOTE, ANSWER, VERDICT, REFUSED = controls.PATTERNS["mutants.py"]
 
 
 def rows_of(said, crate):
