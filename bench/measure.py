@@ -1,13 +1,7 @@
 #!/usr/bin/env python3
-"""Measures the built program as docs/SPEED.md shows it. Usage: bench/measure.py [--write] [PART ..]: these parts, or
-all; with --write the results are written there.
-
-    network       over 127.0.0.1: bacdev beside a bare echo server, and memory
-    runs          over 127.0.0.1: reads by one bacrun beside a bare client, and beside a process of bacrp each
-    instructions  by callgrind, where valgrind is installed: the same numbers whatever else is at work
-    calls         the benchmarks of this folder, files .rattle, which are proved first: some minutes
-
-BACTOOL names a program other than the repository's own, and ROUNDS how often two servers are compared.
+"""Measures the built program as docs/SPEED.md shows it. Usage: bench/measure.py [--write] [PART ..]: these parts of
+boxes.txt, or all; with --write the results are written there. BACTOOL names a program other than the repository's own,
+and ROUNDS how often two servers are compared.
 """
 import os
 import re

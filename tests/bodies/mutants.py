@@ -7,15 +7,9 @@ the same contract, and the same answers if it needs them; a body of a `from` als
 contract. A body that can't be put there is tried in place of its function: one of another method with the contract of a
 trait, or one that may call back. The wrong ones have a round of their own, because their callers would be refused too.
 So have edits of constants and types, which a law refuses, but not their controls. A body that only a callee refuses is
-tried again alone. A check has several rounds. All that no edit touches must be proved. A body is refused by a
-
-    clause  of the function, or its type's invariant; false: there are values at which it does not hold; open: no proof
-            is found; limit: none in time
-    safety  a callee's `requires`, an index, a sum, a cast
-    step    only a loop's invariant that is not kept, or an answer in a proof file that no longer proves its goal
-
-or it is PROVED: it survives. The status is 0 if each body is refused and shown wrong, and each control and each known
-survivor is proved. Bodies that no longer fit the code are all named before any check.
+tried again alone. A check has several rounds. All that no edit touches must be proved. The status is 0 if each body is
+refused and shown wrong, and each control and each known survivor is proved. Bodies that no longer fit the code are all
+named before any check.
 """
 import argparse
 import collections

@@ -168,8 +168,7 @@ def names_of_python(file):
 
 
 def counts_are_told():
-    """TESTS says of each script how much it compares, as counts.txt has it, which also counts the rows of tables that
-    are tried by hand, and the assertions and comparisons of the crates of tests."""
+    """TESTS says of each script how much it compares, as counts.txt has it, whose last section is counted here."""
     told, name, counts = {}, "", dict(table_of("tests/documents/counts.txt"))
     for row in tables(sections("docs/TESTS.md")["What is tried"]):
         for name in names(row["Script"]) or [name]:
@@ -185,8 +184,7 @@ def counts_are_told():
 
 
 def compared_with_itself():
-    """No test compares a thing with itself or with several others, tests a constant, loops over an empty list that it
-    writes, asserts nothing, or is always left out; and none is weak (weak_tests.py)."""
+    """No test in Python is weak (weak_tests.py)."""
     for file in files("tests/**/*.py", "bench/*.py"):
         yield from (f"{file}:{line}: {why}" for line, why in weak(nodes_of(file)))
 
@@ -226,9 +224,7 @@ def names_of_sources():
 
 
 def names_of_documents():
-    """A name in backquotes is one of the sources or of std, or names.txt has it; a law is a function; in "`run`,
-    `notes`" a name may be a clause. A file is in the tree, and so is a folder; and a text of small letters is in a file
-    that is not a document. Commands of other programs and of the toolchain are skipped."""
+    """What a document has in backquotes is there, as the head of names.txt says."""
     known, clauses = names_of_sources()
     every = files(*SOURCES, *WORDS["with texts of documents"])
     texts = "\n".join(map(text_of, sorted({*every} - WORDS["with paths that are missing"])))
@@ -325,9 +321,8 @@ def rows_of_rules():
 
 
 def rows_are_read_back():
-    """Each row of the rules is named in pins.txt, once, by its first cells, and each item of a list by a text in it,
-    with a text of the worked row or example that would fail if the row were wrong in the definition and the code. The
-    text also has each number of three digits or more, or a number next to it, in decimal or as octets."""
+    """Each row and item of the rules is in pins.txt, once. A text there also has each number of three digits or more,
+    or a number next to it, in decimal or as octets."""
     rows, named, parts = rows_of_rules(), set(), sections("docs/PROTOCOL.md")
     for heading, key, places in pins(PINS):
         key, arrow, said = key.partition(" => ")
@@ -359,9 +354,8 @@ def rows_are_read_back():
 
 
 def numbers_between_words(document):
-    """Each number of a document, in digits or as a word, and each word that compares, turns a sentence round or has an
-    opposite, with the word before it and the one after it; and each list of words. The rows of the rules, which are
-    read back elsewhere, are left out. A test in Python has its cases and its limits here."""
+    """What numbers.txt has of a document, except its names. The rows of the rules are left out, because they are read
+    back elsewhere."""
     if document.endswith(".py"):
         return cases(nodes_of(document))
     left_out = r"(?m)^ *\d+\. " + r"|^\|[^\n]*$" * (document == "docs/PROTOCOL.md")

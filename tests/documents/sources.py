@@ -1,10 +1,5 @@
-"""The definitions of the sources, and how definitions, types, traits, constants and calls refer to one another.
-
-A definition of specs/ says its signature, its cases, and the parameters of the module round it. A call says its clauses
-and its signature; a trait the same of its methods, and its ghost members; a type of src/ its fields and what its
-`impl Model` shows, and apart from that what its invariant keeps. A name is what the file defines or brings in; any
-other is a variable, and so is a small one that is bound: before a colon, after a λ or a `let`, in the pattern of a
-case. The layout is rt fmt's. Lines are counted without comments, blank lines and attributes.
+"""The definitions of the sources, and how definitions, types, traits, constants and calls refer to one another, by the
+grammar of patterns.txt. The layout is rt fmt's. Lines are counted without comments, blank lines and attributes.
 """
 import functools
 import re

@@ -11,11 +11,7 @@ sys.path.insert(0, os.path.dirname(__file__) + "/..")
 from tree import TOOLS, TOP, left_out, ran, same, shown, table_of, verdict, write
 
 PROGRAM = os.path.realpath(sys.argv[1])
-SHELLS = {  # how each runs its script, complete.SHELL
-    "bash": ["bash"],
-    "zsh": ["zsh", "-f"],
-    "fish": ["fish", "--no-config"],
-}
+TABLE = dict(table_of("tests/package/completions.txt"))
 
 
 def options(*words):
@@ -27,7 +23,7 @@ def rows():
     site = ["python3", TOP + "/site/bacsite"]
     commands = re.findall(r"(?m)^    ([a-z-]+)(?: .*)?$", shown(*site, "--help"))
     lists = {"TOOLS": TOOLS, "COMMANDS": commands, "TAGS": [str(tag) for tag in range(13)]}
-    for line, words in (row for _, rows in table_of("tests/package/completions.txt") for row in rows):
+    for line, words in TABLE["lines"]:
         yield line, [it for word in words.split() for it in lists.get(word, [word])]
     for tool in TOOLS:
         yield f"{tool} --", options(PROGRAM, tool)
@@ -37,8 +33,8 @@ def rows():
 
 
 def completed(shell, folder, lines):
-    script = f"{TOP}/tests/package/complete.{shell}"
-    parts = re.split(r"(?m)^of (.*)\n", ran(*SHELLS[shell], script, folder, *lines, cwd=folder).stdout)
+    script = [*dict(TABLE["shells"])[shell].split(), f"{TOP}/tests/package/complete.{shell}"]
+    parts = re.split(r"(?m)^of (.*)\n", ran(*script, folder, *lines, cwd=folder).stdout)
     return {line: [*dict.fromkeys(it.split("\t")[0].rstrip("/") for it in told.split("\n") if it)]
             for line, told in zip(parts[1::2], parts[2::2])}
 
@@ -49,7 +45,7 @@ def main():
         ran(TOP + "/completions/make.py", PROGRAM, folder)
         os.mkdir(f"{folder}/empty")
         write(f"{folder}/emptied", "")  # not a folder
-        for shell in SHELLS:
+        for shell, _ in TABLE["shells"]:
             if not left_out(shell):
                 found = completed(shell, folder, wanted)
                 for line, words in wanted.items():

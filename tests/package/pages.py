@@ -31,10 +31,7 @@ HELP = dict(table_of("tests/package/help.txt"))
 SECTIONS = {title: rows[1:] for title, _, _, rows in tables.sections()}
 TITLES = [*dict(HELP["Wireshark"]), "Types of a value"]
 NUMBERS = {f"{title.split()[0]} {row[1]}": row[0] for title in TITLES for row in SECTIONS[title]}
-COUNTS = "no one two three four five six seven eight nine ten eleven twelve".split()
-PAGES = ["README.md", "SECURITY.md", "docs/GUIDE.md", "docs/PROTOCOL.md", "docs/LIMITS.md", *files(f"{TOP}/man/*.[17]")]
-NO_ADDRESSES = ["0.0.0.0", "192.0.2.1/5"]  # which every tool refuses, and which a line `who` alone may have
-OTHER_OPTIONS = ["--collector", "--dadr", "--dnet", "--now"]  # of systemctl, node_exporter and bacnet-stack
+COUNTS, NO_ADDRESSES, OTHER_OPTIONS, PAGES = (words.split() for _, words in HELP["words"])
 
 
 def help_of(*words):
@@ -217,7 +214,7 @@ def addresses_and_options():
     """Addresses of the pages are such, options are those of a tool, and a word after one is one of its choices."""
     words = [word for _, tools in tables.programs(PROGRAM) for *_, words in tools for word in words]
     choices = {name: word.choices for word in words for name in word.names}
-    for page in PAGES:
+    for page in [*PAGES, *files(f"{TOP}/man/*.[17]")]:
         text = re.sub(r"(?ms)^```.*?^```$", "", text_of(page)).replace("\\", "")
         for word in sorted({*re.findall(r"(?<![\w.])(?:\d+\.){3}\d+(?:/\d+/(?:\*|[0-9a-f]+)|/\*|[-/:]\d+)?", text)}):
             same(f"{page}: {word} is an address, or several", is_address(word), word not in NO_ADDRESSES)
