@@ -1,5 +1,4 @@
-# The targets; docs/MAKE.txt, which `make help` prints, says what each does and costs. All but try, check, test, forget,
-# documents and reading build the program first, if it is not as the sources.
+# The targets; docs/MAKE.txt, which `make help` prints, says what each does and costs.
 
 PROGRAM = crates/bactool/out/bactool
 SOURCES := $(shell find crates -name out -prune -o \( -name '*.rt' -o -name '*.antt' \) -print) crates.txt

@@ -1,8 +1,7 @@
 #!/usr/bin/env python3
 """Proves the crates of the program, and builds it. Usage: ./build.py [--tests]
 
-With --tests it runs the tests of the trials, with the kept proofs of the crates below. Those of tool_trials take long
-to prove, and are run without proof by `rt try`, until `rt test` was run there.
+With --tests it runs the tests of the trials, as CONTRIBUTING.md (The gate) says.
 
 Crates that don't depend on one another are proved at the same time, as many as there are processors (as taskset leaves
 them) and memory for. `rt` locks the crate that it works in, and the crates below. So each crate is proved in a folder

@@ -1,8 +1,7 @@
 #!/usr/bin/env python3
 """Makes the completions of bactool and bacsite for bash, zsh and fish, from their help, site/bacsite/numbers.txt, and a
 template for each shell. The template finds the kind of the word at the cursor from the words before it; bash and zsh
-share walk.sh for that. Usage: completions/make.py PROGRAM FOLDER, where PROGRAM is bactool. The folder gets NAME.bash,
-_NAME and NAME.fish for bactool and for bacsite.
+share walk.sh for that. Usage: completions/make.py PROGRAM FOLDER, where PROGRAM is bactool. The folder gets the files.
 """
 import os
 import re

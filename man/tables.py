@@ -1,10 +1,8 @@
 #!/usr/bin/env python3
-"""Makes the generated parts of manual pages. bactool-numbers.7 and docs/NUMBERS.md are made from
-site/bacsite/numbers.txt; the text around the tables is in numbers.page and numbers.text. In the pages of the tools and
-of bacsite, the options of the SYNOPSIS and the entries of each list below the comment `of --help` are made from the
-help, which is what bactool prints, or the parser of bacsite has. The order of the entries stays, and so does the text
-of an entry below its comment `by hand`. A new entry is put at the end of the last list. completions/make.py reads the
-same help. Usage: man/tables.py PROGRAM
+"""Makes the pages of numbers, and the generated parts of the other manual pages: the options of the SYNOPSIS and the
+entries of each list below the comment `of --help` are made from the help, which is what bactool prints, or the parser
+of bacsite has. The order of the entries stays, and so does the text of an entry below its comment `by hand`. A new
+entry is put at the end of the last list. Usage: man/tables.py PROGRAM
 """
 import collections
 import os

@@ -3,8 +3,7 @@
 
 The same sources give the same octets, whichever Python and machine makes them: the parts are in the order of their
 names, with the earliest time and one mode, and are not compressed, since compression depends on the version of zlib.
-With --compiled, which the tests use, each part is also there as this Python compiles it, and a start takes half the
-time.
+With --compiled, which the tests use, each part is also there as this Python compiles it: a start takes half as long.
 """
 import importlib.util
 import marshal

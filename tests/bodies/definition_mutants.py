@@ -5,8 +5,7 @@ names must not be proved, and nothing else may be refused except the answers of 
 the edit, because examples are tried without the code.
 
 Usage: tests/bodies/definition_mutants.py [TREE [PATTERN]]: tries all edits, or those whose names contain the pattern,
-with the libraries of the crates below in this tree, or another, as `make demo` keeps them. Each takes some seconds.
-Several changed definitions of a crate are tried in one check, each in a copy of the crate.
+with the libraries of the crates below in this tree, or another, as `make demo` keeps them; many of a crate at a time.
 """
 import functools
 import re

@@ -1,8 +1,5 @@
 """Replaces the functions of a crate that are not tried: each keeps its contract, and gets a stub as its body.
-
-A caller is proved from the contracts of the functions that it calls. So next to the few functions that are tried no
-other needs its own body, and a stub costs next to nothing: it calls a function that cannot exist, and so never returns.
-`rt ci`, and anyone who builds the crate, proves that the replaced bodies meet their contracts.
+docs/DECISIONS.md (Tests and the gate) says why.
 """
 import os
 import re

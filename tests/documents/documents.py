@@ -1,7 +1,6 @@
 #!/usr/bin/env python3
 """Compares the documents with the tree and with one another, as the docstring of each check says: a function without
-parameters that yields differences. Usage: tests/documents/documents.py [numbers]; it exits with status 1 if there are
-any, and reports them. The word `numbers` has it write numbers.txt again.
+parameters that yields differences. Usage: tests/documents/documents.py [numbers], which writes numbers.txt again.
 """
 import ast
 import collections
@@ -183,14 +182,11 @@ def counts_are_told():
             yield f"{name} has {there} rows, or assertions and comparisons, and counts.txt {numbers}"
 
 
-def compared_with_itself():
-    """No test in Python is weak (weak_tests.py)."""
+def what_must_not_be_there():
+    """Nothing of the tree matches the patterns of what must not be in code, and in texts, but by a group `other`; and
+    no test in Python is weak (weak_tests.py)."""
     for file in files("tests/**/*.py", "bench/*.py"):
         yield from (f"{file}:{line}: {why}" for line, why in weak(nodes_of(file)))
-
-
-def what_must_not_be_there():
-    """Nothing of the tree matches the patterns of what must not be in code, and in texts, but by a group `other`."""
     for section, read in (("not in code", code_of), ("not in a text", text_of)):
         for what, places, pattern in PATTERNS[section]:
             for file in files(*places.split()):
@@ -400,15 +396,14 @@ def rows_of_tables():
     for tool, said, name, text in re.findall(entries, "".join(map(text_of, files("man/bac*.1")))):
         for key in (tool or name, f"bacsite {name}", f"--{name}"):
             told[key] = told.get(key, set()) | words(said + text)
-    for document in ("README.md", "docs/GUIDE.md"):
-        for table in re.findall(r"(?m)(?:^\|.*\n)+", text_of(document)):
-            rows = ([*row.values()][:2] for row in tables(table))
-            names = lambda it: {*re.findall(r"`((?:bacsite )?[a-z-]+)", it)} & {*told}
-            named = [(names(it), what) for it, what in rows if it[:1] == "`"]
-            for mine, what in named:
-                fits = {it: len(words(what) & told[it]) for others, _ in named for it in others}
-                if mine and max(fits[it] for it in mine) < max(fits.values()):
-                    yield f"{document}: not of {min(mine)}: {what}"
+    for table in re.findall(r"(?m)(?:^\|.*\n)+", text_of("README.md") + text_of("docs/GUIDE.md")):
+        rows = ([*row.values()][:2] for row in tables(table))
+        names = lambda it: {*re.findall(r"`((?:bacsite )?[a-z-]+)", it)} & {*told}
+        named = [(names(it), what) for it, what in rows if it[:1] == "`"]
+        for mine, what in named:
+            fits = {it: len(words(what) & told[it]) for others, _ in named for it in others}
+            if mine and max(fits[it] for it in mine) < max(fits.values()):
+                yield f"README.md or docs/GUIDE.md: not of {min(mine)}: {what}"
 
 
 def write_numbers():

@@ -1,9 +1,7 @@
 #!/usr/bin/env python3
-"""Finds the words of words.txt in prose, and names a plainer one for each. Prose is documents without boxes of code,
-manual pages without literal blocks, the texts of the help, and comments and docstrings of code.
-
-Usage: tests/documents/plain_words.py counts them in the tree, and fails if there are more than it allows. With `-` and
-a diff from `git diff -U0` on standard input it prints `file:line: word -> better` for each, and fails if there are any.
+"""Finds the words of words.txt in prose, and names a plainer one for each. Usage: tests/documents/plain_words.py counts
+them in the tree, and fails if there are more than it allows. With `-` and a diff from `git diff -U0` on standard input
+it prints `file:line: word -> better` for each, and fails if there are any.
 """
 import os
 import re

@@ -4,11 +4,9 @@ in whose table a row has a page's file, its title, and the calls whose lists it 
 the crate that is on no page before. And docs/API.txt, the public signatures; and must-fail/ of each crate, whose edits
 are in mutants/ in the form of all mutants.
 
-Usage: tests/documents/reading.py [--write]: compares these files, and the sizes in README.md, with the tree. It reports
-public calls that are on no page, definitions in the wrong folder, definitions of laws and public clauses without an
-example, fields of them (fields.txt) that no example refuses, and imported names that do not exist or are not used; it
-exits with status 1 if there are any. With --write it writes these files anew (make reading), and CHANGELOG.md must name
-a changed signature.
+Usage: tests/documents/reading.py [--write]: compares these files, and the sizes in README.md, with the tree; reports
+what its checks find, as their docstrings say; and exits with status 1 if there is anything. With --write it writes
+these files anew (make reading), and CHANGELOG.md must name a changed signature.
 """
 import collections
 import difflib

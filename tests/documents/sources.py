@@ -79,10 +79,6 @@ class Item:
         """The other items that it uses, and the names from outside, with their modules."""
         return [it for it in dict.fromkeys(self.says()) if it is not self]
 
-    @functools.cached_property
-    def items(self):
-        return [it for it in self.needs if isinstance(it, Item)]
-
 
 class Definition(Item):
     """A definition of specs/: the parameters around it, its head, and its cases, fields or constructors."""
@@ -331,9 +327,8 @@ def closed(roots, kept=False):
     found = dict.fromkeys(roots)
     rest = list(found)  # which grows during the loop
     for item in rest:
-        invariant = item.file.said_in(item.kept) if kept and item.kept else ()
-        for need in [*item.items, *(it for it in invariant if isinstance(it, Item))]:
-            if need not in found:
+        for need in [*item.needs, *(item.file.said_in(item.kept) if kept and item.kept else ())]:
+            if isinstance(need, Item) and need not in found:
                 found[need] = None
                 rest.append(need)
     return found

@@ -1,7 +1,5 @@
 #!/usr/bin/env python3
-"""Asks bash, zsh and fish for the completions of each line of completions.txt, with the files of completions/make.py,
-and compares. It reports which shells are not installed. Usage: tests/package/completions.py PROGRAM
-"""
+"""Asks shells for the completions of the lines of completions.txt. Usage: tests/package/completions.py PROGRAM"""
 import os
 import re
 import sys

@@ -1,8 +1,6 @@
 #!/usr/bin/env python3
-"""Tries make install in a folder of its own: the files that it installs, replaces, keeps, and removes, even if PREFIX
-was copied or moved. Then makes the package and checks it, if there are dpkg-deb, strip, objdump and gzip: its files,
-its control file, what lintian finds. The program takes only known symbols from the C library, if there is nm. All this
-is in the lines of installed.txt. Usage: tests/package/install_and_package.py PROGRAM
+"""Tries make install and the package in a folder of its own, by the lines of installed.txt, whose sections name the
+tools that they need. Usage: tests/package/install_and_package.py PROGRAM
 """
 import os
 import re

@@ -1,8 +1,7 @@
 #!/usr/bin/env python3
 """Compares manual pages, documents and the help with the programs: what lists.txt and facts.txt name is measured, and
-the commands of the pages, of README.md and of the help are run. Wireshark, which has its own list of the standard's
-numbers, is asked for the names of those in site/bacsite/numbers.txt. Usage: tests/package/pages.py PROGRAM [PART ..]; a
-PART is a function that `main` names.
+the commands of the pages, of README.md and of the help are run. Usage: tests/package/pages.py PROGRAM [PART ..]; a PART
+is a function that `main` names.
 """
 import contextlib
 import os
@@ -95,7 +94,8 @@ def numbers_of_tags():
 
 
 def wireshark():
-    """The names of numbers. Units have no field, so Wireshark gets a property 117 with each number."""
+    """The names of numbers are those of Wireshark, which has its own list of the standard's. Units have no field, so it
+    gets a property 117 with each number."""
     if left_out("tshark", "text2pcap"):
         return
     fields = shown("sh", "-c", "tshark -G values 2>/dev/null | grep -a bacapp")
