@@ -224,8 +224,8 @@ def names_of_documents():
     known, clauses = names_of_sources()
     every = files(*SOURCES, *WORDS["with texts of documents"])
     texts = "\n".join(map(text_of, sorted({*every} - WORDS["with paths that are missing"])))
-    there = {os.path.basename(file) for file in files("*", "[!o]*/**", ".ci/*")}
-    folders = {os.path.basename(os.path.dirname(file)) + "/" for file in files("*/**/*")}
+    paths = files("*", "[!oc]*/**", "completions/*", "crates/*/[!o]*/**", ".ci/*")  # without what was built
+    there, folders = {it.split("/")[-1] for it in paths}, {it.split("/")[-2] + "/" for it in paths if "/" in it}
     documents = dict(sections_of("tests/documents/names.txt"))
     lost = sorted({*files("*.md", "docs/*.md")} - {*documents, "CHANGELOG.md"})
     yield from (f"tests/documents/names.txt has no section {it}" for it in lost)
