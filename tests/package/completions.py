@@ -11,11 +11,7 @@ sys.path.insert(0, os.path.dirname(__file__) + "/..")
 from tree import TOOLS, TOP, left_out, ran, same, shown, table_of, verdict, write
 
 PROGRAM = os.path.realpath(sys.argv[1])
-SHELLS = {  # how each runs its script, complete.SHELL
-    "bash": ["bash"],
-    "zsh": ["zsh", "-f"],
-    "fish": ["fish", "--no-config"],
-}
+SHELLS = {"bash": [], "zsh": ["-f"], "fish": ["--no-config"]}  # the words before its script, complete.SHELL
 
 
 def options(*words):
@@ -38,7 +34,7 @@ def rows():
 
 def completed(shell, folder, lines):
     script = f"{TOP}/tests/package/complete.{shell}"
-    parts = re.split(r"(?m)^of (.*)\n", ran(*SHELLS[shell], script, folder, *lines, cwd=folder).stdout)
+    parts = re.split(r"(?m)^of (.*)\n", ran(shell, *SHELLS[shell], script, folder, *lines, cwd=folder).stdout)
     return {line: [*dict.fromkeys(it.split("\t")[0].rstrip("/") for it in told.split("\n") if it)]
             for line, told in zip(parts[1::2], parts[2::2])}
 
