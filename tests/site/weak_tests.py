@@ -8,7 +8,8 @@ FEWEST = {"assertRegex": 3, "assertNotRegex": 3, "assertIn": 2, "assertNotIn": 2
 SHOWS_LITTLE = ("sorted", "set", "len", "setdefault")  # what these make of the found value may be expected
 ANYTHING = {"Exception", "BaseException"}
 LONGEST = 25  # seconds that a test may allow
-PARTS = {"len", "sorted", "set", "bool", "str", "type", "strip", "lower", "upper", "split"}
+PARTS = {"len", "sorted", "set", "bool", "str", "type", "strip", "lower", "upper", "split", "casefold", "replace"}
+PARTS |= {"sub", "rstrip", "lstrip", "splitlines", "abs", "round", "int", "min", "max", "any", "all", "frozenset"}
 
 
 def name_of(call):
@@ -46,7 +47,8 @@ def is_made_of_it(call, given):
 def is_of_parts(call):
     """Whether both sides of an equality are cut in the same way, so that the rest is not compared."""
     sides = call.args[:2] if name_of(call) == "assertEqual" else []
-    slices = {ast.dump(it.slice) for it in sides if isinstance(getattr(it, "slice", None), ast.Slice)}
+    fixed = (ast.Slice, ast.Constant, ast.UnaryOp)  # a part that is the same in each run of a loop
+    slices = {ast.dump(it.slice) for it in sides if isinstance(getattr(it, "slice", None), fixed)}
     cut = len({name_of(it) for it in sides} & PARTS) == len({*map(name_of, sides)}) == 1
     return cut or len(slices) == 1 and all(isinstance(it, ast.Subscript) for it in sides)
 
@@ -121,5 +123,8 @@ def weak(text):
 
 
 def asserted(code):
-    """How many assertions some tests in Rattle have, and how many comparisons."""
-    return f"{len(re.findall('assert(?:_eq)?!', code))} {len(re.findall('==|&&|matches!', code))}"
+    """How many assertions some tests in Rattle have, how many comparisons, and through how many numbers their ranges
+    go."""
+    steps = sum(int(end) - int(start) for start, end in re.findall(r"\b(\d+)\.\.=?(\d+)", code.replace("_", "")))
+    compared = re.findall(r"==|&&|matches!|\bis_\w+\(\)", code)
+    return f"{len(re.findall('assert(?:_eq)?!', code))} {len(compared)} {steps}"
