@@ -176,9 +176,8 @@ def followed(line, opened, count):
 
 def soak_script(dice, lines):
     """Runs one long script through bactrace, with a tick now and then, and follows each request through the output."""
-    # Lines to choose from, except ticks, in their shares. An answer has any invoke id.
     peers = [line.split()[1].split("/")[0] for line in ASKS]
-    chosen = dice.choices(ASKS, k=6000) + ["", "# a comment", "  \t"]
+    chosen = dice.choices(ASKS, k=6000) + ["", "# a comment", "  \t"]  # in their shares; an answer has any invoke id
     chosen += [f"data {dice.choice(peers)} {any_answer(dice, at % 256) or '81'}" for at in range(24000)]
     chosen += [f"ask {dice.choice(peers)} {any_datagram(dice, 47808).hex() or '81'}" for _ in range(6000)]
     counts, opened, asked, now = Counter(), {}, 0, 0
@@ -206,9 +205,6 @@ def soak_script(dice, lines):
     return counts
 
 
-NEVER_SENT = ["127.0.0.1:0", "255.255.255.255:47808"]  # the system refuses to send there
-
-
 def plan(dice):
     """A plan for the peers, as in tests/program/runs.txt: mostly they answer each datagram."""
     for number in itertools.count():
@@ -222,7 +218,7 @@ def plan(dice):
 def soak_runs(dice, count):
     """Runs bacrun over random requests, against two peers that answer, lose, double, hold back and damage what they
     send, and some to which the system refuses to send; each run is checked as tests/program/runs.py does."""
-    peers = [*"ABABABAB", *NEVER_SENT]
+    peers = [*"ABABABAB", "127.0.0.1:0", "255.255.255.255:47808"]  # the system refuses to send to the last two
     asks = ASKS + [f"read P 2 {dice.randrange(17000)} 85" for _ in range(len(ASKS) // 10)]  # bits of many lines
     asks = [re.sub("(?<=[de]) [^/ ]+", f" {peer}", ask, count=1) for ask in asks if len(ask) < 4000 for peer in peers]
     reaches = ["", "/*", "/1", "/65534", "/5/07", "/9/01020304050607"]
@@ -283,8 +279,8 @@ def main(what, count, seed=random.randrange(1 << 32)):
     print(f"seed {seed}", flush=True)
     begun = time.time()
     counts = Counter(globals()[f"soak_{what}"](random.Random(int(seed)), int(count)))
-    if not counts or not int(count):
-        sys.exit(f"{what}: nothing was tried")
+    if not counts or not int(count) or what == "runs" and counts["done"] <= counts["timeout"]:
+        sys.exit(f"{what}: nothing was tried, or few requests were answered")
     print(f"{what}: {count} in {time.time() - begun:.0f} s")
     for kind, number in sorted(counts.items()):
         print(f"{number:9}  {kind}")

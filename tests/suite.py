@@ -80,20 +80,21 @@ def miscounted(part, said):
     found, wanted = counts_in(said), dict(dict(table_of(COUNTS)).get(part.name, []))
     yield from (f"{COUNTS} has nothing of {name}" for name in part.scripts if name not in wanted)
     for name, numbers in wanted.items():
-        came, least = found.get(name, []), [int(it.strip("+")) for it in numbers.split()]
-        is_more = "+" in numbers and len(came) == len(least) and all(at >= it for at, it in zip(came, least))
+        came, least = found.get(name, []), numbers.split()
+        fits = [at == int(it.strip("+")) or "+" in it and at > int(it[:-1]) for at, it in zip(came, least)]
         skipped = name not in found and re.search(rf"(?m)^{re.escape(name)}: ", said)
-        if came != least and not is_more and not skipped:
+        if not (all(fits) and len(came) == len(least) or skipped):
             yield f"{name} counted {came}, and {COUNTS} has {numbers}; `tests/suite.py counts` writes it anew"
 
 
 def counts():
-    """Writes counts.txt again. A line with `+` keeps the `+`, and the section of a part without a log stays."""
-    text = text_of(COUNTS).partition("\n= ")[0] + "\n"
+    """Writes counts.txt again. A number with `+` keeps the `+`, and the section of a part without a log stays."""
+    text = text_of(COUNTS).partition("\n= ")[0]
     for part, rows in table_of(COUNTS):
         log, old = log_of(part), dict(rows)
         found = counts_in(text_of(log)) if os.path.exists(log) else {}
-        told = {name: " ".join(f"{it}{'+' * ('+' in old.get(name, ''))}" for it in found[name]) for name in found}
+        was = {name: old.get(name, "").split() + [""] * 9 for name in found}
+        told = {name: " ".join(f"{it}{'+' * ('+' in at)}" for it, at in zip(found[name], was[name])) for name in found}
         text += f"\n= {part}\n" + "".join(f"{name} | {it}\n" for name, it in {**old, **told}.items())
     write(COUNTS, text)
     return 0
@@ -138,6 +139,8 @@ def tell(part, said, is_lost):
     passed, _ = RESULTS[part.name] = max(sum(tried) - failed, 0), failed
     LEFT_OUT.extend(it for it in said.splitlines() if re.search(r"(?<!none )left out", it))
     MISCOUNTED.extend(miscounted(part, said) if not failed else [])
+    missing = " ".join(re.findall(r"([\w, -]+)(?:: | is )not installed, left out", said)).replace(",", "").split()
+    MISCOUNTED.extend(f"{part.name}: {it} is installed, and was left out" for it in missing if shutil.which(it))
     SHOWN.extend(re.findall(r"\d+ mutants: .*?(?=; \d+ of .* failed$)", said, re.M))
     if failed:
         print("".join(f"    {line}\n" for line in said.splitlines()[-40:]), end="")

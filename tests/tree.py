@@ -86,6 +86,11 @@ def same(what, one, other):
         WRONG.append(f"{what}: {one!r}, not {other!r}"[:600])
 
 
+def is_like(text, wanted):
+    """Returns whether the whole text is the wanted one, in which `..` is any text."""
+    return bool(re.fullmatch(re.escape(wanted).replace(r"\.\.", ".*"), text, re.S))
+
+
 def follow(rows, values, **how):
     """Runs rows: a line of the shell, its status, and all that it prints; `..` is any text, a name its value."""
     for line, status, text in rows:
@@ -93,8 +98,7 @@ def follow(rows, values, **how):
         for name, value in values.items():
             text = text.replace(name, value)
         same(f"status of {line} ({done.stdout.strip()[-200:]})", done.returncode, int(status))
-        is_so = re.fullmatch(re.escape(text).replace(r"\.\.", ".*"), done.stdout, re.S)
-        same(f"{line} prints {done.stdout[-200:]}, for {text}", bool(is_so), True)
+        same(f"{line} prints {done.stdout[-200:]}, for {text}", is_like(done.stdout, text), True)
 
 
 def plain(text):
@@ -180,15 +184,14 @@ class Job(contextlib.AbstractContextManager):
     def has_ended(self):
         return self.process.poll() is not None
 
-    def __exit__(self, *_):
-        self.stop()
-
-    def stop(self):
+    def stop(self, *_):
         """Ends the processes of the group that are still there."""
         for number in (signal.SIGTERM, signal.SIGKILL):
             with contextlib.suppress(ProcessLookupError, subprocess.TimeoutExpired):
                 os.killpg(self.process.pid, number)
                 self.process.wait(30)
+
+    __exit__ = stop
 
 
 def end_by_signals(main):
@@ -222,8 +225,9 @@ def framed(apdu, network=b"\x01\x00"):
     return b"\x81\x0a" + (4 + len(network + apdu)).to_bytes(2, "big") + network + apdu
 
 
-def free_port(first=47808):
-    """Returns the first UDP port from here that no socket has; until this process ends no other call returns it."""
+def free_port(first=20000):
+    """Returns the first UDP port from here that no socket has; until this process ends no other call returns it. From
+    20000 on there are ports that Linux gives to no socket by itself."""
     for port in range(first, 65536):
         lock = open(f"{tempfile.gettempdir()}/bactool-port-{port}-{os.getuid()}", "a", encoding="utf-8")
         with contextlib.suppress(BlockingIOError):
@@ -265,6 +269,6 @@ def free_memory():
 
 
 if __name__ == "__main__":
-    PORT = str(free_port())
+    PORT = str(free_port(47808))
     os.set_inheritable(HELD[0].fileno(), True)  # it is held until the command has ended
     os.execvp(sys.argv[1], [*sys.argv[1:], PORT])

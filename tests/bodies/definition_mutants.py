@@ -59,8 +59,7 @@ def fault_of(crate, text, said):
 def faults_of(over, crate, entries):
     copies = [(functools.partial(put, crate, it.text), [example_of(it.text) or "nothing"]) for it in entries]
     said = said_of(command(crate, over), copies)
-    found = [(it.name, fault_of(crate, it.text, its)) for it, its in zip(entries, said)]
-    return [f"{name}: {fault}" for name, fault in found if fault]
+    return [f"{it.name}: {fault}" for it, its in zip(entries, said) if (fault := fault_of(crate, it.text, its))]
 
 
 def main(over=TOP, pattern=""):
@@ -76,4 +75,5 @@ def main(over=TOP, pattern=""):
     return status_of(bad, tried, f"{len(tried)} drops, calls or definitions, {len(bad)} not refused")
 
 
-sys.exit(main(*sys.argv[1:]))
+if __name__ == "__main__":
+    sys.exit(main(*sys.argv[1:]))

@@ -10,8 +10,9 @@ import sys
 
 sys.path.insert(0, sys.path[0] + "/..")
 import controls
-from edits import BY_PROOF, CONTROL, OF_VALUES, PROVED, REFUSED_ONLY, REFUTED, Body, entries_in
-from mutants import Bodies, try_all, with_controls
+import definition_mutants
+from edits import BY_CONTROL, BY_PROOF, CONTROL, EMPTIED, PROVED, REFUTED, Body, entries_in
+from mutants import Bodies, failed_of, try_all, with_controls
 from tree import status_of, table_of
 
 CRATE = "bac_wire"
@@ -27,15 +28,16 @@ def outcome(body):
     return "its control is not tried" if control and control.kind == "bad" else body.told()
 
 
-def faults_of_proofs(body):
-    """Yields faults in the judgement of a body with an `at:`: a proof shows it wrong, but not if there also is a proof
-    that no such arguments exist. Such proofs mostly come together, so here each outcome is set by hand."""
-    for proved in (*({REFUTED, it} for it in OF_VALUES), set()):
-        for part in OF_VALUES:
-            body.beside[part].kind = PROVED if part in proved else "clause"
-        wanted = BY_PROOF if proved == {REFUTED} else REFUSED_ONLY
-        if body.shown() != wanted:
-            yield f"FAILED, not {wanted}: {body.entry.name}, where what is proved is: {', '.join(proved)}"
+def faults_of_kinds(body):
+    """Yields faults in how a body that is shown wrong is judged, and in what mutants.py counts as failed, if one of its
+    parts is proved, refused, or not tried. The kind of each part is set by hand, since proofs mostly come together."""
+    how = body.shown()
+    for part, it in {"": body, **body.beside}.items():
+        for it.kind in ("clause", PROVED, "bad", it.kind):
+            is_right = it.kind != "bad" and (it.kind == PROVED) == (part in (CONTROL, REFUTED))
+            is_shown, is_well = body.shown() == how, not failed_of([Bodies(CRATE, [it])])
+            if is_shown != is_right and it.kind != "bad" or is_well != (is_right or part.startswith(EMPTIED)):
+                yield f"FAILED: {it.name}, as {it.kind}, is {'' if is_well else 'not '}well: {body.shown()}"
 
 
 def main(pattern=""):
@@ -46,7 +48,9 @@ def main(pattern=""):
     try_all([crate], 1)
     wrong = [f"FAILED {it}" for it in crate.strange]
     for name, rows in table_of("tests/bodies/controls.txt"):
-        told = [(given, str(getattr(controls, name)(*given)), wanted) for *given, wanted in rows]
+        function = getattr(controls, name, None) or getattr(definition_mutants, name)
+        rows = [[cell.replace("\\n", "\n") for cell in row] for row in rows]
+        told = [(given, str(function(*given)), wanted) for *given, wanted in rows]
         wrong += [f"FAILED, {name} of {given} is {got}, not {wanted}" for given, got, wanted in told if got != wanted]
     for it in bodies:
         wanted, got = re.search(r"(?m)^wanted: (.*)", it.entry.text)[1], outcome(it)
@@ -54,7 +58,7 @@ def main(pattern=""):
         told = f"{it.entry.name}: {got}: {'; '.join(kinds)}"
         print(told)
         wrong += [f"FAILED, not {wanted}: {told}"] * (got != wanted)
-    wrong += [fault for it in bodies if it.told() == BY_PROOF for fault in faults_of_proofs(it)]
+    wrong += [fault for it in bodies if it.shown() in (BY_CONTROL, BY_PROOF) for fault in faults_of_kinds(it)]
     return status_of(wrong, bodies, f"{len(bodies)} bodies, {len(wrong)} not told as they are to be")
 
 

@@ -13,8 +13,8 @@ import tempfile
 
 sys.path[:0] = [os.path.dirname(__file__) + "/..", os.path.dirname(__file__) + "/../../man"]
 import tables
-from tree import TOOLS, TOP, WRONG, device, files, free_port, left_out, plain, put_tools, ran, same, says, shown
-from tree import table_of, text_of, verdict, write
+from tree import TOOLS, TOP, WRONG, device, files, free_port, is_like, left_out, plain, put_tools, ran, same, says
+from tree import shown, table_of, text_of, verdict, write
 from bacsite import points
 from bacsite.streams import Failure
 
@@ -158,7 +158,7 @@ def tools_of_readme():
     for command, cell in re.findall(r"(?m)^\| `(?!bacdev).*?` \| [^|]* \| `([^`]*)` \| (.*) \|$", table):
         status, said = run(command.replace("192.0.2.7", "$DEV").replace("\\|", "|"))
         lines = re.findall("`([^`]*)`", cell.replace("192.0.2.7:47808", SETTINGS["DEV"]))
-        there = [bool(re.search("(?m)^" + re.escape(it).replace(r"\.\.", ".*") + "$", said)) for it in lines]
+        there = [any(is_like(line, it) for line in said.splitlines()) for it in lines]
         same(f"README.md: {command}: {said.strip()}", (status, there), (0, [True] * len(lines)))
 
 

@@ -62,7 +62,7 @@ def run(text, program, room):
 
 
 def main(words):
-    first, second = free_port(), free_port(48000)
+    first, second = free_port(47808), free_port(48000)
     rows = list(commands(first, second))
     text, shown = "status=0\n", ""  # the commands, each with the status of the one before; and their expected output
     for command, printed in rows:

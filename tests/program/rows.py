@@ -13,7 +13,7 @@ from collections import namedtuple
 from concurrent.futures import ThreadPoolExecutor
 
 sys.path.insert(0, os.path.dirname(__file__) + "/..")
-from tree import TOP, failing_library, files, free_port, put_tools, status_of, table_of
+from tree import TOP, failing_library, files, free_port, is_like, put_tools, status_of, table_of
 
 LETTERS = dict(dict(table_of("tests/program/rows/letters.txt"))["letters"], Z=f"127.0.0.1:{free_port()}")
 LETTERS["S"] = f"--mac {LETTERS['Z']} --apdu-timeout 20"
@@ -107,9 +107,8 @@ def run(room, case, library):
 
 
 def is_right(case, ending):
-    error, output = ending.error == case.error, ending.output == case.output
-    if case.error.endswith(".."):
-        error = ending.error.startswith(case.error[:-2]) and ending.error.endswith("\n")
+    output, is_open = ending.output == case.output, case.error.endswith("..")
+    error = is_like(ending.error, case.error + "\n") if is_open else ending.error == case.error
     if case.parts:
         output = ending.output.endswith("\n") and all(part in ending.output for part in case.parts)
     return ending.status == case.status and error and output

@@ -168,7 +168,8 @@ def tried(program, place, row):
     options, plan, wanted = (braced(row[mark][0]) for mark in "$@>")
     text = braced("\n".join(row["<"])).replace("\\n", "\n")
     it = run(program, f"bacrun {options}", text, (group.split(",") for group in plan.split()))
-    remarks = map(in_short, check(place, program, it))
+    remarks = [*map(in_short, check(place, program, it))]
+    same(f"{place}: datagrams for nobody came", remarks.count("drop") > 9, "flood" in plan)
     same(place, [one for one in remarks if "flood" not in plan or one != "drop"], wanted.split(", "))
     status, _, fault = row.get("!", ["0"])[0].partition(" ")
     same(f"{place}: the end", (it.status, it.fault), (int(status), f"bactool: {fault}\n" if fault else ""))

@@ -6,7 +6,6 @@ while longer ones are ignored. Usage: tests/program/sockets.py PROGRAM
 import contextlib
 import os
 import socket
-import subprocess
 import sys
 
 sys.path.insert(0, os.path.dirname(__file__) + "/..")
@@ -26,9 +25,7 @@ def devices():
         with device(program=["sh", "-c", f'exec "$0" "$@" {words}', PROGRAM]) as (process, port):
             values = {"PORT": str(port), "PID": str(process.pid), "IT": PROGRAM}
             follow(rows, {"\\n": "\n", "PORT": str(port)}, env={**os.environ, **values})
-            with contextlib.suppress(subprocess.TimeoutExpired):
-                process.wait(10)
-            same("the status of a device that has its count", process.returncode, 0)
+            same("the status of a device that has its count", process.wait(10), 0)
 
 
 def datagram(length, head):

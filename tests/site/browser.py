@@ -266,7 +266,7 @@ def survey(browser, room, folder):
 def main(folder=None):
     program = shutil.which("chromium") or shutil.which("chromium-browser")
     if not program:
-        print("tests/site/browser.py: Chromium is not installed, left out")
+        print("tests/site/browser.py: chromium is not installed, left out")
         return 0
     found = []
     for page in survey, charts_page.tried:

@@ -37,12 +37,16 @@ def ran(name):
 def run_here(words):
     """Runs the tests of a file, or some of them. Returns whether one failed, or an assertion of a whole file was not
     made: it is in a loop over nothing, or after a return."""
-    made, path = collections.Counter(), "%s/%s.py" % (HERE, words[-1])
+    made, alone, values, path = collections.Counter(), collections.Counter(), set(), "%s/%s.py" % (HERE, words[-1])
 
     def noted(method):
         def call(*given, **more):
             frame = sys._getframe(1)
-            made.update([frame.f_lineno] if frame.f_code.co_filename == path else [])
+            if frame.f_code.co_filename == path:
+                made[frame.f_lineno] += 1
+                if not hasattr(given[0], "world"):  # which devices answer, some of them late
+                    alone.update([frame.f_lineno])
+                    values.add((frame.f_lineno, repr((given[1:], more))))
             if method.__name__ == "assertRegex":
                 given[0].assertNotRegex(without_words(given[1]), given[2], "almost any text has this")
             return method(*given, **more)
@@ -60,7 +64,9 @@ def run_here(words):
     left = sorted({line for _, line in found} - set(made))
     waits = {line for it in ast.walk(tree) if isinstance(it, ast.While) for _, line in assertions(it)}
     print(len(found), "assertions, of equality", sum(name == "assertEqual" for name, _ in found))
-    print("made", sum(made[line] for line in made if line not in waits), "times")
+    with_devices, without = (sum(it[line] for line in it if line not in waits) for it in (made - alone, alone))
+    print("made", with_devices, "times")
+    print("without devices", without, "times, with", len(values), "values")
     print("".join("FAIL: %s, line %d: nobody made this assertion\n" % (words[-1], it) for it in left), end="")
     return bool(left)
 
@@ -79,9 +85,10 @@ def assertions(tree):
 
 def counts(status, said):
     """Returns how many tests, rows and assertions a file has, how many of these are of equality, how often they were
-    made (apart from those that wait for something), and how many tests failed: 1 if it ran none."""
+    made with devices (apart from those that wait for something) and without, the latter with how many values, and how
+    many tests failed: 1 if it ran none."""
     patterns = [r"^Ran (\d+) test", r"^(\d+) rows$", r"^(\d+) assertions", r"^\d+ assertions, of equality (\d+)$"]
-    patterns.append(r"^made (\d+) times$")
+    patterns += [r"^made (\d+) times$", r"^without devices (\d+) times", r"^without devices .* (\d+) values$"]
     found = [re.search(it, said, re.M) for it in patterns]
     failed = set(re.findall(r"(?m)^(?:FAIL|ERROR): (\w+)", said))
     return *(int(it[1]) if it else 0 for it in found), len(failed) or int(status != 0 or not found[0])
@@ -91,7 +98,7 @@ def main(names):
     files = sorted(os.path.basename(it)[:-3] for it in glob.glob(HERE + "/test_*.py"))
     first = ["test_" + it for it in LONGEST.split()]
     names = names or [*first, *(it for it in files if it not in first)]
-    counted = (0, 0, 0, 0, 0, 0)
+    counted = (0,) * 8
     with ThreadPoolExecutor(2 * (os.cpu_count() or 1)) as pool:  # tests wait more than they work
         for name, status, said, seconds in pool.map(ran, names):
             print("%-16s %5.1f s" % (name, seconds), flush=True)
@@ -100,7 +107,8 @@ def main(names):
             if status:
                 print(said)
             counted = tuple(map(sum, zip(counted, counts(status, said))))
-    told = "%d tests with %d rows and %d assertions, %d of them of equality, made %d times, %d not as they are to be"
+    told = "%d tests with %d rows and %d assertions, %d of them of equality, made %d times with devices, "
+    told += "%d times without, with %d values, %d not as they are to be"
     print("tests/site/run.py:", told % counted)
     return bool(counted[-1] or not counted[0])
 

@@ -290,7 +290,7 @@ class Messages(unittest.TestCase):
             known = sorted({it * it for it in range(count)})
             parts = parts_of(EVERYONE, known)
             self.assertEqual([it[0] for it in parts], [0, *(it[1] + 1 for it in parts[:-1])])
-            self.assertEqual(parts[-1][1], EVERYONE[1])
+            self.assertEqual((parts[0][0], parts[-1][1]), EVERYONE)
             self.assertLessEqual(max(sum(low <= it <= high for it in known) for low, high in parts), 16)
 
 

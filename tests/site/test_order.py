@@ -12,7 +12,7 @@ import unittest
 from unittest import mock
 
 import harness
-from stand_ins import an_object, enumerated, real, string
+from stand_ins import StandIn, an_object, enumerated, local_socket, real, string
 
 FORTY = {(0, 1, 85): real("42290000"), (8, 77, 76): an_object(0, 1), (0, 1, 77): string("A")}
 NAMES = {(8, 77, number): string("x") for number in (77, 121, 70)}
@@ -144,6 +144,16 @@ class Group(harness.SiteTest):
 
 
 class Harness(unittest.TestCase):
+    def test_a_device_counts_a_request_that_comes_while_another_is_open(self):
+        with local_socket() as desk:
+            place = local_socket()
+            for _ in range(2):
+                desk.sendto(bytes.fromhex("810a000801001008"), place.getsockname())
+            device = StandIn(77, {}, delay=0.01, at=place)
+            desk.settimeout(harness.at_load(20))
+            self.assertEqual([desk.recv(99)[6:8] for _ in range(2)], [b"\x10\0"] * 2)
+            self.assertEqual(device.early, 1)
+
     def test_a_loaded_machine_has_more_time(self):
         count = os.cpu_count() or 1
         for load, seconds in ((0.0, 6), (count / 2, 6), (count * 1.0, 6), (count * 2.0, 12)):

@@ -11,7 +11,8 @@ LONGEST = 25  # seconds that a test may allow
 # The nodes of which the result may be known, whatever the code does.
 JUDGED = ast.Call, ast.Compare, ast.Attribute, ast.FunctionDef, ast.For, ast.comprehension, ast.BoolOp
 TESTED = ast.If, ast.IfExp, ast.Assert, ast.While
-PARTS = {"len", "sorted", "set", "bool", "str", "type", "strip", "lower", "upper", "split"}
+PARTS = {"len", "sorted", "set", "bool", "str", "type", "strip", "lower", "upper", "split", "casefold", "replace"}
+PARTS |= {"sub", "rstrip", "lstrip", "splitlines", "abs", "round", "int", "min", "max", "any", "all", "frozenset"}
 
 
 def walked(node, every):
@@ -69,7 +70,8 @@ def is_made_of_it(call, given):
 def is_of_parts(call):
     """Whether both sides of an equality are cut in the same way, so that the rest is not compared."""
     sides = call.args[:2] if name_of(call) == "assertEqual" else []
-    slices = {ast.dump(it.slice) for it in sides if isinstance(getattr(it, "slice", None), ast.Slice)}
+    fixed = (ast.Slice, ast.Constant, ast.UnaryOp)  # a part that is the same in each run of a loop
+    slices = {ast.dump(it.slice) for it in sides if isinstance(getattr(it, "slice", None), fixed)}
     cut = len({name_of(it) for it in sides} & PARTS) == len({*map(name_of, sides)}) == 1
     return cut or len(slices) == 1 and all(isinstance(it, ast.Subscript) for it in sides)
 
@@ -169,5 +171,8 @@ def weak(nodes):
 
 
 def asserted(code):
-    """How many assertions some tests in Rattle have, and how many comparisons."""
-    return f"{len(re.findall('assert(?:_eq)?!', code))} {len(re.findall('==|&&|matches!', code))}"
+    """How many assertions some tests in Rattle have, how many comparisons, and through how many numbers their ranges
+    go."""
+    steps = sum(int(end) - int(start) for start, end in re.findall(r"\b(\d+)\.\.=?(\d+)", code.replace("_", "")))
+    compared = re.findall(r"==|&&|matches!|\bis_\w+\(\)", code)
+    return f"{len(re.findall('assert(?:_eq)?!', code))} {len(compared)} {steps}"
