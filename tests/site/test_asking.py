@@ -260,6 +260,10 @@ class Changes(unittest.TestCase):
         self.assertEqual(self.changes(known, device), [])
         device.reasons = []
         self.assertEqual(self.changes(known, device), ["name was D"])
+        known = known._replace(texts={"name": "", "vendor": "V", "model": "M"}, is_whole=True)
+        device.name, device.objects = "D", [SiteObject(0, 1, "S", unit="percent")]
+        known = known._replace(objects={ObjectId(0, 1): {"name": "S", "unit": ""}})
+        self.assertEqual(self.changes(known, device), ["name was none", "unit of 0:1 S was none"])
 
     def changes(self, known, device, **bounds):
         Earlier({A: known}).compare(device, Bounds(**bounds))

@@ -10,8 +10,9 @@ from stand_ins import StandIn, local_socket, string
 from bacsite.capture.command import is_wanted
 from bacsite.capture.lines import line_of
 from bacsite.capture.talks import Pairing
+from bacsite.device import Bounds
 from bacsite.messages import Datagram, Refusals, message_of, network_message_of
-from bacsite.sweep import EVERYONE, MOST_STATIONS, Reach, Station, nearest, parts_of, station_of
+from bacsite.sweep import EVERYONE, MOST_STATIONS, Reach, Station, Sweep, nearest, parts_of, station_of
 from bacsite.values import Why, why_of
 
 NAMED = {(8, 77, number): string("Router") for number in (70, 77, 121)}
@@ -201,6 +202,8 @@ class Messages(unittest.TestCase):
             self.assertEqual((refusals.of(5), refusals.of(6)), (told, ""))
         refusals.heard(network_message_of(b"\4"))
         self.assertEqual(refusals.of(6), "router-busy-to-network", "of all networks")
+        refusals.heard(network_message_of(b"\5"))
+        self.assertEqual(refusals.lines(), [], "all networks are available again")
         self.assertIs(why_of("timeout (router-busy-to-network)"), Why.SILENT)
 
     def test_in_a_capture(self):
@@ -242,6 +245,25 @@ class Messages(unittest.TestCase):
         ):
             self.assertEqual([it.word for it in nearest(reaches, Station(1, address))], wanted)
         self.assertEqual(nearest(reaches[2:], Station(1, "10.0.0.2:9/6/01")), [])
+
+    def test_stations_stand_by_their_networks(self):
+        """By the numbers of these, by their addresses there, and by their instances."""
+        stations = (9, "5/01"), (1, "5/0a"), (2, "5/0a"), (7, "40/01"), (3, "40/0203"), (4, "300/01")
+        wanted = [Station(it, "10.0.0.1:2/" + route) for it, route in stations]
+        sweep = Sweep(None, ["10.0.0.1:2/*"], Bounds(), [])
+        for it in reversed(wanted):
+            sweep.reaches[0].heard(it)
+        self.assertEqual(sweep.stations(), wanted)
+
+    def test_why_no_station_is_there(self):
+        """A router that was not named as one may have none; but what it says is shown."""
+        word, refusal = "10.0.0.1:2/*", network_message_of(bytes.fromhex("03010005"))
+        none = ["no station answers"]
+        for quiet, says, wanted in (([], [], none), ([word], [], []), ([word], [refusal], [refusal.words, *none])):
+            sweep = Sweep(None, [word], Bounds(), quiet)
+            for it in says:
+                sweep.refusals["10.0.0.1:2"].heard(it)
+            self.assertEqual(sweep.reasons_of(sweep.reaches[0], []), wanted)
 
     def test_what_a_station_says_of_itself(self):
         """An I-Am has a device, the longest APDU, the segmentation and the maker, and comes from behind a router."""
