@@ -187,6 +187,7 @@ class Frames(unittest.TestCase):
             (1, ether(INNER)),
             (1, ether(INNER, "81000005")),
             (1, ether(INNER, "88a8000581000006")),
+            (1, ether(INNER, "9100000581000006")),
             (101, INNER),
             (12, INNER),
             (14, INNER),

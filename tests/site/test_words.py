@@ -279,6 +279,13 @@ class Words(unittest.TestCase):
             parsing.parser_of([]).parsed(["read", "--journal", "-5", "192.0.2.7", "0", "5", "85"])
         self.assertEqual((str(caught.exception), caught.exception.status), ("no folder: -5", 3))
 
+    def test_who_has_put_two_dashes_is_not_told_to(self):
+        told = "argument --priority: not 1 to 16: 17; see bacsite write --help"
+        for words, hint in (("-- -x", ""), ("-x", "; put a value like -x after --")):
+            with self.assertRaises(Failure) as caught:
+                parsing.parser_of(["write"]).parsed(["write", "a", "0", "5", "--priority", "17", *words.split()])
+            self.assertEqual(str(caught.exception), told + hint)
+
     def test_the_version_is_that_of_the_program(self):
         told = subprocess.run(
             [harness.TOOL, "--help"], stdout=subprocess.PIPE, encoding="utf-8"
