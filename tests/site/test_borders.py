@@ -306,11 +306,12 @@ class Requests(unittest.TestCase):
                                           (BIND_FAILED, 0, [0], [BIND_FAILED]), ("", 0, [0], [])):
             many, asked = QuickCalls({}), []
             ends = [QuickWhoIs(told), QuickWhoIs()]
-            many.listener = lambda at, until, ends=ends, asked=asked: asked.append(at) or ends.pop(0)
-            sweep = Sweep(many, [A + "/*"], Bounds(listen_port=port), [])
+            many.listener = lambda *it, ends=ends, asked=asked: asked.append(it) or ends.pop(0)
+            sweep = Sweep(many, [A + "/*"], Bounds(listen_port=port, deadline=60), [])
             with mock.patch.object(Sweep, "_ask", return_value=False):
-                sweep.run()
-            self.assertEqual((asked, sweep.faults), (ports, faults))
+                with mock.patch("bacsite.tools.time", SimpleNamespace(monotonic=lambda: 43200)):
+                    sweep.run()
+            self.assertEqual((asked, sweep.faults), ([(it, 43260) for it in ports], faults), "until its deadline")
 
     def test_a_range_and_what_is_in_it(self):
         stations = {Station(at, "a/1/0%d" % at) for at in (4, 5, 6, 7, 8)}
