@@ -94,7 +94,7 @@ class Octets(unittest.TestCase):
 
     def test_who_is(self):
         self.assertEqual(_who_is(bytes.fromhex("0901" + "1c00000002")), "Who-Is devices 1 to 2")
-        for octets in "08" + "1902", "0d050000000001" + "1902":
+        for octets in "08" + "1902", "0d050000000001" + "1902", "1901" + "0902", "0901" + "2902":
             self.assertEqual(_who_is(bytes.fromhex(octets)), "")
 
 
@@ -354,6 +354,8 @@ class Requests(unittest.TestCase):
         listed = b"".join(map(unsigned, (0, 4194303, 4194304)))
         with Controller(QuickCalls({A: {(0, 1, 371): listed}}), A) as controller:
             self.assertEqual(poll._numbers(controller, ObjectId(0, 1)), [0, 75, 77, 79, 4194303])
+        with Controller(QuickCalls({A: {(0, 1, 371): unsigned(85) + string("x")}}), A) as controller:
+            self.assertIsNone(poll._numbers(controller, ObjectId(0, 1)), "a list of other things is none")
 
     def test_the_last_property_that_is_tried(self):
         many = QuickCalls({A: {(0, 1, 77): string("T"), (0, 1, 85): real("42290000")}})

@@ -8,7 +8,7 @@ from routers import StrictRouter
 from stand_ins import StandIn, local_socket, string
 
 from bacsite.capture.command import is_wanted
-from bacsite.capture.lines import line_of
+from bacsite.capture.lines import line_of, message_words
 from bacsite.capture.talks import Pairing
 from bacsite.device import Bounds
 from bacsite.messages import Datagram, Refusals, message_of, network_message_of
@@ -193,6 +193,19 @@ class Messages(unittest.TestCase):
             self.assertIsNone(network_message_of(bytes.fromhex(octets)), octets)
         datagram = bytes.fromhex("810a000a018003010007")
         self.assertEqual(message_of(Datagram(0, "a", "b", datagram)).network.networks, (7,))
+
+    def test_functions_of_the_link(self):
+        """Annex J: of a message that was forwarded, the sender is who sent it first, and its port may be any."""
+        who_is = "0120ffff00ff1008"
+        for head, rest, wanted in (
+            ("8104", "0a000009bac1" + who_is, ("10.0.0.9:47809", "Who-Is")),
+            ("8109", who_is, ("10.0.0.1:2", "Who-Is")),
+            ("810b", who_is, ("10.0.0.1:2", "Who-Is")),
+            ("8100", "0000", ("10.0.0.1:2", "link function 0")),
+        ):
+            octets = bytes.fromhex("%s%04x%s" % (head, 4 + len(rest) // 2, rest))
+            found = message_of(Datagram(0, "10.0.0.1:2", "10.0.0.255:2", octets))
+            self.assertEqual((found.sender, message_words(found)), wanted)
 
     def test_refusals(self):
         refusals = Refusals()

@@ -432,6 +432,15 @@ class File(unittest.TestCase):
         self.assertEqual(len(list(rows.rows(1 << 20))), 1001)
         os.close(rows._file)
 
+    def test_who_may_read_it(self):
+        """The umask sets the permissions of a new file, and another one keeps its own."""
+        for umask, mode in ((0o027, 0o640), (0o077, 0o604)):
+            before = os.umask(umask)
+            os.close(Rows(self.path, HEAD)._file)
+            os.umask(before)
+            self.assertEqual(os.stat(self.path).st_mode & 0o777, mode)
+            os.chmod(self.path, 0o604)
+
     def test_two_do_not_write_to_one_file(self):
         rows = Rows(self.path, HEAD)
         with self.assertRaises(Failure):
