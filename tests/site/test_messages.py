@@ -215,6 +215,7 @@ inactive-text Stops, active-text Runs  units: busy; timeout
         wanted = {"address": A, "device": 77, "name": "D", "vendor": "V", "model": "M", "revision": "7"}
         wanted.update(asked="noon", reasons=["object-list: busy", "deadline"], firmware="1", status="operational")
         asked_for = {"devices": False, "held": True, "details": True, "objects": 9, "deadline": 60, "name_only": False}
+        asked_for["not_normal"] = False
         changes = {"changes": ["new: 0:1", "gone: 0:2"]}
         for columns, objects, added in ((self.all, [{**fan, **more}, {**own, **lacks}], changes),
                                         (Columns(bounds=self.bounds), [fan, own], {})):
@@ -241,6 +242,7 @@ inactive-text Stops, active-text Runs  units: busy; timeout
             ([], "3 asked, 0 devices, 0 silent", False),
             ([Device(A, 7)], "3 asked, 1 device, 0 silent", False),
             ([Device(A, reasons=["timeout"])], "3 asked, 0 devices, 1 silent", True),
+            ([Device(A, 7, reasons=["timeout"])], "3 asked, 1 device, 0 silent", True),
             ([Device(A, reasons=["timeout"], hidden=True)], "3 asked, 0 devices, 1 silent", False),
             ([Device(A, reasons=["timeout"], hidden=True, changes=["was 7"])], "3 asked, 0 devices, 1 silent", True),
             ([Device(A, reasons=["busy"])],
