@@ -674,14 +674,14 @@ class Kept(unittest.TestCase):
 
 
     def test_what_an_earlier_watch_has_kept(self):
-        """Its times are in UTC, and a name that a spreadsheet would calculate has a quotation mark there."""
+        """Its times are in UTC, and a text that a spreadsheet would calculate has a quotation mark there."""
         path = harness.tempfile.mkdtemp() + "/earlier.csv"
         with open(path, "w", encoding="ascii") as file:
-            file.write(HEAD + "1970-01-02T00:00:00.005Z,'=p,2,percent,Night,fault,\n")
+            file.write(HEAD + "1970-01-02T00:00:00.005Z,'=p,'-x,percent,'=Night,'2,\n")
         point = Point("=p", ref=PropertyRef(0, 1, 85))
         kept = Watch([point], [["=p"]], SimpleNamespace(csv=path, page="", every=1.0, all=True))
         os.close(kept.file._file)
-        self.assertEqual(kept.latest, {"=p": Row(86400005, point, "2", Meaning("", "percent", "Night"), "fault")})
+        self.assertEqual(kept.latest, {"=p": Row(86400005, point, "-x", Meaning("", "percent", "=Night"), "'2")})
         self.assertEqual((kept.lines["=p"].unit, kept.earlier), ("percent", {"=p"}))
 
     def test_where_lines_are_written_in_place(self):
