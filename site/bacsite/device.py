@@ -140,6 +140,7 @@ class Bounds(NamedTuple):
     stations: bool = False  # stations behind a router too
     listen: int = 10  # seconds, after each question to all stations of a network
     listen_port: int = 47808  # the port for the answers of stations
+    not_normal: bool = False  # of the objects only those with a flag or something missing
 
 
 Names = Mapping[Tuple[Optional[int], str], Mapping[ObjectId, str]]  # by instance and revision

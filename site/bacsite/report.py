@@ -18,7 +18,7 @@ from .values import NOTHING, TIMEOUT
 
 OWN = 6  # the priority that no one else may write
 MISSES = "present-value: "  # the beginning of a reason for a missing value
-ASKED_FOR = ("devices", "held", "details", "objects", "deadline")
+ASKED_FOR = ("devices", "held", "details", "objects", "deadline", "not_normal")
 UNIT_NUMBERS = {name: str(number) for number, name in UNIT_NAMES.items()}
 
 # The members of a device and of an object, by the names of the columns.
@@ -169,7 +169,7 @@ class Counts:
         """Counts a device, or an address without one; the line of a network is neither."""
         is_network = device.address.endswith("*")
         self.devices += device.instance is not None
-        is_silent = device.reasons == [TIMEOUT]
+        is_silent = device.instance is None and device.reasons == [TIMEOUT]
         self.silent += is_silent
         self.others += device.instance is None and not (is_silent or is_network)
         self.missing = self.missing or not (device.is_whole or device.is_nobody)
@@ -216,7 +216,7 @@ def survey(words: argparse.Namespace) -> int:
         counts.add(device)
         if device.is_nobody and not words.silent:
             continue
-        if words.not_normal:
+        if bounds.not_normal:
             device.objects = [it for it in device.objects if it.flags or it.reasons]
         devices.append(device)
         if not file:

@@ -212,7 +212,7 @@ class Scan:
         """Reads; `then` gets each address as soon as it is known whether somebody is there, and the
         reason if nobody is. If bacrun can't be run, each address is asked in another way."""
         left = set(self._addresses)
-        for address, ended in self.ends(self._tools.timeout, self._tools.retries, "range"):
+        for address, ended in self.ends(self._tools.timeout, self._tools.retries):
             is_heard = ended.outcome != TIMEOUT or address in self._peers
             silence = ended.read(None) if ended.hint == REFUSED else TIMEOUT
             then(address, "" if is_heard else silence)
@@ -220,14 +220,14 @@ class Scan:
         for address in left:
             then(address, "")
 
-    def ends(self, patience: int, retries: int, name: str = "") -> Iterator[tuple[str, Ended]]:
+    def ends(self, patience: int, retries: int) -> Iterator[tuple[str, Ended]]:
         """Asks each address for its identity; yields how each of these reads ended."""
         for _ in range(MOST_TRIES):
             try:
                 process = self._tools.session(self._tools.times(patience, retries), MOST_OPEN)
             except NotBegun:
                 return
-            self._session = session = Session(self._tools, process, name, MOST_OPEN)
+            self._session = session = Session(self._tools, process, "range", MOST_OPEN)
             self._peers = session.peers
             asked = {session.put(f"read {it} {ITSELF.words()}"): it for it in self._addresses}
             while asked:

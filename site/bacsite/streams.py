@@ -147,6 +147,11 @@ def harmless(cell: str) -> str:
     return "'" + cell if FORMULA.match(cell) and not PLAIN_NUMBER.fullmatch(cell) else cell
 
 
+def plain(cell: str) -> str:
+    """Returns the cell of which `harmless` has made this one."""
+    return cell[1:] if cell[:1] == "'" and harmless(cell[1:]) == cell else cell
+
+
 def content_of(name: str) -> str:
     """Returns the text of a file of this package."""
     return (pkgutil.get_data(__name__, name) or b"").decode()

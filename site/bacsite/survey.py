@@ -20,12 +20,15 @@ from .sweep import Sweep
 from .tools import MOST_TIMEOUT, Search, Tools, deadline_of, side_by_side
 from .values import TIMEOUT
 
+# The properties of what is compared, if they have other names: a reason begins with that of one.
+PROPERTY_OF = {"name": "object-name", "vendor": "vendor-name", "model": "model-name"}
+PROPERTY_OF.update(unit="units", priority="priority-array")
 LATE = 8  # times --apdu-timeout: how long the silent addresses of a range are awaited at the end
 MOST_SCANS = 64  # at once
 
 
 class Known(NamedTuple):
-    """What an earlier survey has of a device, and what it asked for."""
+    """What an earlier survey has of a device, and what it asked for. It lacks what was not read."""
 
     instance: int
     texts: dict[str, str]
@@ -50,8 +53,8 @@ class Earlier:
         known = self._devices.get(address) if self._reuses else None
         if not known or not known.revision:
             return {}
-        names = {object_id: it["name"] for object_id, it in known.objects.items() if it["name"]}
-        return {(known.instance, known.revision): names}
+        names = {object_id: it.get("name", "") for object_id, it in known.objects.items()}
+        return {(known.instance, known.revision): {at: it for at, it in names.items() if it}}
 
     def stations_at(self, reaches: Sequence[str]) -> list[str]:
         """Returns the stations of the survey behind these routers, or in these networks."""
@@ -65,7 +68,7 @@ class Earlier:
             device.changes = list(_changes(device, known, bounds))
         elif known:
             device.gone = known.instance
-            device.changes = [f"was device {known.instance} {known.texts['name']}".rstrip()]
+            device.changes = [f"was device {known.instance} {known.texts.get('name', '')}".rstrip()]
         elif self._devices and device.instance is not None:
             before = self._addresses.get(device.instance)
             device.changes = [f"was at {before}" if before else "new"]
@@ -83,7 +86,7 @@ def _changes(device: Device, known: Known, bounds: Bounds) -> Iterator[str]:
         return
     now = {it.object_id: it for it in device.objects}
     for object_id, facts in known.objects.items():
-        told = f"{object_id} {facts['name']}".rstrip()
+        told = f"{object_id} {facts.get('name', '')}".rstrip()
         if device.listed is not None and object_id not in device.listed:
             yield f"gone: {told}"
         elif bounds.held and known.is_held and object_id not in now and device.is_whole:
@@ -129,9 +132,10 @@ def _known_of(line: bytes) -> tuple[str, Known] | None:
     texts = {name: str(told[name]) for name in TEXTS if name in told or name == "name"}
     lacks = [str(it) for it in told.get("reasons", [])]
     is_cut = any(it.startswith("object-list: ") or it.endswith("not asked") for it in lacks)
+    is_cut = is_cut or asked_for.get("not_normal", False)
     return address, Known(
         int(instance),
-        texts,
+        _read(texts, lacks),
         str(told.get("revision", "")),
         {ObjectId(int(it["type"]), int(it["instance"])): _facts(it) for it in told["objects"]},
         is_named=bool(asked_for.get("name_only", False)),
@@ -146,7 +150,13 @@ def _facts(told: Mapping[str, Any]) -> dict[str, str]:
     found.update({"priority": told["held"]} if "held" in told else {})
     found.update({"description": told["description"]} if "description" in told else {})
     found.update(told.get("settings", {}))
-    return {str(name): str(it) for name, it in found.items()}
+    return _read({str(name): str(it) for name, it in found.items()}, told.get("reasons", []))
+
+
+def _read(facts: Mapping[str, str], reasons: Sequence[str]) -> dict[str, str]:
+    """Returns the facts without those that are missing for a reason."""
+    missing = {it.partition(": ")[0] for it in reasons}
+    return {name: it for name, it in facts.items() if PROPERTY_OF.get(name, name) not in missing}
 
 
 class _Turn:

@@ -18,8 +18,8 @@ from .decimals import DECIMAL
 from .page import Line, Sample, charts_page_of
 from .points import Point, by_address, distinct, point_of, points_of
 from .poll import Meaning, Meanings, Reading, readings_of
-from .streams import BROKEN, MISSING, Failure, Rows, csv_lines, harmless, is_replaceable, moment
-from .streams import put, replace_file, show, table, width, wrong
+from .streams import BROKEN, MISSING, Failure, Rows, csv_lines, is_replaceable, moment, plain, put
+from .streams import replace_file, show, table, width, wrong
 from .tools import LOOK_EVERY, Tools
 from .values import NOT_ASKED, why_of
 
@@ -260,14 +260,14 @@ class Watch:
         self.faults: Dict[str, str] = {}
         self.drawn = 0.0
         if self.file:
-            self._take_earlier(self.file, {harmless(it.name): it for it in points})
+            self._take_earlier(self.file, {it.name: it for it in points})
         self.earlier = set(self.latest)  # names of points whose latest row is of an earlier watch
 
     def _take_earlier(self, file: Rows, known: Dict[str, Point]) -> None:
         """Notes the rows of an earlier watch: all for the page, otherwise the latest ones."""
         for cells in file.rows(MOST_EARLIER if self.words.page else LATEST):
             with suppress(ValueError, KeyError):
-                when, name, text, unit, state, flags, fault = cells
+                when, name, text, unit, state, flags, fault = map(plain, cells)
                 at = round(datetime.fromisoformat(when.replace("Z", "+00:00")).timestamp() * 1000)
                 meaning = Meaning(unit=unit, state=state)
                 self._noted(Row(at, known[name], text, meaning, flags, fault))

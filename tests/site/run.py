@@ -119,5 +119,6 @@ if __name__ == "__main__":
     if sys.argv[1] == "-v":
         sys.exit(run_here(sys.argv[1:]))
     os.environ["BACTOOL"] = os.path.realpath(sys.argv[1])
+    os.environ["TZ"] = "TST-5:30"  # a local time that nobody can take for UTC
     network_namespace.enter()
     sys.exit(main(sys.argv[2:]))

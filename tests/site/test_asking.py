@@ -260,6 +260,10 @@ class Changes(unittest.TestCase):
         self.assertEqual(self.changes(known, device), [])
         device.reasons = []
         self.assertEqual(self.changes(known, device), ["name was D"])
+        known = known._replace(texts={"name": "", "vendor": "V", "model": "M"}, is_whole=True)
+        device.name, device.objects = "D", [SiteObject(0, 1, "S", unit="percent")]
+        known = known._replace(objects={ObjectId(0, 1): {"name": "S", "unit": ""}})
+        self.assertEqual(self.changes(known, device), ["name was none", "unit of 0:1 S was none"])
 
     def changes(self, known, device, **bounds):
         Earlier({A: known}).compare(device, Bounds(**bounds))
@@ -312,7 +316,8 @@ class Earliers(unittest.TestCase):
         self.assertEqual(self.known(asked_for=both), Known(9, texts, "3", facts, True, True, True))
         for is_whole, more in ((False, {"asked_for": {"devices": True}}), (True, {"asked_for": {"devices": False}}),
                                (False, {"reasons": ["deadline", "object-list: element 2 of 3: timeout"]}),
-                               (False, {"reasons": ["4 of 9 objects not asked"]}), (True, {"reasons": ["timeout"]})):
+                               (False, {"reasons": ["4 of 9 objects not asked"]}), (True, {"reasons": ["timeout"]}),
+                               (False, {"asked_for": {"devices": False, "not_normal": True}})):
             self.assertEqual(self.known(**more).is_whole, is_whole, more)
         old = {"address": A, "device": "9", "name": "D", "objects": []}
         wanted = (A, Known(9, {"name": "D"}, "", {}, is_whole=False))
@@ -321,6 +326,24 @@ class Earliers(unittest.TestCase):
         told = {"name": "S", "unit": "", "held": "8", "description": "x", "settings": {"high-limit": "5"}}
         wanted = {"name": "S", "unit": "", "priority": "8", "description": "x", "high-limit": "5"}
         self.assertEqual(survey._facts(told), wanted)
+        told["reasons"] = ["units: timeout", "priority-array: error 1 27", "high-limit: no real: 5"]
+        self.assertEqual(survey._facts(told), {"name": "S", "description": "x"})
+
+    def test_what_was_not_read_then_has_not_changed(self):
+        """Neither a text of the device nor a fact of an object."""
+        lost = {"type": 0, "instance": 1, "name": "", "unit": "", "reasons": ["object-name: timeout", "units: abort 9"]}
+        told = {"address": A, "device": 9, "name": "D", "vendor": "", "model": "", "objects": [lost]}
+        told["reasons"] = ["vendor-name: timeout"]
+        device = Device(A, 9, "D", "V", "M", objects=[SiteObject(0, 1, "S", unit="percent")])
+        for reasons, changes in ((told["reasons"], []), ([], ["vendor was none"])):
+            line = json.dumps({**told, "reasons": reasons}).encode()
+            Earlier(dict([survey._known_of(line)])).compare(device, Bounds())
+            self.assertEqual(device.changes, [*changes, "model was none"])
+        told["reasons"].append("object-name: timeout")
+        earlier = Earlier(dict([survey._known_of(json.dumps(told).encode())]))
+        device = Device(A, 8)
+        earlier.compare(device, Bounds())
+        self.assertEqual((earlier.names_at(A), device.changes), ({}, ["was device 9"]))
 
     def test_names_and_stations(self):
         names = {ObjectId(0, 1): {"name": "S", "unit": ""}, ObjectId(0, 2): {"name": "", "unit": ""}}

@@ -94,7 +94,7 @@ class Octets(unittest.TestCase):
 
     def test_who_is(self):
         self.assertEqual(_who_is(bytes.fromhex("0901" + "1c00000002")), "Who-Is devices 1 to 2")
-        for octets in "08" + "1902", "0d050000000001" + "1902":
+        for octets in "08" + "1902", "0d050000000001" + "1902", "1901" + "0902", "0901" + "2902":
             self.assertEqual(_who_is(bytes.fromhex(octets)), "")
 
 
@@ -306,11 +306,12 @@ class Requests(unittest.TestCase):
                                           (BIND_FAILED, 0, [0], [BIND_FAILED]), ("", 0, [0], [])):
             many, asked = QuickCalls({}), []
             ends = [QuickWhoIs(told), QuickWhoIs()]
-            many.listener = lambda at, until, ends=ends, asked=asked: asked.append(at) or ends.pop(0)
-            sweep = Sweep(many, [A + "/*"], Bounds(listen_port=port), [])
+            many.listener = lambda *it, ends=ends, asked=asked: asked.append(it) or ends.pop(0)
+            sweep = Sweep(many, [A + "/*"], Bounds(listen_port=port, deadline=60), [])
             with mock.patch.object(Sweep, "_ask", return_value=False):
-                sweep.run()
-            self.assertEqual((asked, sweep.faults), (ports, faults))
+                with mock.patch("bacsite.tools.time", SimpleNamespace(monotonic=lambda: 43200)):
+                    sweep.run()
+            self.assertEqual((asked, sweep.faults), ([(it, 43260) for it in ports], faults), "until its deadline")
 
     def test_a_range_and_what_is_in_it(self):
         stations = {Station(at, "a/1/0%d" % at) for at in (4, 5, 6, 7, 8)}
@@ -353,6 +354,8 @@ class Requests(unittest.TestCase):
         listed = b"".join(map(unsigned, (0, 4194303, 4194304)))
         with Controller(QuickCalls({A: {(0, 1, 371): listed}}), A) as controller:
             self.assertEqual(poll._numbers(controller, ObjectId(0, 1)), [0, 75, 77, 79, 4194303])
+        with Controller(QuickCalls({A: {(0, 1, 371): unsigned(85) + string("x")}}), A) as controller:
+            self.assertIsNone(poll._numbers(controller, ObjectId(0, 1)), "a list of other things is none")
 
     def test_the_last_property_that_is_tried(self):
         many = QuickCalls({A: {(0, 1, 77): string("T"), (0, 1, 85): real("42290000")}})

@@ -76,6 +76,8 @@ class Command(SiteTest):
             len(good) - 1
         )
         self.assertEqual(said, cut)
+        summary = json.loads(self.told(good[:-1], "--json")[1].splitlines()[-1])
+        self.assertEqual((summary["packets"], summary["damage"]), (1, cut[9:-1]))
         status, _, said = self.run_site("capture", "IN/none.pcap")
         self.assertEqual((status, said[:22]), (3, "bacsite: cannot read /"))
 
@@ -138,8 +140,8 @@ device           requests  answered  refused  unanswered  sent again  slow  medi
 
     def test_only(self):
         steps = exchange(0, 1) + exchange(10, 11, 2, "600209") + exchange(20, 1500, 3)
-        for words, numbers in (("failed", ["2"]), ("slow", ["3"])):
-            lines = self.told(steps, "--only", words)[1].split("\n\n")[0].splitlines()
+        for words, numbers in (("failed", ["2"]), ("slow", ["3"]), ("slow --slow 1", ["1", "2", "3"])):
+            lines = self.told(steps, "--only", *words.split())[1].split("\n\n")[0].splitlines()
             self.assertEqual([it.split("  #")[1][:1] for it in lines], numbers)
 
     def test_what_is_no_capture(self):
@@ -147,13 +149,13 @@ device           requests  answered  refused  unanswered  sent again  slow  medi
         self.assertEqual((status, out, said[:33]), (3, "", "bacsite: neither pcap nor pcapng:"))
 
     def test_a_station_behind_a_router_is_chosen(self):
-        """As the summary prints it: 192.0.2.40:47808/77/01."""
-        request = "810a00160124004d0101ff0005010c0c023fffff194d"
+        """As the summary prints it, 192.0.2.40:47808/77/0a, or in capital letters."""
+        request = "810a00160124004d010aff0005010c0c023fffff194d"
         other = "810a0016012400%02x0102ff0005020c0c023fffff194d" % 77
         steps = [(0, "10.0.0.9:1", "192.0.2.40:47808", request), (1, "10.0.0.9:1", "192.0.2.40:47808", other)]
-        text = self.told(steps, "--device", "192.0.2.40:47808/77/01", "--summary")[1]
+        text = self.told(steps, "--device", "192.0.2.40:47808/77/0A", "--summary")[1]
         self.assertEqual(text.splitlines()[0], "1 request of 1 client to 1 device: 0 answered, 0 refused, 1 unanswered")
-        self.assertIn("192.0.2.40:47808/77/01", text)
+        self.assertIn("192.0.2.40:47808/77/0a", text)
 
     def test_choice(self):
         steps = exchange(0, 1) + exchange(2, 3, of="127.0.0.2:50000")

@@ -100,6 +100,8 @@ class Decimals(unittest.TestCase):
             ("16777217", "4b800000"),
             ("16777217.000000000000000001", "4b800001"),
             ("0e999999999", "00000000"),
+            ("-0E9", "80000000"),
+            ("+2E+1", "41a00000"),
         ):
             with self.subTest(word=word):
                 self.assertEqual(encoded(word), octets)

@@ -204,6 +204,10 @@ class Whole(unittest.TestCase):
         for window in 1, 4:
             self.assertEqual(self.found(Bounds(), window=window), self.wanted()[0])
 
+    def test_an_object_that_is_listed_twice(self):
+        twice = {(8, 77, 76): self.VALUES[8, 77, 76] + an_object(0, 1), (8, 77, 76, 0): unsigned(8)}
+        self.assertEqual(self.found(Bounds(), values=twice), self.wanted()[0])
+
     def test_details(self):
         wanted, by_type = self.wanted()
         by_type[0].description, by_type[0].event_state = "Roof", "normal"
@@ -400,13 +404,14 @@ class Old(unittest.TestCase):
 
     def test_what_is_missing_in_a_list_of_releases(self):
         held = SiteObject(1, 2, name="Valve", reasons=["timeout"])
-        device = Device(A, 77, reasons=["busy"], objects=[held])
+        device = Device(A, 77, reasons=["busy"], objects=[held, SiteObject(300, 4, priorities=(3,))])
         held.priorities = (8, 6)
         self.assertEqual(as_release(device, None), f"""\
 # {A}: busy
 77@{A} analog-output 2 null --priority 8  # Valve
 # analog-output 2: priority 6 is the device's own
 # analog-output 2: timeout
+77@{A} 300 4 null --priority 3  #
 """)
 
 

@@ -55,6 +55,13 @@ class Edges(unittest.TestCase):
                 found = list(survey.Survey(None, Bounds(), Earlier({})).devices([]))
             self.assertEqual([(it.address, it.changes) for it in found], [(NEW, []), (OLD, changes)])
 
+    def test_stations_stand_behind_the_addresses_of_ranges(self):
+        targets = points.targets(["192.0.2.7-9", "192.0.2.1/*"])
+        asked = [Device("192.0.2.1:47808/5/01", 3), Device(NEW, 2), Device(OLD, 1)]
+        with self.surveys(asked):
+            found = list(survey.Survey(None, Bounds(), Earlier()).devices(targets, in_order=True))
+        self.assertEqual([it.instance for it in found], [1, 2, 3])
+
     def test_devices_are_shown_as_they_come(self):
         """In order with an earlier survey they wait: a device that moved may still come at its new address."""
         known = {OLD: Known(77, {}, "", {})}

@@ -86,6 +86,24 @@ class Asked(unittest.TestCase):
             there = {line.split()[1] for part in lines for line in part}
             self.assertEqual(there, set(asked) if patience > 0 else set())
 
+    def test_all_that_is_sent_is_kept(self):
+        """A journal has the reads of a range, those that are awaited at its end, and the questions to stations."""
+        with tempfile.TemporaryDirectory() as folder:
+            many, sent = QuickCalls({A: {(8, 4194303, 75): an_object(8, 77)}}), f"# send 0 {A} 00\n"
+            many.journals = streams.Journals(folder)
+            many.listener = lambda *_: QuickWhoIs(lines=["# wait 1"])
+            scan = session.Scan(many, [A])
+            scan.run(lambda *_: None)
+            scan.end()
+            self.assertEqual(session.late_answers(many, [A], 9), {A: "device 77 answers a read very late"})
+            Sweep(many, [A + "/*"], Bounds(), []).run()
+            found = {}
+            for name in os.listdir(folder):
+                with open(f"{folder}/{name}", encoding="ascii") as file:
+                    found[name] = file.readline()
+        both = {"range-1.trace": sent, "range-2.trace": sent}
+        self.assertEqual(found, {**both, "stations-1.trace": "# wait 1\n"})
+
     def test_late_ones_are_awaited_for_a_minute_at_most(self):
         for timeout, seconds, patience in (
             (7499, 999, 59992),

@@ -3,6 +3,8 @@
 import json
 import os
 import unittest
+from contextlib import ExitStack
+from unittest import mock
 
 import harness
 from datagram_builders import CLIENT, DEVICE, ack, datagrams, ether, exchange, pcap, udp, wrapped
@@ -10,11 +12,13 @@ from bacsite.capture.trace import request_line
 from bacsite.messages import message_of
 from bacsite.page import page_of
 from bacsite.device import FACTS, Bounds, Device, SiteObject
-from bacsite.report import Columns, Counts, PollList, as_csv, as_json, as_lines
+from bacsite.parsing import parser_of
+from bacsite.report import Columns, Counts, PollList, as_csv, as_json, as_lines, survey
 from bacsite.values import NOTHING, Kind, Value
 from stand_ins import enumerated, real, string, tagged
 
 A = "192.0.2.1:47808"
+PARTS = ("put", "Survey", "Tools", "earlier_of")  # of a survey that finds nobody
 UNKNOWN = {(300, 1, 77): string("Own"), (300, 1, 79): enumerated(300), (300, 1, 85): tagged(10, b"\x7c\x0a\x1f\x04")}
 TWO = {(0, 1, 77): string("A"), (0, 1, 79): enumerated(0), (0, 1, 85): real("42290000")}
 
@@ -178,6 +182,27 @@ inactive-text Stops, active-text Runs  units: busy; timeout
 """)
         found = [as_csv(Device(A, at, reasons=why), Columns()) for at, why in ((None, ["timeout"]), (7, []))]
         self.assertEqual(found, [f"{A},,,,,,,,,,,,,timeout\n", f"{A},7,,,,,,,,,,,,\n"])
+        changed = Device(A, 7, objects=[SiteObject(0, 5, "Room")], changes=["new: 0:5 Room"])
+        told = f"{A},7,,,,0,5,analog-input,Room,,,,,,\n{A},7,,,,,,,,,,,,new: 0:5 Room,\n"
+        self.assertEqual(as_csv(changed, Columns(changes=True)), told)
+
+    def test_columns_that_were_asked_for(self):
+        """The head of the table for the options of a survey."""
+        details, facts = ",description,event_state,settings", ",firmware,software,status,protocol_revision,clock"
+        for words, own, more in (
+            ("", "", ""),
+            ("--devices", facts, ""),
+            ("--details --held", "", ",held" + details),
+            ("--since x --reuse-names", "", ",name_read,change"),
+            ("--since x --devices --held --details --reuse-names", facts, ",held" + details + ",name_read,change"),
+        ):
+            given = parser_of(["survey"]).parsed(["survey", A, "--csv", *words.split()])
+            with ExitStack() as stack:
+                put, made, *_ = (stack.enter_context(mock.patch("bacsite.report." + it)) for it in PARTS)
+                made.return_value.devices.return_value = []
+                self.assertEqual(survey(given), 1, "nobody was found")
+            head = f"address,device,device_name,vendor,model{own},type,instance,type_name,name,value,meaning,unit,flags"
+            self.assertEqual(put.call_args_list, [mock.call(f"{head}{more},reason\n")])
 
     def test_json(self):
         fan = {"type": 4, "instance": 1, "type_name": "binary-output", "name": "Fan", "value": "1", "meaning": "Runs"}
@@ -190,6 +215,7 @@ inactive-text Stops, active-text Runs  units: busy; timeout
         wanted = {"address": A, "device": 77, "name": "D", "vendor": "V", "model": "M", "revision": "7"}
         wanted.update(asked="noon", reasons=["object-list: busy", "deadline"], firmware="1", status="operational")
         asked_for = {"devices": False, "held": True, "details": True, "objects": 9, "deadline": 60, "name_only": False}
+        asked_for["not_normal"] = False
         changes = {"changes": ["new: 0:1", "gone: 0:2"]}
         for columns, objects, added in ((self.all, [{**fan, **more}, {**own, **lacks}], changes),
                                         (Columns(bounds=self.bounds), [fan, own], {})):
@@ -216,6 +242,7 @@ inactive-text Stops, active-text Runs  units: busy; timeout
             ([], "3 asked, 0 devices, 0 silent", False),
             ([Device(A, 7)], "3 asked, 1 device, 0 silent", False),
             ([Device(A, reasons=["timeout"])], "3 asked, 0 devices, 1 silent", True),
+            ([Device(A, 7, reasons=["timeout"])], "3 asked, 1 device, 0 silent", True),
             ([Device(A, reasons=["timeout"], hidden=True)], "3 asked, 0 devices, 1 silent", False),
             ([Device(A, reasons=["timeout"], hidden=True, changes=["was 7"])], "3 asked, 0 devices, 1 silent", True),
             ([Device(A, reasons=["busy"])],

@@ -8,10 +8,11 @@ from routers import StrictRouter
 from stand_ins import StandIn, local_socket, string
 
 from bacsite.capture.command import is_wanted
-from bacsite.capture.lines import line_of
+from bacsite.capture.lines import line_of, message_words
 from bacsite.capture.talks import Pairing
+from bacsite.device import Bounds
 from bacsite.messages import Datagram, Refusals, message_of, network_message_of
-from bacsite.sweep import EVERYONE, MOST_STATIONS, Reach, Station, nearest, parts_of, station_of
+from bacsite.sweep import EVERYONE, MOST_STATIONS, Reach, Station, Sweep, nearest, parts_of, station_of
 from bacsite.values import Why, why_of
 
 NAMED = {(8, 77, number): string("Router") for number in (70, 77, 121)}
@@ -193,6 +194,19 @@ class Messages(unittest.TestCase):
         datagram = bytes.fromhex("810a000a018003010007")
         self.assertEqual(message_of(Datagram(0, "a", "b", datagram)).network.networks, (7,))
 
+    def test_functions_of_the_link(self):
+        """Annex J: of a message that was forwarded, the sender is who sent it first, and its port may be any."""
+        who_is = "0120ffff00ff1008"
+        for head, rest, wanted in (
+            ("8104", "0a000009bac1" + who_is, ("10.0.0.9:47809", "Who-Is")),
+            ("8109", who_is, ("10.0.0.1:2", "Who-Is")),
+            ("810b", who_is, ("10.0.0.1:2", "Who-Is")),
+            ("8100", "0000", ("10.0.0.1:2", "link function 0")),
+        ):
+            octets = bytes.fromhex("%s%04x%s" % (head, 4 + len(rest) // 2, rest))
+            found = message_of(Datagram(0, "10.0.0.1:2", "10.0.0.255:2", octets))
+            self.assertEqual((found.sender, message_words(found)), wanted)
+
     def test_refusals(self):
         refusals = Refusals()
         unknown = "reject-message-to-network 5: no route to that network (1)"
@@ -201,6 +215,8 @@ class Messages(unittest.TestCase):
             self.assertEqual((refusals.of(5), refusals.of(6)), (told, ""))
         refusals.heard(network_message_of(b"\4"))
         self.assertEqual(refusals.of(6), "router-busy-to-network", "of all networks")
+        refusals.heard(network_message_of(b"\5"))
+        self.assertEqual(refusals.lines(), [], "all networks are available again")
         self.assertIs(why_of("timeout (router-busy-to-network)"), Why.SILENT)
 
     def test_in_a_capture(self):
@@ -242,6 +258,25 @@ class Messages(unittest.TestCase):
         ):
             self.assertEqual([it.word for it in nearest(reaches, Station(1, address))], wanted)
         self.assertEqual(nearest(reaches[2:], Station(1, "10.0.0.2:9/6/01")), [])
+
+    def test_stations_stand_by_their_networks(self):
+        """By the numbers of these, by their addresses there, and by their instances."""
+        stations = (9, "5/01"), (1, "5/0a"), (2, "5/0a"), (7, "40/01"), (3, "40/0203"), (4, "300/01")
+        wanted = [Station(it, "10.0.0.1:2/" + route) for it, route in stations]
+        sweep = Sweep(None, ["10.0.0.1:2/*"], Bounds(), [])
+        for it in reversed(wanted):
+            sweep.reaches[0].heard(it)
+        self.assertEqual(sweep.stations(), wanted)
+
+    def test_why_no_station_is_there(self):
+        """A router that was not named as one may have none; but what it says is shown."""
+        word, refusal = "10.0.0.1:2/*", network_message_of(bytes.fromhex("03010005"))
+        none = ["no station answers"]
+        for quiet, says, wanted in (([], [], none), ([word], [], []), ([word], [refusal], [refusal.words, *none])):
+            sweep = Sweep(None, [word], Bounds(), quiet)
+            for it in says:
+                sweep.refusals["10.0.0.1:2"].heard(it)
+            self.assertEqual(sweep.reasons_of(sweep.reaches[0], []), wanted)
 
     def test_what_a_station_says_of_itself(self):
         """An I-Am has a device, the longest APDU, the segmentation and the maker, and comes from behind a router."""

@@ -6,7 +6,7 @@ from html.parser import HTMLParser
 
 import harness  # noqa: F401  this sets the path to bacsite
 from bacsite.device import Device, SiteObject
-from bacsite.page import SCRIPT, STYLE, hash_of, page_of, safe
+from bacsite.page import CHARTS_SCRIPT, CHARTS_STYLE, SCRIPT, STYLE, charts_page_of, hash_of, page_of, safe
 from bacsite.values import Kind, Value
 
 HERE = "192.0.2.7:47808"
@@ -135,16 +135,19 @@ class Pages(unittest.TestCase):
                 self.assertFalse([it for it in page if not it.isprintable() and it != "\n"])
 
     def test_policy(self):
-        """Only the one style and the one script may be loaded or run."""
-        page, _ = read([])
-        policy = re.search('Content-Security-Policy" content="([^"]*)"', page)[1]
-        hashes = "style-src %s; script-src %s" % (hash_of(STYLE), hash_of(SCRIPT))
-        self.assertEqual(
-            policy, "default-src 'none'; %s; base-uri 'none'; form-action 'none'" % hashes
-        )
-        self.assertIn("<style>%s</style>" % STYLE, page)
-        self.assertIn("<script>%s</script>" % SCRIPT, page)
-        self.assertIsNone(re.search(r'(src|href)="(?!#)|url\(|style="| on[a-z]+="', page))
+        """Only the one style and the one script of each page may be loaded or run."""
+        for page, style, script in (
+            (read([])[0], STYLE, SCRIPT),
+            ("".join(charts_page_of([], 1.0, True)), CHARTS_STYLE, CHARTS_SCRIPT),
+        ):
+            policy = re.search('Content-Security-Policy" content="([^"]*)"', page)[1]
+            hashes = "style-src %s; script-src %s" % (hash_of(style), hash_of(script))
+            self.assertEqual(
+                policy, "default-src 'none'; %s; base-uri 'none'; form-action 'none'" % hashes
+            )
+            self.assertIn("<style>%s</style>" % style, page)
+            self.assertIn("<script>%s</script>" % script, page)
+            self.assertIsNone(re.search(r'(src|href)="(?!#)|url\((?!#)|style="| on[a-z]+="', page))
 
     def test_cells(self):
         found = an_object(name="T", text="-72.3", unit="degrees-celsius", flags=("in-alarm", "strange"))

@@ -52,6 +52,11 @@ class Files(unittest.TestCase):
                         ),
                     )
 
+    def test_the_upper_bits_of_the_link_type(self):
+        """They say how long the check of a frame is."""
+        (packet,), _ = read(pcap([(TIME, INNER)], 0x14000065))
+        self.assertEqual((packet.link, packet.octets), (101, INNER))
+
     def test_pcapng(self):
         options = [
             ({}, 10**6),
@@ -187,7 +192,10 @@ class Frames(unittest.TestCase):
             (1, ether(INNER)),
             (1, ether(INNER, "81000005")),
             (1, ether(INNER, "88a8000581000006")),
+            (1, ether(INNER, "9100000581000006")),
             (101, INNER),
+            (101, INNER[:2] + b"\0\0" + INNER[4:]),  # no length yet: the network card fills it in
+            (101, b"\x46\0" + struct.pack(">H", len(INNER) + 4) + INNER[4:20] + b"\1\1\1\0" + INNER[20:]),
             (12, INNER),
             (14, INNER),
             (228, INNER),

@@ -1,5 +1,6 @@
 """Surveys: the printed values, the missing ones, and their order."""
 
+import calendar
 import csv
 import io
 import json
@@ -413,6 +414,9 @@ DEAD;device -;timeout
 ;0:3;analog-input;S3;-;normal;present-value: error 2 42
 """
         self.assertEqual((status, re.sub("  +", ";", out)), (1, self.spelled(wanted)))
+        before = self.path("odd.json", self.run_site("survey", "HERE", "--not-normal", "--json")[1])
+        out = self.run_site("survey", "HERE", "--since", before)[1]
+        self.assertEqual((out.count("\n"), out.count("since")), (5, 0), "what was not shown is not new")
 
     def test_an_object_list_that_is_refused_is_read_element_by_element(self):
         """Silence, reject 1, aborts 0 and 9, and errors: after each, the elements of the array are read."""
@@ -452,7 +456,7 @@ DEAD;device -;timeout
         found = json.loads(self.run_site("survey", "HERE", "--devices", "--json")[1])
         self.assertEqual(found["protocol_revision"], "14")
         asked = {"devices": True, "held": False, "details": False, "objects": 5000, "deadline": 600}
-        self.assertEqual(found["asked_for"], {**asked, "name_only": False})
+        self.assertEqual(found["asked_for"], {**asked, "not_normal": False, "name_only": False})
 
     def test_details(self):
         more = {(0, 1, 28): string("On the roof"), (0, 1, 36): enumerated(3), (0, 1, 45): real("41f00000")}
@@ -552,6 +556,7 @@ DEAD;device -;timeout
         values = {**NAMED, **sensors(1), (0, 1, 45): real("41f00000"), (0, 1, 59): real("41200000")}
         values.update({(0, 1, 28): string("Roof; north"), (1, 2, 77): string("Valve"), (1, 2, 85): real("00000000")})
         values.update({(1, 2, 104): real("42480000"), (1, 2, 69): real("00000000"), (1, 2, 65): real("42c80000")})
+        values.update({(1, 2, 117): enumerated(999)})
         values[8, 77, 76] += an_object(1, 2)
         self.stand_in(values)
         path = self.path("site.csv", "")
@@ -560,10 +565,14 @@ DEAD;device -;timeout
             rows = list(csv.reader(file, delimiter=";"))
         self.assertEqual(rows[0], ["# Proposal_Engineering-Data-Exchange - B.I.G.-EU"])
         self.assertEqual((rows[5], len(rows[6]), len(rows[7])), (["VERSION_OF_LAYOUT", "2.1"], 17, 17))
+        names = ["PROJECT_NAME", "VERSION_OF_REFERENCEFILE", "TIMESTAMP_OF_LAST_CHANGE", "AUTHOR_OF_LAST_CHANGE"]
+        self.assertEqual([it[0] for it in rows[1:5]], names)
+        made = calendar.timegm(time.strptime(rows[3][1], "%Y-%m-%dT%H:%M:%SZ"))
+        self.assertLess(abs(time.time() - made), harness.at_load(20))
         heads = ["# keyname", "device obj.-instance", "object-name", "object-type", "object-instance"]
         self.assertEqual(rows[7][:5], heads)
         sensor = ["77_0_1", "77", "S1", "0", "1", "Roof; north", "", "", "", "N", "", "30", "10", "", "62", "", ""]
-        valve = ["77_1_2", "77", "Valve", "1", "2", "", "50", "0", "100", "Y", "", "", "", "", "", "", ""]
+        valve = ["77_1_2", "77", "Valve", "1", "2", "", "50", "0", "100", "Y", "", "", "", "", "999", "", ""]
         self.assertEqual(rows[8:], [sensor, valve])
         self.rows("survey HERE --ede /dev/null => 2 !no plain file: /dev/null")
 

@@ -15,6 +15,10 @@ from stand_ins import an_object, bits, enumerated, real, string, tagged, unsigne
 
 NUMBER, TEXT, OTHER, FAULT = Kind.NUMBER, Kind.TEXT, Kind.OTHER, Kind.FAULT
 ANALOG, BINARY, MODE, VENDOR = (0, 1, 85), (4, 1, 85), (13, 1, 85), (300, 1, 85)
+# Clause 21, BACnetWeekNDay: the odd months, each of the six kinds of weeks, Sunday.
+WEEKS = b"".join(bytes([0x2B, 13, week, 7]) for week in range(1, 7))
+DAYS_OF_WEEKS = ("1-7", "8-14", "15-21", "22-28", "29-31", "last 7")
+SHOWN_WEEKS = ", ".join(f"month odd, days {it}, Sun" for it in DAYS_OF_WEEKS)
 ODD_SHAPE = "[0]{1907-10-31}, [2]{}, [3]X'10'"
 
 
@@ -106,16 +110,20 @@ ROWS = (
     ((17, 1, 123), WEEK, OTHER, SHOWN_WEEK),
     ((17, 1, 123, 1), b"\x0e\x0f", OTHER, "[0]{}"),
     ((17, 1, 38), b"\x0e\x0c\7\x0a\x1f\4\x0f\x2e\x2f\x39\x10", OTHER, ODD_SHAPE),
+    ((6, 1, 23), WEEKS, OTHER, SHOWN_WEEKS),
+    ((6, 1, 23), b"\x2b\x01\x00\x07", OTHER, "[2]X'010007'"),
     ((8, 1, 76), an_object(8, 1) + an_object(0, 5), OTHER, "{8:1 (device), 0:5 (analog-input)}"),
     ((8, 1, 76), an_object(8, 1), OTHER, "8:1 (device)"),
     ((13, 1, 110), string("a") + string("b,c"), OTHER, '{"a", "b,c"}'),
     ((0, 1, 4194303), b"\xd1\x05", OTHER, "13:X'05'"),
     ((0, 1, 4194303), b"\x43\1\2\3" + unsigned(1), OTHER, "4:X'010203', 1"),
     ((8, 1, 56), date("7c0d1f04"), OTHER, "2024-odd-31 Thu"),
+    ((8, 1, 56), date("ff0e22ff"), OTHER, "*-even-even"),
     ((8, 1, 56), date("7c0f1f04"), OTHER, "D'7c0f1f04'"),
     ((8, 1, 56), date("7c0a2304"), OTHER, "D'7c0a2304'"),
     ((8, 1, 57), time("18000000"), OTHER, "T'18000000'"),
     ((13, 1, 7), unsigned(1) + unsigned(2), OTHER, "{1, 2}"),
+    ((39, 1, 7), bits("01") + bits("10"), OTHER, "{B'01', B'10'}"),
     ((0, 1, 45), real("41a00000"), NUMBER, "20"),
     ((0, 1, 81), b"\x11", OTHER, "true"),
     ((7, 1, 2), b"\x0e\x0f", OTHER, "[0]{}"),

@@ -433,6 +433,15 @@ class File(unittest.TestCase):
         self.assertEqual(len(list(rows.rows(1 << 20))), 1001)
         os.close(rows._file)
 
+    def test_who_may_read_it(self):
+        """The umask sets the permissions of a new file, and another one keeps its own."""
+        for umask, mode in ((0o027, 0o640), (0o077, 0o604)):
+            before = os.umask(umask)
+            os.close(Rows(self.path, HEAD)._file)
+            os.umask(before)
+            self.assertEqual(os.stat(self.path).st_mode & 0o777, mode)
+            os.chmod(self.path, 0o604)
+
     def test_two_do_not_write_to_one_file(self):
         rows = Rows(self.path, HEAD)
         with self.assertRaises(Failure):
@@ -665,16 +674,38 @@ class Kept(unittest.TestCase):
         self.assertEqual((samples[0], samples[-1]), ((7, "2", "Night", "normal"), (8, "", "timeout", "fault")))
 
 
+    def test_what_an_earlier_watch_has_kept(self):
+        """Its times are in UTC, and a text that a spreadsheet would calculate has a quotation mark there."""
+        path = harness.tempfile.mkdtemp() + "/earlier.csv"
+        with open(path, "w", encoding="ascii") as file:
+            file.write(HEAD + "1970-01-02T00:00:00.005Z,'=p,'-x,percent,'=Night,'2,\n")
+        point = Point("=p", ref=PropertyRef(0, 1, 85))
+        kept = Watch([point], [["=p"]], SimpleNamespace(csv=path, page="", every=1.0, all=True))
+        os.close(kept.file._file)
+        self.assertEqual(kept.latest, {"=p": Row(86400005, point, "-x", Meaning("", "percent", "=Night"), "'2")})
+        self.assertEqual((kept.lines["=p"].unit, kept.earlier), ("percent", {"=p"}))
+
+    def test_where_lines_are_written_in_place(self):
+        """On a terminal that can, unless all values are to be printed."""
+        for term, is_all, wanted in (("xterm", False, True), ("xterm", True, False), ("dumb", False, False)):
+            words = SimpleNamespace(csv="", page="", every=1.0, all=is_all)
+            with unittest.mock.patch("os.isatty", return_value=True):
+                with unittest.mock.patch.dict(os.environ, TERM=term):
+                    self.assertEqual(Watch([], [], words).live is not None, wanted)
+
+
 class Faults(unittest.TestCase):
     def test_a_fault_of_a_file_is_told_once_and_its_end_too(self):
         kept, told = Watch.__new__(Watch), []
-        kept.faults, kept.live = {}, None
-        with unittest.mock.patch("bacsite.watch.show", told.append):
-            for file, fault in zip(("csv", "page") * 6, ("", "", "a", "", "a", "c", "b", "c", "", "", "", "a")):
-                kept._tell(file, fault)
         again = "bacsite: the file of --%s is written again\n"
-        self.assertEqual(told, ["bacsite: a\n", "bacsite: c\n", "bacsite: b\n", again % "csv", again % "page",
-                                "bacsite: a\n"])
+        wanted = ["bacsite: a\n", "bacsite: c\n", "bacsite: b\n", again % "csv", again % "page", "bacsite: a\n"]
+        for live, before in ((None, []), (SimpleNamespace(clear=lambda: told.append("cleared")), ["cleared"])):
+            kept.faults, kept.live = {}, live
+            with unittest.mock.patch("bacsite.watch.show", told.append):
+                for file, fault in zip(("csv", "page") * 6, ("", "", "a", "", "a", "c", "b", "c", "", "", "", "a")):
+                    kept._tell(file, fault)
+            self.assertEqual(told, [text for it in wanted for text in (*before, it)])
+            told.clear()
 
     def test_how_a_watch_ends(self):
         for fault, lost, told in (("", 3, "3 lines are lost"), ("cannot write x", 0, "cannot write x"),

@@ -104,6 +104,8 @@ class Addresses(unittest.TestCase):
         )
         self.assertEqual(found[0], ("192.0.2.1:47808", (77, 1026), False))
         self.assertEqual(found[1:], [("192.0.2.2:47808", (None,), True)])
+        networks = points.targets(["192.0.2.1/5/*", "192.0.2.1:47808/05/*", "192.0.2.1/*"])
+        self.assertEqual([it.address for it in networks], ["192.0.2.1:47808/5/*", "192.0.2.1:47808/*"])
         named = points.targets(["192.0.2.0/30", "5@192.0.2.2"])
         self.assertEqual(named[1], ("192.0.2.2:47808", (5,), False))
 
@@ -278,6 +280,25 @@ class Words(unittest.TestCase):
         with self.assertRaises(Failure) as caught:
             parsing.parser_of([]).parsed(["read", "--journal", "-5", "192.0.2.7", "0", "5", "85"])
         self.assertEqual((str(caught.exception), caught.exception.status), ("no folder: -5", 3))
+
+    def test_a_survey_has_one_form(self):
+        """So has a capture."""
+        forms = ("--csv", "--json", "--list", "--release", "--html x", "--ede x")
+        for command, options in (("survey a", forms), ("capture f", ("--summary", "--trace"))):
+            for one in options:
+                self.assertTrue(self.given(f"{command} {one}")[one[2:].split()[0]])
+                for other in set(options) - {one}:
+                    with self.assertRaises(Failure) as caught:
+                        self.given(f"{command} {one} {other}")
+                    told = "argument %s: not allowed with argument %s; " % (other.split()[0], one.split()[0])
+                    self.assertEqual(str(caught.exception)[: len(told)], told)
+
+    def test_who_has_put_two_dashes_is_not_told_to(self):
+        told = "argument --priority: not 1 to 16: 17; see bacsite write --help"
+        for words, hint in (("-- -x", ""), ("-x", "; put a value like -x after --")):
+            with self.assertRaises(Failure) as caught:
+                parsing.parser_of(["write"]).parsed(["write", "a", "0", "5", "--priority", "17", *words.split()])
+            self.assertEqual(str(caught.exception), told + hint)
 
     def test_the_version_is_that_of_the_program(self):
         told = subprocess.run(

@@ -34,6 +34,7 @@ MODE = {
     (14, 2, 85): unsigned(1),
     (14, 2, 74): unsigned(4),
     (14, 2, 110): string("Off") + string("Heat") + string("Both") + string("both"),
+    (14, 2, 110, 2): string("Heat"),
 }
 FAN = {
     (5, 3, 77): string("Fan"),
@@ -115,6 +116,7 @@ class Write(harness.SiteTest):
             ("0 9 Öl --property 28", (0, 9, 28), string("Öl"), 0),
             ("0 9 degrees-fahrenheit --property units", (0, 9, 117), enumerated(64), 0),
             ("0 9 1.5", (0, 9, 85), real("3fc00000"), 0),
+            ("14 2 Warm --property state-text --index 2", (14, 2, 110, 2), string("Warm"), 0),
         ):
             given = words.split(" ")
             if "-x" in given:
@@ -205,6 +207,7 @@ class Write(harness.SiteTest):
             write HERE 14 2 x --property state-text => 2 !state-text has several values: choose one with --index; no..
             write HERE 1 2 20 => 1 !present-value: error 2 32; no write was sent
             write HERE 0 9 x --property 12 => 1 !application-software-version: error 2 32; no write was sent
+            write HERE 0 9 5 --property 9999 --type unsigned => 1 !property 9999: error 2 32; no write was sent
             write HERE 1 1 20 --priority 6 => 2 !priority 6 is the device's own
             write HERE 1 1 20 --priority 17 => 2 !argument --priority: not 1 to 16: 17; see bacsite write --help
             write HERE 1 1 20 --priority -5 => 2 !argument --priority: not 1 to 16: -5; see bacsite write --help; put..
