@@ -9,6 +9,7 @@ import subprocess
 import sys
 import time
 import unittest
+from contextlib import suppress
 from unittest import mock
 
 import harness
@@ -88,21 +89,20 @@ class Several(harness.SiteTest):
 
 class Terminal(harness.SiteTest):
     def told(self, *words):
-        """The output, and the progress that a terminal shows."""
+        """The output, and the progress that a terminal shows. It is read meanwhile, since a terminal holds little."""
         terminal, side = pty.openpty()
-        done = subprocess.run([*self.world.command, *words], stdout=subprocess.PIPE, stderr=side)
-        os.set_blocking(terminal, False)
-        try:
-            shown = os.read(terminal, 9999).decode()
-        except BlockingIOError:
-            shown = ""
-        os.close(side)
-        os.close(terminal)
-        return done.stdout.decode(), shown
+        shown = b""
+        with subprocess.Popen([*self.world.command, *words], stdout=subprocess.PIPE, stderr=side) as process:
+            os.close(side)
+            with suppress(OSError):  # once nobody has the other side
+                while True:
+                    shown += os.read(terminal, 65536)
+            os.close(terminal)
+            return process.stdout.read().decode(), shown.decode()
 
     def test_how_far_it_is_in_both_orders(self):
         fast = self.stand_in({**FORTY, (0, 2, 85): real("42290000")})
-        slow = self.stand_in(FORTY, delay=0.9)
+        slow = self.stand_in(FORTY, delay=min(4, harness.at_load(0.9)))
         text = "s %s 0 1 85\n" % slow.address + "".join(
             "f %s 0 %d 85\n" % (fast.address, at) for at in (1, 2)
         )
