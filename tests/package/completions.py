@@ -31,9 +31,10 @@ def rows():
 
 
 def completed(shell, folder, lines):
+    """The words that follow each line, with the texts beside them, which fish prints."""
     script = [*dict(TABLE["shells"])[shell].split(), f"{TOP}/tests/package/complete.{shell}"]
     parts = re.split(r"(?m)^of (.*)\n", ran(*script, folder, *lines, cwd=folder).stdout)
-    return {line: [*dict.fromkeys(it.split("\t")[0].rstrip("/") for it in told.split("\n") if it)]
+    return {line: {it.partition("\t")[0].rstrip("/"): it.partition("\t")[2] for it in told.split("\n") if it}
             for line, told in zip(parts[1::2], parts[2::2])}
 
 
@@ -47,7 +48,9 @@ def main():
             if not left_out(shell):
                 found = completed(shell, folder, wanted)
                 for line, words in wanted.items():
-                    same(f"{line} in {shell}", found.get(line), words)
+                    same(f"{line} in {shell}", [*found.get(line, [])], words)
+                for line, word, text in TABLE["texts"] if shell == "fish" else ():
+                    same(f"the text of {word} in {shell}", found[line].get(word), text)
     return verdict("lines are completed as they are to be")
 
 

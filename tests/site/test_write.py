@@ -280,7 +280,8 @@ class Write(harness.SiteTest):
         self.assertEqual(out, ["before: 1", "write 3: ok", "now: 3"])
 
     def test_a_priority_array_that_can_not_be_read(self):
-        for fault, told in ((("error", 2, 27), "error 2 27"), (b"\x2e\x2f", "no list")):
+        faults = {"error 2 27": ("error", 2, 27), "reject 9": ("reject", 9), "abort 9": ("abort", 9)}
+        for told, fault in {**faults, "no list": b"\x2e\x2f"}.items():
             device = self.stand_in({**VALVE, (1, 1, 87): fault})
             device.keep = lambda key, value, _: device.values.update({key: value})
             out = self.run_site("write", "HERE", "1", "1", "20", "--priority", "8")
