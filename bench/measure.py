@@ -80,24 +80,24 @@ def network():
 
 
 def batch(port, window):
-    """The reads a second of one bacrun, all of which must be answered."""
-    write(f"{TOP}/out/reads", f"read 127.0.0.1:{port} 0 5 85\n" * REPLIES)
+    """The reads a second of one bacrun, all of which must be answered: so many that its start hardly counts."""
+    write(f"{TOP}/out/reads", f"read 127.0.0.1:{port} 0 5 85\n" * MANY_REPLIES)
     with open(f"{TOP}/out/reads", encoding="utf-8") as reads, open(JOURNAL, "w", encoding="utf-8") as journal:
         seconds = timed([PROGRAM, "bacrun", "--window", str(window)], reads, journal)
-    if text_of(JOURNAL).count("\n# done ") != REPLIES:
+    if text_of(JOURNAL).count("\n# done ") != MANY_REPLIES:
         sys.exit("bacrun: a read has no answer")
-    return REPLIES / seconds
+    return MANY_REPLIES / seconds
 
 
 def floor(window):
     """The reads a second of a plain client that makes the calls that the contract of bacrun requires."""
     with device() as (_, port), open(JOURNAL, "w", encoding="utf-8") as journal:
-        words = [UDP, "batch", str(port), str(window), str(REPLIES)]
+        words = [UDP, "batch", str(port), str(window), str(MANY_REPLIES)]
         return int(subprocess.run(words, stdout=journal, stderr=subprocess.PIPE, check=True).stderr)
 
 
 def runs():
-    read = lambda program, port, window: batch(port, window) if program == PROGRAM else load(port, window, REPLIES)
+    read = lambda program, port, window: batch(port, window) if program == PROGRAM else load(port, window, MANY_REPLIES)
     bare, ours = (list(map(statistics.median, rates)) for rates in rounds((1, 8, 64), read))
     calls = [statistics.median([floor(window) for _ in range(ROUNDS)]) for window in (1, 8, 64)]
     with device() as (_, port):

@@ -16,9 +16,10 @@ sys.path.insert(0, sys.path[0] + "/..")
 from tree import TOP, copy_crate, processors, status_of, text_of, write
 from controls import PATTERNS
 from edits import entries_in
-from mutants import TOGETHER, command, said_of
+from mutants import command, said_of
 from stubs import put_stubs
 
+TOGETHER = 12  # edits of a crate in a check, of which each has a copy: what they use is loaded once
 BY, ERROR, PAIR = PATTERNS["definition_mutants.py"]
 
 
