@@ -475,7 +475,7 @@ class Charts(unittest.TestCase):
         self.assertLessEqual(len(self.line(made).samples), MOST)
 
     def test_all_data_of_a_page(self):
-        """Empty texts at the end of a sample are left out; `normal` is no flag that is set."""
+        """Empty texts at the end of a sample are left out; `normal` is not a flag that is set."""
         number, state = self.line([]), Line(Point("f", ref=PropertyRef(4, 1, 85)))
         number.label, number.unit = "Room", "percent"
         for it in (Sample(1, "2", "", "normal"), Sample(2, "", "timeout"), Sample(3, "2", "", "fault")):
@@ -734,7 +734,7 @@ class Lines(unittest.TestCase):
         return line
 
     def shown(self, live, lines, size=(100, 24)):
-        """What is written."""
+        """The text that is written."""
         now, patch = (43200 + 60) * 10**9, unittest.mock.patch
         with patch("bacsite.watch.put") as put, patch("time.time_ns", return_value=now):
             with patch("shutil.get_terminal_size", return_value=os.terminal_size(size)):

@@ -131,7 +131,7 @@ def is_vacuous(node):
         return node.attr in ("skip", "expectedFailure")
     if name == "assertIn" and isinstance(sides[1], (ast.Tuple, ast.List, ast.Set)):  # several things would do
         return True
-    if name in ("assertTrue", "assertFalse") and len(sides) == 2:  # the second is what is told, and no other thing
+    if name in ("assertTrue", "assertFalse") and len(sides) == 2:  # the second is the message, and not another value
         return not isinstance(sides[1], ast.Constant) and ast.dump(sides[1]) not in ast.dump(sides[0])
     if isinstance(node, ast.FunctionDef) and node.name.startswith("test_"):
         called = (getattr(getattr(it, "func", None), "attr", "") for it in within(node))
