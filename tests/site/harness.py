@@ -16,6 +16,7 @@ import signal
 import subprocess
 import sys
 import tempfile
+import time
 import unittest
 from concurrent.futures import ThreadPoolExecutor
 from contextlib import suppress
@@ -43,6 +44,15 @@ LISTEN = ["--listen", LISTENED, "--listen-port", "0"]  # another test may have t
 SILENCES = ("timeout", "not asked", "silent")  # a row with these waits for somebody who does not answer
 
 
+def has_port(process, port):
+    """Whether this process has a UDP socket at this port."""
+    with open(f"/proc/{process}/net/udp", encoding="ascii") as table:
+        rows = [row.split() for row in table]
+    sockets = {f"socket:[{row[9]}]" for row in rows if row[1].endswith(f":{port:04X}")}
+    files = os.scandir(f"/proc/{process}/fd")
+    return any(os.readlink(it.path) in sockets for it in files)
+
+
 class World:
     """The devices that all tests use; they are made once."""
 
@@ -66,12 +76,14 @@ class World:
         """Begins the device at a free port, and returns the port; another program may take it first."""
         for _ in range(5):
             with local_socket() as found:
-                port = str(found.getsockname()[1])
-            self.device = subprocess.Popen([TOOL, "bacdev", "1000", "--port", port])
-            with suppress(subprocess.TimeoutExpired):
-                self.device.wait(0.1)
-                continue
-            return port
+                port = found.getsockname()[1]
+            self.device = subprocess.Popen([TOOL, "bacdev", "1000", "--port", str(port)])
+            most = time.monotonic() + at_load(2)
+            while self.device.poll() is None:
+                with suppress(OSError):  # it has just ended
+                    if time.monotonic() > most or has_port(self.device.pid, port):
+                        return str(port)
+                time.sleep(0.01)
         raise OSError("bacdev has no port")
 
     def meet(self):

@@ -1,6 +1,6 @@
 -- Parts of a run, one after another.
 use Rattle.std.proofs.Common.{[], ap, append-nil, append_assoc, arith, Bool, Err, false, flat_map, length, List, nat_lt}
-use Rattle.std.proofs.Common.{Ok, Option, refl, Result, Some, sym, true, ℕ, ◌++◌, ◌<◌, ◌^◌, ◌∙◌, ◌∷◌, ◌≡◌}
+use Rattle.std.proofs.Common.{Ok, Option, refl, Result, Some, sym, true, ℕ, ◌++◌, ◌<◌, ◌^◌, ◌∙◌, ◌∷◌, ◌≡◌, ◌≤◌}
 use Rattle.{bac_pdu.specs.{longest_body, Station}, bac_tsm.specs.{Ask, due_notes, Event}}
 use Rattle.bac_tsm.specs.{keeping, Note, Outcome, Refused, rules_of, Client.Client}
 use Rattle.bac_tsm.specs.{declared.{client.SubmitFault.TheVariants.TooLong, due.DueEntry.DueEntry}, Machine.datagram}
@@ -11,10 +11,11 @@ use Rattle.bac_run.proofs.Acts.{all_both, calls-append, client_after-append, fai
 use Rattle.bac_run.proofs.Acts.{refused_long, within_append}
 use Rattle.bac_run.proofs.Out.{out_more, out_none, out_one, passed_here, printed_on}
 use Rattle.bac_run.specs.{Act, acts_of_line, Aim, aims_for, aims_of, arrival_line, Asked, asked_by, at_event, Came}
-use Rattle.bac_run.specs.{Does, Ends, feed_in, FitsLine, Goes, Handed, handing, HasRoom, heard_at, IsDue}
+use Rattle.bac_run.specs.{Does, Ends, feed_in, FewOpen, FitsLine, Goes, Handed, handing, HasRoom, heard_at, IsDue}
 use Rattle.bac_run.specs.{IsPassed, line_of, moved, NoLine, open_in, Page, Passed, Read, Reading, remark, remarks}
-use Rattle.bac_run.specs.{RunFault, Script, sends_in, settled, Stage, stage_after, StopsAt, taking, time_line, Told}
-use Rattle.bac_run.specs.{Took, TraceFault, Turn, turn_at, Turns, wait_at, WantsOut, whole_line}
+use Rattle.bac_run.specs.{room_for, RunFault, Script, sends_in, settled, Setup, since_asked, Stage, stage_after}
+use Rattle.bac_run.specs.{StopsAt, taking, time_line, Told, Took, TraceFault, Turn, turn_at, Turns, wait_at, WantsOut}
+use Rattle.bac_run.specs.{whole_line}
 use Rattle.bac_run.specs.declared.turns.Runner.{Runner}
 use Rattle.bac_run.specs.Inner.{begins_turn, ComesTo, done, HasPassed, looking, outside, started, telling_in, to_hand}
 use Rattle.bac_run.specs.Inner.Went.{Went}
@@ -48,11 +49,16 @@ stops_so = grind (arith, append_assoc, append-nil)
 -- ---- the parts
 
 -- The stage after an act of the client, whose datagrams must be offered.
-after_act : (since_told : ℕ) (later : List Aim) {client after : Client} {sends others : List (Station × List ℕ)}
-    → client ≡ after → sends ≡ others
+after_act : {since_told waits : ℕ} (later : List Aim) {client after : Client} {sends others : List (Station × List ℕ)}
+    → since_told ≡ waits → client ≡ after → sends ≡ others
     → settled (record { client = client; since_told = since_told; phase = handing sends; aims = later })
-    ≡ settled (record { client = after; since_told = since_told; phase = handing others; aims = later })
-after_act since_told later same sent = rw (same, sent) refl
+    ≡ settled (record { client = after; since_told = waits; phase = handing others; aims = later })
+after_act later counted same sent = rw (counted, same, sent) refl
+
+-- No answer is expected while there is room.
+roomy : (most since_told : ℕ) (client : Client) → open_in client ≤ most
+    → since_told ≡ since_asked most client since_told
+roomy most since_told client few = grind (arith, nat_tests, few)
 
 module _ {Origin W : Type 0} {contents : W → Option (List ℕ)} where
   -- Two parts of a run, one after the other.
@@ -258,25 +264,38 @@ module _ {Origin W : Type 0} {contents : W → Option (List ℕ)} where
       (arith, is, left) in
       went_one (Told time) fits refl left (λ (until, n, later). rw more refl)
       (λ (until, n, later). rw more
-      (after_act 0 (Turns until most_turns ∷ later) (sym left) (ap sends_in (sym alike)
+      (after_act (Turns until most_turns ∷ later) refl (sym left) (ap sends_in (sym alike)
       ∙ ap (λ (es : List DueEntry). sends_in (flat_map (due_notes client.state) es)) (sym same))))
       (printed_as (line ⨾ notes) (ap (λ (ns : List Note). time_line time ++ remarks ns) alike))
       (λ waits. absurd waits) (grind (arith, append-nil)) tt
 
   -- A part in which a request was made, while there was room.
-  pub went_asked : {c : Runner} {p q r : Page W} (s : Account Origin) {client : Client}
-      {sends : List (Station × List ℕ)} (line : List ℕ) (event : Event) → client ≡ (at_event c.client event).after
+  pub went_asked : {c : Runner} {p q r : Page W} (s : Account Origin) {client : Client} {waits : ℕ}
+      {sends : List (Station × List ℕ)} (most : ℕ) (line : List ℕ) (event : Event)
+      → client ≡ (at_event c.client event).after → waits ≡ since_asked most client c.since_told
       → sends_in (at_event c.client event).notes ≡ sends → Prints contents p q (whole_line line)
       → Prints contents q r (remarks (at_event c.client event).notes)
       → (WantsOut (Asked line event) → (has_failed (writer_of p) ≡ false) × (held p ≡ []))
       → open_in c.client < c.setup.window
-      → Went contents c (record c { client = client }) p r s s (λ later. started c (Does (Asked line event) ∷ later))
-      (λ later. to_hand (record c { client = client }) (sends, later)) done []
-  went_asked {c} s line event left sent printed noted out few =
+      → Went contents c (record c { client = client; since_told = waits }) p r s s
+      (λ later. started c (Does (Asked line event) ∷ Turns (FewOpen most) most_turns ∷ later))
+      (λ later. to_hand (record c { client = client; since_told = waits })
+      (sends, Turns (FewOpen most) most_turns ∷ later)) done []
+  went_asked {c} s most line event left counted sent printed noted out few =
       went_one (Asked line event) tt refl left (λ (later : List Aim). (refl, refl, refl))
-      (λ (later : List Aim). after_act c.since_told later (sym left) sent) (printed ⨾ noted)
+      (λ (later : List Aim). after_act (Turns (FewOpen most) most_turns ∷ later)
+      (ap (λ (k : Client). since_asked most k c.since_told) (sym left) ∙ sym counted) (sym left) sent)
+      (printed ⨾ noted)
       (λ wants. let (sound, none) = out wants in passed_here sound none (printed_on (printed ⨾ noted)))
       (grind (arith, append-nil)) few
+
+  -- The room that a part leaves for one more request is that of equal settings.
+  pub went_set : {c d : Runner} {p q : Page W} {s t : Account Origin} {x y : Setup} (due : Aim) → x ≡ y
+      → Went contents c d p q s t (λ later. started c (due ∷ room_for x.window ∷ later))
+      (λ later. started d (room_for x.window ∷ later)) done []
+      → Went contents c d p q s t (λ later. started c (due ∷ room_for y.window ∷ later))
+      (λ later. started d (room_for y.window ∷ later)) done []
+  went_set due same went = rw same at went
 
   -- A part in which a datagram was offered to the link.
   pub went_handed : {c : Runner} {p q : Page W} {s t : Account Origin} (to : Station) (octets : List ℕ) (taken : Bool)
@@ -300,15 +319,18 @@ module _ {Origin W : Type 0} {contents : W → Option (List ℕ)} where
       went_silent s (NoLine reading) tt refl refl due comes (prints_nothing p) (λ waits. waits) tt
 
   -- A part in which a request was refused as too long, while there was room.
-  pub went_refused : {c d : Runner} {p q r m : Page W} {s t : Account Origin} {from : List Aim → Stage} (line : List ℕ)
-      (peer : Station) (body : List ℕ) → longest_body < length body
-      → Went contents c d p m s t from (λ later. started d (Does (Asked line (Ask peer 15 body)) ∷ later)) done []
+  pub went_refused : {c d : Runner} {p q r m : Page W} {s t : Account Origin} {from : List Aim → Stage} (most : ℕ)
+      (line : List ℕ) (peer : Station) (body : List ℕ) → longest_body < length body
+      → Went contents c d p m s t from
+      (λ later. started d (Does (Asked line (Ask peer 15 body)) ∷ Turns (FewOpen most) most_turns ∷ later)) done []
       → Prints contents m q (whole_line line) → Prints contents q r (remark (Refused TooLong))
-      → open_in d.client < c.setup.window → Went contents c d p r s t from (λ later. started d later) done []
-  went_refused {d = d} {t = t} line peer body long fresh printed noted few =
+      → open_in d.client < c.setup.window → open_in d.client ≤ most
+      → Went contents c d p r s t from (λ later. started d (Turns (FewOpen most) most_turns ∷ later)) done []
+  went_refused {d = d} {t = t} most line peer body long fresh printed noted few fewer =
       let is = refused_long d.client peer body long in
       went_more fresh
-      (went_asked t line (Ask peer 15 body) (cc) (ap (λ (x : Turn). sends_in x.notes) is) printed
+      (went_asked t most line (Ask peer 15 body) (cc) (roomy most d.since_told d.client fewer)
+      (ap (λ (x : Turn). sends_in x.notes) is) printed
       (printed_as noted (sym (ap (λ (x : Turn). remarks x.notes) is ∙ append-nil _)))
       (λ (is, short). absurd (omega (arith, long, short))) (rw fresh.same few))
 

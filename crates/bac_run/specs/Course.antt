@@ -39,7 +39,7 @@ handing [] = Outside
 handing (send ∷ later) = Handing (send ∷ later)
 
 -- The stage of a run: its client; how many waits are over since the client last got the time, 0 if that was in the last
--- turn; its phase; and its aims, in order.
+-- turn, and at least 1 while answers are expected (since_asked); its phase; and its aims, in order.
 pub record Stage : Type 0 where
   pub client : Client
   pub since_told : ℕ
@@ -105,6 +105,16 @@ passed_at stage time wait Silence = if wait == 0 then telling stage time else he
 passed_at stage time wait (Arrived from octets) = heard_at stage time
 passed_at stage time wait Failure = record stage { phase = Broken }
 
+-- How many waits are over once a request was made that may be one of this many, and one more. If there is no room for
+-- another, and others are open, their answers may have come: the next turn looks for them before it waits.
+abbrev pub since_asked : (most : ℕ) → Client → (since_told : ℕ) → ℕ
+since_asked most client since_told = if nat_lt (max most 1) (open_in client) then max since_told 1 else since_told
+
+-- The same after an act, before these aims.
+abbrev pub since_act : Act → Client → (since_told : ℕ) → List Aim → ℕ
+since_act (Asked line event) client since_told (Turns (FewOpen most) left ∷ later) = since_asked most client since_told
+since_act act client since_told aims = since_told
+
 -- The turns of a wait are counted anew when the client gets a time.
 abbrev pub renewed : List Aim → List Aim
 renewed (Turns until left ∷ later) = Turns until most_turns ∷ later
@@ -166,7 +176,7 @@ module _ (timeout : ℕ) where
   due_in time (Some sent) = timeout - (time - sent)
 
   -- How long a turn that begins at this time waits, in milliseconds: at most until the first open request is due. If a
-  -- wait is over since the client last got the time, the turn only looks.
+  -- wait is over since the client last got the time, or if answers are expected, the turn only looks.
   abbrev pub wait_at : Client → (since_told time : ℕ) → ℕ
   wait_at client since_told time =
       if since_told == 0 then min (turn_wait timeout) (due_in time (oldest_send client.state)) else 0
@@ -204,7 +214,9 @@ module _ (timeout : ℕ) where
   moved_in stage Outside (Fresh ∷ later) (Read time) = freshened (record stage { aims = later }) time
   moved_in stage Outside (Rests time ∷ later) (Read now) =
       record stage { aims = Turns (ClockAt (min (now + time) (2 ^ 64 - 1))) most_turns ∷ later }
-  moved_in stage Outside (Does due ∷ later) act = record (acted stage act) { aims = later }
+  moved_in stage Outside (Does due ∷ later) act =
+      let after = acted stage act in
+      record after { since_told = since_act act after.client stage.since_told later; aims = later }
   moved_in stage Outside (NextLine window taken ∷ later) (Took line) =
       record stage { aims = aims_for (acts_of_line line) window (suc taken) line later }
   moved_in stage Outside (NextLine window taken ∷ later) (NoLine reading) =

@@ -9,11 +9,11 @@ ghost use Rattle.bac_run.specs.{FitsLine, Fresh, Goes, Handed, has_line, HasNoFe
 ghost use Rattle.bac_run.specs.{is_reached, IsReplayed, IsWithin, journal, journal_of, LastIsDue, Link, moved};
 ghost use Rattle.bac_run.specs.{NextLine, NoLine, notes_of, offered_in, Open, Passed, passed_at, Paused, Read};
 ghost use Rattle.bac_run.specs.{ReadFailed, ReceiveFailed, refused_in, Rested, Rests, room_for, Runs, said_of, Script};
-ghost use Rattle.bac_run.specs.{SendFailed, sends_of, sent_in, Sought, stage_after, taking, Telling, time_line, Told};
-ghost use Rattle.bac_run.specs.{Took, Turns, TurnsSpent, unsent_in, WantsLine, write_failed};
-ghost use Rattle.bac_run.specs.Inner.{about, answer, asked, busy, deaf, desk, drained, ended, filled, full_after};
-ghost use Rattle.bac_run.specs.Inner.{given_once, handed, idle, IsRunOf, link_with, long_answer, octets, one_by_one};
-ghost use Rattle.bac_run.specs.Inner.{read, read_line, sent, slow, told_at, unknown, waiting};
+ghost use Rattle.bac_run.specs.{SendFailed, sends_of, sent_in, since_act, Sought, stage_after, taking, Telling};
+ghost use Rattle.bac_run.specs.{time_line, Told, Took, Turns, TurnsSpent, unsent_in, WantsLine, write_failed};
+ghost use Rattle.bac_run.specs.Inner.{about, answer, asked, busier, busy, deaf, desk, drained, ended, filled};
+ghost use Rattle.bac_run.specs.Inner.{full_after, given_once, handed, idle, IsRunOf, link_with, long_answer, octets};
+ghost use Rattle.bac_run.specs.Inner.{one_by_one, read, read_line, sent, slow, told_at, unknown, waiting};
 ghost use Rattle.bac_links.specs.{Arrived, most_turns, Offered, Posted, Silence, Timed, Unposted, Waited};
 ghost use Rattle.{bac_print.specs.fresh};
 
@@ -368,4 +368,12 @@ fn examples_of_limits()
     ensures none_few { is_reached busy 0 (Turns (FewOpen 0) 9) ≡ false }
     ensures unheard { is_reached busy 3 (Turns (FewOpen 1) 9) ≡ false }
     ensures none_open { is_reached idle 3 (Turns (FewOpen 0) 9) ≡ true }
+
+    // A request that leaves no room for one more, while another is open, is followed by a look.
+    ensures full { since_act asked busier 0 (room_for 2 ∷ []) ≡ 1 }
+    ensures full_before { since_act asked busier 3 (room_for 2 ∷ []) ≡ 3 }
+    ensures not_full { since_act asked busier 0 (room_for 3 ∷ []) ≡ 0 }
+    ensures only_one { since_act asked busy 0 (room_for 1 ∷ []) ≡ 0 }
+    ensures no_request { since_act Paused busier 0 (room_for 2 ∷ []) ≡ 0 }
+    ensures looks { (moved 3000 (about busy 0 (Does asked ∷ room_for 2 ∷ [])) asked).since_told ≡ 1 }
 {}

@@ -1,12 +1,12 @@
 //! A run of many requests over one link.
 
-ghost use Rattle.std.specs.Prelude.{[], Err, false, IfErr, IfOk, IfSome, Ok, true, ◌<◌, ◌↔◌, ◌∷◌, ◌≡◌, ◌≢◌};
+ghost use Rattle.std.specs.Prelude.{[], Err, false, IfErr, IfOk, IfSome, Ok, true, ◌-◌, ◌<◌, ◌↔◌, ◌∷◌, ◌≡◌, ◌≢◌};
 ghost use Rattle.{bac_wire.specs.result_seen, bac_pdu.specs.station, bac_links.specs.most_turns};
 ghost use Rattle.bac_script.specs.{declared.tracing.TraceFault.TheVariants.WriteFailed, LineSeen.line_seen};
 ghost use Rattle.{bac_tsm.specs.Ask, bac_print.specs.{has_failed, held, Prints, writer_of}, bac_run.specs.acts_of_line};
 ghost use Rattle.bac_run.specs.{act_of, aims_for, Asked, Does, ending, Ends, FewOpen, Fresh, is_of_link, IsGood};
-ghost use Rattle.bac_run.specs.{IsOver, IsOverAt, open_in, Paused, room_for, Runs, said_of, taking, Turns};
-ghost use Rattle.bac_run.specs.{whole_line};
+ghost use Rattle.bac_run.specs.{IsOver, IsOverAt, open_in, Paused, room_for, Runs, said_of, since_asked, taking};
+ghost use Rattle.bac_run.specs.{Turns, whole_line};
 ghost use Rattle.bac_run.specs.{Rested, Rests, Inner.{done, IsOfWait, own_seen, RunsOn, started}};
 ghost use Rattle.bac_run.specs.{write_failed, declared.own.Own.TheVariants.Seek, Inner.{stopped, Went.Went}};
 ghost use Rattle.bac_script.specs.declared.line.LineFault.TheVariants.{Bad};
@@ -237,8 +237,9 @@ impl Runner {
         requires room { open_in self.old.client < self.old.setup.window }
         ensures fault { L.has_failed link.new ≡ is_of_link result }
         ensures went { Went W.contents self.old self.new page.old page.new (L.seen link.old) (L.seen link.new)
-            (λ later. started self.old (Fresh ∷ Does (Asked line.now (Ask (station peer) service body.now)) ∷ later))
-            (λ later. started self.new later) result [] }
+            (λ later. started self.old (Fresh ∷ Does (Asked line.now (Ask (station peer) service body.now))
+            ∷ room_for self.old.setup.window ∷ later))
+            (λ later. started self.new (room_for self.old.setup.window ∷ later)) result [] }
         ensures not_written { result ≡ Err write_failed → has_failed (writer_of page.new) ≡ true }
         ensures cause { IfErr result IsOfWait }
     {
@@ -265,17 +266,33 @@ impl Runner {
         requires out { service ≡ 15 → (has_failed (writer_of page.old) ≡ false) × (held page.old ≡ []) }
         ensures sound { L.has_failed link.new ≡ false }
         ensures went { Went W.contents self.old self.new page.old page.new (L.seen link.old) (L.seen link.new)
-            (λ later. started self.old (Does (Asked line.now (Ask (station peer) service body.now)) ∷ later))
-            (started self.new) done [] }
+            (λ later. started self.old (Does (Asked line.now (Ask (station peer) service body.now))
+            ∷ room_for self.old.setup.window ∷ later))
+            (λ later. started self.new (room_for self.old.setup.window ∷ later)) done [] }
     {
         print_request(page, service, line);
-        match self.client.submit(peer, service, body) {
+        let answer = self.client.submit(peer, service, body);
+        self.since_told = self.since_asked();
+        match answer {
             Ok(ticket) => {
                 let note = self.client.sent(ticket);
                 remark_any(page, note);
                 self.send_any(note, link, page);
             }
             Err(fault) => remark(page, Note::Refused(fault)),
+        }
+    }
+
+    // Returns how many waits are over once a request was made. If there is no room for one more, and others are open,
+    // their answers may have come: it is at least 1, so that the next turn looks for them before it waits.
+    fn since_asked(&self) -> u32
+        ensures { result ≡ since_asked (self.now.setup.window - 1) self.now.client self.now.since_told }
+    {
+        let most = self.setup.window - 1;
+        if self.client.open_count() > most.max(1) {
+            self.since_told.max(1)
+        } else {
+            self.since_told
         }
     }
 

@@ -37,7 +37,8 @@ pub(crate) struct Runner {
     pub setup: Setup,
     pub client: Client,
     pub datagram: Datagram,
-    // How many waits are over since the client last got the time: 0 if that was in the last turn.
+    // How many waits are over since the client last got the time: 0 if that was in the last turn. While answers are
+    // expected it is at least 1, so that the next turn only looks.
     pub since_told: u32,
 }
 
@@ -147,7 +148,7 @@ impl Runner {
     }
 
     // Returns how long a turn that begins now waits, in milliseconds: at most until the first open request is due. It
-    // is 0 if a wait is over since the client last got the time.
+    // is 0 if a wait is over since the client last got the time, or if answers are expected.
     fn longest_wait(&self, now: u64) -> u32
         ensures { result ≡ wait_at self.now.setup.config.timeout self.now.client self.now.since_told now }
     {

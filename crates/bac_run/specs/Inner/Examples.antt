@@ -52,6 +52,10 @@ idle = new_client 3000 3 0
 abbrev pub busy : Client
 busy = (turn_at idle asked).after
 
+-- The client with a second such request open.
+abbrev pub busier : Client
+busier = (turn_at busy asked).after
+
 -- Outside a turn, with this many waits over since the client last got the time.
 abbrev pub about : Client → (since_told : ℕ) → List Aim → Stage
 about client since_told aims = record { client = client; since_told = since_told; phase = Outside; aims = aims }

@@ -19,4 +19,10 @@ returns c = record {
   none_few = refl;
   unheard = refl;
   none_open = refl;
+  full = refl;
+  full_before = refl;
+  not_full = refl;
+  only_one = refl;
+  no_request = refl;
+  looks = refl;
 }
