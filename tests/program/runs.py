@@ -200,9 +200,10 @@ def typed(program):
 def main(program):
     signal.alarm(900)
     rows = list(blocks(f"{TOP}/tests/program/runs.txt"))
-    for workers, is_timed in ((4, False), (1, True)):
+    alone = lambda row: "N" in row or "flood" in row["@"][0]  # by the clock, or a peer that takes all the time there is
+    for workers, is_alone in ((4, False), (1, True)):
         with ThreadPoolExecutor(workers) as pool:
-            list(pool.map(lambda row: tried(program, *row), (row for row in rows if ("N" in row[1]) == is_timed)))
+            list(pool.map(lambda row: tried(program, *row), (row for row in rows if alone(row[1]) == is_alone)))
     signal.alarm(60)
     typed(program)
     return verdict("ends, replays and lines of runs are as they are to be")
