@@ -210,7 +210,7 @@ class Calls(harness.SiteTest):
             with open(folder + "/" + name, encoding="ascii") as file:
                 told = file.read()
             if not told:
-                continue  # the port of this bacrun was taken, and another one followed
+                continue  # as a bacrun leaves it whose port is taken; the sends are counted below
             replayed = subprocess.run(
                 [harness.TOOL, "bactrace"], input=told, stdout=subprocess.PIPE, encoding="ascii"
             )

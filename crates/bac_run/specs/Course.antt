@@ -105,8 +105,8 @@ passed_at stage time wait Silence = if wait == 0 then telling stage time else he
 passed_at stage time wait (Arrived from octets) = heard_at stage time
 passed_at stage time wait Failure = record stage { phase = Broken }
 
--- How many waits are over once a request was made that may be one of this many, and one more. If there is no room for
--- another, and others are open, their answers may have come: the next turn looks for them before it waits.
+-- How many waits are over once a request was made. If more than this many are open, there is no room for another. Then,
+-- if it is not the only one, answers to others may have come, and the next turn looks for them before it waits.
 abbrev pub since_asked : (most : ℕ) → Client → (since_told : ℕ) → ℕ
 since_asked most client since_told = if nat_lt (max most 1) (open_in client) then max since_told 1 else since_told
 
