@@ -3,7 +3,7 @@
 PROGRAM = crates/bactool/out/bactool
 SOURCES := $(shell find crates -name out -prune -o \( -name '*.rt' -o -name '*.antt' \) -print) crates.txt
 
-.PHONY: help try demo check test gate examples forget program documents reading kit
+.PHONY: help try demo check test test-tools test-bacsite gate examples forget program documents reading kit
 
 help:
 	@sed '' docs/MAKE.txt
@@ -29,7 +29,9 @@ test: program
 gate:
 	@tests/suite.py gate
 
-examples: program guide
+examples: test-tools test-bacsite
+
+test-tools: program guide
 	@python3 tests/tree.py examples/demo.sh $(PROGRAM) | sed -E 's/(--port |127\.0\.0\.1:)[0-9]+/\147808/' | \
 	    diff - examples/demo.out
 	@echo "examples/demo.sh: as it is to be"
@@ -37,6 +39,8 @@ examples: program guide
 	@tests/program/rows.py $(PROGRAM)
 	@tests/program/runs.py $(PROGRAM)
 	@tests/program/fault_injection.py $(PROGRAM)
+
+test-bacsite: program
 	@tests/site/run.py $(PROGRAM)
 
 forget:

@@ -167,8 +167,9 @@ def test(_):
     if not all(os.path.isdir(f"crates/{it}/out/incremental") for it in crates_below()["bactool"]):
         yield [[Part("build", ["./build.py"], tried=r"^ *\d+ of \d+ +\w+ +proved")]]
     trials = Part("trials", ["./build.py", "--tests"], tried=r"(\d+) tests passed")
-    yield beside([trials], [Part("mutants", [*GENTLY, "tests/bodies/mutants.py", "--sample"])])
-    yield beside([target("examples")], [target("lint")])  # they use the ports that the trials use too
+    sample = Part("mutants", [*GENTLY, "tests/bodies/mutants.py", "--sample"])
+    tools, bacsite = target("test-tools"), target("test-bacsite")  # both wait more than they work
+    yield beside([trials, tools], [sample, bacsite], [target("lint")])  # the tools use ports of the trials
 
 
 def gate(room):
@@ -180,7 +181,7 @@ def gate(room):
     refused = Part("refused", ["tests/bodies/definition_mutants.py", tree])
     program = Part("program", ["install", "-D", f"{tree}/{PROGRAM}", PROGRAM], tried="")
     false = Part("false checks", ["tests/planted_faults.py", PROGRAM])
-    yield [[refused, program, false, target("examples"), target("lint")]]
+    yield [[refused, program, false, *map(target, ("test-tools", "test-bacsite", "lint"))]]
 
 
 def main(words):

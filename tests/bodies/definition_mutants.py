@@ -8,6 +8,7 @@ Usage: tests/bodies/definition_mutants.py [TREE [PATTERN]]: tries all edits, or 
 with the libraries of the crates below in this tree, or another, as `make demo` keeps them; many of a crate at a time.
 """
 import functools
+import os
 import re
 import sys
 from concurrent.futures import ThreadPoolExecutor
@@ -16,7 +17,7 @@ sys.path.insert(0, sys.path[0] + "/..")
 from tree import TOP, copy_crate, processors, status_of, text_of, write
 from controls import PATTERNS
 from edits import entries_in
-from mutants import command, said_of
+from mutants import said_of
 from stubs import put_stubs
 
 TOGETHER = 12  # edits of a crate in a check, of which each has a copy: what they use is loaded once
@@ -58,19 +59,19 @@ def fault_of(crate, text, said):
 
 
 def faults_of(over, crate, entries):
-    copies = [(functools.partial(put, crate, it.text), [example_of(it.text) or "nothing"]) for it in entries]
-    said = said_of(command(crate, over), copies)
+    copies = [(crate, functools.partial(put, crate, it.text), [example_of(it.text) or "nothing"]) for it in entries]
+    said = said_of(over, copies)
     return [f"{it.name}: {fault}" for it, its in zip(entries, said) if (fault := fault_of(crate, it.text, its))]
 
 
 def main(over=TOP, pattern=""):
     entries = [it for name in ("out_of_reach", "definitions") for it in entries_in(f"tests/bodies/{name}.edits", "")]
     tried, groups = [it for it in entries if it.name and re.search(pattern, it.name)], {}
-    for at, it in enumerate(tried, 1):
-        alone = 0 if example_of(it.text) else at  # the language refuses all that is checked with it
-        groups.setdefault((pairs_of(it.text)[0][0].split("/")[1], alone), []).append(it)
-    parts = lambda of: [of[at : at + TOGETHER] for at in range(0, len(of), TOGETHER)]
-    checks = [(crate, part) for (crate, _), of in groups.items() for part in parts(of)]
+    for it in tried:  # the language refuses all that is checked with what it refuses
+        groups.setdefault((pairs_of(it.text)[0][0].split("/")[1], example_of(it.text) == ""), []).append(it)
+    parts = lambda of, most: [of[at : at + most] for at in range(0, len(of), most)]
+    most = lambda crate: TOGETHER if os.path.isfile(f"{TOP}/crates/{crate}/src/lib.rt") else 1  # no copy is a program
+    checks = [(crate, part) for (crate, _), of in groups.items() for part in parts(of, most(crate))]
     with ThreadPoolExecutor(processors()) as workers:
         bad = sum(workers.map(lambda check: faults_of(over, *check), checks), [])
     return status_of(bad, tried, f"{len(tried)} drops, calls or definitions, {len(bad)} not refused")

@@ -78,32 +78,36 @@ def command(crate, tree):
     return [*words, f"--antt-project={kit}/rattle/logic/antt-project.json", f"--logic-built={kit}/logic_built"]
 
 
-def said_of(words, copies):
-    """What a check says of each of these copies of a crate: a call that writes it into a folder, and functions that are
-    asked for. All but the first are libraries with names of their own, so that what they use is loaded once for all."""
-    crate, names, kit = words[3], [], words[0].removesuffix("/bin/rattle")
-    used = ",".join(["core", *(it.split("=")[1] for it in words if it.startswith("--extern="))])
+def said_of(over, copies):
+    """What a check says of each of these copies of crates: a crate, a call that writes it into a folder, and functions
+    that are asked for. All but the first are libraries with names of their own, so that what they use is loaded once
+    for all. The crates below are taken from this tree."""
+    words, names = command(copies[0][0], over), []
+    kit = words[0].removesuffix("/bin/rattle")
     with tempfile.TemporaryDirectory(prefix="wrong-bodies-") as here:
-        for at, (put, asked) in enumerate(copies):
+        for at, (crate, put, asked) in enumerate(copies):
             names.append(name := f"{crate}_{at}" if at else crate)
             put(f"{here}/{name}")
             if at:
                 for it in files(f"{here}/{name}/**/*.*"):
                     write(it, re.sub(rf"\b{crate}\b", name, text_of(it)))
-                words = [*words, f"--lib={name}:{used}=../{name}/src/lib.rt"]
+                more = [it for it in command(crate, over) if it.startswith(("--extern=", "-L"))]
+                used = ",".join(["core", *(it.split("=")[1] for it in more if it.startswith("--extern="))])
+                words = [*words, *(it for it in more if it not in words), f"--lib={name}:{used}=../{name}/src/lib.rt"]
                 asked = [it if "_again_" in it else f"{name}::{it}" for it in asked]
             words = [*words, *(f"--only={it}" for it in asked)]
         words += [f"--extern=core={kit}/rlibs/core.rlib"] * bool(names[1:])
-        lines = ran(*words, cwd=f"{here}/{crate}").stdout.split("\n")
-    of = lambda line: (re.search(rf"\b{crate}_\d+\b", line) or [crate])[0]
+        lines = ran(*words, cwd=f"{here}/{names[0]}").stdout.split("\n")
+    other = re.compile(rf"\b(?:{'|'.join(names[1:]) or '$^'})\b")
+    of = lambda line: (other.search(line) or names)[0]
     told = {name: "\n".join(it.replace(f"../{name}/", "") for it in lines if of(it) == name) for name in names}
-    return [re.sub(rf"\b{name}\b", crate, told[name]) for name in names]
+    return [re.sub(rf"\b{name}\b", crate, told[name]) for name, (crate, *_) in zip(names, copies)]
 
 
 def checked(rounds, over):
     """What a check with the libraries of this tree says of each of these rounds. If one of them does not compile, each
     is checked alone."""
-    said = said_of(command(rounds[0].crate, over), [(it.put, it.asked()) for it in rounds])
+    said = said_of(over, [(it.crate, it.put, it.asked()) for it in rounds])
     is_told = not rounds[1:] or any(map(VERDICT.match, "\n".join(said).split("\n")))
     return said if is_told else [told for it in rounds for told in checked([it], over)]
 
@@ -116,8 +120,8 @@ class Round:
         self.takes(edit)
 
     def takes(self, edit):
-        """Adds this edit to the round if possible: any copy, and an edit that replaces another function; among edits of
-        constants and types, one that changes another text and leaves open another clause."""
+        """Adds this edit of the crate to the round if possible: any copy, and an edit that replaces another function;
+        among edits of constants and types, one that changes another text and leaves open another clause."""
         keys = {of.symbols for _, of in edit.functions} if not edit.copy else set()
         if edit.is_wide:
             keys = {(edit.by, it) for it in edit.promised or edit.clauses()} | {(it.path, it.old) for it in edit.pairs}
@@ -127,7 +131,7 @@ class Round:
         kind = lambda it: (it.is_wide and it.part not in (CONTROL, GHOST), it.part == GHOST or spoils(it))
         is_like = all(kind(it) == kind(edit) for it in self.edits)
         most = 1 if edit.tries or any(it.tries for it in self.edits) else LARGEST
-        if texts is None or not is_like or keys & self.keys or len(self.edits) >= most:
+        if edit.crate != self.crate or texts is None or not is_like or keys & self.keys or len(self.edits) >= most:
             return False
         self.texts, self.keys, self.edits = texts, keys | self.keys, [*self.edits, edit]
         return True
@@ -194,13 +198,13 @@ def counted(edits):
 
 
 class Bodies:
-    """The bodies of a crate, and their results, with the libraries of this tree."""
+    """The bodies of a crate, or a sample of those of all, and their results, with the libraries of this tree."""
 
     def __init__(self, crate, edits, over=ROOT):
         self.crate, self.edits, self.over, self.strange = crate, edits, over, []
 
     def is_ready(self):
-        below = crates_below()[self.crate] - {self.crate}
+        below = set().union(*(crates_below()[it] - {it} for it in {edit.crate for edit in self.edits}))
         return all(os.path.isdir(library(self.over, it)) for it in below)
 
     def checks(self):
@@ -209,7 +213,7 @@ class Bodies:
         rounds, may_fail = [], lambda it: any(edit.way_back for edit in it.edits)
         for edit in (it for it in self.edits if not it.kind):
             if not any(it.takes(edit) for it in rounds):
-                rounds.append(Round(self.crate, edit))
+                rounds.append(Round(edit.crate, edit))
         some = sorted((it for it in rounds if not may_fail(it)), key=lambda it: -len(it.edits))
         together = [some[at : at + TOGETHER] for at in range(0, len(some), TOGETHER)]
         return [*together, *([it] for it in rounds if may_fail(it))]
@@ -258,11 +262,11 @@ def edits_of(crate, only=""):
     names = collections.Counter(it.name for it in edits)
     for it in edits:
         it.is_unfit = it.is_unfit or f"{names[it.name]} have this name" * (names[it.name] > 1)
-    return with_controls(edits)
+    return with_controls(edits, 10000 * [*crates_below()].index(crate))
 
 
-def with_controls(edits):
-    """These bodies and the other parts of their entries that have a place."""
+def with_controls(edits, first=0):
+    """These bodies and the other parts of their entries that have a place, numbered from this number on."""
     for it in (it for it in edits if not it.is_unfit):
         parts = [CONTROL] * it.has_control + [*OF_VALUES] * bool(it.condition)
         parts += [GHOST] * (it.has_control and bool(GHOSTS.search(it.entry.text)))
@@ -273,7 +277,7 @@ def with_controls(edits):
             emptied = enumerate(controls.emptied(known, control.pairs[0].new))
             it.beside.update((f"{EMPTIED}{at}", Body(it.crate, it.entry, f"{EMPTIED}{at}", new)) for at, new in emptied)
     edits = [*edits, *(other for it in edits for other in it.beside.values())]
-    for number, it in enumerate(edits):
+    for number, it in enumerate(edits, first):
         it.stand_beside(number)
     return edits
 
@@ -303,7 +307,7 @@ def options_of(words):
     flag("--list", help="try nothing: name the bodies that don't fit the code")
     flag("--goals", help="print each refusal, and by what it is shown")
     flag("--clauses", help="print the clauses of public functions that no body leaves open")
-    flag("--sample", help=f"take the first {SAMPLE} of each crate that values show wrong, in one check")
+    flag("--sample", help=f"take the first {SAMPLE} of each crate that values show wrong, in few checks")
     flag("--whole", help="make all searches for a proof, also where a line `goal:` gives a body two of them")
     word("--only", default="", metavar="PATTERN", help="take the bodies whose CRATE/NAME the pattern is found in")
     word("--over", metavar="TREE", help="take the crates below from this tree, each once `rt ci` has put it there")
@@ -341,7 +345,8 @@ def main(words):
         return 2
     if options.sample:
         is_simple = lambda it: it.copy and not (it.part or it.beside or it.survivor)  # values show it wrong
-        tried = {crate: list(filter(is_simple, group))[:SAMPLE] for crate, group in tried.items()}
+        groups = reversed(tried.values())  # the library of the first crate of a check must not be loaded for another
+        tried = {"all": [it for group in groups for it in [*filter(is_simple, group)][:SAMPLE]]}
     crates = [Bodies(crate, group, options.over or ROOT) for crate, group in tried.items()]
     try_all(crates, options.jobs)
     print("\n".join(it.told(options) for it in crates))

@@ -49,8 +49,8 @@ def has_port(process, port):
     with open(f"/proc/{process}/net/udp", encoding="ascii") as table:
         rows = [row.split() for row in table]
     sockets = {f"socket:[{row[9]}]" for row in rows if row[1].endswith(f":{port:04X}")}
-    files = os.scandir(f"/proc/{process}/fd")
-    return any(os.readlink(it.path) in sockets for it in files)
+    with os.scandir(f"/proc/{process}/fd") as files:
+        return any(os.readlink(it.path) in sockets for it in files)
 
 
 class World:
@@ -64,7 +64,8 @@ class World:
         subprocess.run(
             [sys.executable, TOP + "/packaging/onefile.py", "--compiled", self.folder + "/bacsite"], check=True
         )
-        self.command = [os.environ.get("PYTHON", sys.executable), self.folder + "/bacsite"]
+        # -S: without installed packages, since bacsite needs none
+        self.command = [os.environ.get("PYTHON", sys.executable), "-S", self.folder + "/bacsite"]
         self.odd, self.dead = StandIn(77, ODD_VALUES), local_socket()
         try:
             self.meet()

@@ -135,7 +135,7 @@ class WhoseAnswer(harness.SiteTest):
     def test_no_value_is_that_of_another_point(self):
         late = [sys.executable, os.path.dirname(__file__) + "/late_answers.py"]
         done = subprocess.run(
-            [*network_namespace.way(), *late, self.world.command[1]], stdout=subprocess.PIPE, encoding="ascii"
+            [*network_namespace.way(), *late, self.world.command[-1]], stdout=subprocess.PIPE, encoding="ascii"
         )
         # Of 3000; fewer come on a busy machine, where some are given up.
         self.assertRegex(done.stdout, r"\A[1-9]\d{2,3} values, 0 of another point, late\n\Z")

@@ -68,7 +68,7 @@ class Command(SiteTest):
     def test_status(self):
         good, bad = file_of(exchange(0, 1)), file_of(exchange(0, 1, 1, "600109"))
         files = (good, bad, good[:-1], b"")
-        for word, wanted in ("--summary", [0, 1, 3, 3]), ("--json", [0, 1, 3, 3]), ("--trace", [0, 0, 3, 2]):
+        for word, wanted in ("--summary", [0, 1, 3, 3]), ("--json", [0, 1, 3, 3]), ("--trace", [0, 0, 3, 3]):
             self.assertEqual([self.told(it, word)[0] for it in files], wanted, word)
         _, text, said = self.told(good[:-1])
         self.assertIn("read analog-input 5 present-value (0 5 85): no answer", text)
@@ -145,8 +145,9 @@ device           requests  answered  refused  unanswered  sent again  slow  medi
             self.assertEqual([it.split("  #")[1][:1] for it in lines], numbers)
 
     def test_what_is_no_capture(self):
-        status, out, said = self.run_site("capture", "/etc/passwd")
-        self.assertEqual((status, out, said[:33]), (3, "", "bacsite: neither pcap nor pcapng:"))
+        for words in ([], ["--summary"], ["--trace"]):
+            status, out, said = self.run_site("capture", "/etc/passwd", *words)
+            self.assertEqual((status, out, said[:33]), (3, "", "bacsite: neither pcap nor pcapng:"))
 
     def test_a_station_behind_a_router_is_chosen(self):
         """As the summary prints it, 192.0.2.40:47808/77/0a, or in capital letters."""

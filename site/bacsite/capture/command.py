@@ -150,6 +150,12 @@ def is_wanted(entry: Entry, only: str | None, slow: int) -> bool:
     return not only or (only == "failed" and entry.is_fault)
 
 
+def refuse_what_is_no_capture(passing: Passing) -> None:
+    """Ends with the damage if it comes before the first packet."""
+    if passing.damage and not passing.packets:
+        raise Failure(passing.damage, BROKEN)
+
+
 def _put_entries(file: BinaryIO, passing: Passing, words: argparse.Namespace) -> int:
     """Prints the lines of a capture, and its summary."""
     choice = Choice(words.client, words.device)
@@ -161,8 +167,7 @@ def _put_entries(file: BinaryIO, passing: Passing, words: argparse.Namespace) ->
         tally.add(entry)
         if not words.summary and is_wanted(entry, words.only, tally.slow):
             put(json_line(json_of(entry)) if words.json else line_of(entry) + "\n")
-    if passing.damage and not passing.packets:
-        raise Failure(passing.damage, BROKEN)
+    refuse_what_is_no_capture(passing)
     if not is_any and not passing.damage:
         raise wrong(f"nothing between {choice.client or 'any'} and {choice.device or 'any'}")
     if words.json:
@@ -184,6 +189,7 @@ def print_capture(words: argparse.Namespace) -> int:
         with opened(words.file) as file:
             if words.trace:
                 choice, messages = Choice(words.client, words.device), list(passing.messages(file))
+                refuse_what_is_no_capture(passing)
                 for line in traced(messages, choice, words.timeout, words.retries):
                     put(line + "\n")
             else:
