@@ -13,7 +13,7 @@ import controls
 from tree import TOP as ROOT
 
 text_of = functools.cache(tree.text_of)
-HEAD, IMPL, CLAUSE, LEMMAS, GHOSTS, METHOD, BRINGS = controls.PATTERNS["edits.py"]
+HEAD, IMPL, CLAUSE, TACTIC, GHOSTS, METHOD, BRINGS = controls.PATTERNS["edits.py"]
 ANSWERS = ("Proof.antt", "Invariants.antt", "Answers.antt")
 INVARIANT = "invariant"  # in a line `clause:`: the body is refused by no clause but by this
 
@@ -277,8 +277,6 @@ class Body:
             yield "it has a `clause:`, and its function has answers, or it may call that"
         if self.goals and (INVARIANT in self.promised or not (self.has_control and is_alone)):
             yield "it has a `goal:`, and no control, or answers, or is not tried beside its function"
-        if self.goals and LEMMAS.search("\n".join(self.of.head)):
-            yield "it has a `goal:`, whose searches lack what the `#[tactic(..)]` of its function names"
         if not set(self.promised) <= {*self.clauses(), INVARIANT}:
             yield "its `clause:` names what is not ensured"
 
@@ -322,6 +320,13 @@ class Body:
         """Returns the name of the function's answers, in parts, if this edit is tried with them; otherwise nothing."""
         found = () if self.is_apart else filter(self.of.symbols.match, answered(self.crate))
         return next((it.split("::")[1:] for it in found), [])
+
+    def named(self, word):
+        """What is named behind this word, `using` or `unfolding`, in the `#[tactic(..)]` of its function."""
+        given = TACTIC.search("\n".join((self.law if self.is_wide else self.of).head))
+        found = re.search(rf"\b{word}\(([^()]*)\)", given[1] if given else "")
+        names = re.findall(r"[\w:]+", found[1]) if found else ()
+        return [f"Rattle.{re.sub(r'^crate(?=:)', self.crate, it).replace('::', '.')}" for it in names]
 
     def place(self):
         """Returns the place, in parts, of the law, or of the copy, by which this edit is judged."""

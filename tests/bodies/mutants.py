@@ -150,7 +150,7 @@ class Round:
             if it.copy and (answers := it.answers()):
                 put_answers(self.crate, here, answers, it.place())
             if it.goals or it.may_be_spoilt():
-                put_searches(self.crate, here, it.place(), it.goals, it.may_be_spoilt())
+                put_searches(self.crate, here, it)
 
     def asked(self):
         return sorted({name for it in self.edits for name in it.asked()})
@@ -308,7 +308,7 @@ def options_of(words):
     flag("--goals", help="print each refusal, and by what it is shown")
     flag("--clauses", help="print the clauses of public functions that no body leaves open")
     flag("--sample", help=f"take the first {SAMPLE} of each crate that values show wrong, in few checks")
-    flag("--whole", help="make all searches for a proof, also where a line `goal:` gives a body two of them")
+    flag("--whole", help="make all searches for a proof, also where a line `goal:` gives a body one of them")
     word("--only", default="", metavar="PATTERN", help="take the bodies whose CRATE/NAME the pattern is found in")
     word("--over", metavar="TREE", help="take the crates below from this tree, each once `rt ci` has put it there")
     jobs = max(1, min(processors(), free_memory() // CHECK_MEMORY))

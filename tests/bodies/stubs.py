@@ -22,12 +22,13 @@ fault = ?
 pub invariant_of-self : {PLACE}.invariant_of-self
 invariant_of-self = ?
 """
-# An answer with the first two of the searches that `rattle` makes for one; six of them take twice as long and more.
+# An answer with one of the six searches that `rattle` makes for one, and what the function's `#[tactic(..)]` names. A
+# body that is refused takes about half as long so.
 SEARCHED = f"""
-pub {{}} : {PLACE}.{{}}
-{{}} = first_of (search rules, grind (arith, common_steps) steps 2000000)
+pub {{name}} : {PLACE}.{{name}}{{opened}}
+{{goal}} = grind (arith, common_steps{{lemmas}}) steps 2000000
 """
-USED = f"""use Rattle.std.proofs.{{{{Common.{{{{arith, rules}}}}, lemmas.Grind.common_steps}}}}
+USED = f"""use Rattle.std.proofs.{{{{Common.arith, lemmas.Grind.common_steps}}}}
 use Rattle.{{}}.proofs.{{}}.Goals as {PLACE}
 """
 
@@ -67,10 +68,16 @@ def put_answers(crate, home, answers, place):
             write(f"{home}/proofs/{'/'.join(place)}/{it}", re.sub(rf"\b{re.escape(named)}", own, text_of(file)))
 
 
-def put_searches(crate, home, place, goals, is_spoilt):
-    """Gives this place of the crate in this folder, if it has no answers, two searches for each of these goals, with
-    the names of their arguments; and a fault for one more answer."""
-    file = f"{home}/proofs/{'/'.join(place)}/Answers.antt"
+def put_searches(crate, home, edit):
+    """Gives the place of this edit in the crate in this folder, if it has no answers, a search for each of its goals,
+    with the names of their arguments, and what its function names for it; and a fault for one more answer, if it may
+    have one."""
+    file = f"{home}/proofs/{'/'.join(edit.place())}/Answers.antt"
     if not os.path.exists(file):
-        texts = [SEARCHED.format(*[it.split(" ")[0]] * 2, it) for it in goals]
-        write(file, "".join([USED.format(crate, ".".join(place)), *[FAULT] * is_spoilt, *texts]))
+        opened = " ".join(edit.named("unfolding"))
+        named = {
+            "lemmas": "".join(f", {it}" for it in edit.named("using")),
+            "opened": opened and f"\nunfolding {opened}",
+        }
+        texts = [SEARCHED.format(name=it.split(" ")[0], goal=it, **named) for it in edit.goals]
+        write(file, "".join([USED.format(crate, ".".join(edit.place())), FAULT * edit.may_be_spoilt(), *texts]))
